@@ -286,6 +286,7 @@ module _ (x : View) (b : Seen) (s : Shelf) (name : List ℕ) (raw : Result ℕ A
       );
       err = err;
       attach = λ is. attaches.failed (failed is);
+      none = λ why. let equal = same.disks in omega (arith, equal);
       used = λ d named.
           let found = (attaches.twice d).1 named in (
             λ is. not_failed d (sym (failed is) ∙ found),
@@ -332,6 +333,7 @@ module _ (x : View) (b : Seen) (s : Shelf) (name : List ℕ) (raw : Result ℕ A
     image = λ told d named. subst (λ (e : ℕ). HasImage e) (sym (last d named)) (waited told);
     err = tt;
     attach = λ same. absurd (never_fault Attach number same);
+    none = λ why. elim why [ inl same ↦ absurd (never_fault Attach number same) | inr same ↦ absurd (never_fault Memory number same) ];
     used = λ d named. absurd (none d named);
     twice = (λ same. absurd (never_fault Twice number same), λ of. absurd (none of.0 of.2));
   }

@@ -82,7 +82,7 @@ clean_done seen shelf runs laws names p raid fit cleaned =
     let moves = cleaned.cleans.moves in
     let stays = reached_stays seen shelf p raid fit cleaned.keeps in
     let keeps = book_lost (book x) (book y) (slices_shown y) stays.fit.0.running.set stays.fit.0.heeded moves.book.same.made moves.arrays in
-    let call = is_call seen shelf runs laws names 1 p q fit stays refl cleaned.ran moves.book (record { left = moves.left; cause = moves.cause }) keeps cleaned.truths cleaned.moments
+    let call = is_call seen shelf runs laws names 1 p q fit stays refl cleaned.ran moves.book (record { left = moves.left; cause = moves.cause }) keeps cleaned.truths cleaned.moments moves.unwritten
     (only_quiet (IsShown l) cleaned.keeps.stays cleaned.keeps.keeps)
     (raises_more 288 most_raised (book x) (book y) (omega arith) cleaned.raises) in
     let ends : Ends x y = record {

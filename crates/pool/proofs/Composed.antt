@@ -1,24 +1,25 @@
 -- A replacing, by what its parts say.
 use Rattle.std.specs.Prelude.{Ok, Err, IfErr, OnOk}
 use Rattle.std.proofs.Common.{◌≡◌, ◌⊎◌, ℕ, ◌<◌, ◌≤◌, if◌then◌else◌, true, false, List, length, slice_get, Some, refl, sym, ap, subst, ◌∙◌, inl, inr, arith, lt-ltb, le-ltb}
-use Rattle.std.proofs.lemmas.Bool.{both_ways, cases_lt}
+use Rattle.std.proofs.lemmas.Bool.{both_ways, cases_Bool, cases_lt}
 use Rattle.rack.specs.Joins.{keeps_same}
 use Rattle.rack.specs.Values.{Keeps, MayLeave, Values}
 use Rattle.rack.specs.Moments.{IsSound}
-use Rattle.rack.specs.Seen.{Rose, Seen}
+use Rattle.rack.specs.Seen.{Image, Rose, Seen}
 use Rattle.rack.specs.Shelf.{Shelf}
 use Rattle.flat_array.specs.Array.{FlatArray}
 use Rattle.array_image.specs.States.{is_current}
 use Rattle.raid_rack.specs.Book.{IsAfter, after_same}
 use Rattle.raid_rack.specs.Losing.{arrays_same}
 use Rattle.raid_rack.specs.Moves.{KeepsArrays}
+use Rattle.raid_rack.specs.Enlisting.{new_table}
 use Rattle.raid_rack.specs.NewDrive.{IsOfDrive as IsLaid}
 use Rattle.raid_rack.specs.Raid.{Raid}
 use Rattle.pool.specs.declared.replacing.GrowFault.{GrowFault}
 use Rattle.pool.specs.declared.replacing.GrowFault.TheVariants.{NoSuchDrive, Attach, Twice, Memory, Gone, NotWhole}
 use Rattle.pool.specs.Continuing.{KeepsDisk, NoDisk}
-use Rattle.pool.specs.Moment.{IsImage, IsNamed, moment_of}
-use Rattle.pool.specs.Replaced.{DriveWentSince, HasMarkedOther, HasTable, IsAnswer, IsDeclined, IsLaidOn, IsLookedAt, IsOfDrive, IsReplaced, LeavesNew, MeansFormer, MeansWith, faults_before}
+use Rattle.pool.specs.Moment.{IsImage, IsNamed, moment_of, views_of}
+use Rattle.pool.specs.Replaced.{DriveWentFrom, DriveWentSince, HasMarkedOther, HasTable, IsAnswer, IsDeclined, IsLaidOn, IsLookedAt, IsOfDrive, IsReplaced, LeavesNew, MeansFormer, MeansWith, faults_before}
 use Rattle.pool.specs.Naming.{EntersDrive, EntersNamed, ReplacesDrive}
 use Rattle.pool.specs.Replacing.{refusal_of}
 use Rattle.pool.specs.Entering.{Declines, Enters, StaysStill}
@@ -76,6 +77,7 @@ replaced_unlisted x place name fit sound past = record {
   cause = record {
     missing = (λ same. past, λ same. refl);
     attach = λ same. absurd (let e : NoSuchDrive ≡ Attach = same_fault NoSuchDrive Attach same in cc e);
+    none = λ why. refl;
     used = λ d named. (λ same. let e : NoSuchDrive ≡ Attach = same_fault NoSuchDrive Attach same in cc e, λ same. let e : NoSuchDrive ≡ Memory = same_fault NoSuchDrive Memory same in cc e);
     twice = (λ same. absurd (let e : NoSuchDrive ≡ Twice = same_fault NoSuchDrive Twice same in cc e), λ at. absurd (let low = at.0 in omega (arith, low, past)));
     named = λ at. absurd (let low = at.listed in omega (arith, low, past));
@@ -90,7 +92,7 @@ replaced_unlisted x place name fit sound past = record {
   holds = λ a holds. holds;
   truths = λ names all n low held. held;
   leaves = λ traced a holds k i since until stopped. absurd (omega (arith, since, until));
-  steps = record { enters = tt; left = inl (refl, refl) };
+  steps = record { enters = tt; left = inl (refl, refl, refl) };
   ends = λ traced a holds i stopped. ends_of x (sound traced) a holds i stopped;
 }
 
@@ -108,7 +110,7 @@ nothing_done x place disk e fit is = record {
     held = λ d s out. keeps_same (x.bay.held d s);
     stops = λ told traced k i since until stopped. absurd (omega (arith, since, until));
   };
-  retired = λ missing d seat other. still_disk x.shelf.told x.bay x.bay d (λ k. refl) refl;
+  retired = λ k d low missing seat other. still_disk x.shelf.told x.bay x.bay d (λ k. refl) refl;
   laid = λ low all k v within unsliced left. inl left;
   names = refl;
   bare = λ d seat other. inl refl;
@@ -118,7 +120,7 @@ nothing_done x place disk e fit is = record {
   gone = λ same. absurd ((refusal_late x.linear (book x) place (x.bay.sectors disk) e is).1 (same_fault e Gone same));
   not_whole = λ same. inl (is ∙ ap Some (same_fault e NotWhole same));
   declined = declined_none x x place e refl refl refl (λ d low s. refl);
-  left = inl (refl, refl);
+  left = inl (refl, refl, refl);
   replaced = tt;
   table = tt;
   enters = tt;
@@ -149,7 +151,7 @@ module _ (x : View) (bay : x.bays.one) (place : ℕ) (name : List ℕ) (listed :
     changes = λ low. record {
       names = at.names;
       bare = λ d seat unnamed. inl refl;
-      retired = λ missing d seat unnamed. still_disk x.shelf.told x.bay b d (at.held d (fit.0.running.set.fit.1.seats place d seat)) at.clock;
+      retired = λ k d low missing seat unnamed. still_disk x.shelf.told x.bay b d (at.held d (fit.0.running.set.fit.1.seats k d seat)) at.clock;
       admitted = inl refl;
       current = λ of. at.outside;
       image = λ told all d named.
@@ -162,6 +164,7 @@ module _ (x : View) (bay : x.bays.one) (place : ℕ) (name : List ℕ) (listed :
     cause = record {
       missing = (λ same. absurd (not_listed (same_fault e NoSuchDrive same) at.err), λ past. absurd (omega (arith, listed, past)));
       attach = λ same. at.attach (ap Err (same_fault e Attach same));
+      none = λ why. at.none (elim why [ inl same ↦ inl (ap Err (same_fault e Attach same)) | inr same ↦ inr (ap Err (same_fault e Memory same)) ]);
       used = λ d named. (
         λ same. (at.used d named).0 (ap Err (same_fault e Attach same)),
         λ same. (at.used d named).1 (ap Err (same_fault e Memory same)),
@@ -179,7 +182,7 @@ module _ (x : View) (bay : x.bays.one) (place : ℕ) (name : List ℕ) (listed :
     holds = holds_of x m at.continues at.carries;
     truths = at.carries.truths;
     leaves = λ traced a holds k i since until stopped. let clock = at.clock in absurd (omega (arith, since, until, clock));
-    steps = record { enters = tt; left = inl (at.clock, refl) };
+    steps = record { enters = tt; left = inl (at.clock, refl, refl) };
     ends = λ traced a holds i stopped. ends_of m (sound (at.continues.traced holds.shelf traced)) a (holds_of x m at.continues at.carries a holds) i stopped;
   }
     where
@@ -223,6 +226,24 @@ module _ (x : View) (bay : x.bays.one) (place : ℕ) (name : List ℕ) (listed :
         let d = disk_of y.slices (log_slice k) in
         subst (λ n. Rose n (y.bay.faults d)) (before_same d) rose
 
+    rose_from : (y : View) (k : ℕ) → is_current (book x).state k ≡ true → DriveWentFrom (moment_of m) (moment_of y) k → DriveWentFrom (moment_of x) (moment_of y) k
+    rose_from y k was rose =
+        let d = disk_of x.slices (log_slice k) in
+        let low = low_disk (book x) x.slices x.bay k ordered fit.0.running.set (heeded_left (book x) k fit.0.heeded was) in
+        subst (λ n. Rose n (y.bay.faults d))
+        (at.faults d (let more = at.continues.disks in omega (arith, low, more)) ∙ ap (λ t. if t then x.bay.faults d else 0) (lt-ltb d x.bay.disks low)) rose
+
+    former_since : (y : View) (a : FlatArray) (i : Image) → MeansFormer m y place a i → MeansFormer x y place a i
+    former_since y a i (inl means) = inl means
+    former_since y a i (inr without) =
+        elim (cases_Bool (is_current (book x).state place)) [
+          | inr missing ↦ inr (inl missing, without.1)
+          | inl was ↦ elim without.0 [
+            | inl missing ↦ absurd (both_ways (is_current (book x).state place) missing was)
+            | inr rose ↦ inr (inr (rose_from y place was rose), without.1)
+          ]
+        ]
+
     pub replaced_by : (y : View) (r : Answer) → ReplacesBy m y place disk r → (y.bay.traced → IsSound (volume y)) → ReplacesDrive x y place name r
     replaced_by y r by sound =
         let go = continues_then x m y at.continues by.continues in
@@ -246,9 +267,9 @@ module _ (x : View) (bay : x.bays.one) (place : ℕ) (name : List ℕ) (listed :
               old = λ d low named. at.names.old d low (named_before y by d named);
               others = λ d n is. at.names.others d n (ap (λ names. slice_get names d) (sym by.names) ∙ is);
             };
-            retired = λ missing d seat unnamed.
-                let keeps = by.retired missing d seat (λ is. unnamed (named_at y here d (inr is))) in
-                let old = fit.0.running.set.fit.1.seats place d seat in
+            retired = λ p d inside missing seat unnamed.
+                let keeps = by.retired p d inside missing seat (λ is. unnamed (named_at y here d (inr is))) in
+                let old = fit.0.running.set.fit.1.seats p d seat in
                 let size_d : b.sectors d ≡ x.bay.sectors d = at.continues.sectors d old in
                 record {
                   held = λ k within told.
@@ -273,6 +294,7 @@ module _ (x : View) (bay : x.bays.one) (place : ℕ) (name : List ℕ) (listed :
           cause = record {
             missing = (λ same. absurd ((late by NoSuchDrive same).listed refl), λ past. absurd (omega (arith, listed, past)));
             attach = λ same. absurd ((late by Attach same).attached refl);
+            none = λ why. elim why [ inl same ↦ absurd ((late by Attach same).attached refl) | inr same ↦ absurd ((late by Memory same).had refl) ];
             used = λ d named. (λ same. (late by Attach same).attached refl, λ same. (late by Memory same).had refl);
             twice = (λ same. absurd ((late by Twice same).other refl), λ of. absurd (not_drive of.1));
             named = λ look. (disk, here);
@@ -293,8 +315,11 @@ module _ (x : View) (bay : x.bays.one) (place : ℕ) (name : List ℕ) (listed :
           holds = holds_of x y go carries;
           truths = carries.truths;
           leaves = λ traced a holds k i since until stopped.
-              by.leaves (at.continues.traced holds.shelf traced) a (holds_of x m at.continues at.carries a holds) k i
-              (let clock = at.clock in omega (arith, since, clock)) until stopped;
+              elim (by.leaves (at.continues.traced holds.shelf traced) a (holds_of x m at.continues at.carries a holds) k i
+              (let clock = at.clock in omega (arith, since, clock)) until stopped) [
+                | inl former ↦ inl (former_since y a i former)
+                | inr means ↦ inr means
+              ];
           steps = steps_since y r (only y by) here by.enters by.left;
           ends = λ traced a holds i stopped. ends_of y (sound (go.traced holds.shelf traced)) a (holds_of x y go carries a holds) i stopped;
         }
@@ -338,7 +363,7 @@ module _ (x : View) (bay : x.bays.one) (place : ℕ) (name : List ℕ) (listed :
                     | inr new ↦ inr (record {
                       admitted = ap (refusal_of x.linear (book x) place) size ∙ new.0;
                       other = not_drive;
-                      value = subst (λ n. IsLaid disk n disk k v) (sym size) new.1;
+                      value = subst (λ n. IsLaid disk (new_table (book x).state (views_of (book x)) place n) disk k v) (sym size) new.1;
                     })
                   ],
             )
@@ -349,12 +374,7 @@ module _ (x : View) (bay : x.bays.one) (place : ℕ) (name : List ℕ) (listed :
           marks = declined.marks;
           plan = declined.plan;
           arrays = declined.arrays;
-          cause = λ k was now.
-              let d = disk_of x.slices (log_slice k) in
-              subst (λ n. Rose n (y.bay.faults d))
-              (at.faults d (let low = low_disk (book x) x.slices x.bay k ordered fit.0.running.set (heeded_left (book x) k fit.0.heeded was) in let more = at.continues.disks in omega (arith, low, more))
-              ∙ ap (λ t. if t then x.bay.faults d else 0) (lt-ltb d x.bay.disks (low_disk (book x) x.slices x.bay k ordered fit.0.running.set (heeded_left (book x) k fit.0.heeded was))))
-              (declined.cause k was now);
+          cause = λ k was now. rose_from y k was (declined.cause k was now);
           slices = declined.slices;
           unmarked = declined.unmarked;
           others = declined.others;
@@ -385,7 +405,7 @@ module _ (x : View) (bay : x.bays.one) (place : ℕ) (name : List ℕ) (listed :
         steps_since y (Err e) same here enters left = record {
           enters = tt;
           left = elim left [
-            | inl still ↦ inl (still.0 ∙ at.clock, still.1)
+            | inl still ↦ inl (still.0 ∙ at.clock, still.1, still.2)
             | inr why ↦ inr (record { disk = disk; named = here; bay = bay; attaches = at; leaves = why })
           ];
         }
@@ -412,5 +432,8 @@ module _ (x : View) (bay : x.bays.one) (place : ℕ) (name : List ℕ) (listed :
         moments_since y (Ok u) same moments =
             λ d named traced a holds k i since until stopped.
             subst (λ e. MeansFormer x y place a i ⊎ MeansWith x y place e a i) (sym (same d named))
-            (moments (at.continues.traced holds.shelf traced) a (holds_of x m at.continues at.carries a holds) k i
-            (let clock = at.clock in omega (arith, since, clock)) until stopped)
+            (elim (moments (at.continues.traced holds.shelf traced) a (holds_of x m at.continues at.carries a holds) k i
+            (let clock = at.clock in omega (arith, since, clock)) until stopped) [
+              | inl former ↦ inl (former_since y a i former)
+              | inr means ↦ inr means
+            ])

@@ -292,7 +292,7 @@ module _ (x : View) (b : Seen) (s : Shelf) (place disk units : ℕ) (t u : Slice
       where
         former : MeansBy t y a i → MeansFormer x y place a i
         former means = elim kind [
-          | inl gave ↦ inr (t, gave.1, means)
+          | inl gave ↦ inr (inl gave.0, (t, gave.1, means))
           | inr stays ↦ inl (stays.0, subst (λ r. MeansBy r y a i) stays.1 means)
         ]
 
@@ -387,12 +387,16 @@ module _ (x : View) (b : Seen) (s : Shelf) (place disk units : ℕ) (t u : Slice
 
   former_kept : (d : ℕ) → seat_of x.slices place ≡ Some d → d ≢ disk → KeepsDisk x.shelf.told x.bay b d
   former_kept d seat other =
-      retired_by x b s place disk t linear fit kind empty now names ordered orderly admits (IsWrittenBy u disk (x.bay.sectors disk)) enlists.only d seat
+      retired_by x b s place disk t linear fit kind empty now names ordered orderly admits (IsWrittenBy u disk (new_table x.arrays.state x.arrays.all.items place (x.bay.sectors disk))) enlists.only d seat
       (λ k v at. elim at [ inl own ↦ other own.0 | inr is ↦ bare_now d seat other k v is ])
+
+  -- by the arrays of the book
+  by_book : Enlists t u (views_of (book x)) place disk units (Replace place) (book x) (raid_by z) x.bay b
+  by_book = subst (λ vs. Enlists t u vs place disk units (Replace place) (book x) (raid_by z) x.bay b) (sym list_is) enlists
 
   pub taken_in : option_map (λ d. d.units) (slice_get x.arrays.state.drives.items place) ≡ Some units → TakesBy x y place disk (Ok tt)
   taken_in units_is =
-      let may : ℕ → ℕ → List ℕ → Type 0 = IsWrittenBy u disk (x.bay.sectors disk) in
+      let may : ℕ → ℕ → List ℕ → Type 0 = IsWrittenBy u disk (new_table x.arrays.state x.arrays.all.items place (x.bay.sectors disk)) in
       let go = mid_goes x b s place disk t linear fit kind empty now names ordered orderly admits in
       let carries = mid_carries x b s place disk t linear fit kind empty now names ordered orderly admits in
       record {
@@ -407,7 +411,7 @@ module _ (x : View) (b : Seen) (s : Shelf) (place disk units : ℕ) (t u : Slice
             outside_of_it x b s place disk t linear fit kind empty now names ordered orderly admits u z may enlists.only fit_now orderly_now
             (λ d k a at. elim at [ inl own ↦ inr own.0 | inr is ↦ new_sliced d k a is ]) new_sliced;
         retired = λ why. former_kept;
-        laid = laid_by x b s place disk t linear fit kind empty now names ordered orderly admits u enlists.only;
+        laid = laid_by x b s place disk t linear fit kind empty now names ordered orderly admits u by_book.only;
         names = names.names;
         bare = λ d seat other. inr (bare_now d seat other);
         disks = enlists.only.stays.disks;
@@ -422,7 +426,7 @@ module _ (x : View) (b : Seen) (s : Shelf) (place disk units : ℕ) (t u : Slice
           units = units;
           units_is = units_is;
           seats = subst (λ vs. SeatsDrive vs place disk (x.bay.sectors disk) t u) (sym list_is) seats;
-          enlists = subst (λ vs. Enlists t u vs place disk units (Replace place) (book x) (raid_by z) x.bay b) (sym list_is) enlists;
+          enlists = by_book;
           former = former_kept;
         };
         replaced = record {

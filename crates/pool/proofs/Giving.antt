@@ -10,15 +10,14 @@ use Rattle.array_image.specs.Places.{log_slice}
 use Rattle.array_image.specs.States.{is_current}
 use Rattle.gpt_table.specs.declared.Table.{Table}
 use Rattle.gpt_table.specs.Disk.{HoldsCopy, now_on}
-use Rattle.lvm_group.specs.Runs.{Linear}
 use Rattle.pool_state.specs.declared.contents.Plan.TheVariants.{Replace}
 use Rattle.slice_rack.specs.Changes.{Seats}
 use Rattle.slice_rack.specs.Runs.{IsSliced}
-use Rattle.slice_rack.specs.Slices.{IsOrderly, Slices, disk_of, seat_of}
+use Rattle.slice_rack.specs.Slices.{IsOrderly, disk_of, seat_of}
 use Rattle.shr_base.specs.declared.Id.{Id}
 use Rattle.shr_base.specs.Units.{units_of}
 use Rattle.raid_rack.specs.Book.{IsAfter, after_then}
-use Rattle.raid_rack.specs.Enlisting.{HoldsTable, enlisted, next_drive, with_drive}
+use Rattle.raid_rack.specs.Enlisting.{HoldsTable, enlisted, new_table, next_drive, with_drive}
 use Rattle.raid_rack.specs.Losing.{arrays_then}
 use Rattle.raid_rack.specs.Moves.{KeepsArrays, RaisesBy}
 use Rattle.raid_rack.specs.NewDrive.{IsOfDrive as IsLaid, SeatsDrive, drive_table, joins}
@@ -29,21 +28,23 @@ use Rattle.raid_rack.proofs.Renewing.{seats_same}
 use Rattle.raid_rack.proofs.Whole.{heeded_left}
 use Rattle.pool.specs.declared.replacing.GrowFault.{GrowFault}
 use Rattle.pool.specs.declared.replacing.GrowFault.TheVariants.{Gone, NotWhole}
+use Rattle.pool.specs.Calls.{DriveWent}
 use Rattle.pool.specs.Continuing.{Continues, KeepsOutside}
-use Rattle.pool.specs.Entering.{Cleaned, Declines, Enters, EntersBy, LeavesBy, LeavesOut, StaysStill}
+use Rattle.pool.specs.Entering.{Cleaned, Declines, Enters, EntersBy, LeavesBy, LeavesOut, StaysStill, table_on}
 use Rattle.pool.specs.Keeping.{KeepsBook, most_raised}
 use Rattle.pool.specs.Moment.{moment_of, views_of}
 use Rattle.pool.specs.Replaced.{DriveWentFrom, HasMarked, HasMarkedOther, HasTable, IsAnswer, IsDeclined, IsReplaced, LeavesNew, MeansBy, MeansFormer, MeansWith, faults_before, table_for}
 use Rattle.pool.specs.Replacing.{IsAdmitted, has_other_missing, refusal_of}
 use Rattle.pool.specs.Taking.{AreTold, Carries, ReplacesBy, TakesBy}
-use Rattle.pool.specs.View.{View, book, contents_in, slices_shown, volume}
-use Rattle.pool.specs.Volume.{Holds, is_spent}
+use Rattle.pool.specs.View.{View, book, slices_shown, volume}
+use Rattle.pool.specs.Volume.{Holds}
 use Rattle.pool.proofs.Admitted.{admitted, others_current}
 use Rattle.pool.proofs.Attaching.{IsBay}
 use Rattle.pool.proofs.Booked.{book_then}
 use Rattle.pool.proofs.Carrying.{carries_then, holds_of}
 use Rattle.pool.proofs.Continuing.{continues_of, continues_then, outside_fewer, outside_of, outside_then}
 use Rattle.pool.proofs.Enlisted.{book_but, book_then_but}
+use Rattle.pool.proofs.Former.{IsUnread, fewer_spent, former_from}
 use Rattle.pool.proofs.Late.{never_fault, same_fault}
 use Rattle.pool.proofs.Losing.{listed as current_listed}
 use Rattle.raid_rack.specs.RaidRack.{IsRunning}
@@ -61,7 +62,7 @@ pub record IsReady (x m : View) (place disk many : ℕ) : Type 0 where
   pub laid :
       disk < x.bay.disks → AreTold x → (s : ℕ) (v : List ℕ) → s < x.bay.sectors disk → ((u : List ℕ) → IsSliced x.slices disk s u → ⊥)
       → MayLeave (m.bay.held disk s) v
-      → MayLeave (x.bay.held disk s) v ⊎ IsLaid disk (x.bay.sectors disk) disk s v
+      → MayLeave (x.bay.held disk s) v ⊎ IsLaid disk (table_on x place disk) disk s v
   pub names : m.shelf.names ≡ x.shelf.names
   pub disks : m.bay.disks ≡ x.bay.disks
   pub marks : IsAfter (book x).state (book m).state
@@ -69,23 +70,6 @@ pub record IsReady (x m : View) (place disk many : ℕ) : Type 0 where
   pub arrays : KeepsArrays (book x) (book m)
   pub cause : (k : ℕ) → is_current (book x).state k ≡ true → is_current (book m).state k ≡ false → DriveWentFrom (moment_of x) (moment_of m) k
   pub leaves : x.bay.traced → (a : FlatArray) → Holds x a → LeavesNew x m (λ i. MeansFormer x m place a i)
-
--- contents in sectors that aren't spent later either
-fewer_spent : (x m y : View) (place : ℕ) (a : FlatArray) (i : Image) → y.linear ≡ m.linear → ((s : ℕ) → is_spent y s ≡ false → is_spent m s ≡ false)
-    → MeansFormer x m place a i → MeansFormer x y place a i
-fewer_spent x m y place a i linear fewer (inl was) = inl (was.0, by x.slices was.1)
-  where
-    by : (t : Slices) → MeansBy t m a i → MeansBy t y a i
-    by t means s low alive = subst (λ (l : Linear). MayLeave (a.values s) (contents_in t l i s)) (sym linear) (means s low (fewer s alive))
-fewer_spent x m y place a i linear fewer (inr without) = inr (without.0, without.1, by without.0 without.2)
-  where
-    by : (t : Slices) → MeansBy t m a i → MeansBy t y a i
-    by t means s low alive = subst (λ (l : Linear). MayLeave (a.values s) (contents_in t l i s)) (sym linear) (means s low (fewer s alive))
-
--- by slices that lie where they lay
-former_from : (x m y : View) (place : ℕ) (a : FlatArray) (i : Image) → m.slices ≡ x.slices → is_current (book x).state place ≡ true → MeansFormer m y place a i → MeansFormer x y place a i
-former_from x m y place a i same was (inl means) = inl (was, subst (λ t. MeansBy t y a i) same means.1)
-former_from x m y place a i same was (inr without) = inr (without.0, subst (λ t. Seats t without.0 place None) same without.1, without.2)
 
 -- A disk that is taken in at once, where the place's drive is missing.
 pub at_once : (x y : View) (place disk : ℕ) (r : Result (Unit {0}) GrowFault) → is_current (book x).state place ≡ false → refusal_of x.linear (book x) place (x.bay.sectors disk) ≡ None
@@ -97,7 +81,13 @@ at_once x y place disk r missing admits by = record {
   keeps = by.keeps;
   kept = by.kept;
   outside = by.outside;
-  retired = λ none. by.retired (inl none);
+  retired = λ k d low gone seat other.
+      elim (cases_eq k place) [
+        | inl same ↦ by.retired (inl missing) d (subst (λ p. seat_of x.slices p ≡ Some d) same seat) other
+        | inr away ↦
+            absurd (both_ways (is_current (book x).state k) gone
+            (others_current (book x).state place (admitted x.linear (book x) place (x.bay.sectors disk) admits).whole k low away))
+      ];
   bare = by.bare;
   laid = λ low all s v within unsliced left. elim (by.laid low all s v within unsliced left) [ inl before ↦ inl before | inr new ↦ inr (admits, new) ];
   names = by.names;
@@ -166,6 +156,24 @@ module _ (x m : View) (place disk many : ℕ) (fit : (volume x).fit) (ordered : 
   made : (book m).state.made ≡ (book x).state.made
   made = ready.marks.same.made
 
+  -- each place of the list is current before
+  all_current : (k : ℕ) → k < length (book x).state.drives.items → is_current (book x).state k ≡ true
+  all_current k inside = elim (cases_eq k place) [
+    | inl same ↦ subst (λ p. is_current (book x).state p ≡ true) (sym same) was
+    | inr away ↦ others_current (book x).state place here.whole k inside away
+  ]
+
+  -- the table that the disk is to have is the same
+  same_table : table_on m place disk ≡ table_on x place disk
+  same_table =
+      let before = fit.0.running in
+      let after = ready.continues.fit.0.running in
+      let alike = same_views x.arrays m.arrays (slices_shown x) (slices_shown m) before after ready.marks ready.arrays place in
+      ap (λ n. new_table (book m).state (views_of (book m)) place n) (ready.continues.sectors disk low)
+      ∙ ap (λ (e : Id). drive_table e.0 (views_of (book m)) place (x.bay.sectors disk) (length (views_of (book m)))) (next_same (book x).state (book m).state ready.marks)
+      ∙ ap (λ n. drive_table (next_drive (book x).state).0 (views_of (book m)) place (x.bay.sectors disk) n) alike.count
+      ∙ table_same x.arrays m.arrays (slices_shown x) (slices_shown m) before after ready.marks ready.arrays place (next_drive (book x).state).0 (x.bay.sectors disk) (length (views_of (book x)))
+
   unsliced : (s : ℕ) (v : List ℕ) → IsSliced x.slices disk s v → ⊥
   unsliced s v is = free _ (seat_is x.slices is.slice is.at ordered is.within ∙ ap Some (sym is.disk_is))
 
@@ -189,6 +197,20 @@ module _ (x m : View) (place disk many : ℕ) (fit : (volume x).fit) (ordered : 
       let d = disk_of x.slices (log_slice k) in
       rose_since (ready.continues.faults d (low_of k current)) (subst (λ t. Rose (m.bay.faults (disk_of t (log_slice k))) (y.bay.faults (disk_of t (log_slice k)))) ready.slices rose)
 
+  -- a fault from before
+  rose_then : (y : View) (k : ℕ) → is_current (book x).state k ≡ true → Continues m y → DriveWentFrom (moment_of x) (moment_of m) k → DriveWentFrom (moment_of x) (moment_of y) k
+  rose_then y k current go rose =
+      rose_before (go.faults (disk_of x.slices (log_slice k)) (let inside = low_of k current in let equal = ready.disks in omega (arith, inside, equal))) rose
+
+  -- the place's drive was found gone: meanwhile, or after that
+  unread_then : (y : View) → Continues m y → IsUnread x m place → IsUnread x y place
+  unread_then y go (inl missing) = inl missing
+  unread_then y go (inr rose) = inr (rose_then y place was go rose)
+
+  unread_from : (y : View) → Continues m y → IsUnread m y place → DriveWent x y place
+  unread_from y go (inl gone) = rose_then y place was go (ready.cause place was gone)
+  unread_from y go (inr rose) = rose_from y place was go rose
+
   -- ---- another drive is missing, and it ends there
 
   pub short : has_other_missing (book m).state place ≡ true → many ≤ 306 → Declines x m place disk → ReplacesBy x m place disk (Err NotWhole)
@@ -202,7 +224,7 @@ module _ (x m : View) (place disk many : ℕ) (fit : (volume x).fit) (ordered : 
         keeps = book_but place (book x) (book m) ready.keeps;
         kept = ready.keeps;
         outside = ready.outside;
-        retired = λ missing. absurd (both_ways (is_current (book x).state place) missing was);
+        retired = λ k d inside missing. absurd (both_ways (is_current (book x).state k) missing (all_current k inside));
         bare = λ d seat other. inl ready.slices;
         laid = λ inside all s v within out may. elim (ready.laid inside all s v within (unsliced s) may) [ inl before ↦ inl before | inr new ↦ inr (admits, new) ];
         names = ready.names;
@@ -314,9 +336,7 @@ module _ (x m : View) (place disk many : ℕ) (fit : (volume x).fit) (ordered : 
       cause = λ k current gone.
           elim (cases_Bool (is_current (book m).state k)) [
             | inl still ↦ rose_from y k current go (is.cause k still gone)
-            | inr early ↦
-                let d = disk_of x.slices (log_slice k) in
-                rose_before (go.faults d (let inside = low_of k current in let equal = ready.disks in omega (arith, inside, equal))) (ready.cause k current early)
+            | inr early ↦ rose_then y k current go (ready.cause k current early)
           ];
       slices = elim is.slices [ inl same ↦ inl (same ∙ ready.slices) | inr gave ↦ inr (gave.0, gave.1, subst (λ t. Seats t y.slices place None) ready.slices gave.2) ];
       unmarked = λ gone missing. absurd (both_ways (is_current (book x).state place) missing was);
@@ -345,13 +365,13 @@ module _ (x m : View) (place disk many : ℕ) (fit : (volume x).fit) (ordered : 
           kept = kept_from r by.declined by.kept;
           outside = outside_fewer x.slices y.slices (λ d. (d ≡ disk) ⊎ (d ≡ disk)) (λ d. d ≡ disk) x.shelf.told x.bay y.bay (λ d is. elim is [ inl one ↦ one | inr one ↦ one ])
               (outside_then x m y (λ d. d ≡ disk) (λ d. d ≡ disk) ready.continues by.continues ready.outside by.outside);
-          retired = λ none. absurd (both_ways (is_current (book x).state place) none was);
+          retired = λ k d inside missing. absurd (both_ways (is_current (book x).state k) missing (all_current k inside));
           bare = λ d seat other.
               elim (by.bare d (subst (λ t. seat_of t place ≡ Some d) (sym ready.slices) seat) other) [ inl same ↦ inl (same ∙ ready.slices) | inr bare ↦ inr bare ];
           laid = λ first all s v within out may.
               elim (by.laid inside (known all) s v (subst (λ n. s < n) (sym size) within) out may) [
                 | inl before ↦ elim (ready.laid first all s v within (unsliced s) before) [ inl old ↦ inl old | inr new ↦ inr (admits, new) ]
-                | inr new ↦ inr (admits, subst (λ n. IsLaid disk n disk s v) size new)
+                | inr new ↦ inr (admits, subst (λ e. IsLaid disk e disk s v) same_table new)
               ];
           names = by.names ∙ ready.names;
           disks = by.disks ∙ ready.disks;
@@ -370,7 +390,7 @@ module _ (x m : View) (place disk many : ℕ) (fit : (volume x).fit) (ordered : 
               elim (cases_lt m.bay.clock k) [
                 | inl now ↦
                     elim (by.leaves (ready.continues.traced holds.shelf traced) a (holds_of x m ready.continues ready.carries a holds) k i now until stopped) [
-                      | inl former ↦ inl (former_from x m y place a i ready.slices was former)
+                      | inl former ↦ inl (former_from x m y place a i ready.slices was (unread_from y by.continues) former)
                       | inr means ↦ inr means
                     ]
                 | inr past ↦ inl (early by traced a holds k i since past stopped)
@@ -380,7 +400,7 @@ module _ (x m : View) (place disk many : ℕ) (fit : (volume x).fit) (ordered : 
       where
         early : TakesBy m y place disk r → x.bay.traced → (a : FlatArray) → Holds x a → (k : ℕ) (i : Image) → x.bay.clock < k → k ≤ m.bay.clock → y.bay.stops k i → MeansFormer x y place a i
         early by traced a holds k i since past stopped =
-            fewer_spent x m y place a i by.continues.linear by.carries.spent
+            fewer_spent x m y place a i by.continues.linear by.carries.spent (unread_then y by.continues)
             (ready.leaves traced a holds k i since past (by.continues.past (ready.continues.told holds.shelf) (ready.continues.traced holds.shelf traced) k i past stopped))
 
         left_from : (r : Result (Unit {0}) GrowFault) → IfErr r (λ e. Declines x y place disk) → IfErr r (λ e. StaysStill x y ⊎ Declines x y place disk)
@@ -408,12 +428,12 @@ module _ (x m : View) (place disk many : ℕ) (fit : (volume x).fit) (ordered : 
             elim (cases_lt m.bay.clock k) [
               | inl now ↦
                   elim (moments (ready.continues.traced holds.shelf traced) a (holds_of x m ready.continues ready.carries a holds) k i now until stopped) [
-                    | inl former ↦ inl (former_from x m y place a i ready.slices was former)
+                    | inl former ↦ inl (former_from x m y place a i ready.slices was (unread_from y by.continues) former)
                     | inr means ↦ inr (means.0, λ s inside alive. subst (λ (e : Table). HoldsTable disk e i) (sym table_is) (means.1 s inside alive))
                   ]
               | inr past ↦
                   inl
-                  (fewer_spent x m y place a i by.continues.linear by.carries.spent
+                  (fewer_spent x m y place a i by.continues.linear by.carries.spent (unread_then y by.continues)
                   (ready.leaves traced a holds k i since past (by.continues.past (ready.continues.told holds.shelf) (ready.continues.traced holds.shelf traced) k i past stopped)))
             ]
 
@@ -439,7 +459,7 @@ module _ (x m : View) (place disk many : ℕ) (fit : (volume x).fit) (ordered : 
         laid = λ first all s v within out may.
             elim (by.laid inside (known all) s v (subst (λ n. s < n) (sym size) within) (λ w is. out w (subst (λ t. IsSliced t disk s w) (same ∙ ready.slices) is)) may) [
               | inl before ↦ ready.laid first all s v within out before
-              | inr new ↦ inr (subst (λ n. IsLaid disk n disk s v) size new)
+              | inr new ↦ inr (subst (λ e. IsLaid disk e disk s v) same_table new)
             ];
         names = by.names ∙ ready.names;
         disks = by.disks ∙ ready.disks;
@@ -449,19 +469,17 @@ module _ (x m : View) (place disk many : ℕ) (fit : (volume x).fit) (ordered : 
         cause = λ k before gone.
             elim (cases_Bool (is_current (book m).state k)) [
               | inl still ↦ rose_from y k before by.continues (by.declined.cause k still gone)
-              | inr early ↦
-                  let d = disk_of x.slices (log_slice k) in
-                  rose_before (by.continues.faults d (let first = low_of k before in let equal = ready.disks in omega (arith, first, equal))) (ready.cause k before early)
+              | inr early ↦ rose_then y k before by.continues (ready.cause k before early)
             ];
         leaves = λ traced a holds k i since until stopped.
             elim (cases_lt m.bay.clock k) [
               | inl now ↦
                   elim (by.leaves (ready.continues.traced holds.shelf traced) a (holds_of x m ready.continues ready.carries a holds) k i now until stopped) [
-                    | inl former ↦ former_from x m y place a i ready.slices was former
+                    | inl former ↦ former_from x m y place a i ready.slices was (unread_from y by.continues) former
                     | inr means ↦ inl (was, subst (λ t. MeansBy t y a i) (same ∙ ready.slices) means)
                   ]
               | inr past ↦
-                  fewer_spent x m y place a i by.continues.linear by.carries.spent
+                  fewer_spent x m y place a i by.continues.linear by.carries.spent (unread_then y by.continues)
                   (ready.leaves traced a holds k i since past (by.continues.past (ready.continues.told holds.shelf) (ready.continues.traced holds.shelf traced) k i past stopped))
             ];
       }

@@ -1,13 +1,13 @@
 -- What a call of a pool keeps, by what the calls of its parts say.
 use Rattle.std.specs.Prelude.{unwrap_or}
-use Rattle.std.proofs.Common.{◌≡◌, ℕ, ◌+◌, ◌*◌, not, false, refl, sym, ap, subst, ◌∙◌, inl, inr, arith}
+use Rattle.std.proofs.Common.{◌≡◌, ℕ, ◌+◌, ◌*◌, ◌<◌, not, false, refl, sym, ap, subst, ◌∙◌, inl, inr, arith}
 use Rattle.std.proofs.lemmas.Bool.{both_ways, and_left, cases_Bool}
-use Rattle.rack.specs.Seen.{Rose, Stays}
-use Rattle.rack.specs.Joins.{rose_before, rose_since, stays_same, stays_then}
+use Rattle.rack.specs.Seen.{IsLive, Rose, Stays}
+use Rattle.rack.specs.Joins.{keeps_same, keeps_then, rose_before, rose_since, stays_same, stays_then}
 use Rattle.rack.specs.Sequences.{WritesOnly}
 use Rattle.rack.specs.Shelf.{KeepsShelf, keeps_shelf_same, keeps_shelf_then}
 use Rattle.rack.proofs.Writing.{only_none, only_then}
-use Rattle.slice_rack.specs.Slices.{Slices, disk_of, seat_of, sectors_of}
+use Rattle.slice_rack.specs.Slices.{Slices, disk_of, first_of, place_of, seat_of, sectors_of}
 use Rattle.slice_rack.specs.Runs.{IsSliced, Runs}
 use Rattle.array_image.specs.Places.{log_slice}
 use Rattle.array_image.specs.States.{is_current}
@@ -16,10 +16,11 @@ use Rattle.array_model.specs.View.{HasFault as HasDriveFault}
 use Rattle.lvm_group.specs.Framed.{IsShown}
 use Rattle.lvm_group.specs.Runs.{Linear}
 use Rattle.raid_rack.specs.Book.{IsAfter, after_same, after_then}
-use Rattle.raid_rack.specs.Moves.{AreCaused}
+use Rattle.raid_rack.specs.Moves.{AreCaused, KeepsMarked}
 use Rattle.raid_rack.specs.Raid.{Raid, gone_in, is_left}
 use Rattle.raid_rack.specs.Runs.{KeepsMoments, moments_same, moments_then}
 use Rattle.raid_rack.specs.Truths.{KeepsTruths}
+use Rattle.raid_rack.proofs.Moving.{marked_later}
 use Rattle.raid_rack.proofs.Truths.{truths_then}
 use Rattle.raid_rack.proofs.Whole.{heeded_left}
 use Rattle.pool.specs.View.{View, arrays_shown, book, slices_shown, volume}
@@ -27,6 +28,31 @@ use Rattle.pool.proofs.Booked.{book_same, book_then}
 use Rattle.raid_rack.proofs.Raises.{raises_more, raises_then}
 use Rattle.pool.specs.Keeping.{KeepsBook, Raises, most_raised}
 use Rattle.pool.specs.Calls.{DriveWent, Marks, MarksBut, Passes}
+
+-- A drive that is marked missing isn't written again in two calls either.
+unwritten_then : (x y z : View) → y.slices ≡ x.slices → z.slices ≡ y.slices → Stays x.bay y.bay → Stays y.bay z.bay → IsAfter (book x).state (book y).state
+    → KeepsMarked (book x) (slices_shown x) (slices_shown y) → KeepsMarked (book y) (slices_shown y) (slices_shown z) → KeepsMarked (book x) (slices_shown x) (slices_shown z)
+unwritten_then x y z same later first second marks one two d t live gone =
+    keeps_then ((slices_shown x).held d t) ((slices_shown y).held d t) ((slices_shown z).held d t) (one d t before gone)
+    (two d t after (marked_later (book x).state (book y).state (place_of d) marks gone))
+  where
+    before : IsLive (slices_shown x) (slices_shown y) d t
+    before = record {
+      disk = live.disk;
+      sector = subst (λ (k : Slices). t < sectors_of k d) later live.sector;
+      is_told = live.is_told;
+      unspent =
+          second.spent (disk_of y.slices d) (first_of y.slices d + t)
+          (subst (λ (k : Slices). z.bay.spent (disk_of k d) (first_of k d + t) ≡ false) later live.unspent);
+    }
+
+    after : IsLive (slices_shown y) (slices_shown z) d t
+    after = record {
+      disk = live.disk;
+      sector = live.sector;
+      is_told = subst (λ (k : Slices). y.bay.told (disk_of k d)) (sym same) (first.told (disk_of x.slices d) live.is_told);
+      unspent = live.unspent;
+    }
 
 -- no call
 pub passes_same : (x : View) → (volume x).fit → Passes x x
@@ -38,6 +64,7 @@ passes_same x fit = record {
   book = book_same (book x);
   truths = λ n low held. held;
   moments = moments_same (book x) (slices_shown x);
+  unwritten = λ d t live gone. keeps_same ((slices_shown x).held d t);
   arrays = only_none (arrays_shown x) (IsShown x.linear) fit.0;
   apart = only_none x.bay (IsSliced x.slices) fit.0.running.set.fit.0;
   shelf = keeps_shelf_same x.shelf;
@@ -50,8 +77,8 @@ marks_same x lost place was now = absurd (both_ways (is_current (book x).state p
 pub passes_of : {own : Type 0} (x y : View) → (volume x).fit → Stays (volume x) (volume y) → y.linear ≡ x.linear
     → Runs x.slices y.slices x.bay y.bay own → IsAfter (book x).state (book y).state → KeepsBook (book x) (book y)
     → KeepsTruths (book x) (book y) (slices_shown x) (slices_shown y) → KeepsMoments (book x) (book y) (slices_shown x) (slices_shown y)
-    → WritesOnly (arrays_shown x) (arrays_shown y) (IsShown x.linear) → KeepsShelf x.shelf y.shelf → Passes x y
-passes_of x y fit stays same runs marks keeps truths moments arrays shelf = record {
+    → KeepsMarked (book x) (slices_shown x) (slices_shown y) → WritesOnly (arrays_shown x) (arrays_shown y) (IsShown x.linear) → KeepsShelf x.shelf y.shelf → Passes x y
+passes_of x y fit stays same runs marks keeps truths moments unwritten arrays shelf = record {
   stays = stays;
   linear = same;
   slices = runs.tables;
@@ -59,6 +86,7 @@ passes_of x y fit stays same runs marks keeps truths moments arrays shelf = reco
   book = keeps;
   truths = truths;
   moments = moments;
+  unwritten = unwritten;
   arrays = arrays;
   apart = runs.apart fit.0.running.set.fit.0 fit.0.running.set.fit.1;
   shelf = shelf;
@@ -96,6 +124,7 @@ passes_then x y z one two = record {
   moments =
       moments_then (book x) (book y) (book z) (slices_shown x) (slices_shown y) (slices_shown z) one.moments two.moments one.marks two.marks
       (λ d. ap (λ (t : Slices). sectors_of t d) one.slices) one.apart.stays.traced;
+  unwritten = unwritten_then x y z one.slices two.slices one.apart.stays two.apart.stays one.marks one.unwritten two.unwritten;
   arrays = only_then (IsShown x.linear) one.arrays (subst (λ (l : Linear). WritesOnly (arrays_shown y) (arrays_shown z) (IsShown l)) one.linear two.arrays);
   apart = only_then (IsSliced x.slices) one.apart (subst (λ (t : Slices). WritesOnly y.bay z.bay (IsSliced t)) one.slices two.apart);
   shelf = keeps_shelf_then x.shelf y.shelf z.shelf one.shelf two.shelf;

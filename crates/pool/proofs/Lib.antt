@@ -19,6 +19,7 @@ mod Taken
 pub mod Enlisted
 pub mod Readying
 mod Entered
+mod Former
 mod Giving
 mod Ways
 mod Cleaning

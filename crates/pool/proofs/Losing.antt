@@ -133,7 +133,7 @@ lose_done seen shelf runs laws names p raid place fit current lost =
     let stays = reached_stays seen shelf p raid fit lost.keeps in
     let keeps = book_noted (book x) (book y) (slices_shown x) (slices_shown y) (place ∷ []) fit.0.running.set stays.fit.0.running.set
     stays.fit.0.heeded lost.mends.moves.book.same.made lost.mends.moves.arrays in
-    let passes = passes_of x y fit stays refl lost.ran lost.mends.moves.book keeps lost.truths lost.moments
+    let passes = passes_of x y fit stays refl lost.ran lost.mends.moves.book keeps lost.truths lost.moments lost.mends.moves.unwritten
     (only_quiet (IsShown x.linear) lost.keeps.stays lost.keeps.keeps) (names (bay_in p) (below_of (slices_in raid)) lost.ran.below) in
     record {
       passes = passes;

@@ -16,7 +16,7 @@ use Rattle.lvm_group.specs.Volume.{linear}
 use Rattle.rack.specs.Several.{Several}
 use Rattle.raid_rack.specs.AllRuns.{AreRuns, IsOneCall}
 use Rattle.raid_rack.specs.Laws.{raid_sound, stops_inside}
-use Rattle.raid_rack.specs.Moves.{AreCaused}
+use Rattle.raid_rack.specs.Moves.{AreCaused, KeepsMarked}
 use Rattle.raid_rack.specs.Book.{IsAfter}
 use Rattle.raid_rack.specs.Runs.{KeepsMoments}
 use Rattle.raid_rack.specs.Truths.{KeepsTruths}
@@ -70,11 +70,12 @@ pub is_call : {R : Type 0} (seen : R → Seen) (shelf : R → Shelf) (runs : R �
     → KeepsBook (raid_in (arrays_of p)) (raid_in (arrays_of q))
     → KeepsTruths (raid_in (arrays_of p)) (raid_in (arrays_of q)) (slices_seen seen (arrays_of p)) (slices_seen seen (arrays_of q))
     → KeepsMoments (raid_in (arrays_of p)) (raid_in (arrays_of q)) (slices_seen seen (arrays_of p)) (slices_seen seen (arrays_of q))
+    → KeepsMarked (raid_in (arrays_of p)) (slices_seen seen (arrays_of p)) (slices_seen seen (arrays_of q))
     → WritesOnly (raid_seen seen (arrays_of p)) (raid_seen seen (arrays_of q)) (IsShown (linear p.volume))
     → Raises calls (view seen shelf p) (view seen shelf q)
     → IsCall calls (view seen shelf p) (view seen shelf q)
-is_call seen shelf runs laws names calls p q fit stays same ran marks caused keeps truths moments arrays raises = record {
-  passes = passes_of (view seen shelf p) (view seen shelf q) fit stays same ran marks keeps truths moments arrays
+is_call seen shelf runs laws names calls p q fit stays same ran marks caused keeps truths moments unwritten arrays raises = record {
+  passes = passes_of (view seen shelf p) (view seen shelf q) fit stays same ran marks keeps truths moments unwritten arrays
       (names (bay_in p) (bay_in q) ran.below);
   raises = raises;
   marks = marks_of (view seen shelf p) (view seen shelf q) fit ran.tables caused;
@@ -95,7 +96,7 @@ volume_call seen shelf runs laws names p q fit stays frames ran several =
     let most = fit.0.running.set.most in
     is_call seen shelf runs laws names 1 p q fit stays frames.volume ran.0 ran.1.book ran.1.caused
     (book_lost v w (slices_seen seen (arrays_of q)) running.running.set running.heeded ran.1.book.same.made ran.2.arrays)
-    ran.1.truths ran.1.moments (frames.writes fit.0)
+    ran.1.truths ran.1.moments ran.1.unwritten (frames.writes fit.0)
     (several_raise (1 + (linear p.volume).arrays) most_raised (arrays_of p) (arrays_of q) (omega (arith, disks, most)) several)
 
 -- no call

@@ -16,7 +16,7 @@ use Rattle.array_image.specs.States.{is_current}
 use Rattle.lvm_group.specs.Runs.{IsOrderly as IsOrderlyVolume}
 use Rattle.raid_rack.specs.declared.arrays.Arrays.{Arrays}
 use Rattle.raid_rack.specs.Book.{after_same}
-use Rattle.raid_rack.specs.Enlisting.{IsNotWhole, IsRefused, IsWrittenBy}
+use Rattle.raid_rack.specs.Enlisting.{IsNotWhole, IsRefused, IsWrittenBy, new_table}
 use Rattle.raid_rack.specs.Losing.{arrays_same}
 use Rattle.raid_rack.specs.Moves.{IsSet}
 use Rattle.raid_rack.specs.NewDrive.{IsOfDrive}
@@ -28,7 +28,7 @@ use Rattle.raid_rack.proofs.Whole.{heeded_left}
 use Rattle.pool.specs.declared.replacing.GrowFault.{GrowFault}
 use Rattle.pool.specs.declared.replacing.GrowFault.TheVariants.{Gone, NotWhole}
 use Rattle.pool.specs.Continuing.{Continues, KeepsDisk, KeepsOutside, NoDisk}
-use Rattle.pool.specs.Entering.{IsVacating, LeavesOut, Vacates}
+use Rattle.pool.specs.Entering.{IsVacating, LeavesOut, Vacates, table_on}
 use Rattle.pool_state.specs.declared.contents.State.{State}
 use Rattle.commit_log.proofs.Kept.{place_of_log}
 use Rattle.rack.specs.Joins.{keeps_same}
@@ -44,6 +44,7 @@ use Rattle.pool.proofs.Carrying.{carries_kept, carries_same, carries_then, holds
 use Rattle.pool.proofs.Continuing.{continues_same, continues_then, outside_fewer, outside_then, outside_writes}
 use Rattle.pool.proofs.Keeping.{not_left, went}
 use Rattle.pool.proofs.Later.{inside_later, later, moved, only_read}
+use Rattle.pool.proofs.Shown.{views_are}
 use Rattle.pool.proofs.Vacating.{bay_continues, without_carries, without_continues, without_outside}
 use Rattle.raid_rack.proofs.Truths.{truths_reads}
 
@@ -79,6 +80,10 @@ module _ (x : View) (b : Seen) (s : Shelf) (place disk : ℕ) (t : Slices) (line
     (now : IsBay b s) (names : KeepsShelf x.shelf s) (ordered : IsOrderly x.slices) (orderly : IsOrderly t) (admits : IsAdmitted (book x) place (x.bay.sectors disk)) where
   abbrev mid : View
   mid = later x x.bay x.shelf t x.arrays
+
+  -- the table that it is to have, by the list of arrays
+  table_is : new_table x.arrays.state x.arrays.all.items place (x.bay.sectors disk) ≡ table_on x place disk
+  table_is = ap (λ vs. new_table x.arrays.state vs place (x.bay.sectors disk)) (sym (views_are x.arrays fit.0.running.count))
 
   -- the tables from which it is taken in
   abbrev pub vacates : Vacates x place disk
@@ -150,9 +155,9 @@ module _ (x : View) (b : Seen) (s : Shelf) (place disk : ℕ) (t : Slices) (line
   retired_by may only d seat never = kept_disk x.shelf.told x.bay b may d only now.unspent (fit.0.running.set.fit.1.seats place d seat) never
 
   -- what is left on the disk outside the slices
-  pub laid_by : (u : Slices) → WritesOnly x.bay b (IsWrittenBy u disk (x.bay.sectors disk)) → disk < x.bay.disks → AreTold x
+  pub laid_by : (u : Slices) → WritesOnly x.bay b (IsWrittenBy u disk (table_on x place disk)) → disk < x.bay.disks → AreTold x
       → (k : ℕ) (v : List ℕ) → k < x.bay.sectors disk → ((w : List ℕ) → IsSliced u disk k w → ⊥) → MayLeave (b.held disk k) v
-      → MayLeave (x.bay.held disk k) v ⊎ IsOfDrive disk (x.bay.sectors disk) disk k v
+      → MayLeave (x.bay.held disk k) v ⊎ IsOfDrive disk (table_on x place disk) disk k v
   laid_by u only low all k v within unsliced left =
       elim (only.within disk k v live left) [
         | inl before ↦ inl before
@@ -190,12 +195,13 @@ module _ (x : View) (b : Seen) (s : Shelf) (place disk : ℕ) (t : Slices) (line
 
   -- ---- it refused a call
 
-  pub taken_gone : IsRefused t disk (book x) x.bay b → ((p : ℕ) → seat_of t p ≢ Some disk)
+  pub taken_gone : IsRefused t disk (new_table x.arrays.state x.arrays.all.items place (x.bay.sectors disk)) (book x) x.bay b → ((p : ℕ) → seat_of t p ≢ Some disk)
       → IsFit x.arrays (slices_of t b) → TakesBy x (later x b s t x.arrays) place disk (Err Gone)
-  taken_gone refused free after =
+  taken_gone by_list free after =
+      let refused = subst (λ e. IsRefused t disk e (book x) x.bay b) table_is by_list in
       let only = refused.only in
       let y = later x b s t x.arrays in
-      let may : ℕ → ℕ → List ℕ → Type 0 = IsOfDrive disk (x.bay.sectors disk) in
+      let may : ℕ → ℕ → List ℕ → Type 0 = IsOfDrive disk (table_on x place disk) in
       let reads = reads_apart t x.bay b disk may orderly empty.running.set.fit.1 only (λ d k v at. at.0) free in
       let both = only_read mid b s linear mid_fit after reads in
       let fit_now : (volume y).fit = (after, inside_later x b s t x.arrays fit refl (λ n. refl)) in
@@ -208,7 +214,7 @@ module _ (x : View) (b : Seen) (s : Shelf) (place disk : ℕ) (t : Slices) (line
         kept = book_same (book x);
         outside = outside_of_it t x.arrays may only fit_now orderly (λ d k v at. inr at.0) (λ d k v is. inl is);
         retired = λ why d seat other. retired_by may only d seat (λ k v at. other at.0);
-        laid = laid_by t (only_weaker may (IsWrittenBy t disk (x.bay.sectors disk)) (λ d k v own. inl own) only);
+        laid = laid_by t (only_weaker may (IsWrittenBy t disk (table_on x place disk)) (λ d k v own. inl own) only);
         names = names.names;
         bare = bare_left t refl;
         disks = only.stays.disks;
@@ -237,12 +243,14 @@ module _ (x : View) (b : Seen) (s : Shelf) (place disk : ℕ) (t : Slices) (line
 
   -- ---- another drive was found gone
 
-  pub taken_lost : (z : Arrays) → IsNotWhole t disk (book x) (raid_by z) x.bay b → IsFit z (slices_of t b) → TakesBy x (later x b s t z) place disk (Err NotWhole)
-  taken_lost z lost after =
+  pub taken_lost : (z : Arrays) → IsNotWhole t disk (new_table x.arrays.state x.arrays.all.items place (x.bay.sectors disk)) (book x) (raid_by z) x.bay b → IsFit z (slices_of t b)
+      → TakesBy x (later x b s t z) place disk (Err NotWhole)
+  taken_lost z by_list after =
+      let lost = subst (λ e. IsNotWhole t disk e (book x) (raid_by z) x.bay b) table_is by_list in
       let only = lost.only in
       let mends = lost.mends in
       let y = later x b s t z in
-      let may : ℕ → ℕ → List ℕ → Type 0 = IsWrittenBy t disk (x.bay.sectors disk) in
+      let may : ℕ → ℕ → List ℕ → Type 0 = IsWrittenBy t disk (table_on x place disk) in
       let moves = mends.moves in
       let both = moved mid b s t z linear mid_fit after moves in
       let fit_now : (volume y).fit = (after, inside_later x b s t z fit moves.book.same.made moves.sectors) in

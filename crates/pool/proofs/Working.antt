@@ -110,7 +110,7 @@ module _ {R : Type 0} (seen : R → Seen) (shelf : R → Shelf) (runs : R → R 
 
   pub worked_call : (laws : Laws seen) (names : KeepNames shelf runs) (count : ℕ) (p q : Pool R) → (volume (view seen shelf p)).fit → IsWorked seen runs count p q → IsCall count (view seen shelf p) (view seen shelf q)
   worked_call laws names count p q fit worked =
-      is_call seen shelf runs laws names count p q fit (worked_stays count p q fit worked) worked.linear worked.ran worked.book.book worked.book.caused worked.arrays worked.book.truths worked.book.moments
+      is_call seen shelf runs laws names count p q fit (worked_stays count p q fit worked) worked.linear worked.ran worked.book.book worked.book.caused worked.arrays worked.book.truths worked.book.moments worked.book.unwritten
       (only_quiet (IsShown (linear p.volume)) worked.keeps.stays worked.keeps.keeps) worked.raises
 
   pub worked_does : (laws : Laws seen) (names : KeepNames shelf runs) (count : ℕ) (p q : Pool R) → (volume (view seen shelf p)).fit → IsWorked seen runs count p q

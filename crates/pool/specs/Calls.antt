@@ -17,6 +17,7 @@ use Rattle.lvm_group.specs.Framed.{IsShown}
 use Rattle.raid_rack.specs.Agreeing.{AgreeLeaving}
 use Rattle.raid_rack.specs.Book.{IsAfter}
 use Rattle.raid_rack.specs.Losses.{has_other}
+use Rattle.raid_rack.specs.Moves.{KeepsMarked}
 use Rattle.raid_rack.specs.Raid.{IsTold, is_over}
 use Rattle.raid_rack.specs.Runs.{KeepsMoments}
 use Rattle.raid_rack.specs.Truths.{KeepsTruths}
@@ -41,6 +42,8 @@ pub record Passes (x y : View) : Type 0 where
   -- superblocks that said an array's truth do so after it
   pub truths : KeepsTruths (book x) (book y) (slices_shown x) (slices_shown y)
   pub moments : KeepsMoments (book x) (book y) (slices_shown x) (slices_shown y)
+  -- a drive that is marked missing isn't written again
+  pub unwritten : KeepsMarked (book x) (slices_shown x) (slices_shown y)
   pub book : KeepsBook (book x) (book y)
   pub arrays : WritesOnly (arrays_shown x) (arrays_shown y) (IsShown x.linear)
   pub apart : WritesOnly x.bay y.bay (IsSliced x.slices)

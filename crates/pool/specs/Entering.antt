@@ -5,7 +5,8 @@ use Rattle.slice_rack.specs.Changes.{Seats}
 use Rattle.slice_rack.specs.Sliced.{slices_of}
 use Rattle.slice_rack.specs.Slices.{IsOrderly, Slices, seat_of}
 use Rattle.array_image.specs.States.{is_current}
-use Rattle.raid_rack.specs.Enlisting.{Enlists, IsNotWhole, IsRefused}
+use Rattle.gpt_table.specs.declared.Table.{Table}
+use Rattle.raid_rack.specs.Enlisting.{Enlists, IsNotWhole, IsRefused, new_table}
 use Rattle.raid_rack.specs.declared.arrays.Arrays.{Arrays}
 use Rattle.raid_rack.specs.Moves.{KeepsArrays, RaisesBy}
 use Rattle.raid_rack.specs.NewDrive.{SeatsDrive}
@@ -22,6 +23,10 @@ use Rattle.pool.specs.View.{View, book, slices_shown}
 abbrev pub IsVacating : View → ℕ → Slices → Type 0
 IsVacating x place t =
     ((is_current (book x).state place ≡ false) × Seats x.slices t place None) ⊎ ((is_current (book x).state place ≡ true) × (t ≡ x.slices))
+
+-- the table that a disk is to have which is taken in at a place
+abbrev pub table_on : View → (place disk : ℕ) → Table
+table_on x place disk = new_table (book x).state (views_of (book x)) place (x.bay.sectors disk)
 
 -- Nothing is against taking a disk in at a place, and these are the tables from which it is. Nothing was called for them.
 pub record Vacates (x : View) (place disk : ℕ) : Type 0 where
@@ -45,13 +50,13 @@ pub record LaysAlone (x y : View) (place disk : ℕ) : Type 0 where
   pub vacates : Vacates x place disk
   pub slices : y.slices ≡ vacates.tables
   pub same : book y ≡ book x
-  pub refused : IsRefused vacates.tables disk (book x) x.bay y.bay
+  pub refused : IsRefused vacates.tables disk (table_on x place disk) (book x) x.bay y.bay
 
 -- A drive was found gone, and the disk isn't taken in. It may be the place's own, where that wasn't missing.
 pub record LeavesOut (x y : View) (place disk : ℕ) : Type 0 where
   pub vacates : Vacates x place disk
   pub slices : y.slices ≡ vacates.tables
-  pub not_whole : IsNotWhole vacates.tables disk (book x) (book y) x.bay y.bay
+  pub not_whole : IsNotWhole vacates.tables disk (table_on x place disk) (book x) (book y) x.bay y.bay
 
 -- it was laid and not taken in, for one of these reasons
 abbrev pub LeavesBy : View → View → (place disk : ℕ) → Type 0
@@ -101,9 +106,9 @@ pub record LeavesReady (x y : View) (place disk : ℕ) : Type 0 where
   pub readies : Readies x (meanwhile x bay arrays refused) place disk
   pub leaves : LeavesBy (meanwhile x bay arrays refused) y place disk
 
--- no time passed, and slices lie where they lay
+-- no time passed, slices lie where they lay, and the book is as it was
 abbrev pub StaysStill : View → View → Type 0
-StaysStill x y = (y.bay.clock ≡ x.bay.clock) × (y.slices ≡ x.slices)
+StaysStill x y = (y.bay.clock ≡ x.bay.clock) × (y.slices ≡ x.slices) × (book y ≡ book x)
 
 -- A disk was taken in at a place: at once where the place's drive was missing, and else from a pool that was made ready.
 abbrev pub Enters : View → View → (place disk : ℕ) → Type 0

@@ -1,5 +1,5 @@
 -- The drive of a place is replaced by the disk of a name: the whole call, and its steps.
-use Rattle.std.specs.Prelude.{◌≡◌, ◌⊎◌, ℕ, ◌<◌, List, length, Result, Ok, IfErr, OnOk}
+use Rattle.std.specs.Prelude.{◌⊎◌, ℕ, ◌<◌, List, length, Result, Ok, IfErr, OnOk}
 use Rattle.rack.specs.Seen.{Image}
 use Rattle.flat_array.specs.Array.{FlatArray}
 use Rattle.raid_rack.specs.Truths.{KeepsTruths}

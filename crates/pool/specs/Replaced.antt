@@ -1,7 +1,7 @@
 -- The drive of a place is replaced by the disk of a name: why it is refused, and what the pool is after it.
 use Rattle.std.specs.Prelude.{◌≡◌, ◌≢◌, ◌⊎◌, ◌↔◌, ℕ, ◌<◌, ◌≤◌, Bool, true, false, List, length, slice_get, Option, Some, None, option_map, Result, Ok, Err, nat_lt, if◌then◌else◌}
 use Rattle.std.specs.Option.{option_map_or}
-use Rattle.rack.specs.Values.{IsSingle, Keeps, MayLeave, Values}
+use Rattle.rack.specs.Values.{IsSingle, MayLeave, Values}
 use Rattle.rack.specs.Seen.{Image, Rose}
 use Rattle.flat_array.specs.Array.{FlatArray}
 use Rattle.gpt_table.specs.declared.Table.{Table}
@@ -17,7 +17,7 @@ use Rattle.slice_rack.specs.Slices.{Slices, disk_of, seat_of}
 use Rattle.slice_rack.specs.Changes.{Seats}
 use Rattle.slice_rack.specs.Runs.{IsSliced}
 use Rattle.raid_rack.specs.Book.{IsAfter}
-use Rattle.raid_rack.specs.Enlisting.{HoldsTable, enlisted, next_drive, with_drive}
+use Rattle.raid_rack.specs.Enlisting.{HoldsTable, enlisted, new_table, next_drive, with_drive}
 use Rattle.raid_rack.specs.Moves.{KeepsArrays}
 use Rattle.raid_rack.specs.NewDrive.{IsOfDrive as IsLaid, SeatsDrive, drive_table, joins}
 use Rattle.raid_rack.specs.Truths.{KeepsTruths}
@@ -25,6 +25,7 @@ use Rattle.shr_base.specs.Units.{units_of}
 use Rattle.pool.specs.declared.replacing.GrowFault.{GrowFault}
 use Rattle.pool.specs.declared.replacing.GrowFault.TheVariants.{NoSuchDrive, Attach, Twice, Memory, NotWhole, Gone}
 use Rattle.lvm_group.specs.Runs.{Linear}
+use Rattle.pool.specs.Calls.{DriveWent}
 use Rattle.pool.specs.Continuing.{KeepsDisk, KeepsOutside, NoDisk}
 use Rattle.pool.specs.Held.{KeepsHeld}
 use Rattle.pool.specs.Moment.{IsImage, IsNamed, Moment, moment_of, views_of}
@@ -70,6 +71,8 @@ HasMarkedOther p q place = (k : ℕ) × (k ≢ place) × (is_current p.book.stat
 pub record HasGrowCause (l : Linear) (p q : Moment) (place : ℕ) (name : List ℕ) (result : Result (Unit {0}) GrowFault) : Type 0 where
   pub missing : (result ≡ Err NoSuchDrive) ↔ (length p.book.state.drives.items ≤ place)
   pub attach : result ≡ Err Attach → Rose p.unattached q.unattached
+  -- an image that can't be attached, or not for want of memory, comes as no disk
+  pub none : (result ≡ Err Attach) ⊎ (result ≡ Err Memory) → q.disks ≡ p.disks
   -- a name that is attached is used
   pub used : (d : ℕ) → IsNamed p name d → (result ≢ Err Attach) × (result ≢ Err Memory)
   pub twice : (result ≡ Err Twice) ↔ ((place < length p.book.state.drives.items) × IsOfDrive p name)
@@ -91,7 +94,9 @@ MeansWithout x y place a i = (t : Slices) × Seats x.slices t place None × Mean
 
 -- By the slices of the pool as it was: as they lay, where the place's drive wasn't missing then, or without the place's disk, where it was, or was found gone.
 abbrev pub MeansFormer : View → View → ℕ → FlatArray → Image → Type 0
-MeansFormer x y place a i = ((is_current (book x).state place ≡ true) × MeansBy x.slices y a i) ⊎ MeansWithout x y place a i
+MeansFormer x y place a i =
+    ((is_current (book x).state place ≡ true) × MeansBy x.slices y a i)
+    ⊎ (((is_current (book x).state place ≡ false) ⊎ DriveWent x y place) × MeansWithout x y place a i)
 
 -- each stop since has left contents with this property
 abbrev pub LeavesNew : View → View → (Image → Type 0) → Type 0
@@ -154,12 +159,12 @@ pub record HasTable (x y : View) (place disk : ℕ) : Type 0 where
   pub durable :
       x.shelf.told → ((d : ℕ) → d < x.bay.disks → x.bay.told d) → (s : ℕ) → IsOfTable (y.bay.sectors disk) s → IsSingle (y.bay.held disk s)
 
--- A value that is laid in a sector of a new drive: zeros for the state, the first gate, or a sector of the tables. Nothing is against taking the
--- disk in, whose name is that of no drive.
+-- A value that is laid in a sector of a new drive: zeros for the state, the first gate, or what the table of the pool's next drive has there. Nothing is against
+-- taking the disk in, whose name is that of no drive.
 pub record IsLaidOn (l : Linear) (p : Moment) (place : ℕ) (name : List ℕ) (sectors d s : ℕ) (v : List ℕ) : Type 0 where
   pub admitted : refusal_of l p.book place sectors ≡ None
   pub other : IsOfDrive p name → ⊥
-  pub value : IsLaid d sectors d s v
+  pub value : IsLaid d (new_table p.book.state (views_of p.book) place sectors) d s v
 
 -- Outside the slices the disk of a name may be left with what its image held, and with what is laid on a new drive.
 abbrev pub KeepsImage : Linear → Moment → Moment → ℕ → List ℕ → Type 0
@@ -170,12 +175,6 @@ KeepsImage l p q place name =
     × ((s : ℕ) (v : List ℕ) → s < q.sectors d → ((u : List ℕ) → IsSliced q.slices d s u → ⊥) → MayLeave (q.held d s) v
     → MayLeave (held s) v ⊎ IsLaidOn l p place name (q.sectors d) d s v)
 
--- The disk that a place had, whose drive is missing, isn't written, unless it is that of the name. (One that isn't missing is cleaned before the new drive
--- is taken in, and not written after that.)
-abbrev pub KeepsFormer : Moment → Moment → ℕ → List ℕ → Type 0
-KeepsFormer p q place name =
-    is_current p.book.state place ≡ false → (d s : ℕ) → seat_of p.slices place ≡ Some d → (IsNamed q name d → ⊥) → s < p.sectors d → Keeps (p.held d s) (q.held d s)
-
 -- The name is of one disk afterwards: no other disk comes, and none gets a name.
 pub record NamesDisk (p q : Moment) (name : List ℕ) : Type 0 where
   pub there : (d : ℕ) → IsNamed q name d → d < q.disks
@@ -184,19 +183,17 @@ pub record NamesDisk (p q : Moment) (name : List ℕ) : Type 0 where
   pub old : (d : ℕ) → d < p.disks → IsNamed q name d → IsNamed p name d
   pub others : (d : ℕ) (n : List ℕ) → IsNamed q n d → IsNamed p n d ⊎ (n ≡ name)
 
--- What a line that names an image leaves of the disks: that of the name holds what the image held, or what is laid on a new drive, and the disk that the
--- place had isn't written where its drive was missing.
+-- What a line that names an image leaves of the disks: that of the name holds what the image held, or what is laid on a new drive.
 pub record TakesImage (l : Linear) (p q : Moment) (place : ℕ) (name : List ℕ) : Type 0 where
   pub names : NamesDisk p q name
   pub image : KeepsImage l p q place name
-  pub former : KeepsFormer p q place name
 
--- What a line that names a disk does to the pool's drives: the name is of one disk, no other one comes, the disk that the place had isn't
--- written where its drive was missing, unless it is the named one, and slices move only where nothing was against it. A sector that isn't spent wasn't before.
+-- What a line that names a disk does to the pool's drives: the name is of one disk, no other one comes, the disks of places whose drives were missing aren't
+-- written, unless one is the named one, and slices move only where nothing was against it. A sector that isn't spent wasn't before.
 pub record ChangesDrive (x y : View) (place : ℕ) (name : List ℕ) : Type 0 where
   pub names : NamesDisk (moment_of x) (moment_of y) name
   pub retired :
-      is_current (book x).state place ≡ false → (d : ℕ) → seat_of x.slices place ≡ Some d → (IsNamed (moment_of y) name d → ⊥)
+      (k d : ℕ) → k < length (book x).state.drives.items → is_current (book x).state k ≡ false → seat_of x.slices k ≡ Some d → (IsNamed (moment_of y) name d → ⊥)
       → KeepsDisk x.shelf.told x.bay y.bay d
   pub admitted :
       (y.slices ≡ x.slices) ⊎ ((d : ℕ) × IsNamed (moment_of y) name d × (refusal_of x.linear (book x) place (y.bay.sectors d) ≡ None))

@@ -1,5 +1,5 @@
 -- The parts of a replacing: a disk is attached, and then takes the place of a drive.
-use Rattle.std.specs.Prelude.{◌≡◌, ◌≢◌, ◌⊎◌, ◌↔◌, ℕ, ◌<◌, false, List, Some, None, Result, Ok, Err, IfErr, IfOk, OnOk}
+use Rattle.std.specs.Prelude.{◌≡◌, ◌≢◌, ◌⊎◌, ◌↔◌, ℕ, ◌<◌, false, List, length, Some, None, Result, Ok, Err, IfErr, IfOk, OnOk}
 use Rattle.rack.specs.Values.{Keeps, MayLeave, Values}
 use Rattle.rack.specs.Seen.{Rose}
 use Rattle.flat_array.specs.Array.{FlatArray}
@@ -11,7 +11,7 @@ use Rattle.pool.specs.declared.replacing.GrowFault.{GrowFault}
 use Rattle.pool.specs.declared.replacing.GrowFault.TheVariants.{Attach, Twice, Memory, NotWhole, Gone}
 use Rattle.raid_rack.specs.NewDrive.{IsOfDrive as IsLaid}
 use Rattle.pool.specs.Continuing.{Continues, KeepsDisk, KeepsOutside, NoDisk}
-use Rattle.pool.specs.Entering.{Declines, Enters, EntersBy, LeavesBy, LeavesOut, StaysStill}
+use Rattle.pool.specs.Entering.{Declines, Enters, EntersBy, LeavesBy, LeavesOut, StaysStill, table_on}
 use Rattle.pool.specs.Held.{KeepsHeld}
 use Rattle.pool.specs.Keeping.{KeepsBook, KeepsBookBut, Raises}
 use Rattle.raid_rack.specs.Moves.{RaisesBy}
@@ -58,6 +58,8 @@ pub record AttachesDisk (x y : View) (name : List ℕ) (result : Result ℕ Grow
       → (held : ℕ → Values) × IsImage (moment_of x) name (y.bay.sectors d) held × ((s : ℕ) → s < y.bay.sectors d → y.bay.held d s ≡ held s)
   pub err : IfErr result (λ e. (e ≡ Attach) ⊎ ((e ≡ Memory) ⊎ (e ≡ Twice)))
   pub attach : result ≡ Err Attach → Rose x.shelf.faults y.shelf.faults
+  -- an image that can't be attached, or not for want of memory, comes as no disk
+  pub none : (result ≡ Err Attach) ⊎ (result ≡ Err Memory) → y.bay.disks ≡ x.bay.disks
   pub used : (d : ℕ) → IsNamed (moment_of x) name d → (result ≢ Err Attach) × (result ≢ Err Memory)
   pub twice : (result ≡ Err Twice) ↔ IsOfDrive (moment_of x) name
 
@@ -78,7 +80,7 @@ pub record TakesBy (x y : View) (place disk : ℕ) (result : Result (Unit {0}) G
   pub laid :
       disk < x.bay.disks → AreTold x → (s : ℕ) (v : List ℕ) → s < x.bay.sectors disk → ((u : List ℕ) → IsSliced y.slices disk s u → ⊥)
       → MayLeave (y.bay.held disk s) v
-      → MayLeave (x.bay.held disk s) v ⊎ IsLaid disk (x.bay.sectors disk) disk s v
+      → MayLeave (x.bay.held disk s) v ⊎ IsLaid disk (table_on x place disk) disk s v
   pub names : y.shelf.names ≡ x.shelf.names
   pub disks : y.bay.disks ≡ x.bay.disks
   pub answer : (result ≡ Ok tt) ⊎ ((result ≡ Err Gone) ⊎ (result ≡ Err NotWhole))
@@ -102,16 +104,17 @@ pub record ReplacesBy (x y : View) (place disk : ℕ) (result : Result (Unit {0}
   pub keeps : KeepsBookBut place (book x) (book y)
   pub kept : IfErr result (λ e. KeepsBook (book x) (book y))
   pub outside : KeepsOutside x.slices y.slices (λ d. d ≡ disk) x.shelf.told x.bay y.bay
-  -- the disk that the place had, whose drive is missing, isn't written any more
+  -- the disks of places of the list whose drives are missing aren't written any more
   pub retired :
-      is_current (book x).state place ≡ false → (d : ℕ) → seat_of x.slices place ≡ Some d → d ≢ disk → KeepsDisk x.shelf.told x.bay y.bay d
+      (k d : ℕ) → k < length (book x).state.drives.items → is_current (book x).state k ≡ false → seat_of x.slices k ≡ Some d → d ≢ disk
+      → KeepsDisk x.shelf.told x.bay y.bay d
   pub bare : (d : ℕ) → seat_of x.slices place ≡ Some d → d ≢ disk → (y.slices ≡ x.slices) ⊎ ((s : ℕ) (v : List ℕ) → IsSliced y.slices d s v → ⊥)
   -- outside the slices it may be left with what it held, or with what is laid on a new drive
   pub laid :
       disk < x.bay.disks → AreTold x → (s : ℕ) (v : List ℕ) → s < x.bay.sectors disk → ((u : List ℕ) → IsSliced y.slices disk s u → ⊥)
       → MayLeave (y.bay.held disk s) v
       → MayLeave (x.bay.held disk s) v
-      ⊎ ((refusal_of x.linear (book x) place (x.bay.sectors disk) ≡ None) × IsLaid disk (x.bay.sectors disk) disk s v)
+      ⊎ ((refusal_of x.linear (book x) place (x.bay.sectors disk) ≡ None) × IsLaid disk (table_on x place disk) disk s v)
   pub names : y.shelf.names ≡ x.shelf.names
   pub disks : y.bay.disks ≡ x.bay.disks
   pub answer : IsAnswer (refusal_of x.linear (book x) place (x.bay.sectors disk)) result

@@ -12,7 +12,7 @@ use Rattle.rack.proofs.Durably.{durable_only}
 use Rattle.rack.proofs.Writing.{only_quiet, only_refused, only_then, only_weaker, only_written}
 use Rattle.gpt_table.specs.declared.Table.{Table}
 use Rattle.gpt_table.specs.declared.TableCopy.TheVariants.{Primary, Backup}
-use Rattle.gpt_table.specs.Plans.{IsOfTable, WritesTable}
+use Rattle.gpt_table.specs.Plans.{IsOfTable, WritesTable, in_table}
 use Rattle.gpt_table.proofs.Copies.{copy_is_on_disk}
 use Rattle.array_image.specs.Places.{data_sector, log_sectors, place_of, slice_of, state_sector}
 use Rattle.pool_format.specs.declared.planning.NewArray.{NewArray}
@@ -182,7 +182,7 @@ pub lays_table : (plan : NewPool) (a b : Seen) (disk : ℕ) (table : Table) (r :
 lays_table plan a b disk table r inside size writes = record {
   only =
       only_weaker _ (InLaying plan a.sectors disk)
-      (λ d s v at. (at.0, inl (subst (λ k. IsOfTable (a.sectors k) s) (sym at.0) (subst (λ n. IsOfTable n s) size (writes.within s v at.1))))) writes.follows;
+      (λ d s v at. (at.0, inl (subst (λ k. IsOfTable (a.sectors k) s) (sym at.0) (subst (λ n. IsOfTable n s) size (in_table table s v (writes.within s v at.1)))))) writes.follows;
   gone = gone_inside a b disk r inside writes.gone;
 }
 

@@ -61,6 +61,13 @@ opens_again disks before f t v y i found_before sound served left =
 
 -- ---- by the disks
 
+-- contents that the disks of places may be left with
+abbrev pub IsPickIn : Slices → Seen → Image → Type 0
+IsPickIn t x i = (p d s : ℕ) → slice_seat t p ≡ Some d → IsLive x x d s → MayLeave (x.held d s) (i d s)
+
+pub pick_in : (t : Slices) (x : Seen) (i : Image) → IsPick x x x.held i → IsPickIn t x i
+pick_in t x i pick p d s seat live = pick d s live
+
 -- each slice that is there is on a disk
 abbrev pub AreOnDisks : Slices → Type 0
 AreOnDisks t = (k u : ℕ) → u < sectors_of t k → (d : ℕ) × (slice_seat t (slice_place k) ≡ Some d)
@@ -76,18 +83,18 @@ module _ (t : Slices) (x : Seen) (inside : IsInside t x) (slice_on : AreOnDisks 
         unspent = live.unspent;
       }
 
-  -- what the disks may be left with is so for the slices
-  picks_sliced : (i : Image) → IsPick x x x.held i → Picks (slices_shown t x) (sliced t i)
+  -- what the disks of slices may be left with is so for these
+  picks_sliced : (i : Image) → IsPickIn t x i → Picks (slices_shown t x) (sliced t i)
   picks_sliced i pick = record {
     picks = λ k u live.
         subst (λ w. MayLeave (x.held (disk_of t k) (slice_first t k + u)) w)
         (sym (ap (λ (b : Bool). if b then i (disk_of t k) (slice_first t k + u) else []) (lt-ltb u (sectors_of t k) live.sector)))
-        (pick (disk_of t k) (slice_first t k + u) (live_on_disk k u live));
+        (let one = slice_on k u live.sector in pick (slice_place k) (disk_of t k) (slice_first t k + u) (one.1 ∙ ap Some (sym (ap (λ o. unwrap_or o 0) one.1))) (live_on_disk k u live));
     inside = λ k u past. ap (λ (b : Bool). if b then i (disk_of t k) (slice_first t k + u) else []) (le-ltb u (sectors_of t k) past);
   }
 
   -- contents that the disks may be left with, which outside the slices are as the pool goes by
-  pub left_by : (f : Found) (s : State) (i : Image) → f.disks ≡ disks_of x → AreElsewhere f i → AreAloneBy s f i → IsPick x x x.held i
+  pub left_by : (f : Found) (s : State) (i : Image) → f.disks ≡ disks_of x → AreElsewhere f i → AreAloneBy s f i → IsPickIn t x i
       → IsLeftBy f t s (slices_shown t x) i
   left_by f s i same elsewhere alone pick = record {
     sectors = λ k. refl;
@@ -111,7 +118,7 @@ module _ (f : Found) (t : Slices) (x : Seen) (v : Raid) (served : IsServed f t v
       by (Some d) seat = (d, served.slices.seats (slice_place k) ∙ seat)
       by None none = let nothing = served.slices.unseated k none in absurd (omega (arith, within, nothing))
 
-  pub left_known_by : (i : Image) → IsOutset f → f.disks ≡ disks_of x → AreElsewhere f i → AreAloneBy v.state f i → IsPick x x x.held i
+  pub left_known_by : (i : Image) → IsOutset f → f.disks ≡ disks_of x → AreElsewhere f i → AreAloneBy v.state f i → IsPickIn t x i
       → IsKnown f t v (slices_shown t x) i
   left_known_by i outset same elsewhere alone pick =
       known_of f t v (slices_shown t x) i outset served (left_by t x inside slice_on f v.state i same elsewhere alone pick)
@@ -121,7 +128,7 @@ module _ (f : Found) (t : Slices) (x : Seen) (v : Raid) (served : IsServed f t v
       → IsPick x x x.held i → IsKnown f t v (slices_shown t x) i
   left_known disks before i found_before same sound elsewhere alone pick =
       let at = found_is disks before f found_before in
-      left_known_by i (outset_of f at.0 sound) (at.1 ∙ same) elsewhere (λ n p d first low counts seat. alone n p d first low seat) pick
+      left_known_by i (outset_of f at.0 sound) (at.1 ∙ same) elsewhere (λ n p d first low counts seat. alone n p d first low seat) (pick_in t x i pick)
 
   -- Disks of a served pool, which outside its slices are as they were: what they may be left with holds a sound pool again.
   pub left_again : (disks : Disks) (before i : Image)

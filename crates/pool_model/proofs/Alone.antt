@@ -1,16 +1,17 @@
 -- The disks of a pool in service say, outside its slices, that it stands alone on them: from its opening on, after calls, and after disks were declined
 -- or taken in.
 --
--- `HoldAlone f bound t x` (specs/Alone.antt) goes beside `InService f t v x`: `alone_begins` at the opening, `alone_calls` after calls that write slices alone,
+-- `HoldAlone f bound Out s t x` (specs/Alone.antt) goes beside `InService f t v x`: `alone_begins` at the opening, `alone_calls` after calls that write slices alone,
 -- `alone_attached` after a drive was declined and `alone_taken` after one was taken in.
-use Rattle.std.proofs.Common.{◌≡◌, ◌≢◌, ◌⊎◌, ℕ, suc, ◌+◌, ◌<◌, ◌≤◌, ◌&&◌, ◌||◌, not, true, false, bytes_eq, position, List, Option, Some, None, refl, sym, ap, ap₂, subst, ◌∙◌, inl, inr, arith}
+use Rattle.std.proofs.Common.{◌≡◌, ◌≢◌, ◌⊎◌, ℕ, suc, ◌+◌, ◌<◌, ◌≤◌, ◌&&◌, ◌||◌, not, true, false, bytes_eq, position, List, Option, Some, None, option_map, refl, sym, ap, ap₂, subst, ◌∙◌, inl, inr, arith}
 use Rattle.std.specs.Option.{option_and_then, option_map_or}
 use Rattle.std.specs.List.{list_all, range_with_len}
-use Rattle.std.proofs.lemmas.Bool.{cases_eq, cases_lt}
+use Rattle.std.proofs.lemmas.Bool.{and_parts, both_ways, cases_eq, cases_lt}
 use Rattle.std.proofs.lemmas.Option.{none-some}
+use Rattle.std.proofs.lemmas.Slice.Eq.{bytes_eq-Decides}
 use Rattle.rack.specs.Seen.{Image, Seen}
 use Rattle.rack.specs.Sequences.{WritesOnly}
-use Rattle.array_image.specs.States.{id_of}
+use Rattle.array_image.specs.States.{id_of, is_current}
 use Rattle.slice_rack.specs.Runs.{IsSliced}
 use Rattle.slice_rack.specs.Slices.{Slices}
 use Rattle.gpt_table.specs.declared.Table.{Table}
@@ -78,39 +79,59 @@ module _ (f g : Found) (few : f.state.made ≤ 16) (has : (n : ℕ) → n < f.st
       of None is = is
       of (Some table) is = wanted_same table sectors ∙ is
 
+-- A disk that has a drive's table says its id, where its copy is the drive's own if it has one.
+pub says_own : (f : Found) (place sectors : ℕ) (disk : Contents) (copied : Option Copied) → IsTabled f place sectors disk
+    → ((copy : Copied) → copied ≡ Some copy → id_of copy.state copy.own ≡ id_of f.state place) → id_by (the_table sectors disk) copied ≡ id_of f.state place
+says_own f place sectors disk (Some copy) tabled own = own copy refl
+says_own f place sectors disk None tabled own = by (the_table sectors disk) tabled
+  where
+    named : (id : List ℕ) (o : Option (List ℕ)) → option_map_or (bytes_eq id) o false ≡ true → Some id ≡ o
+    named id None is = absurd (both_ways false refl is)
+    named id (Some other) is = ap Some ((bytes_eq-Decides id other).0 is)
+
+    by : (o : Option Table) → option_map_or (is_table f place sectors) o false ≡ true → option_map (λ (t : Table). t.disk_id.0) o ≡ id_of f.state place
+    by None is = absurd (both_ways false refl is)
+    by (Some table) is = named table.disk_id.0 (id_of f.state place) (and_parts (option_map_or (bytes_eq table.disk_id.0) (id_of f.state place) false) _ is).0
+
 -- ---- at the opening, and after calls
 
 -- disks on which a pool was found that stood alone, and no other one had an id that it gives later
-pub alone_begins : (f : Found) (bound : ℕ) (t : Slices) (x : Seen) → StandsAlone f
+pub alone_begins : (f : Found) (bound : ℕ) (Out : ℕ → Type 0) (s : State) (t : Slices) (x : Seen) → StandsAlone f
     → ((d : ℕ) → ((p : ℕ) → f.seats p ≡ Some d → ⊥) → d < f.disks.count → IsUngiven f.state bound (f.identities d))
-    → HoldRest f t x → HoldAlone f bound t x
-alone_begins f bound t x stands ungiven rest i off =
+    → HoldRest f t x → HoldAlone f bound Out s t x
+alone_begins f bound Out s t x stands ungiven rest i off =
     let elsewhere = rest.elsewhere i off in
     record {
-      tables = λ p d seat. ap (λ o. option_map_or (is_table f p (f.disks.sectors d)) o false) (elsewhere.tables p d seat) ∙ stands.tables p d seat;
-      others = λ d never low.
+      tables = λ p d seat why. ap (λ o. option_map_or (is_table f p (f.disks.sectors d)) o false) (elsewhere.tables p d seat) ∙ stands.tables p d seat;
+      others = λ d never stays low.
           subst (IsStranger f bound) (sym (elsewhere.others d never low)) (record { apart = stands.others d never low; ungiven = ungiven d never low });
     }
 
--- calls that write slices alone
-pub alone_calls : (f : Found) (bound : ℕ) (t : Slices) (x y : Seen) → x.lasting → WritesOnly x y (IsSliced t) → HoldAlone f bound t x → HoldAlone f bound t y
-alone_calls f bound t x y lasting only alone i off = alone i (off_later t x y i lasting only off)
+-- calls that write slices alone, while marks come to the state
+pub alone_calls : (f : Found) (bound : ℕ) (Out : ℕ → Type 0) (s r : State) (t : Slices) (x y : Seen) → ((p : ℕ) → is_current r p ≡ true → is_current s p ≡ true) → x.lasting
+    → WritesOnly x y (IsSliced t) → HoldAlone f bound Out s t x → HoldAlone f bound Out r t y
+alone_calls f bound Out s r t x y marks lasting only alone i off =
+    let says = alone i (off_later t x y i lasting only off) in
+    record {
+      tables = λ p d seat why. says.tables p d seat (elim why [ inl now ↦ inl (marks p now) | inr stays ↦ inr stays ]);
+      others = says.others;
+    }
 
 -- the pool with what contents say stands alone
-pub says_stands : (f : Found) (bound : ℕ) (e : Identities) (i : Image) → IsArranged f → SaysAlone f bound i
+pub says_stands : (f : Found) (bound : ℕ) (s : State) (e : Identities) (i : Image) → IsArranged f → SaysAlone f bound (λ d. ⊥) s i
     → ((p d : ℕ) → f.seats p ≡ Some d → the_table (f.disks.sectors d) (i d) ≡ (e d).table)
     → ((d : ℕ) → ((p : ℕ) → f.seats p ≡ Some d → ⊥) → d < f.disks.count → identities_of f.disks i d ≡ e d)
     → StandsAlone (record f { identities = e })
-says_stands f bound e i arranged says tables others =
+says_stands f bound s e i arranged says tables others =
     let few = arranged.made.1 in
     let has = arranged.truths in
     record {
       tables = λ p d seat.
           ap (λ o. option_map_or (is_table (record f { identities = e }) p (f.disks.sectors d)) o false) (sym (tables p d seat))
-          ∙ tabled_same f (record f { identities = e }) few has (said_truths f e few has) refl p refl (f.disks.sectors d) (i d) (says.tables p d seat);
+          ∙ tabled_same f (record f { identities = e }) few has (said_truths f e few has) refl p refl (f.disks.sectors d) (i d) (says.tables p d seat (inr (λ none. none)));
       others = λ d never low.
           subst (IsApart (record f { identities = e })) (others d never low)
-          (let one = (says.others d never low).apart in record { stands = one.stands; pool = one.pool });
+          (let one = (says.others d never (λ none. none) low).apart in record { stands = one.stands; pool = one.pool });
     }
 
 -- ---- a drive that was declined
@@ -120,21 +141,21 @@ stranger_attached : (f : Found) (bound : ℕ) (disks : Disks) (z : Identity) →
 stranger_attached f bound disks z is = record { apart = record { stands = is.apart.stands; pool = is.apart.pool }; ungiven = is.ungiven }
 
 -- so it is after a line that laid nothing on the disk that it named: disks that came are strangers
-pub alone_attached : (f : Found) (bound : ℕ) (t : Slices) (x z : Seen) → IsArranged f → f.disks.count ≤ z.disks
+pub alone_attached : (f : Found) (bound : ℕ) (Out : ℕ → Type 0) (s : State) (t : Slices) (x z : Seen) → IsArranged f → f.disks.count ≤ z.disks
     → ((d : ℕ) → d < f.disks.count → z.sectors d ≡ f.disks.sectors d) → ((i : Image) → IsPickOff t z i → IsPickOff t x i)
-    → ((i : Image) → IsPickOff t z i → (d : ℕ) → f.disks.count ≤ d → d < z.disks → IsStranger f bound (identities_of (disks_of z) i d))
-    → HoldAlone f bound t x → HoldAlone (attached f (disks_of z)) bound t z
-alone_attached f bound t x z arranged more sectors before came alone i off = record {
-  tables = λ p d seat.
+    → ((i : Image) → IsPickOff t z i → (d : ℕ) → f.disks.count ≤ d → d < z.disks → (Out d → ⊥) → IsStranger f bound (identities_of (disks_of z) i d))
+    → HoldAlone f bound Out s t x → HoldAlone (attached f (disks_of z)) bound Out s t z
+alone_attached f bound Out s t x z arranged more sectors before came alone i off = record {
+  tables = λ p d seat why.
       tabled_same f (attached f (disks_of z)) arranged.made.1 arranged.truths (truths_attached f (disks_of z) arranged more sectors) refl p refl (z.sectors d) (i d)
-      (subst (λ k. IsTabled f p k (i d)) (sym (sectors d (arranged.seated p d seat).1)) ((alone i (before i off)).tables p d seat));
-  others = λ d never low. stranger_attached f bound (disks_of z) (identities_of (disks_of z) i d) (other d never low);
+      (subst (λ k. IsTabled f p k (i d)) (sym (sectors d (arranged.seated p d seat).1)) ((alone i (before i off)).tables p d seat why));
+  others = λ d never stays low. stranger_attached f bound (disks_of z) (identities_of (disks_of z) i d) (other d never stays low);
 }
   where
-    other : (d : ℕ) → ((p : ℕ) → f.seats p ≡ Some d → ⊥) → d < z.disks → IsStranger f bound (identities_of (disks_of z) i d)
-    other d never low = elim (cases_lt d f.disks.count) [
-      | inl old ↦ subst (IsStranger f bound) (said_same f z i i d refl (sectors d old)) ((alone i (before i off)).others d never old)
-      | inr past ↦ came i off d past low
+    other : (d : ℕ) → ((p : ℕ) → f.seats p ≡ Some d → ⊥) → (Out d → ⊥) → d < z.disks → IsStranger f bound (identities_of (disks_of z) i d)
+    other d never stays low = elim (cases_lt d f.disks.count) [
+      | inl old ↦ subst (IsStranger f bound) (said_same f z i i d refl (sectors d old)) ((alone i (before i off)).others d never stays old)
+      | inr past ↦ came i off d past low stays
     ]
 
 -- ---- a drive that was taken in
@@ -178,10 +199,10 @@ module _ (f : Found) (t u : Slices) (v : Raid) (x z : Seen) (place disk units : 
                 (ap (option_and_then (λ k. position (λ (e : Drive). bytes_eq e.id.0 k) f.state.drives.items)) (named.says ∙ ap Some (sym id)) ∙ before.first))
           ]
 
-  -- So is the drive that the place had, where its copy names it still: the id has an earlier serial than the new drive's, and ids that are given before
+  -- So is the drive that the place had, where its disk says its id still: the id has an earlier serial than the new drive's, and ids that are given before
   -- the bound differ.
-  module _ (serials : AreSerial f.state) (distinct : AreDistinct f.state.pool.0 bound) (d : ℕ) (seat : f.seats place ≡ Some d) (y : Identity) (copy : Copied)
-      (here : y.copied ≡ Some copy) (pool : copy.state.pool ≡ f.state.pool) (names : id_of copy.state copy.own ≡ id_of f.state place) where
+  module _ (serials : AreSerial f.state) (distinct : AreDistinct f.state.pool.0 bound) (d : ℕ) (seat : f.seats place ≡ Some d) (y : Identity)
+      (pool : (copy : Copied) → y.copied ≡ Some copy → copy.state.pool ≡ f.state.pool) (says : id_by y.table y.copied ≡ id_of f.state place) where
     seated : (p e : ℕ) → f.seats p ≡ Some e → (id : List ℕ) × (id_of f.state p ≡ Some id) × (position (λ (drive : Drive). bytes_eq drive.id.0 id) f.state.drives.items ≡ Some p)
     seated p e at =
         let said = is.held.said (λ k s. (x.held k s).current) (λ k s live never. inl refl) in
@@ -194,8 +215,8 @@ module _ (f : Found) (t u : Slices) (v : Raid) (x z : Seen) (place disk units : 
     given : (serials.serial place < f.state.serial) × (own.0 ≡ drive_id f.state.pool.0 (serials.serial place))
     given = serials.ids place own.0 own.1
 
-    says : id_by y.table y.copied ≡ Some own.0
-    says = ap (id_by y.table) here ∙ names ∙ own.1
+    names : id_by y.table y.copied ≡ Some own.0
+    names = says ∙ own.1
 
     -- no id of a later serial is this one
     later_differs : (serial : ℕ) → f.state.serial ≤ serial → serial ≤ bound → own.0 ≢ drive_id f.state.pool.0 serial
@@ -207,7 +228,7 @@ module _ (f : Found) (t u : Slices) (v : Raid) (x z : Seen) (place disk units : 
     former_stands : (p e : ℕ) → h.seats p ≡ Some e → stands_for next y ≢ Some p
     former_stands p e at stand =
         let named : IsNamed next y p = stands_named next y p stand in
-        let same : own.0 ≡ named.id = some_same own.0 named.id (sym says ∙ named.says) in
+        let same : own.0 ≡ named.id = some_same own.0 named.id (sym names ∙ named.says) in
         elim (cases_eq p place) [
           | inl this ↦
               later_differs f.state.serial (omega arith) (omega (arith, below))
@@ -228,15 +249,15 @@ module _ (f : Found) (t u : Slices) (v : Raid) (x z : Seen) (place disk units : 
     stranger_former = record {
       apart = record {
         stands = former_stands;
-        pool = λ c at. ap (λ (k : Copied). k.state.pool) (some_same c copy (sym at ∙ here)) ∙ pool ∙ sym is.after.same.pool;
+        pool = λ copy here. pool copy here ∙ sym is.after.same.pool;
       };
       ungiven = λ serial later early same.
           later_differs serial (let same_serial = is.after.same.serial in omega (arith, later, same_serial)) (omega (arith, early))
-          (some_same own.0 (drive_id f.state.pool.0 serial) (sym says ∙ same ∙ ap (λ (k : Id). Some (drive_id k.0 serial)) is.after.same.pool));
+          (some_same own.0 (drive_id f.state.pool.0 serial) (sym names ∙ same ∙ ap (λ (k : Id). Some (drive_id k.0 serial)) is.after.same.pool));
     }
 
-  pub alone_taken : TakesAlone f h bound u place disk z → HoldAlone f bound t x → HoldAlone h bound u z
-  alone_taken takes alone i off = record { tables = table; others = other }
+  pub alone_taken : (Out : ℕ → Type 0) (r : State) → TakesAlone f h bound Out u place disk z → HoldAlone f bound Out v.state t x → HoldAlone h bound Out r u z
+  alone_taken Out r takes alone i off = record { tables = λ p d seat why. table p d seat; others = other }
     where
       fewer : (d s : ℕ) (w : List ℕ) → d ≢ disk → IsSliced u d s w → IsSliced t d s w
       fewer d s w apart at = sliced_taken f t u v x z place disk units plan new known keeps is.held d s w apart at
@@ -247,7 +268,7 @@ module _ (f : Found) (t u : Slices) (v : Raid) (x z : Seen) (place disk units : 
       was_other : (d : ℕ) → d ≢ disk → was d ≡ i d
       was_other d apart = image_other t u disk x z keeps.outside fewer i off d apart
 
-      says : SaysAlone f bound was
+      says : SaysAlone f bound Out v.state was
       says = alone was (off_before t u disk x z keeps.outside fewer i off)
 
       here : h.seats place ≡ Some disk
@@ -263,7 +284,7 @@ module _ (f : Found) (t u : Slices) (v : Raid) (x z : Seen) (place disk units : 
             tabled_same f h is.arranged.made.1 is.arranged.truths (has_truths f t u v (disks_of z) place disk units plan new known keeps.sectors) is.after.same.made p
             (id_other place units plan v.state new.listed p other ∙ id_same f.state v.state is.after.same p) (z.sectors d) (i d)
             (subst (IsTabled f p (z.sectors d)) (was_other d (new.others p d other before).1)
-            (subst (λ k. IsTabled f p k (was d)) (sym (keeps.sectors d (is.arranged.seated p d before).1)) (says.tables p d before))))
+            (subst (λ k. IsTabled f p k (was d)) (sym (keeps.sectors d (is.arranged.seated p d before).1)) (says.tables p d before (inl (new.others p d other before).0)))))
       ]
 
       -- a disk that is no drive of f was none of other places
@@ -277,15 +298,15 @@ module _ (f : Found) (t u : Slices) (v : Raid) (x z : Seen) (place disk units : 
       lost_or d None none = inr (λ at. none-some d (sym none ∙ at))
       lost_or d (Some k) some = elim (cases_eq k d) [ inl same ↦ inl (some ∙ ap Some same) | inr apart ↦ inr (λ at. apart (some_same k d (sym some ∙ at))) ]
 
-      other : (d : ℕ) → ((p : ℕ) → h.seats p ≡ Some d → ⊥) → d < z.disks → IsStranger h bound (identities_of (disks_of z) i d)
-      other d never low =
+      other : (d : ℕ) → ((p : ℕ) → h.seats p ≡ Some d → ⊥) → (Out d → ⊥) → d < z.disks → IsStranger h bound (identities_of (disks_of z) i d)
+      other d never stays low =
           let apart : d ≢ disk = λ same. never place (here ∙ ap Some (sym same)) in
           elim (cases_lt d f.disks.count) [
-            | inr past ↦ takes.strangers i off d low apart (inl past)
+            | inr past ↦ takes.strangers i off d low apart stays (inl past)
             | inl old ↦ elim (lost_or d (f.seats place) refl) [
-              | inl lost ↦ takes.strangers i off d low apart (inr lost)
+              | inl lost ↦ takes.strangers i off d low apart stays (inr lost)
               | inr kept ↦
                   subst (IsStranger h bound) (said_same f z was i d (was_other d apart) (keeps.sectors d old))
-                  (stranger_taken (identities_of f.disks was d) (says.others d (never_before d never kept) old))
+                  (stranger_taken (identities_of f.disks was d) (says.others d (never_before d never kept) stays old))
             ]
           ]

@@ -41,7 +41,7 @@ use Rattle.pool_model.specs.Left.{HoldAgain, HoldRest, HoldStill, IsServed}
 use Rattle.pool_model.specs.Pools.{AreSlicesOf, IsSoundPool}
 use Rattle.pool_model.specs.Stopped.{HoldLanding, HoldTables}
 use Rattle.pool_model.specs.Taken.{JoinsBook, KeepsOthers, KeepsRest, LacksDrive, SeatsNew, attached, taken}
-use Rattle.pool_model.proofs.Again.{known_again, left_by, left_known_by, off_later}
+use Rattle.pool_model.proofs.Again.{known_again, left_by, left_known_by, off_later, pick_in}
 use Rattle.pool_model.proofs.Alike.{alone_said, has_truths, served_said, slices_like, slices_said, truth_same}
 use Rattle.pool_model.proofs.Copies.{IsServedNow}
 use Rattle.pool_model.proofs.Declined.{arranged_attached, held_attached, truths_attached}
@@ -180,7 +180,7 @@ service_again f t v x is inside told lasts i pick =
     again_said f e t v.state i
     (known_again (record f { identities = e }) t v (slices_of t x) i
     (left_known_by (record f { identities = e }) t x v here inside i said.outset is.disks said.elsewhere
-    (alone_said f e is.arranged.made.1 is.arranged.truths v.state i (is.held.alone i (λ d s live never. pick d s live))) pick))
+    (alone_said f e is.arranged.made.1 is.arranged.truths v.state i (is.held.alone i (λ d s live never. pick d s live))) (pick_in t x i pick)))
 
 -- So it is where a place whose drive is missing has no disk any more.
 pub vacant_again : (f : Found) (t u : Slices) (v : Raid) (x : Seen) (place : ℕ) → InService f t v x → LacksDrive f t u v place x → IsInside u x
@@ -205,7 +205,7 @@ vacant_again f t u v x place is lacks inside told lasts i pick =
     let still : LacksDrive g t u v place x = record { vacated = lacks.vacated; missing = lacks.missing; earlier = lacks.earlier } in
     let left =
     left_by u x inside (on_disks t u place lacks.vacated g slices) g v.state i is.disks said.elsewhere (alone_said f e few has v.state i (is.held.alone i (λ d s live never. pick d s live)))
-    pick in
+    (pick_in u x i pick) in
     again_said f e u v.state i
     (known_again g u v (slices_of u x) i (known_vacant g t u v x place i said.outset is.disks slices still served left (λ d s live never. pick d s live)))
 

@@ -47,12 +47,12 @@ says_between v n vals spent r one = record {
 }
 
 -- Contents in which the disk, where they say a state on it, holds one there that it may have held. The others are written in slices alone, which were slices before.
-pub laid_off : (f : Found) (t u : Slices) (s : State) (disk : ℕ) (x y : Seen) (i : Image) → ((p : ℕ) → f.seats p ≡ Some disk → is_current s p ≡ false)
+pub laid_off : (f : Found) (t u : Slices) (s : State) (disk : ℕ) (table : Table) (x y : Seen) (i : Image) → ((p : ℕ) → f.seats p ≡ Some disk → is_current s p ≡ false)
     → ((k : ℕ) (w : List ℕ) → IsSliced t disk k w → ⊥) → IsOpenDisk x disk → x.lasting → Stays x y
-    → ((d k : ℕ) (w : List ℕ) → d ≢ disk → IsSliced u d k w → IsSliced t d k w) → IsMix x y (IsWrittenBy u disk (x.sectors disk)) i
+    → ((d k : ℕ) (w : List ℕ) → d ≢ disk → IsSliced u d k w → IsSliced t d k w) → IsMix x y (IsWrittenBy u disk table) i
     → ((copy : Copied) → state_sector < x.sectors disk → decoded (i disk state_sector) ≡ Ok copy → MayLeave (x.held disk state_sector) (i disk state_sector))
     → IsLaidOff f t s disk x i
-laid_off f t u s disk x y i vacant free opened lasting stays fewer mix says = record {
+laid_off f t u s disk table x y i vacant free opened lasting stays fewer mix says = record {
   vacant = vacant;
   free = free;
   opened = opened;
@@ -71,17 +71,17 @@ laid_off f t u s disk x y i vacant free opened lasting stays fewer mix says = re
 }
 
 -- So it is where it holds what it held, or what is laid on it.
-pub laid_says : (x : Seen) (disk : ℕ) (i : Image) → 10273 ≤ x.sectors disk → HoldsLaid x disk i → (copy : Copied) → state_sector < x.sectors disk
+pub laid_says : (x : Seen) (disk : ℕ) (table : Table) (i : Image) → 10273 ≤ table.sectors → HoldsLaid x disk table i → (copy : Copied) → state_sector < x.sectors disk
     → decoded (i disk state_sector) ≡ Ok copy → MayLeave (x.held disk state_sector) (i disk state_sector)
-laid_says x disk i room laid copy low says = elim (laid state_sector low) [
+laid_says x disk table i room laid copy low says = elim (laid state_sector low) [
   | inl may ↦ may
-  | inr of ↦ absurd (laid_state disk (x.sectors disk) (i disk state_sector) copy room of says)
+  | inr of ↦ absurd (laid_state disk table (i disk state_sector) copy room of says)
 ]
 
 -- They say the book by the slices.
-pub laying_book : (made : ℕ) (t : Slices) (disk : ℕ) (v w : Raid) (a : Seen) (vals : (n : ℕ) → ℕ → Values) (i : Image) → 0 < made
-    → ((n : ℕ) → n < made → SaysLaying t disk v w a n (vals n) i) → SaysBooks made t v v i
-laying_book made t disk v w a vals i first each = record {
+pub laying_book : (made : ℕ) (t : Slices) (disk : ℕ) (table : Table) (v w : Raid) (a : Seen) (vals : (n : ℕ) → ℕ → Values) (i : Image) → 0 < made
+    → ((n : ℕ) → n < made → SaysLaying t disk table v w a n (vals n) i) → SaysBooks made t v v i
+laying_book made t disk table v w a vals i first each = record {
   logs = record { state = v.state; later = after_same v.state; sooner = after_same v.state; says = (each 0 first).logs };
   since = (each 0 first).since;
   arrays = λ n low. says_between v n (vals n) (spent_of w n) (replayed (sectors_of t) (sliced t i)) (each n low).says;
@@ -134,16 +134,16 @@ new_sector arrays place disk sectors t u seats i =
 -- ---- a drive that is declined
 
 -- The disk holds what it held, or what is laid on it, and the others are written in slices alone.
-pub declined_off : (f : Found) (t : Slices) (v : Raid) (disk : ℕ) (a : Seen) → ((p : ℕ) → f.seats p ≡ Some disk → is_current v.state p ≡ false)
-    → ((k : ℕ) (w : List ℕ) → IsSliced t disk k w → ⊥) → IsOpenDisk a disk → 10273 ≤ a.sectors disk → a.lasting → (b : Seen) → Stays a b
-    → (i : Image) → IsMix a b (IsWrittenBy t disk (a.sectors disk)) i → IsLaidOff f t v.state disk a i
-declined_off f t v disk a vacant free opened room lasting b stays i mix =
-    let laid : HoldsLaid a disk i =
+pub declined_off : (f : Found) (t : Slices) (v : Raid) (disk : ℕ) (table : Table) (a : Seen) → ((p : ℕ) → f.seats p ≡ Some disk → is_current v.state p ≡ false)
+    → ((k : ℕ) (w : List ℕ) → IsSliced t disk k w → ⊥) → IsOpenDisk a disk → 10273 ≤ table.sectors → a.lasting → (b : Seen) → Stays a b
+    → (i : Image) → IsMix a b (IsWrittenBy t disk table) i → IsLaidOff f t v.state disk a i
+declined_off f t v disk table a vacant free opened room lasting b stays i mix =
+    let laid : HoldsLaid a disk table i =
     λ c low. elim (mix disk c (live_on lasting stays (opened c low))) [
       | inl may ↦ inl may
       | inr written ↦ elim written [ inl own ↦ inr own | inr slice ↦ absurd (free c (i disk c) slice) ]
     ] in
-    laid_off f t t v.state disk a b i vacant free opened lasting stays (λ d k w other at. at) mix (laid_says a disk i room laid)
+    laid_off f t t v.state disk table a b i vacant free opened lasting stays (λ d k w other at. at) mix (laid_says a disk table i room laid)
 
 -- By the slices contents say a state of the call, and the arrays by it.
 pub declined_book : (made : ℕ) (t : Slices) (v w : Raid) (a b : Seen) → a.traced → KeepsMoments v w (slices_of t a) (slices_of t b)

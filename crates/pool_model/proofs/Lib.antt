@@ -63,7 +63,6 @@ pub mod JoiningSeats
 pub mod JoiningStands
 pub mod JoiningLate
 pub mod JoiningNames
-pub mod JoiningIds
 pub mod FormerDrive
 pub mod JoiningShown
 pub mod TakingLate
@@ -71,6 +70,7 @@ pub mod Entering
 pub mod ReplacingEarly
 pub mod Replacing
 pub mod Alone
+pub mod LeftOut
 pub mod ServiceWhole
 pub mod TableRoom
 pub mod SameAlone

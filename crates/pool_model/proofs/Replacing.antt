@@ -23,15 +23,11 @@ use Rattle.raid_rack.specs.Raid.{IsTold, Raid, held_in, is_over, spent_of}
 use Rattle.raid_rack.proofs.Over.{number_room}
 use Rattle.pool_image.specs.Disks.{disks_of, identities_of}
 use Rattle.pool_image.specs.Drives.{Found}
-use Rattle.pool_model.specs.Alone.{IsUngiven}
 use Rattle.pool_model.specs.Laid.{HaveOtherIds, IsFormerYet, IsJoinedOff, SaysFormerly}
-use Rattle.pool_model.specs.Left.{IsPickOff}
 use Rattle.pool_model.specs.Stopped.{HoldAmid}
-use Rattle.pool_model.specs.Taken.{AreDistinct, AreSerial, taken, views_of}
+use Rattle.pool_model.specs.Taken.{taken, views_of}
 use Rattle.pool_model.proofs.Amid.{inside_of}
-use Rattle.pool_model.proofs.FormerDrive.{former_below, former_copy, former_own, former_yet, own}
-use Rattle.pool_model.proofs.JoiningIds.{joining_ids}
-use Rattle.pool_model.proofs.Named.{id_same}
+use Rattle.pool_model.proofs.FormerDrive.{former_below, former_own, former_yet}
 use Rattle.pool_model.proofs.ReplacingEarly.{former_all, replacing_former, replacing_laid}
 use Rattle.pool_model.proofs.TakingLate.{IsEntering, between_says, entering_late, entering_off}
 
@@ -81,7 +77,7 @@ module _ (f : Found) (t u : Slices) (v w : Raid) (place disk units : ℕ) (plan 
   apart_former : former.0 ≢ disk
   apart_former same = is.apart place (former.1 ∙ ap Some same)
 
-  joined_off : (i : Image) → IsMix a b (IsWrittenBy u disk (a.sectors disk)) i → IsJoinedOff f u v place disk a i
+  joined_off : (i : Image) → IsMix a b (IsWrittenBy u disk table) i → IsJoinedOff f u v place disk a i
   joined_off =
       entering_off f t u (views_of v) v place disk a b is.enters enlists.only
       (former_below f t u v place disk a is.enters.service is.enters.new is.orderly is.enters.orderly is.inside is.was (told 0 first) still)
@@ -90,21 +86,6 @@ module _ (f : Found) (t u : Slices) (v w : Raid) (place disk units : ℕ) (plan 
     formerly : (d : ℕ) (copy : Copied) → f.seats place ≡ Some d → d ≢ disk → (identities_of (disks_of a) i d).copied ≡ Some copy → SaysFormerly v.state place copy
     formerly d copy seat other here =
         former_own f t u v place disk a i is.enters.service is.enters.new joined.others is.orderly is.enters.orderly is.inside log is.was d seat other copy here
-
-  -- No other disk has the next drive's id at a stop, where the disks that are no drives have none that the pool gives later.
-  pub replacing_ids : (bound : ℕ) → f.state.serial < bound → AreSerial f.state → AreDistinct f.state.pool.0 f.state.serial
-      → ((j : Image) → IsPickOff t a j → (d : ℕ) → ((p : ℕ) → f.seats p ≡ Some d → ⊥) → d < f.disks.count → d ≢ disk → IsUngiven f.state bound (identities_of f.disks j d))
-      → (k : ℕ) (i : Image) → a.clock < k → k ≤ b.clock → b.stops k i → HaveOtherIds f v.state place disk i
-  replacing_ids bound early serials distinct ungiven k i since until stopped =
-      let joined = joined_off i ((enlists.only.stops traced).new k i since until stopped) in
-      joining_ids f t u v place disk 0 v.state.plan a i is.enters.service is.enters.new joined (formerly i joined) bound early serials distinct ungiven
-      (λ j off d seat other.
-      let others = λ (q s : ℕ) (away : q ≢ disk). off q s in
-      let copy = own f t u v place disk a j is.enters.service is.enters.new others is.orderly is.enters.orderly is.inside log is.was d seat other in (
-        record { state = v.state; own = copy.own },
-        former_copy f t u v place disk a j is.enters.service is.enters.new others is.orderly is.enters.orderly is.inside log is.was d seat other,
-        copy.drive ∙ id_same f.state v.state is.enters.service.after.same place,
-      ))
 
   -- ---- at a moment once the slices of the disk were added
 
@@ -161,13 +142,13 @@ module _ (f : Found) (t u : Slices) (v w : Raid) (place disk units : ℕ) (plan 
       → HoldAmid f t v.state v.state i ⊎ HoldAmid (taken f (disks_of a) place disk next) u next w.state i
   replacing_amid k i since until stopped ids = elim (cases_lt enlists.mid k) [
     | inr early ↦
-        inl (replacing_laid f t v place disk a is.enters.service is.apart is.orderly is.inside is.enters.tables is.enters.opened is.room is.enters.lasting traced u units plan table w b
+        inl (replacing_laid f t v place disk a is.enters.service is.apart is.orderly is.inside is.enters.tables is.enters.opened is.room is.enters.lasting traced u units plan table refl w b
         enlists.mid is.enters.new enlists.only tells lasts is.enters.present place is.was is.was k i since until stopped early)
     | inl late ↦ elim (each k i late until stopped 0 first).says [
       | inl before ↦
-          inl (replacing_former f t v place disk a is.enters.service is.apart is.orderly is.inside is.enters.tables is.enters.opened is.room is.enters.lasting traced u units plan table w b
+          inl (replacing_former f t v place disk a is.enters.service is.apart is.orderly is.inside is.enters.tables is.enters.opened is.room is.enters.lasting traced u units plan table refl w b
           enlists.mid is.enters.new enlists.only tells lasts is.enters.present place is.was is.was k i since until stopped
-          (former_all f t v place disk a is.enters.service is.apart is.orderly is.inside is.enters.tables is.enters.opened is.room is.enters.lasting traced u units plan table w b
+          (former_all f t v place disk a is.enters.service is.apart is.orderly is.inside is.enters.tables is.enters.opened is.room is.enters.lasting traced u units plan table refl w b
           enlists.mid is.enters.new enlists.only tells lasts is.enters.present place is.was is.was i (each k i late until stopped) before.2) before.1)
       | inr latter ↦ inr (replacing_late k i late until stopped (ids late) latter.0)
     ]

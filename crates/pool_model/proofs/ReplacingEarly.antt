@@ -63,10 +63,10 @@ module _ (f : Found) (t : Slices) (v : Raid) (place disk : ℕ) (a : Seen) (is :
   -- ---- a drive that is declined
 
   -- The drive may have refused a call, or another one was found gone and is marked, by the book w.
-  pub replacing_declined : (w : Raid) (b : Seen) → WritesOnly a b (IsWrittenBy t disk (a.sectors disk)) → KeepsMoments v w (slices_of t a) (slices_of t b)
+  pub replacing_declined : (table : Table) → table.sectors ≡ a.sectors disk → (w : Raid) (b : Seen) → WritesOnly a b (IsWrittenBy t disk table) → KeepsMoments v w (slices_of t a) (slices_of t b)
       → ((n : ℕ) → n < f.state.made → IsTold v (slices_of t a) n) → ((n : ℕ) → n < f.state.made → is_over w n ≡ false)
       → Leaves a b (HoldAmid f t v.state w.state)
-  replacing_declined w b only keeps told lasts =
+  replacing_declined table sized w b only keeps told lasts =
       let stops = only.stops traced in
       record {
         later = stops.later;
@@ -75,26 +75,26 @@ module _ (f : Found) (t : Slices) (v : Raid) (place disk : ℕ) (a : Seen) (is :
         new = λ k i since until stopped.
             let one = someone_left w 0 (lasts 0 first) in
             service_laid f t v a is orderly inside disk apart i
-            (declined_off f t v disk a vacant free opened room lasting b only.stays i (stops.new k i since until stopped)) w tables
+            (declined_off f t v disk table a vacant free opened (omega (arith, room, sized)) lasting b only.stays i (stops.new k i since until stopped)) w tables
             (present_told f t v a is (told 0 first) (keeps.still 0 (lasts 0 first)))
             (declined_book f.state.made t v w a b traced keeps told lasts first k i since until stopped)
             (let most = (number_room w 0 (lasts 0 first)).1 in omega (arith, most)) one.0 one.1;
       }
 
-  pub replacing_refused : (b : Seen) → IsRefused t disk v a b → ((n : ℕ) → n < f.state.made → IsTold v (slices_of t a) n)
+  pub replacing_refused : (table : Table) → table.sectors ≡ a.sectors disk → (b : Seen) → IsRefused t disk table v a b → ((n : ℕ) → n < f.state.made → IsTold v (slices_of t a) n)
       → ((n : ℕ) → n < f.state.made → is_over v n ≡ false) → Leaves a b (HoldAmid f t v.state v.state)
-  replacing_refused b refused told lasts =
-      replacing_declined v b (only_weaker (IsOfDrive disk (a.sectors disk)) (IsWrittenBy t disk (a.sectors disk)) (λ d k c own. inl own) refused.only) refused.moments told lasts
+  replacing_refused table sized b refused told lasts =
+      replacing_declined table sized v b (only_weaker (IsOfDrive disk table) (IsWrittenBy t disk table) (λ d k c own. inl own) refused.only) refused.moments told lasts
 
-  pub replacing_not_whole : (w : Raid) (b : Seen) → IsNotWhole t disk v w a b → ((n : ℕ) → n < f.state.made → IsTold v (slices_of t a) n)
+  pub replacing_not_whole : (table : Table) → table.sectors ≡ a.sectors disk → (w : Raid) (b : Seen) → IsNotWhole t disk table v w a b → ((n : ℕ) → n < f.state.made → IsTold v (slices_of t a) n)
       → ((n : ℕ) → n < f.state.made → is_over w n ≡ false) → Leaves a b (HoldAmid f t v.state w.state)
-  replacing_not_whole w b declined told lasts = replacing_declined w b declined.only declined.moments told lasts
+  replacing_not_whole table sized w b declined told lasts = replacing_declined table sized w b declined.only declined.moments told lasts
 
   -- ---- a drive that is taken in
 
   -- `mid` is the time when its slices were added.
-  module _ (u : Slices) (units : ℕ) (plan : Plan) (table : Table) (w : Raid) (b : Seen) (mid : ℕ) (new : SeatsNew f t u v place disk (a.sectors disk))
-      (only : WritesOnly a b (IsWrittenBy u disk (a.sectors disk))) (told : (n : ℕ) → n < f.state.made → KeepsTold t u place disk units plan table v w a b mid n)
+  module _ (u : Slices) (units : ℕ) (plan : Plan) (table : Table) (sized : table.sectors ≡ a.sectors disk) (w : Raid) (b : Seen) (mid : ℕ) (new : SeatsNew f t u v place disk (a.sectors disk))
+      (only : WritesOnly a b (IsWrittenBy u disk table)) (told : (n : ℕ) → n < f.state.made → KeepsTold t u place disk units plan table v w a b mid n)
       (lasts : (n : ℕ) → n < f.state.made → is_over w n ≡ false) (present : HavePlaces v.state f) (someone : ℕ) (now : is_current v.state someone ≡ true)
       (was : is_current v.state place ≡ true) where
     abbrev next : State
@@ -115,10 +115,10 @@ module _ (f : Found) (t : Slices) (v : Raid) (place disk : ℕ) (a : Seen) (is :
     replacing_laid k i since until stopped early =
         let each = λ (n : ℕ) (low : n < f.state.made). (told n low).before traced (lasts n low) k i since early stopped in
         let off : IsLaidOff f t v.state disk a i =
-        laid_off f t u v.state disk a b i vacant free opened lasting only.stays fewer ((only.stops traced).new k i since until stopped)
-        (laid_says a disk i room (each 0 first).laid) in
+        laid_off f t u v.state disk table a b i vacant free opened lasting only.stays fewer ((only.stops traced).new k i since until stopped)
+        (laid_says a disk table i (omega (arith, room, sized)) (each 0 first).laid) in
         service_laid f t v a is orderly inside disk apart i off v tables present
-        (laying_book f.state.made t disk v w a (held_in v (slices_of t a)) i first each) new.room someone now
+        (laying_book f.state.made t disk table v w a (held_in v (slices_of t a)) i first each) new.room someone now
 
     -- At a moment contents say all arrays by the slices before, or all by those after.
     abbrev Former : Image → ℕ → Type 0
@@ -142,7 +142,7 @@ module _ (f : Found) (t : Slices) (v : Raid) (place disk : ℕ) (a : Seen) (is :
         → HoldAmid f t v.state v.state i
     replacing_former k i since until stopped each none =
         let off : IsLaidOff f t v.state disk a i =
-        laid_off f t u v.state disk a b i vacant free opened lasting only.stays fewer ((only.stops traced).new k i since until stopped)
+        laid_off f t u v.state disk table a b i vacant free opened lasting only.stays fewer ((only.stops traced).new k i since until stopped)
         (λ copy low here. absurd (none copy (ap decoded (new_sector (views_of v) place disk (a.sectors disk) t u new.seats i) ∙ here))) in
         service_laid f t v a is orderly inside disk apart i off v tables present
         (former_book f.state.made t v w (slices_of t a) (held_in v (slices_of t a)) i first each) new.room someone now

@@ -1,6 +1,6 @@
 -- What a stop leaves inside a line that takes a new drive in, up to the moment when the record counts by which it is one of the pool, and inside one that is declined
 -- after something was laid on the drive: the pool that the disks had. The place gave its disk up before, and nothing was written by then.
-use Rattle.std.proofs.Common.{◌≡◌, ◌≢◌, ◌⊎◌, ℕ, ◌+◌, ◌-◌, ◌<◌, ◌≤◌, ◌^◌, if◌then◌else◌, Bool, true, false, List, Ok, Some, sym, ap, subst, ◌∙◌, inl, inr, lt-ltb, arith}
+use Rattle.std.proofs.Common.{◌≡◌, ◌≢◌, ◌⊎◌, ℕ, ◌+◌, ◌-◌, ◌<◌, ◌≤◌, ◌^◌, if◌then◌else◌, Bool, true, false, List, Ok, Some, refl, sym, ap, subst, ◌∙◌, inl, inr, lt-ltb, arith}
 use Rattle.std.proofs.lemmas.Bool.{cases_eq, cases_lt}
 use Rattle.rack.specs.Moments.{Leaves}
 use Rattle.rack.specs.Seen.{Image, Seen}
@@ -64,38 +64,38 @@ module _ (f : Found) (s t : Slices) (v : Raid) (place disk : ℕ) (a : Seen) (is
   -- ---- a drive that is declined
 
   -- The drive may have refused a call, or another one was found gone and is marked, by the book w.
-  pub declined_amid : (w : Raid) (b : Seen) → WritesOnly a b (IsWrittenBy t disk (a.sectors disk)) → KeepsMoments v w (slices_of t a) (slices_of t b)
+  pub declined_amid : (table : Table) → table.sectors ≡ a.sectors disk → (w : Raid) (b : Seen) → WritesOnly a b (IsWrittenBy t disk table) → KeepsMoments v w (slices_of t a) (slices_of t b)
       → ((n : ℕ) → n < f.state.made → IsTold v (slices_of t a) n) → ((n : ℕ) → n < f.state.made → is_over w n ≡ false)
       → Leaves a b (HoldAmid f t v.state w.state)
-  declined_amid w b only keeps told lasts =
+  declined_amid table sized w b only keeps told lasts =
       let stops = only.stops traced in
       record { later = stops.later; kept = stops.kept; past = stops.past; new = λ k i since until stopped. amid k i since until stopped (stops.new k i since until stopped) }
     where
       still : is_over v 0 ≡ false
       still = keeps.still 0 (lasts 0 first)
 
-      amid : (k : ℕ) (i : Image) → a.clock < k → k ≤ b.clock → b.stops k i → IsMix a b (IsWrittenBy t disk (a.sectors disk)) i → HoldAmid f t v.state w.state i
+      amid : (k : ℕ) (i : Image) → a.clock < k → k ≤ b.clock → b.stops k i → IsMix a b (IsWrittenBy t disk table) i → HoldAmid f t v.state w.state i
       amid k i since until stopped mix =
           let one = someone_left w 0 (lasts 0 first) in
-          laid_amid f s t v place a is lacks orderly inside disk i (declined_off f t v disk a vacant free opened room lasting b only.stays i mix) w tables
+          laid_amid f s t v place a is lacks orderly inside disk i (declined_off f t v disk table a vacant free opened (omega (arith, room, sized)) lasting b only.stays i mix) w tables
           (present_of f s t v place a is lacks (told 0 first) still) (declined_book f.state.made t v w a b traced keeps told lasts first k i since until stopped)
           (let most = (number_room w 0 (lasts 0 first)).1 in omega (arith, most)) one.0 one.1
 
   -- So it is where the drive refused a call, and where another one was found gone.
-  pub refused_amid : (b : Seen) → IsRefused t disk v a b → ((n : ℕ) → n < f.state.made → IsTold v (slices_of t a) n)
+  pub refused_amid : (table : Table) → table.sectors ≡ a.sectors disk → (b : Seen) → IsRefused t disk table v a b → ((n : ℕ) → n < f.state.made → IsTold v (slices_of t a) n)
       → ((n : ℕ) → n < f.state.made → is_over v n ≡ false) → Leaves a b (HoldAmid f t v.state v.state)
-  refused_amid b refused told lasts =
-      declined_amid v b (only_weaker (IsOfDrive disk (a.sectors disk)) (IsWrittenBy t disk (a.sectors disk)) (λ d k c own. inl own) refused.only) refused.moments told lasts
+  refused_amid table sized b refused told lasts =
+      declined_amid table sized v b (only_weaker (IsOfDrive disk table) (IsWrittenBy t disk table) (λ d k c own. inl own) refused.only) refused.moments told lasts
 
-  pub not_whole_amid : (w : Raid) (b : Seen) → IsNotWhole t disk v w a b → ((n : ℕ) → n < f.state.made → IsTold v (slices_of t a) n)
+  pub not_whole_amid : (table : Table) → table.sectors ≡ a.sectors disk → (w : Raid) (b : Seen) → IsNotWhole t disk table v w a b → ((n : ℕ) → n < f.state.made → IsTold v (slices_of t a) n)
       → ((n : ℕ) → n < f.state.made → is_over w n ≡ false) → Leaves a b (HoldAmid f t v.state w.state)
-  not_whole_amid w b declined told lasts = declined_amid w b declined.only declined.moments told lasts
+  not_whole_amid table sized w b declined told lasts = declined_amid table sized w b declined.only declined.moments told lasts
 
   -- ---- a drive that is taken in
 
   -- `mid` is the time when its slices were added.
-  module _ (u : Slices) (units : ℕ) (plan : Plan) (table : Table) (w : Raid) (b : Seen) (mid : ℕ) (new : SeatsNew f s u v place disk (a.sectors disk))
-      (only : WritesOnly a b (IsWrittenBy u disk (a.sectors disk))) (told : (n : ℕ) → n < f.state.made → KeepsTold t u place disk units plan table v w a b mid n)
+  module _ (u : Slices) (units : ℕ) (plan : Plan) (table : Table) (sized : table.sectors ≡ a.sectors disk) (w : Raid) (b : Seen) (mid : ℕ) (new : SeatsNew f s u v place disk (a.sectors disk))
+      (only : WritesOnly a b (IsWrittenBy u disk table)) (told : (n : ℕ) → n < f.state.made → KeepsTold t u place disk units plan table v w a b mid n)
       (lasts : (n : ℕ) → n < f.state.made → is_over w n ≡ false) (present : HavePlaces v.state f) (someone : ℕ) (now : is_current v.state someone ≡ true) where
     abbrev next : State
     next = enlisted place units plan v.state
@@ -112,10 +112,10 @@ module _ (f : Found) (s t : Slices) (v : Raid) (place disk : ℕ) (a : Seen) (is
     laying_early k i since until stopped early =
         let each = λ (n : ℕ) (low : n < f.state.made). (told n low).before traced (lasts n low) k i since early stopped in
         let off : IsLaidOff f t v.state disk a i =
-        laid_off f t u v.state disk a b i vacant free opened lasting only.stays fewer ((only.stops traced).new k i since until stopped)
-        (laid_says a disk i room (each 0 first).laid) in
+        laid_off f t u v.state disk table a b i vacant free opened lasting only.stays fewer ((only.stops traced).new k i since until stopped)
+        (laid_says a disk table i (omega (arith, room, sized)) (each 0 first).laid) in
         laid_amid f s t v place a is lacks orderly inside disk i off v tables present
-        (laying_book f.state.made t disk v w a (held_in v (slices_of t a)) i first each) new.room someone now
+        (laying_book f.state.made t disk table v w a (held_in v (slices_of t a)) i first each) new.room someone now
 
     -- Once it has its slices, where they say the state before.
     pub taking_early : IsOrderly u → IsInside u a → (k : ℕ) (i : Image) → a.clock < k → k ≤ b.clock → b.stops k i → mid < k
@@ -123,7 +123,7 @@ module _ (f : Found) (s t : Slices) (v : Raid) (place disk : ℕ) (a : Seen) (is
     taking_early orderly_now inside_now k i since until stopped late says =
         let each = λ (n : ℕ) (low : n < f.state.made). (told n low).after lacks.missing traced (lasts n low) k i late until stopped in
         let off : IsLaidOff f t v.state disk a i =
-        laid_off f t u v.state disk a b i vacant free opened lasting only.stays fewer ((only.stops traced).new k i since until stopped)
+        laid_off f t u v.state disk table a b i vacant free opened lasting only.stays fewer ((only.stops traced).new k i since until stopped)
         (λ copy low here. absurd (says_none (each 0 first) copy here)) in
         joining_early f s u v place disk a is new lacks.missing t i lacks orderly inside orderly_now inside_now tables present someone now off
         (joining_book f.state.made t u disk table next v w a (held_in v (slices_of t a)) i first up says each)
@@ -181,11 +181,11 @@ module _ (f : Found) (s t : Slices) (v : Raid) (place disk : ℕ) (a : Seen) (is
         let one = entering_someone in
         elim (cases_lt enlists.mid k) [
           | inr early ↦
-              inl (inl (laying_early u units plan table w b enlists.mid new enlists.only entering_told lasts entering_places one.0 one.1 k i since until stopped early))
+              inl (inl (laying_early u units plan table refl w b enlists.mid new enlists.only entering_told lasts entering_places one.0 one.1 k i since until stopped early))
           | inl late ↦ elim ((entering_told 0 first).after lacks.missing traced (lasts 0 first) k i late until stopped).logs [
             | inl says ↦
                 inl (inr
-                (taking_early u units plan table w b enlists.mid new enlists.only entering_told lasts entering_places one.0 one.1 orderly_now inside_now k i since until stopped
+                (taking_early u units plan table refl w b enlists.mid new enlists.only entering_told lasts entering_places one.0 one.1 orderly_now inside_now k i since until stopped
                 late says))
             | inr brought ↦ inr (late, brought)
           ]

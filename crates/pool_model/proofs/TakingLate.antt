@@ -18,7 +18,7 @@ use Rattle.pool_state.specs.declared.contents.Plan.{Plan}
 use Rattle.pool_state.specs.declared.contents.State.{State}
 use Rattle.array_image.specs.Arrays.{replayed}
 use Rattle.array_image.specs.Places.{log_slice, super_sector}
-use Rattle.array_image.specs.States.{is_current, state_in, id_of}
+use Rattle.array_image.specs.States.{is_current, state_in}
 use Rattle.array_image.specs.Supers.{super_of}
 use Rattle.array_model.specs.View.{View}
 use Rattle.commit_log.proofs.Kept.{live_on}
@@ -37,15 +37,12 @@ use Rattle.raid_rack.proofs.Over.{number_room}
 use Rattle.pool_image.specs.Disks.{disks_of, identities_of}
 use Rattle.pool_image.specs.Drives.{Found, first_of as first_in_pool}
 use Rattle.pool_image.specs.Meaning.{is_member}
-use Rattle.pool_model.specs.Alone.{IsUngiven}
 use Rattle.pool_model.specs.InService.{InService}
 use Rattle.pool_model.specs.Laid.{HaveOtherIds, IsFormerYet, IsJoinedOff, SaysFormerly}
 use Rattle.pool_model.specs.Left.{IsPickOff}
 use Rattle.pool_model.specs.Stopped.{HoldAmid, HoldTables, LieOn}
-use Rattle.pool_model.specs.Taken.{AreDistinct, AreSerial, KeepsOff, LacksDrive, SeatsNew, taken, views_of}
-use Rattle.pool_model.proofs.Before.{off_before, was as image_before, was_other as image_other}
+use Rattle.pool_model.specs.Taken.{KeepsOff, LacksDrive, SeatsNew, taken, views_of}
 use Rattle.pool_model.proofs.Joined.{current_other}
-use Rattle.pool_model.proofs.JoiningIds.{joining_ids}
 use Rattle.pool_model.proofs.JoiningSaid.{keeps_off, off_now, z}
 use Rattle.pool_model.proofs.JoiningShown.{joining_amid}
 use Rattle.pool_model.proofs.Staying.{sliced_seated}
@@ -123,14 +120,17 @@ present_of f s t v place x is lacks told lasts p now = by (f.seats p) refl
         absurd (omega (arith, nothing, many, some))
 
 module _ (f : Found) (s u : Slices) (arrays : List View) (v : Raid) (place disk : ℕ) (x y : Seen) (is : IsEntering f s u arrays v place disk x)
-    (only : WritesOnly x y (IsWrittenBy u disk (x.sectors disk))) where
+    (only : WritesOnly x y (IsWrittenBy u disk (new_table v.state arrays place (x.sectors disk)))) where
   known : IsKnownBefore f v
   known = record { outset = is.service.arranged; after = is.service.after; geometry = is.service.geometry }
+
+  abbrev table : Table
+  table = new_table v.state arrays place (x.sectors disk)
 
   -- What contents have outside the slices in which the live sectors have what they had, or what the call may write. The drive that the place had says no later state.
   pub entering_off : ((d : ℕ) → d ≢ disk → f.seats place ≡ Some d → (j : Image) → IsPickOff u x j → (copy : Copied)
       → (identities_of (disks_of x) j d).copied ≡ Some copy → copy.state.epoch < raised v.state.epoch)
-      → (i : Image) → IsMix x y (IsWrittenBy u disk (x.sectors disk)) i → IsJoinedOff f u v place disk x i
+      → (i : Image) → IsMix x y (IsWrittenBy u disk table) i → IsJoinedOff f u v place disk x i
   entering_off earlier i mix = record {
     low = is.low;
     opened = is.opened;
@@ -144,7 +144,7 @@ module _ (f : Found) (s u : Slices) (arrays : List View) (v : Raid) (place disk 
         elim (mix disk (first + super_sector) (live_on is.lasting only.stays (is.opened (first + super_sector) within))) [
           | inl may ↦ fit.1 (i disk (first + super_sector)) may
           | inr written ↦ elim written [
-            | inl own ↦ absurd (laid_super disk (x.sectors disk) (first + super_sector) (i disk (first + super_sector)) (omega (arith, past)) fit.0 own)
+            | inl own ↦ absurd (laid_super disk table (first + super_sector) (i disk (first + super_sector)) (omega (arith, past)) fit.0 own)
             | inr slice ↦
                 absurd (free_super f s u v place disk (x.sectors disk) is.new is.service.slices known n first low begins none (i disk (first + super_sector)) slice)
           ]
@@ -154,9 +154,6 @@ module _ (f : Found) (s u : Slices) (arrays : List View) (v : Raid) (place disk 
 
   abbrev coming : (units : ℕ) → Plan → State
   coming units plan = enlisted place units plan v.state
-
-  abbrev table : Table
-  table = new_table v.state arrays place (x.sectors disk)
 
   -- A stop whose log slices say a state that has the drive, where no other disk has the id of the next one, leaves contents that hold the pool with it.
   pub entering_late : (units : ℕ) (plan : Plan) (w : Raid) (i : Image) (joined : IsJoinedOff f u v place disk x i)
@@ -191,7 +188,7 @@ between_says s w n vals spent r at = record {
 -- ---- a place that gave its disk up
 
 module _ (f : Found) (s t u : Slices) (arrays : List View) (v : Raid) (place disk : ℕ) (x y : Seen) (is : IsTaking f s t u arrays v place disk x)
-    (only : WritesOnly x y (IsWrittenBy u disk (x.sectors disk))) where
+    (only : WritesOnly x y (IsWrittenBy u disk (new_table v.state arrays place (x.sectors disk)))) where
   abbrev enters : IsEntering f s u arrays v place disk x
   enters = taking_enters f s t u arrays v place disk x is
 
@@ -204,7 +201,7 @@ module _ (f : Found) (s t u : Slices) (arrays : List View) (v : Raid) (place dis
   keeps_same_off : KeepsOff t disk x x
   keeps_same_off d k other live never = (live, keeps_same (x.held d k))
 
-  pub taking_off : (i : Image) → IsMix x y (IsWrittenBy u disk (x.sectors disk)) i → IsJoinedOff f u v place disk x i
+  pub taking_off : (i : Image) → IsMix x y (IsWrittenBy u disk (new_table v.state arrays place (x.sectors disk))) i → IsJoinedOff f u v place disk x i
   taking_off =
       entering_off f s u arrays v place disk x y enters only
       (λ d other seat j off copy here.
@@ -219,20 +216,6 @@ module _ (f : Found) (s t u : Slices) (arrays : List View) (v : Raid) (place dis
       inl (lacks_still f s t u v place disk x (z f s u v place disk 0 v.state.plan x i is.service is.new joined) is.lacks
       (keeps_off f s u v place disk 0 v.state.plan x i is.service is.new joined t) fewer d seat other refl i
       (off_now f s u v place disk 0 v.state.plan x i is.service is.new joined) copy here)
-
-  -- No other disk has the next drive's id at a stop, where the disks that are no drives have none that the pool gives later, and the drive that the place had says its own.
-  pub taking_ids : x.traced → (bound : ℕ) → f.state.serial < bound → AreSerial f.state → AreDistinct f.state.pool.0 f.state.serial
-      → ((j : Image) → IsPickOff s x j → (d : ℕ) → ((p : ℕ) → f.seats p ≡ Some d → ⊥) → d < f.disks.count → d ≢ disk → IsUngiven f.state bound (identities_of f.disks j d))
-      → ((j : Image) → IsPickOff t x j → (d : ℕ) → f.seats place ≡ Some d → d ≢ disk
-      → (copy : Copied) × ((identities_of (disks_of x) j d).copied ≡ Some copy) × (id_of copy.state copy.own ≡ id_of f.state place))
-      → (k : ℕ) (i : Image) → x.clock < k → k ≤ y.clock → y.stops k i → HaveOtherIds f v.state place disk i
-  taking_ids traced bound early serials distinct ungiven former k i since until stopped =
-      let joined = taking_off i ((only.stops traced).new k i since until stopped) in
-      joining_ids f s u v place disk 0 v.state.plan x i is.service is.new joined (formerly i joined) bound early serials distinct
-      ungiven
-      (λ j off d seat other.
-      let one = former (image_before t u disk x x keeps_same_off fewer j off) (off_before t u disk x x keeps_same_off fewer j off) d seat other in
-      (one.0, sym (ap (λ (c : ℕ → List ℕ). (identities_of (disks_of x) (λ q. c) d).copied) (image_other t u disk x x keeps_same_off fewer j off d other)) ∙ one.1, one.2))
 
   module _ (w : Raid) (units mid : ℕ) (plan : Plan) (traced : x.traced) (other : has_other w.state place ≡ true) (lasts : (n : ℕ) → n < f.state.made → is_over w n ≡ false)
       (tells : (n : ℕ) → n < f.state.made → KeepsTold t u place disk units plan (new_table v.state arrays place (x.sectors disk)) v w x y mid n) (begun : x.clock ≤ mid) where

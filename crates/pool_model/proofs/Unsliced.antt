@@ -8,7 +8,8 @@ use Rattle.std.proofs.lemmas.Option.{none-some}
 use Rattle.slice_rack.specs.Runs.{IsSliced}
 use Rattle.slice_rack.specs.Slices.{Slices, place_of, seat_of}
 use Rattle.shr_base.specs.Blocks.{bytes_at, number_at}
-use Rattle.gpt_table.specs.Plans.{IsOfTable}
+use Rattle.gpt_table.specs.declared.Table.{Table}
+use Rattle.gpt_table.specs.Plans.{IsOfTable, in_table}
 use Rattle.pool_state.specs.declared.contents.Copied.{Copied}
 use Rattle.pool_state.specs.Sector.{decoded}
 use Rattle.array_image.specs.Places.{arrays_first, slice_of, state_sector, super_sector}
@@ -45,17 +46,17 @@ unfolding number_at bytes_at
 none_said = refl
 
 -- off the tables, in the state's sector
-pub laid_state : (d sectors : ℕ) (v : List ℕ) (copy : Copied) → 10273 ≤ sectors → IsOfDrive d sectors d state_sector v → decoded v ≡ Ok copy → ⊥
-laid_state d sectors v copy room is says = elim is.1 [
+pub laid_state : (d : ℕ) (table : Table) (v : List ℕ) (copy : Copied) → 10273 ≤ table.sectors → IsOfDrive d table d state_sector v → decoded v ≡ Ok copy → ⊥
+laid_state d table v copy room is says = elim is.1 [
   | inl state ↦
       none-some copy (sym none_said ∙ ap (λ w. result_ok (decoded w)) (sym state.1) ∙ ap result_ok says)
   | inr other ↦ elim other [
     | inl gate ↦ (let at = gate.0 in omega (arith, at))
-    | inr table ↦ off_table table
+    | inr tabled ↦ off_table (in_table table state_sector v tabled)
   ]
 ]
   where
-    off_table : IsOfTable sectors state_sector → ⊥
+    off_table : IsOfTable table.sectors state_sector → ⊥
     off_table (inl first) = omega (arith, first)
     off_table (inr (inl (inl header))) = omega (arith, header)
     off_table (inr (inl (inr entries))) = (let high = entries.1 in omega (arith, high))
@@ -63,16 +64,16 @@ laid_state d sectors v copy room is says = elim is.1 [
     off_table (inr (inr (inr entries))) = (let low = entries.0 in omega (arith, low, room))
 
 -- nothing is laid between the log slice and the backup of the table
-pub laid_super : (d sectors s : ℕ) (v : List ℕ) → arrays_first ≤ s → s + 33 < sectors → IsOfDrive d sectors d s v → ⊥
-laid_super d sectors s v past before is = elim is.1 [
+pub laid_super : (d : ℕ) (table : Table) (s : ℕ) (v : List ℕ) → arrays_first ≤ s → s + 33 < table.sectors → IsOfDrive d table d s v → ⊥
+laid_super d table s v past before is = elim is.1 [
   | inl state ↦ (let at = state.0 in omega (arith, at, past))
   | inr other ↦ elim other [
     | inl gate ↦ (let at = gate.0 in omega (arith, at, past))
-    | inr table ↦ off_table table
+    | inr tabled ↦ off_table (in_table table s v tabled)
   ]
 ]
   where
-    off_table : IsOfTable sectors s → ⊥
+    off_table : IsOfTable table.sectors s → ⊥
     off_table (inl first) = omega (arith, first, past)
     off_table (inr (inl (inl header))) = omega (arith, header, past)
     off_table (inr (inl (inr entries))) = (let high = entries.1 in omega (arith, high, past))

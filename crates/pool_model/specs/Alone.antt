@@ -1,5 +1,5 @@
 -- What the disks of a pool in service say, outside its slices, of its drives and of other pools, so that any one drive may be absent at its end.
-use Rattle.std.specs.Prelude.{◌≡◌, ◌≢◌, ◌⊎◌, ℕ, ◌<◌, ◌≤◌, true, false, Some}
+use Rattle.std.specs.Prelude.{◌≡◌, ◌≢◌, ◌⊎◌, ℕ, ◌<◌, ◌≤◌, true, false, Some, None}
 use Rattle.std.specs.Option.{option_map_or}
 use Rattle.rack.specs.Seen.{Image, Seen}
 use Rattle.slice_rack.specs.Slices.{Slices}
@@ -7,6 +7,7 @@ use Rattle.gpt_table.specs.Changes.{the_table}
 use Rattle.gpt_table.specs.Disk.{Contents}
 use Rattle.pool_state.specs.declared.contents.State.{State}
 use Rattle.array_image.specs.Places.{drive_id}
+use Rattle.array_image.specs.States.{is_current}
 use Rattle.pool_image.specs.Disks.{Identity, disks_of, id_by, identities_of}
 use Rattle.pool_image.specs.Drives.{Found}
 use Rattle.pool_image.specs.Meaning.{is_table}
@@ -26,19 +27,33 @@ pub record IsStranger (f : Found) (bound : ℕ) (z : Identity) : Type 0 where
   pub apart : IsApart f z
   pub ungiven : IsUngiven f.state bound z
 
--- Contents of the disks of a pool: each of its drives has its table, and all other disks are strangers to it.
-pub record SaysAlone (f : Found) (bound : ℕ) (i : Image) : Type 0 where
-  pub tables : (p d : ℕ) → f.seats p ≡ Some d → IsTabled f p (f.disks.sectors d) (i d)
-  pub others : (d : ℕ) → ((p : ℕ) → f.seats p ≡ Some d → ⊥) → d < f.disks.count → IsStranger f bound (identities_of f.disks i d)
+-- Contents of the disks of a pool, by the state s: each of its drives has its table, and all other disks are strangers to it. But nothing is said of disks of
+-- `Out`, unless they are drives of current places.
+pub record SaysAlone (f : Found) (bound : ℕ) (Out : ℕ → Type 0) (s : State) (i : Image) : Type 0 where
+  pub tables : (p d : ℕ) → f.seats p ≡ Some d → (is_current s p ≡ true) ⊎ (Out d → ⊥) → IsTabled f p (f.disks.sectors d) (i d)
+  pub others : (d : ℕ) → ((p : ℕ) → f.seats p ≡ Some d → ⊥) → (Out d → ⊥) → d < f.disks.count → IsStranger f bound (identities_of f.disks i d)
 
 -- so it is whatever the disks may be left with outside the slices
-abbrev pub HoldAlone : Found → (bound : ℕ) → Slices → Seen → Type 0
-HoldAlone f bound t x = (i : Image) → IsPickOff t x i → SaysAlone f bound i
+abbrev pub HoldAlone : Found → (bound : ℕ) → (Out : ℕ → Type 0) → State → Slices → Seen → Type 0
+HoldAlone f bound Out s t x = (i : Image) → IsPickOff t x i → SaysAlone f bound Out s i
 
 -- Of a disk that a place of f got, where f is h since: it has the table of the place's drive, and other disks that came are strangers, as the one is that
--- the place had.
-pub record TakesAlone (f h : Found) (bound : ℕ) (u : Slices) (place disk : ℕ) (z : Seen) : Type 0 where
+-- the place had, but for those of `Out`.
+pub record TakesAlone (f h : Found) (bound : ℕ) (Out : ℕ → Type 0) (u : Slices) (place disk : ℕ) (z : Seen) : Type 0 where
   pub own : (i : Image) → IsPickOff u z i → IsTabled h place (z.sectors disk) (i disk)
   pub strangers :
-      (i : Image) → IsPickOff u z i → (d : ℕ) → d < z.disks → d ≢ disk → (f.disks.count ≤ d) ⊎ (f.seats place ≡ Some d)
+      (i : Image) → IsPickOff u z i → (d : ℕ) → d < z.disks → d ≢ disk → (Out d → ⊥) → (f.disks.count ≤ d) ⊎ (f.seats place ≡ Some d)
       → IsStranger h bound (identities_of (disks_of z) i d)
+
+-- ---- disks that are left out
+
+-- a disk says nothing of any pool
+pub record IsSilent (z : Identity) : Type 0 where
+  pub state : z.copied ≡ None
+  pub table : z.table ≡ None
+
+-- Contents j are i but for disks that are left out, as where their images are empty. None of these is a drive of the pool, and each disk of `Out` is left out
+-- that is none.
+abbrev pub LeaveOut : Found → (Out : ℕ → Type 0) → (i j : Image) → Type 0
+LeaveOut f Out i j =
+    (d : ℕ) → ((Out d → (p : ℕ) × (f.seats p ≡ Some d)) × (j d ≡ i d)) ⊎ (((p : ℕ) → f.seats p ≡ Some d → ⊥) × IsSilent (identities_of f.disks j d))

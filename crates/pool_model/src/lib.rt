@@ -26,7 +26,7 @@
 //! **While a drive is taken in** (`specs/Laid.antt`) a stop leaves contents that hold the pool that there was, up to the moment when the record counts that brings the state
 //! with the drive: by the slices that are left while the drive is laid, and by those with its own from then on (`entering_early`, `proofs/TakingEarly.antt`). It says no state by
 //! then that it didn't say before, so it is taken for no drive, whatever its table is. Once the record counts they hold the pool with the drive, where no other disk has the id of
-//! the pool's next drive (`HaveOtherIds`; `taking_ids`, `taking_late`, `proofs/TakingLate.antt`). So each stop inside the call leaves the one or the other (`entering_amid`,
+//! the pool's next drive (`HaveOtherIds`; `taking_late`, `proofs/TakingLate.antt`). So each stop inside the call leaves the one or the other (`entering_amid`,
 //! `proofs/Entering.antt`). Inside a call that doesn't take it in after all they hold the pool that there was (`refused_amid`), with the marks of another drive that was found gone
 //! (`not_whole_amid`).
 //!

@@ -7,6 +7,7 @@ use Rattle.rack.specs.Moments.{Leaves}
 use Rattle.rack.proofs.Writing.{only_then, only_weaker}
 use Rattle.std.proofs.lemmas.Bool.{both_ways}
 use Rattle.rack.specs.Sequences.{IsMix, MayBecome, OnlyReads, WritesOnly}
+use Rattle.gpt_table.specs.declared.Table.{Table}
 use Rattle.slice_rack.specs.Slices.{Slices, IsOrderly, seat_of, place_of, disk_of, first_of, sectors_of}
 use Rattle.slice_rack.specs.Sliced.{IsInside, slices_of}
 use Rattle.slice_rack.specs.Laws.{live_below, shows_inside}
@@ -135,12 +136,12 @@ moments_moves t r q a b fit after moves =
     moments_call r q (slices_of t a) (slices_of t b) (λ n vals. vals) fit after (stops_inside t b) (moves_bring (raid_by r) (raid_by q) (slices_of t a) (slices_of t b) moves)
 
 -- A disk without a place was written, and refused a call.
-pub refused_lay : (t : Slices) (disk : ℕ) (r : Arrays) (a b : Seen) → IsOrderly t → ((p : ℕ) → seat_of t p ≢ Some disk) → IsFit r (slices_of t a)
-    → WritesOnly a b (IsOfDrive disk (a.sectors disk)) → Rose (a.faults disk) (b.faults disk) → IsRefused t disk (raid_by r) a b
-refused_lay t disk r a b orderly free fit only gone =
+pub refused_lay : (t : Slices) (disk : ℕ) (table : Table) (r : Arrays) (a b : Seen) → IsOrderly t → ((p : ℕ) → seat_of t p ≢ Some disk) → IsFit r (slices_of t a)
+    → WritesOnly a b (IsOfDrive disk table) → Rose (a.faults disk) (b.faults disk) → IsRefused t disk table (raid_by r) a b
+refused_lay t disk table r a b orderly free fit only gone =
     let v = raid_by r in
     let set = fit.running.set in
-    let reads = reads_apart t a b disk (IsOfDrive disk (a.sectors disk)) orderly set.fit.1 only (λ d s u at. at.0) free in
+    let reads = reads_apart t a b disk (IsOfDrive disk table) orderly set.fit.1 only (λ d s u at. at.0) free in
     let moves = moves_quiet v (slices_of t a) (slices_of t b) set reads in
     record {
       only = only;
@@ -151,21 +152,21 @@ refused_lay t disk r a b orderly free fit only gone =
     }
 
 -- A disk without a place was written, and then another drive was found gone: but for its mark all is as before.
-pub not_whole : (t : Slices) (disk : ℕ) (r q : Arrays) (a m b : Seen) → IsOrderly t → ((p : ℕ) → seat_of t p ≢ Some disk) → IsFit r (slices_of t a)
-    → WritesOnly a m (IsOfDrive disk (a.sectors disk)) → (m.fit → IsInside t m → WritesOnly m b (IsSliced t)) → IsFit q (slices_of t b)
+pub not_whole : (t : Slices) (disk : ℕ) (table : Table) (r q : Arrays) (a m b : Seen) → IsOrderly t → ((p : ℕ) → seat_of t p ≢ Some disk) → IsFit r (slices_of t a)
+    → WritesOnly a m (IsOfDrive disk table) → (m.fit → IsInside t m → WritesOnly m b (IsSliced t)) → IsFit q (slices_of t b)
     → Mends (raid_by r) (raid_by q) (slices_of t m) (slices_of t b) → HasLost (raid_by r) (raid_by q) (slices_of t m) (slices_of t b) → RaisesBy 18 (raid_by r) (raid_by q)
-    → KeepsTruths (raid_by r) (raid_by q) (slices_of t m) (slices_of t b) → KeepsUnlost r.state q.state (slices_of t m) (slices_of t b) → IsNotWhole t disk (raid_by r) (raid_by q) a b
-not_whole t disk r q a m b orderly free fit one two after mends lost raises truths unlost =
+    → KeepsTruths (raid_by r) (raid_by q) (slices_of t m) (slices_of t b) → KeepsUnlost r.state q.state (slices_of t m) (slices_of t b) → IsNotWhole t disk table (raid_by r) (raid_by q) a b
+not_whole t disk table r q a m b orderly free fit one two after mends lost raises truths unlost =
     let v = raid_by r in
     let w = raid_by q in
     let set = fit.running.set in
     let inside = set.fit.1 in
-    let may : ℕ → ℕ → List ℕ → Type 0 = IsWrittenBy t disk (a.sectors disk) in
-    let reads = reads_apart t a m disk (IsOfDrive disk (a.sectors disk)) orderly inside one (λ d s u at. at.0) free in
+    let may : ℕ → ℕ → List ℕ → Type 0 = IsWrittenBy t disk table in
+    let reads = reads_apart t a m disk (IsOfDrive disk table) orderly inside one (λ d s u at. at.0) free in
     let moves = moves_then v v w (slices_of t a) (slices_of t m) (slices_of t b) (moves_quiet v (slices_of t a) (slices_of t m) set reads) mends.moves in
     record {
       only =
-          only_then may (only_weaker (IsOfDrive disk (a.sectors disk)) may (λ d s u at. inl at) one)
+          only_then may (only_weaker (IsOfDrive disk table) may (λ d s u at. inl at) one)
           (only_weaker (IsSliced t) may (λ d s u at. inr at) (two one.stays.fit (inside_still one.stays inside)));
       mends = record { moves = moves; heeded = mends.heeded; marked = mends.marked };
       raises = raises;

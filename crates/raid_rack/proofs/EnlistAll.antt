@@ -15,7 +15,7 @@ use Rattle.raid_rack.specs.declared.arrays.Arrays.{Arrays}
 use Rattle.array_core.specs.Seats.{losing}
 use Rattle.array_model.specs.View.{spent_in}
 use Rattle.raid_rack.specs.Vacated.{vacated}
-use Rattle.raid_rack.specs.Enlisting.{Enlists, FindsEach, IsEnlisted, JoinsEach, KeepsTold, SettlesWhole, next_drive, with_drive}
+use Rattle.raid_rack.specs.Enlisting.{Enlists, FindsEach, IsEnlisted, IsWrittenBy, JoinsEach, KeepsTold, SettlesWhole, next_drive, with_drive}
 use Rattle.raid_rack.specs.Moves.{RaisesBy}
 use Rattle.raid_rack.specs.NewDrive.{LaysDrive, SeatsDrive, drive_table, joins}
 use Rattle.raid_rack.specs.RaidRack.{IsFit, IsRunning, raid_by}
@@ -63,7 +63,9 @@ module _ (r q z : Arrays) (place disk units sectors : ℕ) (plan : Plan) (t u : 
         is = enrolled place units plan joining v s w (slices_of t m) (slices_of t y) (slices_of u y) (slices_of u b) settles.same settles fit.heeded (slices_of u a) (slices_of t a)
             fit.running.set (λ d. early.faults (disk_of u d)) joined_now;
         raises = enrolled_raises place units plan joining v s w (slices_of t m) (slices_of t y) (slices_of u y) (slices_of u b) settles.same settles fit.heeded raises;
-        only = all_only r.all.items place disk t u a m y b table size_is few lays seats (only_moved r.all.items place disk (a.sectors disk) t u seats m y few two settles.reads) three;
+        only =
+            subst (λ (e : Table). WritesOnly a b (IsWrittenBy u disk e)) whole
+            (all_only r.all.items place disk t u a m y b table size_is few lays seats (only_moved r.all.items place disk (a.sectors disk) t u seats m y few two settles.reads) three);
         copies = λ live copy.
             subst (λ (e : Table). HoldsCopy copy e (now_on b disk)) whole
             (copies_kept r.all.items place disk t u a m y b table size_is few lays seats orderly orderly_now room free two three live copy);

@@ -4,7 +4,7 @@ use Rattle.rack.specs.Values.{MayLeave, Values}
 use Rattle.rack.specs.Seen.{Image, IsLive, Seen, Stays}
 use Rattle.rack.specs.Moments.{Leaves}
 use Rattle.rack.specs.Joins.{leaves_then, leaves_weaker, live_second, stays_then}
-use Rattle.rack.specs.Sequences.{IsMix, MayBecome, OnlyReads, WritesOnly}
+use Rattle.rack.specs.Sequences.{IsMix, OnlyReads, WritesOnly}
 use Rattle.gpt_table.specs.declared.Table.{Table}
 use Rattle.gpt_table.specs.Disk.{now_on}
 use Rattle.gpt_table.specs.Plans.{IsOfTable}
@@ -96,7 +96,7 @@ module _ (arrays : List View) (place disk units : ℕ) (plan : Plan) (joining : 
 
   -- the parts before the commit write no slice
   laid_reads : OnlyReads (slices_of t a) (slices_of t m)
-  laid_reads = reads_apart t a m disk (IsOfDrive disk table.sectors) orderly set.fit.1 lays.only (λ d z k at. at.0) free
+  laid_reads = reads_apart t a m disk (IsOfDrive disk table) orderly set.fit.1 lays.only (λ d z k at. at.0) free
 
   quiet : Moves v v (slices_of t a) (slices_of t m)
   quiet = moves_quiet v (slices_of t a) (slices_of t m) set laid_reads
@@ -199,18 +199,16 @@ module _ (arrays : List View) (place disk units : ℕ) (plan : Plan) (joining : 
         (λ z of. live_on set.lasting lays.only.stays (opened z (in_disk (a.sectors disk) z room (subst (λ k. IsOfTable k z) size of)))) copy)
 
     -- before them, what it held or what is laid on it
-    laid_at : (c : Image) → IsMix a m (IsOfDrive disk table.sectors) c → HoldsLaid a disk c
-    laid_at c mix z within =
-        subst (λ k. MayBecome a (IsOfDrive disk k) disk z (c disk z)) size (mix disk z (live_on set.lasting lays.only.stays (opened z within)))
+    laid_at : (c : Image) → IsMix a m (IsOfDrive disk table) c → HoldsLaid a disk table c
+    laid_at c mix z within = mix disk z (live_on set.lasting lays.only.stays (opened z within))
 
-    laid_still : (c : Image) → IsMix m y (IsSliced t) c → HoldsLaid a disk c
+    laid_still : (c : Image) → IsMix m y (IsSliced t) c → HoldsLaid a disk table c
     laid_still c mix z within =
-        subst (λ k. MayBecome a (IsOfDrive disk k) disk z (c disk z)) size
-        (lays.only.within disk z (c disk z) (live_on set.lasting lays.only.stays (opened z within))
+        lays.only.within disk z (c disk z) (live_on set.lasting lays.only.stays (opened z within))
         (elim (mix disk z (live_second lays.only.stays (live_on set.lasting early (opened z within)))) [
           | inl was ↦ was
           | inr at ↦ absurd (free (place_of at.slice) (seat_is t at.slice at.at orderly at.within ∙ ap Some (sym at.disk_is)))
-        ]))
+        ])
 
     -- ---- superblocks
 
@@ -261,7 +259,7 @@ module _ (arrays : List View) (place disk units : ℕ) (plan : Plan) (joining : 
         clean = LeavesRows v (slices_of t a) n
 
         abbrev laying : Image → Type 0
-        laying = SaysLaying t disk v w a n vals
+        laying = SaysLaying t disk table v w a n vals
 
         abbrev joining_now : Image → Type 0
         joining_now = SaysJoining t u disk table (enlisted place units plan v.state) v w a n vals
@@ -285,7 +283,7 @@ module _ (arrays : List View) (place disk units : ℕ) (plan : Plan) (joining : 
             let Framed : Image → Type 0 = λ c. IsInside (sectors_of t) c → HasFrame g n (replayed (sectors_of t) c) in
             let log = (told.stood (before.still n low goes_then)).log in
             let logs = part.logs (kept_holds v.state v.number (slices_of t a) log) stands in
-            leaves_weaker (λ c. HoldsLaid a disk c × (Since (sliced t c) × (Framed (sliced t c) × (Logs (sliced t c) × (Said (sliced t c) × (clean → Rows (sliced t c))))))) laying
+            leaves_weaker (λ c. HoldsLaid a disk table c × (Since (sliced t c) × (Framed (sliced t c) × (Logs (sliced t c) × (Said (sliced t c) × (clean → Rows (sliced t c))))))) laying
             (λ c at.
             let epoch = (number_room v n (before.still n low goes_then)).1 in
             record {
@@ -298,10 +296,10 @@ module _ (arrays : List View) (place disk units : ℕ) (plan : Plan) (joining : 
               logs = logs_same v.state (sectors_of t) (sliced t c) (omega (arith, epoch))
                   (subst (λ (q : State). LogsBetween v.state q (sectors_of t) (sliced t c)) settles.same (at.1.1.1.0 (sliced_inside t c)));
             })
-            (leaves_below t a y (λ c. Since c × (Framed c × (Logs c × (Said c × (clean → Rows c))))) (HoldsLaid a disk)
-            (leaves_then (HoldsLaid a disk)
-            (leaves_weaker (IsMix a m (IsOfDrive disk table.sectors)) (HoldsLaid a disk) laid_at (lays.only.stops traced))
-            (leaves_weaker (IsMix m y (IsSliced t)) (HoldsLaid a disk) laid_still (two.stops (lays.only.stays.traced traced))))
+            (leaves_below t a y (λ c. Since c × (Framed c × (Logs c × (Said c × (clean → Rows c))))) (HoldsLaid a disk table)
+            (leaves_then (HoldsLaid a disk table)
+            (leaves_weaker (IsMix a m (IsOfDrive disk table)) (HoldsLaid a disk table) laid_at (lays.only.stops traced))
+            (leaves_weaker (IsMix m y (IsSliced t)) (HoldsLaid a disk table) laid_still (two.stops (lays.only.stays.traced traced))))
             (leaves_both Since (λ c. Framed c × (Logs c × (Said c × (clean → Rows c))))
             ((logs.since v.state (after_same v.state) (kept_since v.state v.number (slices_of t a) log)).leaves traced)
             (leaves_both Framed (λ c. Logs c × (Said c × (clean → Rows c))) (early_frame.leaves traced)

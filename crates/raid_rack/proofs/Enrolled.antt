@@ -90,13 +90,10 @@ module _ (place units : ℕ) (plan : Plan) (joining : ℕ → Bool) where
 -- the new disk was laid, slices were called by the old tables, none of them written, and then by the new ones
 module _ (arrays : List View) (place disk : ℕ) (t u : Slices) (a m y b : Seen) (table : Table) (size : table.sectors ≡ a.sectors disk) (few : place < 16)
     (lays : LaysDrive a m disk table {X = Unit {0}} (Ok tt)) (seats : SeatsDrive arrays place disk (a.sectors disk) t u) where
-  laid_only : WritesOnly a m (IsOfDrive disk (a.sectors disk))
-  laid_only = subst (λ n. WritesOnly a m (IsOfDrive disk n)) size lays.only
-
-  pub all_only : WritesOnly m y (IsSliced u) → WritesOnly y b (IsSliced u) → WritesOnly a b (IsWrittenBy u disk (a.sectors disk))
+  pub all_only : WritesOnly m y (IsSliced u) → WritesOnly y b (IsSliced u) → WritesOnly a b (IsWrittenBy u disk table)
   all_only two three =
-      let may : ℕ → ℕ → List ℕ → Type 0 = IsWrittenBy u disk (a.sectors disk) in
-      only_then may (only_then may (only_weaker (IsOfDrive disk (a.sectors disk)) may (λ d s v at. inl at) laid_only)
+      let may : ℕ → ℕ → List ℕ → Type 0 = IsWrittenBy u disk table in
+      only_then may (only_then may (only_weaker (IsOfDrive disk table) may (λ d s v at. inl at) lays.only)
       (only_weaker (IsSliced u) may (λ d s v at. inr at) two))
       (only_weaker (IsSliced u) may (λ d s v at. inr at) three)
 

@@ -23,7 +23,7 @@ use Rattle.gpt_table.specs.declared.TableCopy.{TableCopy}
 use Rattle.gpt_table.specs.declared.TableCopy.TheVariants.{Primary, Backup}
 use Rattle.gpt_table.specs.Disk.{Contents, HoldsCopy, IsOfCopy, entries_bytes, joined, now_on}
 use Rattle.gpt_table.specs.Format.{IsWritten, entries_sector, header_sector}
-use Rattle.gpt_table.specs.Plans.{IsOfTable, WritesTable}
+use Rattle.gpt_table.specs.Plans.{IsOfTable, WritesTable, in_table}
 use Rattle.gpt_table.proofs.Joined.{joined_agrees}
 use Rattle.gpt_table.proofs.Ranges.{range_more}
 use Rattle.array_image.specs.Places.{log_kind, log_sectors, slice_of, state_sector}
@@ -67,7 +67,7 @@ of_copy Backup n s of = inr (inr of)
 
 module _ (disk : ℕ) (table : Table) where
   abbrev may : ℕ → ℕ → List ℕ → Type 0
-  may = IsOfDrive disk table.sectors
+  may = IsOfDrive disk table
 
   only_cleared : (a b : Seen) (r : Result (Unit {0}) Gone) → WritesDurably a b disk state_sector no_state r → WritesOnly a b may
   only_cleared a b r writes =
@@ -115,7 +115,7 @@ module _ (disk : ℕ) (table : Table) where
         let mid : IsLive a n disk state_sector = live_first three.stays live in
         one.durable (live_first two.follows.stays mid) v
         ((two.follows.others disk state_sector (live_second one.stays mid)
-        (λ w at. off_table table.sectors state_sector (omega arith) (omega (arith, room)) (two.within state_sector w at.1))).within v
+        (λ w at. off_table table.sectors state_sector (omega arith) (omega (arith, room)) (in_table table state_sector w (two.within state_sector w at.1)))).within v
         ((three.others disk state_sector late (inr (λ same. omega (arith, same)))).within v left));
     gate = λ live v left. three.durable (live_second early live) v left;
     mbr = λ live.

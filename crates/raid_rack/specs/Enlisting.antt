@@ -96,15 +96,15 @@ pub record SaysBy (s : State) (n : ℕ) (vals : ℕ → Values) (spent : ℕ →
 abbrev pub HoldsTable : ℕ → Table → Image → Type 0
 HoldsTable disk table c = (copy : TableCopy) → HoldsCopy copy table (c disk)
 
--- it holds what it held, or what is laid on it before it is one of the pool
-abbrev pub HoldsLaid : Seen → ℕ → Image → Type 0
-HoldsLaid a disk c = (s : ℕ) → s < a.sectors disk → MayBecome a (IsOfDrive disk (a.sectors disk)) disk s (c disk s)
+-- it holds what it held, or what is laid on it, with this table, before it is one of the pool
+abbrev pub HoldsLaid : Seen → ℕ → Table → Image → Type 0
+HoldsLaid a disk table c = (s : ℕ) → s < a.sectors disk → MayBecome a (IsOfDrive disk table) disk s (c disk s)
 
 -- Before the disk is one of the pool, contents of the drives say array n by the tables before, and by the state before, and the disk is
 -- being laid. Where images left the array no rows to resync but its own, nor do these. No log is damaged, the copies of the state agree, and each place that is
 -- current has its own.
-pub record SaysLaying (t : Slices) (disk : ℕ) (v w : Raid) (a : Seen) (n : ℕ) (vals : ℕ → Values) (c : Image) : Type 0 where
-  pub laid : HoldsLaid a disk c
+pub record SaysLaying (t : Slices) (disk : ℕ) (table : Table) (v w : Raid) (a : Seen) (n : ℕ) (vals : ℕ → Values) (c : Image) : Type 0 where
+  pub laid : HoldsLaid a disk table c
   pub says : SaysBy v.state n vals (spent_of w n) (replayed (sectors_sliced t) (sliced t c))
   pub rows : LeavesRows v (slices_of t a) n → LeavesFrom (v.arrays n).resync n (replayed (sectors_sliced t) (sliced t c))
   pub logs : SaysState v.state (sectors_sliced t) (sliced t c)
@@ -175,7 +175,7 @@ pub record KeepsTold (t u : Slices) (place disk units : ℕ) (plan : Plan) (tabl
   pub keeps : (y : ℕ) → live_of w n y → Keeps (held_in v (slices_of t a) n y) (held_in w (slices_of u b) n y)
   pub before :
       a.traced → is_over w n ≡ false → (k : ℕ) (c : Image) → a.clock < k → k ≤ mid → b.stops k c
-      → SaysLaying t disk v w a n (held_in v (slices_of t a) n) c
+      → SaysLaying t disk table v w a n (held_in v (slices_of t a) n) c
   -- where the place's drive was missing
   pub after :
       is_current v.state place ≡ false → a.traced → is_over w n ≡ false → (k : ℕ) (c : Image) → mid < k → k ≤ b.clock → b.stops k c
@@ -190,9 +190,9 @@ pub record KeepsTold (t u : Slices) (place disk units : ℕ) (plan : Plan) (tabl
   pub copied : is_current v.state place ≡ true → is_over w n ≡ false → HoldsTakenSince (λ p. p == place) v.state (enlisted place units plan v.state) (slices_of u b)
   pub rows : is_over w n ≡ false → LeavesRows v (slices_of t a) n → ((v.arrays n).resync ≤ (w.arrays n).resync) × LeavesRows w (slices_of u b) n
 
--- a sector of the new disk's tables, its state or its gate, or one of a slice
-abbrev pub IsWrittenBy : Slices → (disk sectors : ℕ) → ℕ → ℕ → List ℕ → Type 0
-IsWrittenBy u disk sectors d s v = IsOfDrive disk sectors d s v ⊎ IsSliced u d s v
+-- what is laid on the new disk, with its table, or a sector of a slice
+abbrev pub IsWrittenBy : Slices → (disk : ℕ) → Table → ℕ → ℕ → List ℕ → Type 0
+IsWrittenBy u disk table d s v = IsOfDrive disk table d s v ⊎ IsSliced u d s v
 
 -- the table of a pool's next drive
 abbrev pub new_table : State → List View → (place sectors : ℕ) → Table
@@ -202,7 +202,7 @@ new_table s arrays place sectors = drive_table (next_drive s).0 arrays place sec
 pub record Enlists (t u : Slices) (arrays : List View) (place disk units : ℕ) (plan : Plan) (v w : Raid) (a b : Seen) : Type 0 where
   pub is : IsEnlisted place units plan (joins arrays place (a.sectors disk)) v w (slices_of u a) (slices_of u b)
   pub raises : RaisesBy 19 v w
-  pub only : WritesOnly a b (IsWrittenBy u disk (a.sectors disk))
+  pub only : WritesOnly a b (IsWrittenBy u disk (new_table v.state arrays place (a.sectors disk)))
   -- the disk has its table, durably
   pub mbr : IsLive a b disk 0 → now_on b disk 0 ≡ mbr_of (a.sectors disk)
   pub copies : ((s : ℕ) → IsOfTable (a.sectors disk) s → IsLive a b disk s) → HoldsTable disk (new_table v.state arrays place (a.sectors disk)) (λ d. now_on b d)
@@ -218,18 +218,18 @@ pub record Enlists (t u : Slices) (arrays : List View) (place disk units : ℕ) 
 
 -- ---- refusals
 
--- The new disk refused a call, and nothing else has changed than its tables, its state's sector and its gate. To the arrays nothing happened, at no moment of
--- the call either.
-pub record IsRefused (t : Slices) (disk : ℕ) (v : Raid) (a b : Seen) : Type 0 where
-  pub only : WritesOnly a b (IsOfDrive disk (a.sectors disk))
+-- The new disk refused a call, and nothing has changed but what was laid on it, with the table of the next drive. To the arrays nothing happened, at no moment
+-- of the call either.
+pub record IsRefused (t : Slices) (disk : ℕ) (table : Table) (v : Raid) (a b : Seen) : Type 0 where
+  pub only : WritesOnly a b (IsOfDrive disk table)
   pub gone : Rose (a.faults disk) (b.faults disk)
   pub moves : Moves v v (slices_of t a) (slices_of t b)
   pub moments : KeepsMoments v v (slices_of t a) (slices_of t b)
   pub truths : KeepsTruths v v (slices_of t a) (slices_of t b)
 
 -- Another drive than the new one was found gone and is marked, it may be that of the place: the drive isn't taken in. But for the marks all is as before, and so it is at each moment of the call.
-pub record IsNotWhole (t : Slices) (disk : ℕ) (v w : Raid) (a b : Seen) : Type 0 where
-  pub only : WritesOnly a b (IsWrittenBy t disk (a.sectors disk))
+pub record IsNotWhole (t : Slices) (disk : ℕ) (table : Table) (v w : Raid) (a b : Seen) : Type 0 where
+  pub only : WritesOnly a b (IsWrittenBy t disk table)
   pub mends : Mends v w (slices_of t a) (slices_of t b)
   pub raises : RaisesBy 18 v w
   pub moments : KeepsMoments v w (slices_of t a) (slices_of t b)

@@ -12,7 +12,7 @@ use Rattle.gpt_table.specs.declared.Table.{Table}
 use Rattle.gpt_table.specs.declared.TableCopy.{TableCopy}
 use Rattle.gpt_table.specs.Disk.{HoldsCopy, now_on}
 use Rattle.gpt_table.specs.Format.{mbr_of}
-use Rattle.gpt_table.specs.Plans.{IsOfTable}
+use Rattle.gpt_table.specs.Plans.{IsInTable, IsOfTable}
 use Rattle.slice_rack.specs.Slices.{Slices, seat_of as disk_at, place_of as place_on, first_of, sectors_of}
 use Rattle.array_image.specs.Places.{arrays_first, data_sector, log_kind, log_sectors, raid_kind, slice_of, state_sector}
 use Rattle.array_image.specs.Record.{gate_sector}
@@ -115,14 +115,14 @@ gate_at = state_sector + gate_sector
 abbrev pub no_state : List ℕ
 no_state = replicate 512 0
 
--- zeros for the state's sector, the first gate, or a sector of the tables
-abbrev pub IsOfDrive : (disk sectors : ℕ) → ℕ → ℕ → List ℕ → Type 0
-IsOfDrive disk sectors d s v =
-    (d ≡ disk) × (((s ≡ state_sector) × (v ≡ no_state)) ⊎ (((s ≡ gate_at) × (v ≡ first_gate)) ⊎ IsOfTable sectors s))
+-- zeros for the state's sector, the first gate, or what its table has in a sector
+abbrev pub IsOfDrive : (disk : ℕ) → Table → ℕ → ℕ → List ℕ → Type 0
+IsOfDrive disk table d s v =
+    (d ≡ disk) × (((s ≡ state_sector) × (v ≡ no_state)) ⊎ (((s ≡ gate_at) × (v ≡ first_gate)) ⊎ IsInTable table s v))
 
 -- The table, the cleared sector of the state and the first gate were written on a disk, durably, or its faults rose.
 pub record LaysDrive (a b : Seen) (disk : ℕ) (table : Table) {X : Type 0} (result : Result X Gone) : Type 0 where
-  pub only : WritesOnly a b (IsOfDrive disk table.sectors)
+  pub only : WritesOnly a b (IsOfDrive disk table)
   pub gone : IfErr result (λ e. (e.disk ≡ disk) × Rose (a.faults disk) (b.faults disk))
   pub cleared : OnOk result (IsLive a b disk state_sector → (v : List ℕ) → MayLeave (b.held disk state_sector) v → v ≡ no_state)
   pub gate : OnOk result (IsLive a b disk gate_at → (v : List ℕ) → MayLeave (b.held disk gate_at) v → v ≡ first_gate)

@@ -190,8 +190,7 @@ impl<R: Rack> RaidRack<R> {
     ///
     /// `units` are those of the drive that it replaces, and the disk has room for the log slice and the table.
     ///
-    /// `Gone`: the disk refused a call before the commit; the pool is as it was, and of the disk its tables, its state's sector and its
-    /// gate may be written. `NotWhole`: another drive was found gone before it, it may be that of the place; it is marked, and but for
+    /// `Gone`: the disk refused a call before the commit; the pool is as it was, and on the disk what is laid on a new drive may be written. `NotWhole`: another drive was found gone before it, it may be that of the place; it is marked, and but for
     /// this the pool is as it was. A drive that goes in the commit, also the new one, is marked when this returns.
     pub fn enlist(
         &mut self,
@@ -219,9 +218,11 @@ impl<R: Rack> RaidRack<R> {
 
         // Where it isn't, the tables are as before.
         ensures tables { OnErr result (tables (slices_in self.new) ≡ tables (slices_in self.old)) }
-        ensures gone { result ≡ Err EnlistFault.Gone → spec.IsRefused (tables (slices_in self.old)) disk (raid_in self.old) (R.seen (below_of (slices_in self.old))) (R.seen (below_of (slices_in self.new))) }
+        ensures gone { result ≡ Err EnlistFault.Gone → spec.IsRefused (tables (slices_in self.old)) disk (spec.new_table (raid_in self.old).state (arrays_of self.old) place ((R.seen (below_of (slices_in self.old))).sectors disk))
+            (raid_in self.old) (R.seen (below_of (slices_in self.old))) (R.seen (below_of (slices_in self.new))) }
         ensures kept { result ≡ Err EnlistFault.Gone → arrays_in self.new ≡ arrays_in self.old }
-        ensures not_whole { result ≡ Err EnlistFault.NotWhole → spec.IsNotWhole (tables (slices_in self.old)) disk (raid_in self.old) (raid_in self.new)
+        ensures not_whole { result ≡ Err EnlistFault.NotWhole → spec.IsNotWhole (tables (slices_in self.old)) disk (spec.new_table (raid_in self.old).state (arrays_of self.old) place ((R.seen (below_of (slices_in self.old))).sectors disk))
+            (raid_in self.old) (raid_in self.new)
             (R.seen (below_of (slices_in self.old))) (R.seen (below_of (slices_in self.new))) }
         ensures fit { IsFit (arrays_in self.new) (slices_seen R.seen self.new) }
         ensures refused { (n : ℕ) → refused_in self.new n ≡ refused_in self.old n }

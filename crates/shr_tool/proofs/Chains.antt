@@ -1,18 +1,14 @@
 -- The pool by which a run goes after one event more.
-use Rattle.std.proofs.Common.{◌≡◌, Bool, false, true, if◌then◌else◌, List, [], ◌∷◌, ◌++◌, Option, Some, None, refl, ◌∙◌, ap, subst}
+use Rattle.std.proofs.Common.{◌≡◌, Bool, false, true, if◌then◌else◌, List, [], ◌∷◌, ◌++◌, refl, ap, subst}
 use Rattle.std.proofs.lemmas.Bool.{both_ways}
-use Rattle.std.proofs.lemmas.Option.{none-some}
 use Rattle.pool_image.specs.Drives.{Found}
 use Rattle.pool_model.specs.Taken.{attached}
 use Rattle.pool.specs.Moment.{Moment}
 use Rattle.shr_tool.specs.Events.{Event, any_takes, looks_at, takes_disk}
 use Rattle.shr_tool.specs.Events.Event.{answered, spent, lost, last, replaced, declined, stepped, stuck, shown}
-use Rattle.shr_tool.specs.Service.{AreFit, AreLone, IsFitFor, IsLoneFor, Lone, disks_at, lone_after, lone_by, lone_then, pool_after, pool_by}
+use Rattle.shr_tool.specs.Service.{AreFit, AreLone, IsFitFor, IsLoneFor, Lone, disks_at, pool_after, pool_by}
 use Rattle.shr_tool.specs.Timeline.{Steps}
 use Rattle.shr_tool.proofs.Taking.{or_parts}
-
-some_same : {X : Type 0} (a b : X) → Some a ≡ Some b → a ≡ b
-some_same a b same = cc
 
 abbrev pub steps_more : (p : Moment) (events : List Event) (mid : Moment) (event : Event) (q : Moment) → Steps p events mid → Steps p (events ++ event ∷ []) q
 steps_more p [] mid event q same = (q, refl)
@@ -38,55 +34,11 @@ fit_parts f p (first ∷ events) mid event q steps fit =
 pub lone_parts :
     (f : Found) (l : Lone) (p : Moment) (events : List Event) (mid : Moment) (event : Event) (q : Moment) (steps : Steps p events mid)
     → AreLone f l p (events ++ event ∷ []) q (steps_more p events mid event q steps)
-    → AreLone f l p events mid steps × IsLoneFor (pool_by f p events mid steps) (lone_by l p events mid steps) mid q event
+    → AreLone f l p events mid steps × IsLoneFor (pool_by f p events mid steps) l mid q event
 lone_parts f l p [] mid event q same lone = (tt, subst (λ m. IsLoneFor f l m q event) same lone.0)
 lone_parts f l p (first ∷ events) mid event q steps lone =
-    let rest = lone_parts (pool_after f p steps.0 first) (lone_after l steps.0 first) steps.0 events mid event q steps.1 lone.1 in
+    let rest = lone_parts (pool_after f p steps.0 first) l steps.0 events mid event q steps.1 lone.1 in
     ((lone.0, rest.0), rest.1)
-
--- and how
-pub lone_by-snoc :
-    (l : Lone) (p : Moment) (events : List Event) (mid : Moment) (event : Event) (q : Moment) (steps : Steps p events mid)
-    → lone_by l p (events ++ event ∷ []) q (steps_more p events mid event q steps) ≡ lone_after (lone_by l p events mid steps) q event
-lone_by-snoc l p [] mid event q same = refl
-lone_by-snoc l p (first ∷ events) mid event q steps = lone_by-snoc (lone_after l steps.0 first) steps.0 events mid event q steps.1
-
-after_bound : (l : Lone) (q : Moment) (event : Event) → (lone_after l q event).bound ≡ l.bound
-after_bound l q (answered line) = refl
-after_bound l q (spent line sector) = refl
-after_bound l q (lost place) = refl
-after_bound l q (last place) = refl
-after_bound l q (replaced place name) = refl
-after_bound l q (declined place name fault) = refl
-after_bound l q (stepped count left) = refl
-after_bound l q (stuck count array) = refl
-after_bound l q (shown text) = refl
-
-pub bound_by : (l : Lone) (p : Moment) (events : List Event) (q : Moment) (steps : Steps p events q) → (lone_by l p events q steps).bound ≡ l.bound
-bound_by l p [] q steps = refl
-bound_by l p (event ∷ events) q steps = bound_by (lone_after l steps.0 event) steps.0 events q steps.1 ∙ after_bound l steps.0 event
-
--- which an event that takes no disk leaves
-after_still : (l : Lone) (q : Moment) (event : Event) → takes_disk event ≡ false → lone_after l q event ≡ l
-after_still l q (answered line) none = refl
-after_still l q (spent line sector) none = refl
-after_still l q (lost place) none = refl
-after_still l q (last place) none = refl
-after_still l q (replaced place name) none = absurd (both_ways true none refl)
-after_still l q (declined place name fault) none = refl
-after_still l q (stepped count left) none = refl
-after_still l q (stuck count array) none = refl
-after_still l q (shown text) none = refl
-
-pub lone_still : (lone : Option Lone) (q : Moment) (event : Event) → takes_disk event ≡ false → lone_then lone q event ≡ lone
-lone_still None q event none = refl
-lone_still (Some l) q event none = ap Some (after_still l q event none)
-
--- what it was before an event
-pub lone_before : (lone : Option Lone) (q : Moment) (event : Event) (l : Lone) → lone_then lone q event ≡ Some l
-    → (k : Lone) × (lone ≡ Some k) × (lone_after k q event ≡ l)
-lone_before None q event l is = absurd (none-some l is)
-lone_before (Some k) q event l is = (k, refl, some_same (lone_after k q event) l is)
 
 -- an event that takes no disk leaves it, and nothing is to be known then
 pub pool_still : (f : Found) (p q : Moment) (event : Event) → takes_disk event ≡ false → pool_after f p q event ≡ f

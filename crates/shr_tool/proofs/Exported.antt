@@ -24,7 +24,7 @@ use Rattle.shr_tool.specs.Serving.{IsServing, Ran}
 use Rattle.pool.specs.Moment.{moment_of}
 use Rattle.shr_tool.specs.Timeline.{ground_of}
 use Rattle.shr_tool.proofs.Finishing.{lasts_of}
-use Rattle.shr_tool.proofs.History.{IsLawful, IsUnspent, ran_more}
+use Rattle.shr_tool.proofs.History.{IsLawful, ran_more}
 use Rattle.shr_tool.proofs.Performing.{read_done, read_spent}
 
 -- reads change nothing
@@ -108,31 +108,31 @@ ran_spent x y z sector into r is laws ran reads =
 -- an export, once the pool was ended
 export_of :
     {X : Type 0} (r : Result X ExportFault) (x m y : View) (a : FlatArray) (out out' : List ℕ)
-    → IsUnspent y
+    → IsLawful y
     → Puts x m r out out'
     → Ends m y
     → ExportOutcome (export_status r) (IsServing x a) x.bay.traced x.bay y.bay (ground_of x) (moment_of x) a out out'
-export_of {X} (Ok done) x m y a out out' unspent puts ends = record { put = λ serving. puts.1 a serving.0; lasts = lasts_of x m y a _ unspent puts.0 ends }
-export_of {X} (Err AtSpent) x m y a out out' unspent puts ends = record {
+export_of {X} (Ok done) x m y a out out' laws puts ends = record { put = λ serving. puts.1 a serving.0; lasts = lasts_of x m y a _ laws puts.0 ends }
+export_of {X} (Err AtSpent) x m y a out out' laws puts ends = record {
   sector = puts.0;
   inside = puts.1;
   put = λ serving. puts.3 a serving.0;
-  lasts = lasts_of x m y a _ unspent puts.2 ends;
+  lasts = lasts_of x m y a _ laws puts.2 ends;
 }
-export_of {X} (Err AtSink) x m y a out out' unspent puts ends = record {
+export_of {X} (Err AtSink) x m y a out out' laws puts ends = record {
   sector = puts.0;
   inside = puts.1;
   put = λ serving. puts.3 a serving.0;
-  lasts = lasts_of x m y a _ unspent puts.2 ends;
+  lasts = lasts_of x m y a _ laws puts.2 ends;
 }
 
 pub export_outcome :
     {X : Type 0} (r : Result X ExportFault) (status : Status) (x m y : View) (a : FlatArray) (out out' : List ℕ)
     → status ≡ export_status r
-    → IsUnspent y
+    → IsLawful y
     → Puts x m r out out'
     → Ends m y
     → ExportOutcome status (IsServing x a) x.bay.traced x.bay y.bay (ground_of x) (moment_of x) a out out'
-export_outcome {X} r status x m y a out out' is unspent puts ends =
+export_outcome {X} r status x m y a out out' is laws puts ends =
     subst (λ s. ExportOutcome s (IsServing x a) x.bay.traced x.bay y.bay (ground_of x) (moment_of x) a out out') (sym is)
-    (export_of r x m y a out out' unspent puts ends)
+    (export_of r x m y a out out' laws puts ends)

@@ -9,6 +9,8 @@ use Rattle.raid_rack.specs.Raid.{IsTold, is_over}
 use Rattle.pool.specs.Keeping.{KeepsBook}
 use Rattle.flat_array.specs.Array.{FlatArray, flushed}
 use Rattle.lvm_group.specs.Runs.{Linear}
+use Rattle.pool_model.specs.Absent.{HoldAbsent}
+use Rattle.pool_model.specs.Alone.{LeaveOut}
 use Rattle.pool.specs.Continuing.{Continues, KeepsOutside}
 use Rattle.pool.specs.View.{View, book, spent_by}
 use Rattle.pool.specs.Volume.{Holds}
@@ -23,19 +25,19 @@ use Rattle.shr_tool.specs.Events.{AnyTakes, Event, any_takes, array_by}
 use Rattle.pool.specs.Moment.{moment_of}
 use Rattle.shr_tool.specs.Timeline.{Steps, Timeline, ground_of, steps_of}
 use Rattle.shr_tool.specs.Serving.{HasStopCause, IsServing, Ran, Serves, StopsAtEnd}
-use Rattle.shr_tool.specs.Between.{HoldsEach, HoldsInside, HoldsNext}
-use Rattle.shr_tool.specs.Service.{AreFit, AreLone, IsServed, pool_by}
-use Rattle.shr_tool.specs.Outcome.{DoneOutcome, EndsAt, HasStatusCause, IsRunOn, Lasts, LeavesItsRows, Outcome, lone_from, status_by}
+use Rattle.shr_tool.specs.Between.{HaveOthers, HoldsEach, HoldsInside, HoldsNext}
+use Rattle.shr_tool.specs.Service.{AreFit, AreLone, IsOut, IsServed, Lone, none_out, pool_by}
+use Rattle.shr_tool.specs.Outcome.{DoneOutcome, EndsAt, HasStatusCause, IsRunOn, Lasts, LeavesItsRows, Outcome, status_by}
 use Rattle.shr_tool.proofs.Between.{holds_inside, told_after}
-use Rattle.shr_tool.proofs.History.{IsUnspent, each_before, ran_before, slices_kept, standing, steps_before}
-use Rattle.shr_tool.proofs.Serviced.{goes_again, goes_calls, goes_run}
+use Rattle.shr_tool.proofs.History.{IsLawful, IsUnspent, each_before, others_before, ran_before, slices_kept, standing, steps_before}
+use Rattle.shr_tool.proofs.Serviced.{goes_again, goes_calls, goes_lone, goes_run}
 use Rattle.shr_tool.proofs.Joined.{means_at}
+use Rattle.shr_tool.proofs.Missing.{vacant_kept}
 use Rattle.shr_tool.proofs.Told.{outside_told, steps_for, timeline_for}
 use Rattle.pool.proofs.Continuing.{continues_of, continues_then, outside_fewer, outside_of, outside_then}
 use Rattle.pool.proofs.Keeping.{passes_then}
 use Rattle.shr_tool.proofs.Absent.{agreed_at, safe_at}
 use Rattle.shr_tool.proofs.Lone.{lone_at}
-use Rattle.pool_model.specs.Absent.{HoldAbsent}
 
 -- what can be had after the end of a pool could be had before it
 served_before :
@@ -69,9 +71,9 @@ ends_at :
     (x m y : View) (a : FlatArray) (events : List Event)
     → Ran x m events
     → Ends m y
-    → IsUnspent y
+    → IsLawful y
     → EndsAt (IsServing x a) x.bay.traced y.bay (ground_of x) (moment_of m) (moment_of y) (array_by a events)
-ends_at x m y a events ran ends unspent =
+ends_at x m y a events ran ends laws =
     let b = array_by a events in
     let linear = ends.passes.linear ∙ ran.continues.linear in
     let traced_then : IsServing x a → x.bay.traced → m.bay.traced = λ serving traced. ran.continues.traced serving.0.shelf traced in
@@ -83,8 +85,9 @@ ends_at x m y a events ran ends unspent =
           λ place was now. elim (ends.marks place was now) [ inl rose ↦ rose | inr never ↦ absurd never ];
       stands = standing m y KeepsBook 1 ends.passes.stays.fit ends.passes.book ends.raises;
       held = λ serving d s low within unsliced.
-          (outside_of m y (λ d. ⊥) ends.passes unspent).held d s
+          (outside_of m y (λ d. ⊥) ends.passes laws.0).held d s
           (record { disk = low; sector = within; is_told = (ran.holds a serving.0).disks d low; unnamed = λ never. never; unsliced = unsliced });
+      missing = λ serving. vacant_kept m y ran.continues.fit ends.passes laws.2 laws.0 (ran.holds a serving.0).disks;
       during =
           λ serving traced k i since until stops.
           means_at x y b i linear
@@ -130,7 +133,7 @@ steps_told x m y a events ran continues =
 
 -- and what the disks may be left with holds a sound pool again
 again_at :
-    (x m y : View) (a : FlatArray) (events : List Event) (ran : Ran x m events) (ends : Ends m y)
+    (x m y : View) (a : FlatArray) (events : List Event) → IsUnspent y → (ran : Ran x m events) (ends : Ends m y)
     → IsServing x a
     → IsServed (ground_of x) (moment_of y) events
     → (f : Found)
@@ -139,10 +142,10 @@ again_at :
     → AreFit f (moment_of x) events (moment_of m) ran.steps
     → ((n : ℕ) → n < f.state.made → is_over (book y) n ≡ false)
     → (i : Image) → IsPick y.bay y.bay y.bay.held i → HoldsNext (TargetsLand f) (pool_by f (moment_of x) events (moment_of m) ran.steps) y.slices (book y).state i
-again_at x m y a events ran ends serving served f on serials fit lasts i pick =
+again_at x m y a events unspent ran ends serving served f on serials fit lasts i pick =
     let h = pool_by f (moment_of x) events (moment_of m) ran.steps in
     let at_end = (ran.service a serving.0 (served_before x m y events ran.continues ends.passes served) f (goes_run x f on) serials fit).goes in
-    let goes = goes_calls m y h (array_by a events) ran.continues.fit (ran.holds a serving.0) ends.passes at_end in
+    let goes = goes_calls m y h (array_by a events) unspent ran.continues.fit (ran.holds a serving.0) ends.passes at_end in
     let made = goes.arrays in
     let linear = ap (λ (l : Linear). l.arrays) (ends.passes.linear ∙ ran.continues.linear) in
     let arrays = on.arrays ∙ on.joined in
@@ -183,11 +186,11 @@ outside_at x m y a events unspent ran passes =
 -- the events of a script, and the end of the pool
 pub lasts_of :
     (x m y : View) (a : FlatArray) (events : List Event)
-    → IsUnspent y
+    → IsLawful y
     → Ran x m events
     → Ends m y
     → Lasts (IsServing x a) x.bay.traced x.bay y.bay (ground_of x) (moment_of x) a events
-lasts_of x m y a events unspent ran ends =
+lasts_of x m y a events laws ran ends =
     let passes : any_takes events ≡ false → Passes x y = λ none. passes_then x m y (ran.passes none) ends.passes in
     record {
       last = moment_of m;
@@ -198,8 +201,8 @@ lasts_of x m y a events unspent ran ends =
       disks = refl;
       sectors = λ d. refl;
       held = λ d s. refl;
-      ends = ends_at x m y a events ran ends unspent;
-      outside = outside_at x m y a events unspent ran ends.passes;
+      ends = ends_at x m y a events ran ends laws;
+      outside = outside_at x m y a events laws.0 ran ends.passes;
       apart = λ none. (passes none).apart;
       told = told_at x m y a events ran ends;
       rows = rows_at x m y a events ran ends;
@@ -218,79 +221,89 @@ lasts_of x m y a events unspent ran ends =
           agreed_at x m y f (ran.heads serving.0.shelf serving.0.disks) ends quiet on (told_at x m y a events ran ends serving served) n low goes r left;
       safe = λ serving none quiet f on.
           safe_at x m y f (ran.passes none) ends quiet on (λ n low. serving.1 n low) (told_at x m y a events ran ends serving (inl none));
-      safe_by = λ serving served quiet f on only ungiven own serials fit lone whole lasts i pick sized.
+      safe_by = λ serving served quiet f on only ungiven own serials fit out lone whole lasts i j pick leave sized.
           let same = steps_told x m y a events ran (continues_of m y ends.passes) in
-          subst (λ (steps : Steps (moment_of x) events (moment_of m)). HoldAbsent (pool_by f (moment_of x) events (moment_of m) steps) y.slices (book y).state i) (sym same)
-          (lone_at x m y a events ran ends serving (served_before x m y events ran.continues ends.passes served) quiet (told_at x m y a events ran ends serving served) f on only ungiven own
-          serials (subst (AreFit f (moment_of x) events (moment_of m)) same fit) (subst (AreLone f (lone_from (moment_of x) (moment_of m)) (moment_of x) events (moment_of m)) same lone) whole lasts i pick sized);
+          let l : Lone = record { bound = (book m).state.serial; out = out } in
+          subst (λ (steps : Steps (moment_of x) events (moment_of m)). HoldAbsent (pool_by f (moment_of x) events (moment_of m) steps) y.slices (book y).state j) (sym same)
+          (lone_at x m y a events laws.0 ran ends serving (served_before x m y events ran.continues ends.passes served) quiet (told_at x m y a events ran ends serving served) f on only ungiven own
+          serials (subst (AreFit f (moment_of x) events (moment_of m)) same fit) out (subst (AreLone f l (moment_of x) events (moment_of m)) same lone) whole lasts i j pick
+          (subst (λ (steps : Steps (moment_of x) events (moment_of m)). LeaveOut (pool_by f (moment_of x) events (moment_of m) steps) (IsOut l y.shelf.names) i j) same leave) sized);
+      others = λ serving traced served f on only ungiven serials fit lone.
+          let same = steps_told x m y a events ran (continues_of m y ends.passes) in
+          let bound = (book m).state.serial in
+          let l = none_out bound in
+          subst (HaveOthers y.bay.stops f (moment_of x) events (moment_of m)) (sym same)
+          (others_before x m y events a f ran (continues_of m y ends.passes) serving.0 traced
+          (ran.others a serving.0 traced (served_before x m y events ran.continues ends.passes served) f bound (goes_lone x f a l ran.fit serving.0 on only ungiven) (omega arith)
+          serials (subst (AreFit f (moment_of x) events (moment_of m)) same fit) (subst (AreLone f l (moment_of x) events (moment_of m)) same lone)));
       again = λ serving served f on known fit lasts i pick.
           let same = steps_told x m y a events ran (continues_of m y ends.passes) in
           subst (λ (steps : Steps (moment_of x) events (moment_of m)). HoldsNext (TargetsLand f) (pool_by f (moment_of x) events (moment_of m) steps) y.slices (book y).state i) (sym same)
-          (again_at x m y a events ran ends serving served f on (λ takes. (known takes).1) (subst (AreFit f (moment_of x) events (moment_of m)) same fit) lasts i pick);
+          (again_at x m y a events laws.0 ran ends serving served f on (λ takes. (known takes).1) (subst (AreFit f (moment_of x) events (moment_of m)) same fit) lasts i pick);
     }
 
 -- all lines were answered
 done_outcome :
     (x m y : View) (a : FlatArray) (text out out' : List ℕ) (worst : Answer)
     → StopsAtEnd x m text out out' worst
-    → IsUnspent y
+    → IsLawful y
     → Ends m y
     → DoneOutcome worst (IsServing x a) x.bay.traced x.bay y.bay (ground_of x) (moment_of x) a text out out'
-done_outcome x m y a text out out' worst stops unspent ends = record {
+done_outcome x m y a text out out' worst stops laws ends = record {
   events = stops.events;
   script = stops.script;
   worst_is = stops.worst_is;
   put = λ serving. stops.answered.put a serving.0;
-  lasts = lasts_of x m y a stops.events unspent stops.answered.ran ends;
+  lasts = lasts_of x m y a stops.events laws stops.answered.ran ends;
 }
 
 -- by why the script stopped
 outcome_of :
     (stop : Stop) (worst : Answer) (x m y : View) (a : FlatArray) (text rest out out' : List ℕ)
     → Serves stop x m text rest out out' worst
-    → IsUnspent y
+    → IsLawful y
     → Ends m y
     → Outcome (status_by stop worst) (IsServing x a) x.bay.traced x.bay y.bay (ground_of x) (moment_of x) a text rest out out'
-outcome_of AtQuit Refuses x m y a text rest out out' stops unspent ends = done_outcome x m y a text out out' Refuses stops unspent ends
-outcome_of AtQuit Given x m y a text rest out out' stops unspent ends = done_outcome x m y a text out out' Given stops unspent ends
-outcome_of AtQuit Wants x m y a text rest out out' stops unspent ends = done_outcome x m y a text out out' Wants stops unspent ends
-outcome_of Input Refuses x m y a text rest out out' stops unspent ends = done_outcome x m y a text out out' Refuses stops.0 unspent ends
-outcome_of Input Given x m y a text rest out out' stops unspent ends = done_outcome x m y a text out out' Given stops.0 unspent ends
-outcome_of Input Wants x m y a text rest out out' stops unspent ends = done_outcome x m y a text out out' Wants stops.0 unspent ends
-outcome_of SourceFault worst x m y a text rest out out' stops unspent ends = record {
+outcome_of AtQuit Refuses x m y a text rest out out' stops laws ends = done_outcome x m y a text out out' Refuses stops laws ends
+outcome_of AtQuit Given x m y a text rest out out' stops laws ends = done_outcome x m y a text out out' Given stops laws ends
+outcome_of AtQuit Wants x m y a text rest out out' stops laws ends = done_outcome x m y a text out out' Wants stops laws ends
+outcome_of Input Refuses x m y a text rest out out' stops laws ends = done_outcome x m y a text out out' Refuses stops.0 laws ends
+outcome_of Input Given x m y a text rest out out' stops laws ends = done_outcome x m y a text out out' Given stops.0 laws ends
+outcome_of Input Wants x m y a text rest out out' stops laws ends = done_outcome x m y a text out out' Wants stops.0 laws ends
+outcome_of SourceFault worst x m y a text rest out out' stops laws ends = record {
   taken = stops.taken;
   text_is = stops.text_is;
   events = stops.events;
   script = stops.script;
   put = λ serving. stops.answered.put a serving.0;
-  lasts = lasts_of x m y a stops.events unspent stops.answered.ran ends;
+  lasts = lasts_of x m y a stops.events laws stops.answered.ran ends;
 }
-outcome_of AtLimit worst x m y a text rest out out' stops unspent ends = record {
+outcome_of AtLimit worst x m y a text rest out out' stops laws ends = record {
   longer = stops.longer;
   events = stops.events;
   script = stops.script;
   put = λ serving. stops.answered.put a serving.0;
-  lasts = lasts_of x m y a stops.events unspent stops.answered.ran ends;
+  lasts = lasts_of x m y a stops.events laws stops.answered.ran ends;
 }
-outcome_of SinkFault worst x m y a text rest out out' stops unspent ends = record {
+outcome_of SinkFault worst x m y a text rest out out' stops laws ends = record {
   before = stops.before;
   last = stops.last;
   more = stops.more;
   script = stops.script;
   put = λ serving. stops.put a serving.0;
-  lasts = lasts_of x m y a (stops.before ++ stops.last ∷ []) unspent stops.ran ends;
+  lasts = lasts_of x m y a (stops.before ++ stops.last ∷ []) laws stops.ran ends;
 }
 
 pub outcome_by :
     (stop : Stop) (worst : Answer) (status : Status) (x m y : View) (a : FlatArray) (text rest out out' : List ℕ)
     → status ≡ status_by stop worst
     → Serves stop x m text rest out out' worst
-    → IsUnspent y
+    → IsLawful y
     → Ends m y
     → Outcome status (IsServing x a) x.bay.traced x.bay y.bay (ground_of x) (moment_of x) a text rest out out'
-outcome_by stop worst status x m y a text rest out out' is stops unspent ends =
+outcome_by stop worst status x m y a text rest out out' is stops laws ends =
     subst (λ s. Outcome s (IsServing x a) x.bay.traced x.bay y.bay (ground_of x) (moment_of x) a text rest out out') (sym is)
-    (outcome_of stop worst x m y a text rest out out' stops unspent ends)
+    (outcome_of stop worst x m y a text rest out out' stops laws ends)
 
 -- ---- the status
 

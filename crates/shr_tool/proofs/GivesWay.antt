@@ -1,6 +1,6 @@
 -- A line in which a drive that isn't missing is to give way to a new one: no other drive is lost before the pool is ready for it, so the drive's copy of the state keeps its
 -- values until then. Marks are written on the drives that are left.
-use Rattle.std.proofs.Common.{◌≡◌, ◌≢◌, ℕ, ◌+◌, ◌<◌, true, false, length, List, Option, Some, Ok, sym, ap₂, subst, inl, inr, arith, ◌∙◌}
+use Rattle.std.proofs.Common.{◌≡◌, ◌≢◌, ℕ, ◌<◌, true, false, length, List, Option, Some, Ok, sym, ap₂, subst, inl, inr, arith, ◌∙◌}
 use Rattle.std.proofs.lemmas.Bool.{both_ways}
 use Rattle.rack.specs.Joins.{keeps_then}
 use Rattle.rack.specs.Seen.{IsLive, Seen}
@@ -8,7 +8,7 @@ use Rattle.rack.specs.Sequences.{WritesOnly}
 use Rattle.rack.specs.Values.{Keeps}
 use Rattle.rack.proofs.Writing.{only_weaker}
 use Rattle.slice_rack.specs.Runs.{IsSliced}
-use Rattle.slice_rack.specs.Slices.{Slices}
+use Rattle.slice_rack.specs.Slices.{Slices, seat_of}
 use Rattle.slice_rack.specs.Sliced.{slices_of}
 use Rattle.flat_array.specs.Array.{FlatArray}
 use Rattle.pool_state.specs.declared.contents.State.{State}
@@ -22,13 +22,13 @@ use Rattle.raid_rack.specs.NewDrive.{IsOfDrive}
 use Rattle.raid_rack.specs.Unlost.{KeepsPlace, KeepsUnlost}
 use Rattle.pool_image.specs.Drives.{Found}
 use Rattle.pool_model.proofs.Named.{same_length}
-use Rattle.pool.specs.Entering.{Cleaned, LeavesReady, LosesOwn, Readies, meanwhile}
+use Rattle.pool.specs.Entering.{Cleaned, LeavesReady, LosesOwn, Readies, meanwhile, table_on}
 use Rattle.pool.specs.Moment.{IsNamed, moment_of}
 use Rattle.pool.specs.Naming.{EntersNamed, LeavesNamed}
 use Rattle.pool.specs.Replaced.{ChangesDrive}
 use Rattle.pool.specs.Replacing.{has_other_missing}
 use Rattle.pool.specs.Taking.{AttachesDisk}
-use Rattle.pool.specs.View.{View, book, over, slices_shown, volume}
+use Rattle.pool.specs.View.{View, book, over, volume}
 use Rattle.pool.specs.Volume.{Holds}
 use Rattle.pool.proofs.Admitted.{others_current}
 use Rattle.shr_tool.specs.Service.{GoesBy, Lone}
@@ -61,10 +61,10 @@ module _ (x : View) (bay : x.bays.one) (place : ℕ) (name : List ℕ) (disk : �
       unlost k other current = others_then k (current_below (book x).state k current) other
 
       module _ {L : Type 0} {o : Option Lone} (clear : (d s : ℕ) → c.bay.spent d s ≡ false) (fit : (volume x).fit) (f : Found) (goes : GoesBy L o f x) (d : ℕ) (seat : f.seats place ≡ Some d)
-          (same : x.slices ≡ goes.tables) {b : FlatArray} (holds : Holds x b) where
+          (on : seat_of x.slices place ≡ Some d) {b : FlatArray} (holds : Holds x b) where
         low_named : d < m.bay.disks
         low_named =
-            let first = old.there x place fit f goes d seat same in
+            let first = old.there x place fit f goes d seat on in
             let more = at.continues.disks in
             omega (arith, first, more)
 
@@ -72,25 +72,25 @@ module _ (x : View) (bay : x.bays.one) (place : ℕ) (name : List ℕ) (disk : �
         told_named = at.continues.known holds.shelf holds.disks d low_named
 
         sector_named : state_sector < m.bay.sectors d
-        sector_named = subst (λ n. state_sector < n) (sym (at.continues.sectors d (old.there x place fit f goes d seat same))) (old.sector x place fit f goes d seat same)
+        sector_named = subst (λ n. state_sector < n) (sym (at.continues.sectors d (old.there x place fit f goes d seat on))) (old.sector x place fit f goes d seat on)
 
         -- over a part in which no other drive is lost
         part : (s u : State) (a e : Seen) → KeepsUnlost s u (slices_of x.slices a) (slices_of x.slices e) → ((k : ℕ) → k ≢ place → KeepsPlace s u k)
             → a.told d → e.spent d state_sector ≡ false → Keeps (a.held d state_sector) (e.held d state_sector)
         part s u a e is unlost told clear =
-            let many = old.log_many x place fit f goes d seat same in
-            let few = old.small x place fit f goes d seat same in
-            let on = old.log_on x place fit f goes d seat same in
-            let first = old.log_first x place fit f goes d seat same in
+            let many = old.log_many x place fit f goes d seat on in
+            let few = old.small x place fit f goes d seat on in
+            let lies = old.log_on x place fit f goes d seat on in
+            let first = old.log_first x place fit f goes d seat on in
             let live : IsLive (slices_of x.slices a) (slices_of x.slices e) (log_slice place) 0 =
             record {
               disk = omega (arith, few);
               sector = omega (arith, many);
-              is_told = subst a.told (sym on) told;
-              unspent = ap₂ e.spent on first ∙ clear;
+              is_told = subst a.told (sym lies) told;
+              unspent = ap₂ e.spent lies first ∙ clear;
             } in
-            subst (λ h. Keeps h (e.held d state_sector)) (old.held_there x place fit f goes d seat same a)
-            (subst (λ h. Keeps ((slices_of x.slices a).held (log_slice place) 0) h) (old.held_there x place fit f goes d seat same e) (is.copies place unlost live))
+            subst (λ h. Keeps h (e.held d state_sector)) (old.held_there x place fit f goes d seat on a)
+            (subst (λ h. Keeps ((slices_of x.slices a).held (log_slice place) 0) h) (old.held_there x place fit f goes d seat on e) (is.copies place unlost live))
 
         -- what is then of its disk
         pub low_then : d < c.bay.disks
@@ -135,30 +135,30 @@ module _ (x : View) (bay : x.bays.one) (place : ℕ) (name : List ℕ) (disk : �
         -- its copy of the state
         pub copy_then : Keeps (x.bay.held d state_sector) (c.bay.held d state_sector)
         copy_then =
-            subst (λ h. Keeps h (c.bay.held d state_sector)) (at.held d (old.there x place fit f goes d seat same) state_sector)
+            subst (λ h. Keeps h (c.bay.held d state_sector)) (at.held d (old.there x place fit f goes d seat on) state_sector)
             (elim readies [ inl cleaned ↦ cleaned_copy cleaned | inr lose ↦ lost_copy lose ])
 
 -- ---- the whole line, where the place hadn't given its disk up
 
 module _ {L : Type 0} {o : Option Lone} (x y : View) (place : ℕ) (name : List ℕ) (unspent : (d s : ℕ) → y.bay.spent d s ≡ false) (fit : (volume x).fit) (f : Found)
-    (goes : GoesBy L o f x) (d : ℕ) (seat : f.seats place ≡ Some d) (same : x.slices ≡ goes.tables) {b : FlatArray} (holds : Holds x b) where
+    (goes : GoesBy L o f x) (d : ℕ) (seat : f.seats place ≡ Some d) (on : seat_of x.slices place ≡ Some d) {b : FlatArray} (holds : Holds x b) where
   -- where a new drive was taken in
   pub entered_copy : (disk : ℕ) → EntersNamed x y place name disk → ChangesDrive x y place name → d ≢ disk → (IsNamed (moment_of y) name d → ⊥)
       → Keeps (x.bay.held d state_sector) (y.bay.held d state_sector)
   entered_copy disk entered changes other unnamed = elim entered.enters [
     | inl at_once ↦
-        (changes.retired at_once.0 d (old.on x place fit f goes d seat same) unnamed).held state_sector (old.sector x place fit f goes d seat same)
-        (holds.disks d (old.there x place fit f goes d seat same))
+        (changes.retired place d (old.seat_listed f goes.tables (book x) x.bay goes.service place d seat) at_once.0 on unnamed).held state_sector
+        (old.sector x place fit f goes d seat on) (holds.disks d (old.there x place fit f goes d seat on))
     | inr gives ↦
         (let ready = gives.1 in
         let e : View = c x entered.bay place name disk entered.attaches ready.bay ready.arrays ready.refused in
         let whole = ready.enters.vacates.admits.whole in
         let clear : (k s : ℕ) → e.bay.spent k s ≡ false = λ k s. ready.enters.enlists.only.stays.spent k s (unspent k s) in
         keeps_then (x.bay.held d state_sector) (e.bay.held d state_sector) (y.bay.held d state_sector)
-        (copy_then x entered.bay place name disk entered.attaches ready.bay ready.arrays ready.refused ready.readies whole clear fit f goes d seat same holds)
-        ((ready.enters.former d (old.on x place fit f goes d seat same) other).held state_sector
-        (sector_then x entered.bay place name disk entered.attaches ready.bay ready.arrays ready.refused ready.readies whole clear fit f goes d seat same holds)
-        (told_then x entered.bay place name disk entered.attaches ready.bay ready.arrays ready.refused ready.readies whole clear fit f goes d seat same holds)))
+        (copy_then x entered.bay place name disk entered.attaches ready.bay ready.arrays ready.refused ready.readies whole clear fit f goes d seat on holds)
+        ((ready.enters.former d on other).held state_sector
+        (sector_then x entered.bay place name disk entered.attaches ready.bay ready.arrays ready.refused ready.readies whole clear fit f goes d seat on holds)
+        (told_then x entered.bay place name disk entered.attaches ready.bay ready.arrays ready.refused ready.readies whole clear fit f goes d seat on holds)))
   ]
 
 -- where none was, though the pool was made ready for it
@@ -169,12 +169,12 @@ module _ (x y : View) (place : ℕ) (name : List ℕ) (named : LeavesNamed x y p
   whole : has_other_missing (book e).state place ≡ false
   whole = elim ready.leaves [ inl gone ↦ gone.vacates.admits.whole | inr out ↦ out.vacates.admits.whole ]
 
-  only : WritesOnly e.bay y.bay (IsWrittenBy y.slices named.disk (e.bay.sectors named.disk))
+  only : WritesOnly e.bay y.bay (IsWrittenBy y.slices named.disk (table_on e place named.disk))
   only = elim ready.leaves [
     | inl gone ↦
-        only_weaker (IsOfDrive named.disk (e.bay.sectors named.disk)) (IsWrittenBy y.slices named.disk (e.bay.sectors named.disk)) (λ k s v own. inl own) gone.refused.only
+        only_weaker (IsOfDrive named.disk (table_on e place named.disk)) (IsWrittenBy y.slices named.disk (table_on e place named.disk)) (λ k s v own. inl own) gone.refused.only
     | inr out ↦
-        subst (λ (u : Slices). WritesOnly e.bay y.bay (IsWrittenBy u named.disk (e.bay.sectors named.disk))) (sym out.slices) out.not_whole.only
+        subst (λ (u : Slices). WritesOnly e.bay y.bay (IsWrittenBy u named.disk (table_on e place named.disk))) (sym out.slices) out.not_whole.only
   ]
 
   -- all other places were current
@@ -184,19 +184,19 @@ module _ (x y : View) (place : ℕ) (name : List ℕ) (named : LeavesNamed x y p
       (others_then x named.bay place name named.disk named.attaches ready.bay ready.arrays ready.refused ready.readies whole k low other)
 
   module _ {L : Type 0} {o : Option Lone} (unspent : (d s : ℕ) → y.bay.spent d s ≡ false) (fit : (volume x).fit) (f : Found) (goes : GoesBy L o f x) (d : ℕ)
-      (seat : f.seats place ≡ Some d) (same : x.slices ≡ goes.tables) {b : FlatArray} (holds : Holds x b) where
+      (seat : f.seats place ≡ Some d) (on : seat_of x.slices place ≡ Some d) {b : FlatArray} (holds : Holds x b) where
     clear : (k s : ℕ) → e.bay.spent k s ≡ false
     clear k s = only.stays.spent k s (unspent k s)
 
     pub left_copy : d ≢ named.disk → ((w : List ℕ) → IsSliced y.slices d state_sector w → ⊥) → Keeps (x.bay.held d state_sector) (y.bay.held d state_sector)
     left_copy other bare =
         keeps_then (x.bay.held d state_sector) (e.bay.held d state_sector) (y.bay.held d state_sector)
-        (copy_then x named.bay place name named.disk named.attaches ready.bay ready.arrays ready.refused ready.readies whole clear fit f goes d seat same holds)
+        (copy_then x named.bay place name named.disk named.attaches ready.bay ready.arrays ready.refused ready.readies whole clear fit f goes d seat on holds)
         (only.others d state_sector
         (record {
-          disk = subst (λ n. d < n) (sym only.stays.disks) (low_then x named.bay place name named.disk named.attaches ready.bay ready.arrays ready.refused ready.readies whole clear fit f goes d seat same holds);
-          sector = subst (λ n. state_sector < n) (sym (only.stays.sectors d)) (sector_then x named.bay place name named.disk named.attaches ready.bay ready.arrays ready.refused ready.readies whole clear fit f goes d seat same holds);
-          is_told = told_then x named.bay place name named.disk named.attaches ready.bay ready.arrays ready.refused ready.readies whole clear fit f goes d seat same holds;
+          disk = subst (λ n. d < n) (sym only.stays.disks) (low_then x named.bay place name named.disk named.attaches ready.bay ready.arrays ready.refused ready.readies whole clear fit f goes d seat on holds);
+          sector = subst (λ n. state_sector < n) (sym (only.stays.sectors d)) (sector_then x named.bay place name named.disk named.attaches ready.bay ready.arrays ready.refused ready.readies whole clear fit f goes d seat on holds);
+          is_told = told_then x named.bay place name named.disk named.attaches ready.bay ready.arrays ready.refused ready.readies whole clear fit f goes d seat on holds;
           unspent = unspent d state_sector;
         })
         (λ w may. elim may [ inl own ↦ other own.0 | inr sliced ↦ bare w sliced ]))

@@ -1,5 +1,5 @@
 -- What a stop leaves while a disk is taken in at a place from a pool by which the place's own drive is current: the pool with the drive that it has, or with the new one.
-use Rattle.std.proofs.Common.{◌≡◌, ◌⊎◌, ◌≢◌, ℕ, ◌+◌, ◌<◌, ◌≤◌, true, false, List, Some, None, subst, inl, inr, arith}
+use Rattle.std.proofs.Common.{◌≡◌, ◌⊎◌, ◌≢◌, ℕ, ◌+◌, ◌<◌, ◌≤◌, true, false, List, Some, None, refl, subst, inl, inr, arith}
 use Rattle.std.proofs.lemmas.Bool.{cases_lt}
 use Rattle.rack.specs.Seen.{Image}
 use Rattle.rack.specs.Values.{MayLeave}
@@ -93,16 +93,16 @@ module _ (c y : View) (place disk : ℕ) (enters : EntersBy c y place disk) (h :
   giving k i since until stopped = elim (cases_lt enlists.mid k) [
     | inr early ↦
         inl
-        (replacing_laid h t (book c) place disk c.bay service apart ordered inside tables opened room lasting traced y.slices enters.units (Replacing place) table (book y) y.bay enlists.mid
+        (replacing_laid h t (book c) place disk c.bay service apart ordered inside tables opened room lasting traced y.slices enters.units (Replacing place) table refl (book y) y.bay enlists.mid
         sits enlists.only tells lasts present place was was k i since until stopped early)
     | inl late ↦
         let each = λ (n : ℕ) (low : n < h.state.made). (tells n low).replacing was traced (lasts n low) k i late until stopped in
         elim (each 0 first).says [
           | inl before ↦
               inl
-              (replacing_former h t (book c) place disk c.bay service apart ordered inside tables opened room lasting traced y.slices enters.units (Replacing place) table (book y) y.bay
+              (replacing_former h t (book c) place disk c.bay service apart ordered inside tables opened room lasting traced y.slices enters.units (Replacing place) table refl (book y) y.bay
               enlists.mid sits enlists.only tells lasts present place was was k i since until stopped
-              (former_all h t (book c) place disk c.bay service apart ordered inside tables opened room lasting traced y.slices enters.units (Replacing place) table (book y) y.bay
+              (former_all h t (book c) place disk c.bay service apart ordered inside tables opened room lasting traced y.slices enters.units (Replacing place) table refl (book y) y.bay
               enlists.mid sits enlists.only tells lasts present place was was i each before.2) before.1)
           | inr latter ↦
               inr (

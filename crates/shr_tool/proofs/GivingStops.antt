@@ -57,19 +57,19 @@ module _ {L : Type 0} (x y : View) (place : ℕ) (name text : List ℕ) (b : Fla
     (f : Found) (goes : GoesBy L None f x) (current : is_current (book x).state place ≡ true) (fitting : IsFitDrive f (moment_of x) place name)
     (waits : IsFitDisk f (moment_of x) name) (serials : AreSerial f.state) (lands : L) (lasts : (n : ℕ) → n < f.state.made → is_over (book y) n ≡ false) (traced : x.bay.traced) where
   abbrev disk : ℕ
-  disk = new.disk x y place name text b unspent fit performs holds some f goes fitting serials (λ l none. absurd (none-some l none)) (λ l none. absurd (none-some l none))
+  disk = new.disk x y place name text b unspent fit performs holds some f goes fitting serials (λ l none. absurd (none-some l none))
 
   entered : EntersNamed x y place name disk
-  entered = new.entered x y place name text b unspent fit performs holds some f goes fitting serials (λ l none. absurd (none-some l none)) (λ l none. absurd (none-some l none))
+  entered = new.entered x y place name text b unspent fit performs holds some f goes fitting serials (λ l none. absurd (none-some l none))
 
   alive : is_spent x some.0 ≡ false
-  alive = new.alive x y place name text b unspent fit performs holds some f goes fitting serials (λ l none. absurd (none-some l none)) (λ l none. absurd (none-some l none))
+  alive = new.alive x y place name text b unspent fit performs holds some f goes fitting serials (λ l none. absurd (none-some l none))
 
   some_named : (s : ℕ) × (s < size_of x) × (is_spent x s ≡ false)
   some_named = (some.0, some.1, alive)
 
   listed : place < length (book x).state.drives.items
-  listed = new.listed x y place name text b unspent fit performs holds some f goes fitting serials (λ l none. absurd (none-some l none)) (λ l none. absurd (none-some l none))
+  listed = new.listed x y place name text b unspent fit performs holds some f goes fitting serials (λ l none. absurd (none-some l none))
 
   -- ---- the pool that was made ready
 
@@ -179,7 +179,7 @@ module _ {L : Type 0} (x y : View) (place : ℕ) (name text : List ℕ) (b : Fla
   units_are = new.or_map (slice_get (book x).state.drives.items place) enters.units (sym (units_same (book x).state (book c).state marks place) ∙ enters.units_is)
 
   disk_is : disk_in (moment_of y) place ≡ disk
-  disk_is = new.disk_is x y place name text b unspent fit performs holds some f goes fitting serials (λ l none. absurd (none-some l none)) (λ l none. absurd (none-some l none))
+  disk_is = new.disk_is x y place name text b unspent fit performs holds some f goes fitting serials (λ l none. absurd (none-some l none))
 
   -- the state from which it is taken in is that of before, or the place's own drive is marked by it
   which : ((book c).state ≡ (book x).state) ⊎ LosesOwn (book x).state (book y).state place (book c).state

@@ -3,8 +3,8 @@ use Rattle.std.proofs.Common.{◌≡◌, ◌⊎◌, ℕ, ◌≤◌, true, false,
 use Rattle.std.proofs.lemmas.Bool.{cases_Bool}
 use Rattle.std.proofs.lemmas.List.{append-nil}
 use Rattle.std.proofs.lemmas.Option.{none-some}
-use Rattle.rack.specs.Seen.{Image}
 use Rattle.rack.specs.Moments.{IsSound}
+use Rattle.slice_rack.specs.Slices.{IsOrderly}
 use Rattle.shr_script.specs.Line.{Line}
 use Rattle.flat_array.specs.Array.{FlatArray}
 use Rattle.shr_script.specs.Script.{script_of, cut_script_of}
@@ -15,139 +15,30 @@ use Rattle.raid_rack.specs.Raid.{Raid}
 use Rattle.pool.specs.Keeping.{Raises}
 use Rattle.pool.specs.Continuing.{Continues, KeepsOutside}
 use Rattle.shr_tool.specs.declared.perform.Answer.{Answer}
-use Rattle.shr_tool.specs.declared.perform.Answer.TheVariants.{Given, Memory, Spent}
-use Rattle.shr_tool.specs.Events.{AnyTakes, Event, Takes, answer_of, any_takes, array_by, becomes, calls_in, line_of, lines_of, takes_disk, text_of, texts, worse, worst_of}
-use Rattle.pool.specs.Moment.{Moment, moment_of}
-use Rattle.shr_tool.specs.Timeline.{Ground, KeepsBookIn, KeepsDisks, KeepsSlices, KeepsStanding, Happens, Performs, Steps, Timeline, ground_of, steps_of}
-use Rattle.shr_tool.specs.Between.{HoldsEach}
-use Rattle.shr_tool.specs.Service.{AreFit, AreLone, GoesBy, GoesOn, IsFitFor, IsLoneFor, IsServed, Lone, lone_by, lone_then, pool_by}
+use Rattle.shr_tool.specs.declared.perform.Answer.TheVariants.{Given}
+use Rattle.shr_tool.specs.Events.{AnyTakes, Event, Takes, any_takes, array_by, becomes, calls_in, line_of, lines_of, takes_disk, text_of, texts, worst_of}
+use Rattle.pool.specs.Moment.{moment_of}
+use Rattle.shr_tool.specs.Timeline.{KeepsBookIn, KeepsDisks, KeepsSlices, KeepsStanding, Happens, Performs, Timeline, ground_of, steps_of}
+use Rattle.shr_tool.specs.Between.{HaveOthers, HoldsEach}
+use Rattle.shr_tool.specs.Service.{AreFit, AreLone, GoesBy, GoesOn, IsFitFor, IsLoneFor, IsServed, Lone, none_out, pool_by}
 use Rattle.assembler.specs.Sound.{TargetsLand}
 use Rattle.pool_image.specs.Drives.{Found}
 use Rattle.pool_model.specs.Taken.{AreSerial}
-use Rattle.shr_tool.proofs.Between.{each_kept, each_more, holds_then, timeline_order}
-use Rattle.shr_tool.proofs.Chains.{bound_by, fit_parts, lone_by-snoc, lone_parts, pool_by-snoc, steps_more}
+use Rattle.shr_tool.proofs.Between.{each_kept, each_more, holds_then}
+use Rattle.shr_tool.proofs.Chains.{fit_parts, lone_parts, pool_by-snoc, steps_more}
 use Rattle.shr_tool.proofs.Heads.{heads_performed, heads_same, heads_then}
+use Rattle.shr_tool.proofs.Others.{have_kept, have_more, others_performed}
 use Rattle.shr_tool.proofs.Serial.{serial_performed}
 use Rattle.shr_tool.proofs.Serviced.{goes_performed, served_first, served_last}
 use Rattle.shr_tool.specs.Serving.{Answered, IsServing, Ran, Replies}
 use Rattle.pool.proofs.Continuing.{continues_same, continues_then, outside_fewer, outside_of, outside_then}
 use Rattle.shr_tool.proofs.Joined.{ground_same, means_at}
+use Rattle.shr_tool.proofs.Timelines.{array_by-snoc, steps_added, steps_kept, texts-snoc, timeline_kept, timeline_more}
 use Rattle.shr_tool.proofs.Within.{holds_within}
+use Rattle.shr_tool.proofs.Missing.{missing_performed}
 use Rattle.shr_tool.proofs.Taking.{any_takes_before, any_takes_last, named_by, none_takes, takes_first, takes_last}
 use Rattle.pool.proofs.Booked.{book_seated}
 use Rattle.pool.proofs.Keeping.{passes_same, passes_then}
-
--- ---- one event more
-
--- the array after it
-pub array_by-snoc :
-    (a : FlatArray) (events : List Event) (event : Event) → array_by a (events ++ event ∷ []) ≡ becomes (array_by a events) event
-array_by-snoc a [] event = refl
-array_by-snoc a (first ∷ events) event = array_by-snoc (becomes a first) events event
-
--- the replies
-pub texts-snoc :
-    (a : FlatArray) (events : List Event) (event : Event)
-    → texts a (events ++ event ∷ []) ≡ texts a events ++ text_of (array_by a events) event
-texts-snoc a [] event = append-nil (text_of a event)
-texts-snoc a (first ∷ events) event =
-    ap (λ bytes. text_of a first ++ bytes) (texts-snoc (becomes a first) events event)
-    ∙ sym (append_assoc (text_of a first) (texts (becomes a first) events) (text_of (array_by (becomes a first) events) event))
-
--- the lines
-pub lines_of-snoc : (events : List Event) (event : Event) → lines_of (events ++ event ∷ []) ≡ lines_of events ++ line_of event ∷ []
-lines_of-snoc [] event = refl
-lines_of-snoc (first ∷ events) event = ap (λ lines. line_of first ∷ lines) (lines_of-snoc events event)
-
--- the worst of the answers
-pub worse_given : (a : Answer) → worse a Given ≡ a
-worse_given Given = refl
-worse_given Spent = refl
-worse_given Memory = refl
-
-worse_assoc : (a b c : Answer) → worse a (worse b c) ≡ worse (worse a b) c
-worse_assoc Given b c = refl
-worse_assoc Spent Given c = refl
-worse_assoc Spent Spent Given = refl
-worse_assoc Spent Spent Spent = refl
-worse_assoc Spent Spent Memory = refl
-worse_assoc Spent Memory c = refl
-worse_assoc Memory b c = refl
-
-pub worst_of-snoc : (events : List Event) (event : Event) → worst_of (events ++ event ∷ []) ≡ worse (worst_of events) (answer_of event)
-worst_of-snoc [] event = worse_given (answer_of event)
-worst_of-snoc (first ∷ events) event =
-    ap (λ b. worse (answer_of first) b) (worst_of-snoc events event)
-    ∙ worse_assoc (answer_of first) (worst_of events) (answer_of event)
-
--- ---- timelines
-
--- later calls leave the past as it was
-pub timeline_kept :
-    (Traced : Type 0) (old new : ℕ → Image → Type 0) (g : Ground) (limit : ℕ)
-    → (Traced → (k : ℕ) (i : Image) → k ≤ limit → new k i → old k i)
-    → (p : Moment) (a : FlatArray) (events : List Event) (q : Moment)
-    → q.clock ≤ limit
-    → Timeline Traced old g p a events q
-    → Timeline Traced new g p a events q
-timeline_kept Traced old new g limit past p a [] q within line = line
-timeline_kept Traced old new g limit past p a (event ∷ events) q within line =
-    let at = line.0 in
-    let happens = line.1 in
-    let order : Traced → at.clock ≤ q.clock =
-    λ traced. timeline_order Traced old g at (becomes a event) events q traced line.2 in (
-      at,
-      record {
-        later = happens.later;
-        still = happens.still;
-        cause = happens.cause;
-        disks = happens.disks;
-        held = happens.held;
-        named = happens.named;
-        slices = happens.slices;
-        marks = happens.marks;
-        stands = happens.stands;
-        during =
-            λ traced k i since until stops.
-            happens.during traced k i since until (past traced k i (let rest = order traced in omega arith) stops);
-        ended = λ traced i stops. happens.ended traced i (past traced at.clock i (let rest = order traced in omega arith) stops);
-      },
-      timeline_kept Traced old new g limit past at (becomes a event) events q within line.2,
-    )
-
--- so the moments are the same
-pub steps_kept :
-    (Traced : Type 0) (old new : ℕ → Image → Type 0) (g : Ground) (limit : ℕ)
-    (past : Traced → (k : ℕ) (i : Image) → k ≤ limit → new k i → old k i)
-    (p : Moment) (a : FlatArray) (events : List Event) (q : Moment) (within : q.clock ≤ limit) (line : Timeline Traced old g p a events q)
-    → steps_of Traced new g p a events q (timeline_kept Traced old new g limit past p a events q within line) ≡ steps_of Traced old g p a events q line
-unfolding timeline_kept
-steps_kept Traced old new g limit past p a [] q within line = refl
-steps_kept Traced old new g limit past p a (event ∷ events) q within line =
-    ap (λ (rest : Steps line.0 events q). (line.0, rest)) (steps_kept Traced old new g limit past line.0 (becomes a event) events q within line.2)
-
--- one event more
-timeline_more :
-    (Traced : Type 0) (stops : ℕ → Image → Type 0) (g : Ground) (p : Moment) (a : FlatArray) (events : List Event) (mid : Moment)
-    (event : Event) (q : Moment)
-    → Timeline Traced stops g p a events mid
-    → Happens Traced stops g mid q (array_by a events) event
-    → Timeline Traced stops g p a (events ++ event ∷ []) q
-timeline_more Traced stops g p a [] mid event q same happens =
-    (q, subst (λ m. Happens Traced stops g m q a event) (sym same) happens, refl)
-timeline_more Traced stops g p a (first ∷ events) mid event q line happens =
-    (line.0, line.1, timeline_more Traced stops g line.0 (becomes a first) events mid event q line.2 happens)
-
-steps_added :
-    (Traced : Type 0) (stops : ℕ → Image → Type 0) (g : Ground) (p : Moment) (a : FlatArray) (events : List Event) (mid : Moment)
-    (event : Event) (q : Moment) (line : Timeline Traced stops g p a events mid) (happens : Happens Traced stops g mid q (array_by a events) event)
-    → steps_of Traced stops g p a (events ++ event ∷ []) q (timeline_more Traced stops g p a events mid event q line happens)
-    ≡ steps_more p events mid event q (steps_of Traced stops g p a events mid line)
-unfolding timeline_more
-steps_added Traced stops g p a [] mid event q same happens = refl
-steps_added Traced stops g p a (first ∷ events) mid event q line happens =
-    ap (λ (rest : Steps line.0 (events ++ event ∷ []) q). (line.0, rest))
-    (steps_added Traced stops g line.0 (becomes a first) events mid event q line.2 happens)
 
 -- ---- what a pool did
 
@@ -174,9 +65,9 @@ slices_kept x y passes = record { slices = passes.slices; names = passes.shelf.n
 abbrev pub IsUnspent : View → Type 0
 IsUnspent x = (d s : ℕ) → x.bay.spent d s ≡ false
 
--- nor is one ever, and what a stop leaves at any moment are values that the disks hold then
+-- nor is one ever, what a stop leaves at any moment are values that the disks hold then, and slices don't overlap
 abbrev pub IsLawful : View → Type 0
-IsLawful x = IsUnspent x × (x.bay.fit → x.bay.traced → IsSound x.bay)
+IsLawful x = IsUnspent x × (x.bay.fit → x.bay.traced → IsSound x.bay) × IsOrderly x.slices
 
 outside_by : (x y : View) (event : Event) (text : List ℕ) → IsUnspent y → Performs x y event text
     → KeepsOutside x.slices y.slices (Takes y.shelf.names event) x.shelf.told x.bay y.bay
@@ -191,11 +82,11 @@ performed :
     (x y z : View) (event : Event) (text : List ℕ) (Traced : Type 0) (a : FlatArray)
     → Continues x y
     → Performs y z event text
-    → IsUnspent z
+    → IsLawful z
     → (Traced → y.bay.traced)
     → (Traced → Holds y a)
     → Happens Traced z.bay.stops (ground_of x) (moment_of y) (moment_of z) a event
-performed x y z event text Traced a continues performs unspent traced holds =
+performed x y z event text Traced a continues performs laws traced holds =
     subst (λ g. Happens Traced z.bay.stops g (moment_of y) (moment_of z) a event) (ground_same x y continues.linear)
     (record {
       later = λ told. performs.continues.later (holds told).shelf (traced told);
@@ -203,9 +94,10 @@ performed x y z event text Traced a continues performs unspent traced holds =
       cause = performs.cause;
       disks = disks_kept y z performs.continues;
       held = λ told d s low within untaken unsliced.
-          (outside_by y z event text unspent performs).held d s
+          (outside_by y z event text laws.0 performs).held d s
           (record { disk = low; sector = within; is_told = (holds told).disks d low; unnamed = untaken; unsliced = unsliced });
-      named = λ told takes. named_by y z event continues.fit (performs.changes takes) (holds told).shelf (holds told).disks;
+      named = λ told takes. named_by y z event (performs.changes takes) (holds told).shelf (holds told).disks;
+      missing = λ told. missing_performed y z event text continues.fit performs laws.2 laws.0 (holds told).disks;
       slices = λ none. slices_kept y z (performs.passes none);
       marks = performs.marks;
       stands = standing y z (KeepsBookIn event) (calls_in (line_of event)) performs.continues.fit performs.keeps performs.raises;
@@ -262,6 +154,21 @@ each_before x y z events a f ran continues serving traced goes =
     [] f (moment_of x) a events (moment_of y) (omega arith) (ran.timeline a)
     (subst each (sym (ran.steps_are a)) (ran.between a serving traced f goes)))
 
+-- and that no other disk had the id of a drive that was taken in
+pub others_before :
+    (x y z : View) (events : List Event) (a : FlatArray) (f : Found) (ran : Ran x y events)
+    → Continues y z
+    → Holds x a
+    → x.bay.traced
+    → HaveOthers y.bay.stops f (moment_of x) events (moment_of y) ran.steps
+    → HaveOthers z.bay.stops f (moment_of x) events (moment_of y) ran.steps
+others_before x y z events a f ran continues holds traced have =
+    subst (HaveOthers z.bay.stops f (moment_of x) events (moment_of y)) (ran.steps_are a)
+    (have_kept (x.bay.traced × Holds x a) y.bay.stops z.bay.stops (ground_of x) y.bay.clock (traced, holds)
+    (continues.past (ran.continues.told holds.shelf) (ran.continues.traced holds.shelf traced))
+    f (moment_of x) a events (moment_of y) (omega arith) (ran.timeline a)
+    (subst (HaveOthers y.bay.stops f (moment_of x) events (moment_of y)) (sym (ran.steps_are a)) have))
+
 -- nothing is done yet
 pub ran_none : (x : View) → (volume x).fit → IsLawful x → Ran x x []
 ran_none x fit laws = record {
@@ -275,6 +182,7 @@ ran_none x fit laws = record {
   steps_are = λ a. refl;
   service = λ a holds served f goes serials fit. record { goes = goes; serials = λ serial. serial };
   lone = λ a holds served f l goes early serials fit lone. record { goes = goes; serials = λ serial. serial };
+  others = λ a holds traced served f bound goes early serials fit lone. tt;
   heads = λ names all. heads_same (book x) (slices_shown x);
   between = λ a serving traced f goes.
       holds_then x x a a [] (AreSerial f.state) f (continues_same x fit) (λ none. passes_same x fit) serving serving.0 traced laws.1 (λ served serials. goes);
@@ -306,13 +214,13 @@ on_more :
     → ((l : Lone) → o ≡ Some l → IsLoneFor (pool_by f (moment_of x) events (moment_of y) ran.steps) l (moment_of y) (moment_of z) event)
     → ((l : Lone) → o ≡ Some l → (book z).state.serial ≤ l.bound)
     → GoesOn (TargetsLand f) o f (pool_by f (moment_of x) events (moment_of y) ran.steps) y
-    → GoesOn (TargetsLand f) (lone_then o (moment_of z) event) f
+    → GoesOn (TargetsLand f) o f
     (pool_by f (moment_of x) (events ++ event ∷ []) (moment_of z) (steps_more (moment_of x) events (moment_of y) event (moment_of z) ran.steps)) z
 on_more {o} x y z events event text a f unspent ran performs holds served serials fit lone early before =
     let after =
     goes_performed y z event text (array_by a events) unspent ran.continues.fit performs (ran.holds a holds) (served_last x y z events event ran.continues.linear served)
     (pool_by f (moment_of x) events (moment_of y) ran.steps) before.goes (λ takes. before.serials (serials (takes_last events event takes))) fit lone early in
-    subst (λ h. GoesOn (TargetsLand f) (lone_then o (moment_of z) event) f h z) (sym (pool_by-snoc f (moment_of x) events (moment_of y) event (moment_of z) ran.steps))
+    subst (λ h. GoesOn (TargetsLand f) o f h z) (sym (pool_by-snoc f (moment_of x) events (moment_of y) event (moment_of z) ran.steps))
     (record { goes = after.goes; serials = λ serial. after.serials (before.serials serial) })
 
 -- a pool by which the run goes
@@ -348,24 +256,47 @@ lone_more :
     → (any_takes (events ++ event ∷ []) ≡ true → AreSerial f.state)
     → AreFit f (moment_of x) (events ++ event ∷ []) (moment_of z) (steps_more (moment_of x) events (moment_of y) event (moment_of z) ran.steps)
     → AreLone f l (moment_of x) (events ++ event ∷ []) (moment_of z) (steps_more (moment_of x) events (moment_of y) event (moment_of z) ran.steps)
-    → GoesOn (TargetsLand f)
-    (Some (lone_by l (moment_of x) (events ++ event ∷ []) (moment_of z) (steps_more (moment_of x) events (moment_of y) event (moment_of z) ran.steps))) f
+    → GoesOn (TargetsLand f) (Some l) f
     (pool_by f (moment_of x) (events ++ event ∷ []) (moment_of z) (steps_more (moment_of x) events (moment_of y) event (moment_of z) ran.steps)) z
 lone_more x y z events event text a f l unspent ran performs holds served goes early serials fit lone =
     let parts = fit_parts f (moment_of x) events (moment_of y) event (moment_of z) ran.steps fit in
     let lones = lone_parts f l (moment_of x) events (moment_of y) event (moment_of z) ran.steps lone in
     let pool = pool_by f (moment_of x) events (moment_of y) ran.steps in
-    let before : Lone = lone_by l (moment_of x) events (moment_of y) ran.steps in
-    let more : Found = pool_by f (moment_of x) (events ++ event ∷ []) (moment_of z) (steps_more (moment_of x) events (moment_of y) event (moment_of z) ran.steps) in
     let up = serial_performed y z event text performs in
-    let bounded : (book z).state.serial ≤ before.bound = subst (λ k. (book z).state.serial ≤ k) (sym (bound_by l (moment_of x) events (moment_of y) ran.steps)) early in
-    subst (λ (k : Lone). GoesOn (TargetsLand f) (Some k) f more z)
-    (sym (lone_by-snoc l (moment_of x) events (moment_of y) event (moment_of z) ran.steps))
-    (on_more x y z events event text a f unspent ran performs holds served serials parts.1
-    (λ k same. subst (λ (m : Lone). IsLoneFor pool m (moment_of y) (moment_of z) event) (some_same before k same) lones.1)
-    (λ k same. subst (λ (m : Lone). (book z).state.serial ≤ m.bound) (some_same before k same) bounded)
+    on_more x y z events event text a f unspent ran performs holds served serials parts.1
+    (λ k same. subst (λ k. IsLoneFor pool k (moment_of y) (moment_of z) event) (some_same l k same) lones.1)
+    (λ k same. subst (λ (k : Lone). (book z).state.serial ≤ k.bound) (some_same l k same) early)
     (ran.lone a holds (served_first x y z events event text ran.continues.linear performs served) f l goes (omega (arith, up, early))
-    (λ takes. serials (takes_first events event takes)) parts.0 lones.0))
+    (λ takes. serials (takes_first events event takes)) parts.0 lones.0)
+
+-- and no other disk has the id of a drive that it took in
+others_more :
+    (x y z : View) (events : List Event) (event : Event) (text : List ℕ) (a : FlatArray) (f : Found) (bound : ℕ)
+    → IsUnspent z
+    → (ran : Ran x y events)
+    → Performs y z event text
+    → Holds x a
+    → x.bay.traced
+    → IsServed (ground_of x) (moment_of z) (events ++ event ∷ [])
+    → GoesBy (TargetsLand f) (Some (none_out bound)) f x
+    → (book z).state.serial ≤ bound
+    → (any_takes (events ++ event ∷ []) ≡ true → AreSerial f.state)
+    → AreFit f (moment_of x) (events ++ event ∷ []) (moment_of z) (steps_more (moment_of x) events (moment_of y) event (moment_of z) ran.steps)
+    → AreLone f (none_out bound) (moment_of x) (events ++ event ∷ []) (moment_of z) (steps_more (moment_of x) events (moment_of y) event (moment_of z) ran.steps)
+    → HaveOthers z.bay.stops f (moment_of x) (events ++ event ∷ []) (moment_of z) (steps_more (moment_of x) events (moment_of y) event (moment_of z) ran.steps)
+others_more x y z events event text a f bound unspent ran performs holds traced served goes early serials fit lone =
+    let parts = fit_parts f (moment_of x) events (moment_of y) event (moment_of z) ran.steps fit in
+    let lones = lone_parts f (none_out bound) (moment_of x) events (moment_of y) event (moment_of z) ran.steps lone in
+    let up = serial_performed y z event text performs in
+    let sooner : (book y).state.serial ≤ bound = omega (arith, up, early) in
+    let first = served_first x y z events event text ran.continues.linear performs served in
+    let serials_first : any_takes events ≡ true → AreSerial f.state = λ takes. serials (takes_first events event takes) in
+    let before = ran.lone a holds first f (none_out bound) goes sooner serials_first parts.0 lones.0 in
+    have_more z.bay.stops f (moment_of x) events (moment_of y) event (moment_of z) ran.steps
+    (others_before x y z events a f ran performs.continues holds traced (ran.others a holds traced first f bound goes sooner serials_first parts.0 lones.0))
+    (others_performed y z event text (array_by a events) unspent ran.continues.fit performs (ran.holds a holds) (served_last x y z events event ran.continues.linear served)
+    (pool_by f (moment_of x) events (moment_of y) ran.steps) before.goes (λ takes. before.serials (serials (takes_last events event takes))) parts.1 early
+    (ran.continues.traced holds.shelf traced))
 
 -- what a stop inside the event and at its end leaves holds it
 between_more :
@@ -418,7 +349,7 @@ ran_more x y z events event text laws ran performs = record {
       λ a.
       timeline_more (x.bay.traced × Holds x a) z.bay.stops (ground_of x) (moment_of x) a events (moment_of y) event (moment_of z)
       (ran_before x y z events a ran performs.continues)
-      (performed x y z event text (x.bay.traced × Holds x a) (array_by a events) ran.continues performs laws.0
+      (performed x y z event text (x.bay.traced × Holds x a) (array_by a events) ran.continues performs laws
       (λ told. ran.continues.traced told.1.shelf told.0)
       (λ told. ran.holds a told.1));
   steps = steps_more (moment_of x) events (moment_of y) event (moment_of z) ran.steps;
@@ -426,12 +357,14 @@ ran_more x y z events event text laws ran performs = record {
       λ a.
       steps_added (x.bay.traced × Holds x a) z.bay.stops (ground_of x) (moment_of x) a events (moment_of y) event (moment_of z)
       (ran_before x y z events a ran performs.continues)
-      (performed x y z event text (x.bay.traced × Holds x a) (array_by a events) ran.continues performs laws.0
+      (performed x y z event text (x.bay.traced × Holds x a) (array_by a events) ran.continues performs laws
       (λ told. ran.continues.traced told.1.shelf told.0)
       (λ told. ran.holds a told.1))
       ∙ ap (steps_more (moment_of x) events (moment_of y) event (moment_of z)) (steps_before x y z events a ran performs.continues);
   service = λ a holds served f goes serials fit. service_more x y z events event text a f laws.0 ran performs holds served goes serials fit;
   lone = λ a holds served f l goes early serials fit lone. lone_more x y z events event text a f l laws.0 ran performs holds served goes early serials fit lone;
+  others = λ a holds traced served f bound goes early serials fit lone.
+      others_more x y z events event text a f bound laws.0 ran performs holds traced served goes early serials fit lone;
   heads = λ names all.
       heads_then (book x) (book y) (book z) (slices_shown x) (slices_shown y) (slices_shown z) (ran.heads names all)
       (heads_performed y z event text performs (ran.continues.told names) (ran.continues.known names all));

@@ -21,7 +21,7 @@ use Rattle.shr_tool.specs.Serving.{IsServing, Ran}
 use Rattle.pool.specs.Moment.{moment_of}
 use Rattle.shr_tool.specs.Timeline.{ground_of}
 use Rattle.shr_tool.proofs.Finishing.{lasts_of}
-use Rattle.shr_tool.proofs.History.{IsLawful, IsUnspent, ran_more}
+use Rattle.shr_tool.proofs.History.{IsLawful, ran_more}
 use Rattle.shr_tool.proofs.Performing.{write_done, write_spent}
 
 -- The pieces for the first so many sectors of a text were written, and this is left of it.
@@ -279,16 +279,16 @@ spent_at x y z text before rest piece sector count r is laws has took inside som
 -- an import, once the pool was ended
 pub import_outcome :
     (x m y : View) (a : FlatArray) (text rest out out' : List ℕ) (result : Result ℕ ImportFault) (status : Status)
-    → IsUnspent y
+    → IsLawful y
     → Imports x m text rest result
     → Ends m y
     → SaysWritten result out out' status
     → ImportOutcome status (IsServing x a) x.bay.traced x.bay y.bay (ground_of x) (moment_of x) a text rest out out'
-import_outcome x m y a text rest out out' result status unspent imports ends says = record {
+import_outcome x m y a text rest out out' result status laws imports ends says = record {
   result = result;
   events = imports.events;
   writes = imports.writes;
   most = imports.most;
-  lasts = lasts_of x m y a imports.events unspent imports.ran ends;
+  lasts = lasts_of x m y a imports.events laws imports.ran ends;
   says = says;
 }

@@ -22,7 +22,7 @@ use Rattle.pool_model.proofs.ReplacingEarly.{replacing_declined}
 use Rattle.pool_model.proofs.TakingEarly.{declined_amid as declined_stops}
 use Rattle.array_image.specs.States.{is_current}
 use Rattle.pool.specs.declared.replacing.GrowFault.{GrowFault}
-use Rattle.pool.specs.Entering.{Cleaned, IsVacating, LeavesBy, LeavesReady, Vacates, meanwhile}
+use Rattle.pool.specs.Entering.{Cleaned, IsVacating, LeavesBy, LeavesReady, Vacates, meanwhile, table_on}
 use Rattle.pool.specs.Moment.{moment_of}
 use Rattle.pool.specs.Naming.{LeavesNamed}
 use Rattle.pool.specs.Replaced.{ChangesDrive}
@@ -61,7 +61,7 @@ module _ {L : Type 0} (x y : View) (place : ℕ) (name : List ℕ) (fault : Grow
     abbrev disk : ℕ
     disk = named.disk
 
-    laid_amid : (missing : is_current (book x).state place ≡ false) (vacates : Vacates m place disk) → y.slices ≡ vacates.tables → WritesOnly m.bay y.bay (IsWrittenBy vacates.tables disk (m.bay.sectors disk))
+    laid_amid : (missing : is_current (book x).state place ≡ false) (vacates : Vacates m place disk) → y.slices ≡ vacates.tables → WritesOnly m.bay y.bay (IsWrittenBy vacates.tables disk (table_on m place disk))
         → KeepsMoments (book x) (book y) (slices_of vacates.tables m.bay) (slices_of vacates.tables y.bay)
         → (k : ℕ) (i : Image) → x.bay.clock < k → k ≤ y.bay.clock → y.bay.stops k i
         → HoldAmid (attached f (disks_of y.bay)) y.slices (book x).state (book y).state i
@@ -76,7 +76,7 @@ module _ {L : Type 0} (x y : View) (place : ℕ) (name : List ℕ) (fault : Grow
         vacates.orderly vacates.fit.running.set.fit.1 (tables_named x named.bay name disk at spared fit b holds f goes waits lands)
         (opened x named.bay name disk at spared fit b holds f goes waits)
         (room_named x named.bay name disk at spared fit b holds f goes waits place listed vacates missing some.0 some.1 alive)
-        (at.continues.lasting goes.lasting) (at.continues.traced holds.shelf traced) (book y) y.bay only moments
+        (at.continues.lasting goes.lasting) (at.continues.traced holds.shelf traced) (table_on m place disk) refl (book y) y.bay only moments
         (λ n low.
         told_named x named.bay name disk at spared fit b holds f goes waits place listed vacates missing some.0 some.1 alive n (subst (λ k. n < k) (sym goes.arrays) low))
         lasts in
@@ -89,7 +89,7 @@ module _ {L : Type 0} (x y : View) (place : ℕ) (name : List ℕ) (fault : Grow
         → HoldAmid (attached f (disks_of y.bay)) y.slices (book x).state (book y).state i
     left_amid missing (inl gone) =
         laid_amid missing gone.vacates gone.slices
-        (only_weaker (IsOfDrive disk (m.bay.sectors disk)) (IsWrittenBy gone.vacates.tables disk (m.bay.sectors disk)) (λ d k v own. inl own) gone.refused.only)
+        (only_weaker (IsOfDrive disk (table_on m place disk)) (IsWrittenBy gone.vacates.tables disk (table_on m place disk)) (λ d k v own. inl own) gone.refused.only)
         (subst (λ (w : Raid). KeepsMoments (book x) w (slices_of gone.vacates.tables m.bay) (slices_of gone.vacates.tables y.bay)) (sym gone.same) gone.refused.moments)
     left_amid missing (inr out) = laid_amid missing out.vacates out.slices out.not_whole.only out.not_whole.moments
 
@@ -116,7 +116,7 @@ module _ {L : Type 0} (x y : View) (place : ℕ) (name : List ℕ) (fault : Grow
     abbrev h : Found
     h = attached f (disks_of c.bay)
 
-    laid_ready : (vacates : Vacates c place named.disk) → y.slices ≡ vacates.tables → WritesOnly c.bay y.bay (IsWrittenBy vacates.tables named.disk (c.bay.sectors named.disk))
+    laid_ready : (vacates : Vacates c place named.disk) → y.slices ≡ vacates.tables → WritesOnly c.bay y.bay (IsWrittenBy vacates.tables named.disk (table_on c place named.disk))
         → KeepsMoments (book c) (book y) (slices_of vacates.tables c.bay) (slices_of vacates.tables y.bay) → IsAfter (book c).state (book y).state
         → (k : ℕ) (i : Image) → x.bay.clock < k → k ≤ y.bay.clock → y.bay.stops k i → HoldsLeft f (moment_of x) (moment_of y) place i
     laid_ready vacates same only moments marks k i since until stopped = elim (cases_lt c.bay.clock k) [
@@ -126,8 +126,8 @@ module _ {L : Type 0} (x y : View) (place : ℕ) (name : List ℕ) (fault : Grow
       | inl late ↦ elim (cases_Bool (is_current (book c).state place)) [
         | inl still ↦
             old (book c).state (book y).state came (after_same (book y).state)
-            ((replacing_declined h x.slices (book c) place named.disk c.bay is.service is.apart goes.orderly is.inside is.tables is.opened is.room is.lasting is.traced (book y) y.bay
-            (subst (λ (t : Slices). WritesOnly c.bay y.bay (IsWrittenBy t named.disk (c.bay.sectors named.disk))) (same_tables still vacates.seats) only)
+            ((replacing_declined h x.slices (book c) place named.disk c.bay is.service is.apart goes.orderly is.inside is.tables is.opened is.room is.lasting is.traced (table_on c place named.disk) refl (book y) y.bay
+            (subst (λ (t : Slices). WritesOnly c.bay y.bay (IsWrittenBy t named.disk (table_on c place named.disk))) (same_tables still vacates.seats) only)
             (subst (λ (t : Slices). KeepsMoments (book c) (book y) (slices_of t c.bay) (slices_of t y.bay)) (same_tables still vacates.seats) moments) is.told lasts).new k i late until
             stopped)
         | inr lost ↦ (
@@ -136,7 +136,7 @@ module _ {L : Type 0} (x y : View) (place : ℕ) (name : List ℕ) (fault : Grow
           now y.slices (book c).state (book y).state came (after_same (book y).state)
               (subst (λ (t : Slices). HoldAmid h t (book c).state (book y).state i) (sym same)
               ((declined_stops h x.slices vacates.tables (book c) place named.disk c.bay is.service (is.lacks lost) (λ p away. is.apart p) vacates.orderly vacates.fit.running.set.fit.1
-              is.tables is.opened is.room is.lasting is.traced (book y) y.bay only moments (is.left lost) lasts).new k i late until stopped)),
+              is.tables is.opened is.room is.lasting is.traced (table_on c place named.disk) refl (book y) y.bay only moments (is.left lost) lasts).new k i late until stopped)),
         )
       ]
     ]
@@ -168,7 +168,7 @@ module _ {L : Type 0} (x y : View) (place : ℕ) (name : List ℕ) (fault : Grow
     ready_amid = elim ready.leaves [
       | inl gone ↦
           laid_ready gone.vacates gone.slices
-          (only_weaker (IsOfDrive named.disk (c.bay.sectors named.disk)) (IsWrittenBy gone.vacates.tables named.disk (c.bay.sectors named.disk)) (λ d k v own. inl own) gone.refused.only)
+          (only_weaker (IsOfDrive named.disk (table_on c place named.disk)) (IsWrittenBy gone.vacates.tables named.disk (table_on c place named.disk)) (λ d k v own. inl own) gone.refused.only)
           (subst (λ (w : Raid). KeepsMoments (book c) w (slices_of gone.vacates.tables c.bay) (slices_of gone.vacates.tables y.bay)) (sym gone.same) gone.refused.moments)
           (subst (λ (w : Raid). IsAfter (book c).state w.state) (sym gone.same) (after_same (book c).state))
       | inr out ↦ laid_ready out.vacates out.slices out.not_whole.only out.not_whole.moments out.not_whole.mends.moves.book

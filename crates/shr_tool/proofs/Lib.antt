@@ -2,8 +2,10 @@ mod Absent
 mod Attached
 mod Between
 pub mod Chains
+mod Declined
 mod DriveTable
 mod EitherPool
+mod Entered
 mod Examined
 mod Exported
 mod Filled
@@ -22,9 +24,11 @@ mod Joined
 mod LayoutLemmas
 mod Limits
 mod Meanings
+mod Missing
 mod NamedDisk
 mod NewTable
 mod NewTabled
+mod Others
 mod Renewed
 mod Performing
 mod Pieces
@@ -43,7 +47,10 @@ mod TakenTables
 mod TakingFrom
 mod TakingStops
 mod Through
+mod Timelines
 mod Told
 mod TurnedDown
 mod Within
+mod LeavingOut
 mod LeavingStops
+mod LeftOut

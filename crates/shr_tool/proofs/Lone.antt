@@ -13,7 +13,7 @@ use Rattle.assembler.specs.Sound.{TargetsLand}
 use Rattle.pool_image.specs.Disks.{Disks}
 use Rattle.pool_image.specs.Drives.{Found}
 use Rattle.pool_model.specs.Absent.{AreOnly, HoldAbsent, IsWholeRaid}
-use Rattle.pool_model.specs.Alone.{HoldAlone}
+use Rattle.pool_model.specs.Alone.{HoldAlone, LeaveOut}
 use Rattle.pool_model.specs.Grouped.{HaveOwnAreas, HoldGroup}
 use Rattle.pool_model.specs.InService.{InService}
 use Rattle.pool_model.specs.Taken.{AreSerial}
@@ -28,8 +28,8 @@ use Rattle.pool.specs.Moment.{moment_of}
 use Rattle.pool.specs.View.{View, book, slices_shown}
 use Rattle.shr_tool.specs.Events.{Event, any_takes, array_by}
 use Rattle.shr_tool.specs.Heads.{KeepsHeads}
-use Rattle.shr_tool.specs.Outcome.{HasWholeSectors, IsRunOn, lone_from}
-use Rattle.shr_tool.specs.Service.{AreFit, AreLone, AreUngiven, GoesBy, IsServed, Lone, lone_by, pool_by}
+use Rattle.shr_tool.specs.Outcome.{HasWholeSectors, IsRunOn}
+use Rattle.shr_tool.specs.Service.{AreFit, AreLone, AreUngiven, GoesBy, IsOut, IsServed, Lone, pool_by}
 use Rattle.shr_tool.specs.Serving.{IsServing, Ran}
 use Rattle.shr_tool.specs.Timeline.{ground_of}
 use Rattle.shr_tool.proofs.Absent.{agreed_at}
@@ -44,14 +44,15 @@ lone_absent :
     → ((n : ℕ) (r : Image) → n < h.state.made → IsLeft (slices_shown y) r → AgreeLeaving ((book y).arrays n) (book y).state r n)
     → HoldGroup (book y) (slices_shown y)
     → ((n k : ℕ) → n < h.state.made → k < sectors_of ((book y).arrays n) → spent_of (book y) n k ≡ false)
-    → (i : Image) → IsPick y.bay y.bay y.bay.held i → HasWholeSectors y.bay i → HoldAbsent h y.slices (book y).state i
-lone_absent l y h goes inside told lasts whole agree group alive i pick sized = elim goes.vacant [
+    → (i j : Image) → IsPick y.bay y.bay y.bay.held i → LeaveOut h (IsOut l y.shelf.names) i j → HasWholeSectors y.bay j → HoldAbsent h y.slices (book y).state j
+lone_absent l y h goes inside told lasts whole agree group alive i j pick leave sized = elim goes.vacant [
   | inr one ↦
       absurd (both_ways (not_missing one.0) one.2.missing (all_there (λ drive. not drive.missing) (book y).state.drives.items one.0 whole.drives one.1))
   | inl same ↦
-      service_absent h l.bound y.slices (book y) y.bay (subst (λ (t : Slices). InService h t (book y) y.bay) (sym same) goes.service)
-      (subst (λ (t : Slices). HoldAlone h l.bound t y.bay) (sym same) (goes.alone l refl).alone) inside told lasts whole agree group alive i pick
-      (subst (λ (k : Disks). (d s : ℕ) → d < k.count → s < k.sectors d → length (i d s) ≡ 512) (sym goes.service.disks) sized)
+      service_absent h l.bound (IsOut l y.shelf.names) y.slices (book y) y.bay (subst (λ (t : Slices). InService h t (book y) y.bay) (sym same) goes.service)
+      (subst (λ (t : Slices). HoldAlone h l.bound (IsOut l y.shelf.names) (book y).state t y.bay) (sym same) (goes.alone l refl).alone) inside told lasts whole agree group alive i j
+      pick leave
+      (subst (λ (k : Disks). (d s : ℕ) → d < k.count → s < k.sectors d → length (j d s) ≡ 512) (sym goes.service.disks) sized)
       (subst (λ (k : Disks). (d : ℕ) → d < k.count → k.sectors d < 2 ^ 48) (sym goes.service.disks) inside.small)
 ]
   where
@@ -59,23 +60,23 @@ lone_absent l y h goes inside told lasts whole agree group alive i pick sized = 
     not_missing p = is_current (book y).state p
 
 -- after the end of a run in which lines replaced drives
-module _ (x m y : View) (a : FlatArray) (events : List Event) (ran : Ran x m events) (ends : Ends m y) (serving : IsServing x a)
+module _ (x m y : View) (a : FlatArray) (events : List Event) (unspent : (d s : ℕ) → y.bay.spent d s ≡ false) (ran : Ran x m events) (ends : Ends m y) (serving : IsServing x a)
     (served : IsServed (ground_of x) (moment_of m) events) (quiet : (d : ℕ) → Rose (m.bay.faults d) (y.bay.faults d) → ⊥)
     (told : (n : ℕ) → n < x.linear.arrays → IsTold (book y) (slices_shown y) n)
     (f : Found) (on : IsRunOn f (ground_of x) (moment_of x) x.bay) (only : AreOnly f) (ungiven : AreUngiven f (book m).state.serial) (own : HaveOwnAreas f)
     (serials : any_takes events ≡ true → AreSerial f.state) (fit : AreFit f (moment_of x) events (moment_of m) ran.steps)
-    (lone : AreLone f (lone_from (moment_of x) (moment_of m)) (moment_of x) events (moment_of m) ran.steps) (whole : IsWholeRaid f.state.made (book y))
+    (out : List (List ℕ)) (lone : AreLone f (record { bound = (book m).state.serial; out = out }) (moment_of x) events (moment_of m) ran.steps) (whole : IsWholeRaid f.state.made (book y))
     (lasts : (n : ℕ) → n < f.state.made → is_over (book y) n ≡ false) where
   abbrev h : Found
   h = pool_by f (moment_of x) events (moment_of m) ran.steps
 
   abbrev l : Lone
-  l = lone_by (lone_from (moment_of x) (moment_of m)) (moment_of x) events (moment_of m) ran.steps
+  l = record { bound = (book m).state.serial; out = out }
 
   goes : GoesBy (TargetsLand f) (Some l) h y
   goes =
-      goes_calls m y h (array_by a events) ran.continues.fit (ran.holds a serving.0) ends.passes
-      (ran.lone a serving.0 served f (lone_from (moment_of x) (moment_of m)) (goes_lone x f a (book m).state.serial ran.fit serving.0 on only ungiven) (omega arith) serials fit lone).goes
+      goes_calls m y h (array_by a events) unspent ran.continues.fit (ran.holds a serving.0) ends.passes
+      (ran.lone a serving.0 served f l (goes_lone x f a l ran.fit serving.0 on only ungiven) (omega arith) serials fit lone).goes
 
   mid : KeepsHeads (book x) (book m) (slices_shown x) (slices_shown m)
   mid = ran.heads serving.0.shelf serving.0.disks
@@ -84,7 +85,7 @@ module _ (x m y : View) (a : FlatArray) (events : List Event) (ran : Ran x m eve
   heads = heads_then (book x) (book m) (book y) (slices_shown x) (slices_shown m) (slices_shown y) mid (heads_passes m y ends.passes)
 
   linear : y.linear.arrays ≡ x.linear.arrays
-  linear = ap (λ (l : Linear). l.arrays) (ends.passes.linear ∙ ran.continues.linear)
+  linear = ap (λ (k : Linear). k.arrays) (ends.passes.linear ∙ ran.continues.linear)
 
   before : (n : ℕ) → n < h.state.made → n < f.state.made
   before n low = (let made = goes.arrays in let arrays = on.arrays in let joined = on.joined in omega (arith, low, made, linear, arrays, joined))
@@ -97,8 +98,8 @@ module _ (x m y : View) (a : FlatArray) (events : List Event) (ran : Ran x m eve
       or_from (is_over (book y) n) _ (lasts n low)
       (whole_unspent ((book y).arrays n) k (ends.passes.stays.fit.0.running.set.arrays n (made_now n low)).is_array (λ j less. whole.seats n j low less) inside)
 
-  pub lone_at : (i : Image) → IsPick y.bay y.bay y.bay.held i → HasWholeSectors y.bay i → HoldAbsent h y.slices (book y).state i
-  lone_at i pick sized =
+  pub lone_at : (i j : Image) → IsPick y.bay y.bay y.bay.held i → LeaveOut h (IsOut l y.shelf.names) i j → HasWholeSectors y.bay j → HoldAbsent h y.slices (book y).state j
+  lone_at i j pick leave sized =
       lone_absent l y h goes ends.passes.stays.fit.0.running.set.fit.1
       (λ n low. told n (let made = goes.arrays in omega (arith, low, made, linear)))
       (λ n low. lasts n (before n low))
@@ -115,4 +116,4 @@ module _ (x m y : View) (a : FlatArray) (events : List Event) (ran : Ran x m eve
       (λ n s low within. alive n s (let joined = on.after.same.joined in let all = on.joined in omega (arith, low, joined, all)) within)
       (on.group own))
       (λ n k low within. alive n k (before n low) within)
-      i pick sized
+      i j pick leave sized

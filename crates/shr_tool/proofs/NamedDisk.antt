@@ -1,6 +1,5 @@
 -- The pool by which a run goes, where a line has attached the disk that it names and nothing is written on it yet.
-use Rattle.std.proofs.Common.{◌≡◌, ◌≢◌, ℕ, ◌<◌, ◌≤◌, nat_lt, if◌then◌else◌, Bool, true, false, List, length, Option, Some, None, Ok, refl, sym, ◌∙◌, ap, subst, inl, inr, ltb-true, arith}
-use Rattle.std.specs.Result.{result_ok}
+use Rattle.std.proofs.Common.{◌≡◌, ◌≢◌, ℕ, ◌<◌, ◌≤◌, true, false, List, length, Option, Some, None, Ok, sym, ◌∙◌, ap, subst, inl, inr, arith}
 use Rattle.std.proofs.lemmas.Bool.{both_ways, cases_eq}
 use Rattle.std.proofs.lemmas.Option.{none-some}
 use Rattle.rack.specs.Joins.{keeps_same, keeps_then}
@@ -22,7 +21,6 @@ use Rattle.raid_rack.specs.Enlisting.{IsOpenDisk}
 use Rattle.raid_rack.specs.Losing.{arrays_same}
 use Rattle.raid_rack.specs.Raid.{IsTold}
 use Rattle.raid_rack.proofs.Noted.{current_few}
-use Rattle.raid_rack.proofs.Vacated.{vacated_told}
 use Rattle.pool_image.specs.Disks.{Disks, disks_of, identities_of}
 use Rattle.pool_image.specs.Drives.{Found, drive_sector, first_of}
 use Rattle.pool_image.specs.Meaning.{is_member}
@@ -32,7 +30,7 @@ use Rattle.pool_model.specs.Stopped.{HoldTables}
 use Rattle.pool_model.specs.Taken.{KeepsOff, KeepsOthers, LacksDrive, attached}
 use Rattle.pool_model.proofs.Alike.{HasTruths, first_same, member_same}
 use Rattle.pool_model.proofs.Declined.{sector_same, truths_attached}
-use Rattle.pool_model.proofs.Found.{ok_of, seated_below}
+use Rattle.pool_model.proofs.Found.{seated_below}
 use Rattle.pool_model.proofs.InService.{one_seat, service_attached}
 use Rattle.pool_model.proofs.Lost.{lost_value}
 use Rattle.pool_model.proofs.Named.{same_length}
@@ -47,18 +45,10 @@ use Rattle.pool.specs.Volume.{Holds, is_spent, size_of}
 use Rattle.pool.proofs.Admitted.{others_current, reaches_each}
 use Rattle.pool.specs.Replacing.{IsAdmitted}
 use Rattle.shr_tool.specs.Service.{GoesBy, IsFitDisk, Lone}
-use Rattle.shr_tool.proofs.Former.{not_over, told_by}
-use Rattle.shr_tool.proofs.TakenIn.{going_seat, vacant_not}
+use Rattle.shr_tool.proofs.Entered.{told_attached, told_vacated}
+use Rattle.shr_tool.proofs.Former.{copy_parts, going_seat, not_over, told_by}
+use Rattle.shr_tool.proofs.TakenIn.{vacant_not}
 use Rattle.shr_tool.proofs.TurnedDown.{seats_both}
-
--- a copy in a disk's sector of the state
-pub copy_parts : (sectors : ℕ) (w : List ℕ) (copy : Copied) → (if nat_lt state_sector sectors then result_ok (decoded w) else None) ≡ Some copy
-    → (state_sector < sectors) × (decoded w ≡ Ok copy)
-copy_parts sectors w copy here = by (nat_lt state_sector sectors) refl here
-  where
-    by : (c : Bool) → nat_lt state_sector sectors ≡ c → (if c then result_ok (decoded w) else None) ≡ Some copy → (state_sector < sectors) × (decoded w ≡ Ok copy)
-    by true within is = (ltb-true state_sector sectors within, ok_of (decoded w) copy is)
-    by false past is = absurd (none-some copy is)
 
 module _ {L : Type 0} {o : Option Lone} (x : View) (bay : x.bays.one) (name : List ℕ) (disk : ℕ) (at : AttachesDisk x (over x bay) name (Ok disk))
     (unspent : (d s : ℕ) → (x.bays.seen bay).spent d s ≡ false) (fit : (volume x).fit) (b : FlatArray) (holds : Holds x b) (f : Found) (goes : GoesBy L o f x)
@@ -219,7 +209,7 @@ module _ {L : Type 0} {o : Option Lone} (x : View) (bay : x.bays.one) (name : Li
 
   -- its arrays are told, where a sector of the volume can be had
   told_arrays : (s : ℕ) → s < size_of x → is_spent x s ≡ false → (n : ℕ) → n < x.linear.arrays → IsTold (book x) (slices_of x.slices m.bay) n
-  told_arrays s low left = at.carries.told holds.shelf holds.disks s low left (holds.told s (let same = holds.size in omega (arith, low, same)) left)
+  told_arrays = told_attached x bay name disk at holds
 
   pub arrays_named : (s : ℕ) → s < size_of x → is_spent x s ≡ false → (n : ℕ) → n < f.state.made → IsTold (book x) (slices_of x.slices m.bay) n
   arrays_named s low left n below = told_arrays s low left n (subst (λ k. n < k) (sym goes.arrays) below)
@@ -295,5 +285,5 @@ module _ {L : Type 0} {o : Option Lone} (x : View) (bay : x.bays.one) (name : Li
     -- each array is told by the slices that are left
     pub told_named : (n : ℕ) → n < x.linear.arrays → IsTold (book x) (slices_of u m.bay) n
     told_named n low =
-        vacated_told place x.slices u m.bay gave (book x) fit.0.heeded none at.continues.fit.0.running.set vacates.fit.running.set.fit n
+        told_vacated m place disk vacates at.continues.fit.0.running.set fit.0.heeded n
         (let arrays = fit.1.arrays in omega (arith, low, arrays)) (told_arrays some within alive n low)

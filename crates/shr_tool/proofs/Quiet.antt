@@ -1,19 +1,15 @@
 -- A pool stands alone on its disks after a line that was declined and laid nothing on the disk that it named, where it did so before.
 use Rattle.std.specs.Prelude.{Err}
-use Rattle.std.proofs.Common.{◌≡◌, ◌≢◌, ◌⊎◌, ℕ, zero, suc, ◌+◌, ◌<◌, ◌≤◌, bytes_eq, true, false, List, [], ◌∷◌, length, slice_get, Option, Some, None, Result, Ok, refl, sym, ◌∙◌, ap, subst, inl, inr, arith}
+use Rattle.std.proofs.Common.{◌≡◌, ◌≢◌, ◌⊎◌, ℕ, zero, suc, ◌<◌, ◌≤◌, bytes_eq, true, false, List, [], ◌∷◌, length, slice_get, Option, Some, None, Result, Ok, refl, sym, ◌∙◌, ap, subst, inl, inr, arith}
 use Rattle.std.proofs.lemmas.Bool.{both_ways, cases_Bool, cases_lt}
 use Rattle.std.proofs.lemmas.Option.{none-some}
 use Rattle.std.proofs.lemmas.Slice.Eq.{bytes_eq-Decides}
 use Rattle.rack.specs.Seen.{Image}
 use Rattle.rack.specs.Values.{MayLeave, Values}
 use Rattle.slice_rack.specs.Runs.{IsSliced}
-use Rattle.slice_rack.specs.Slices.{Slices, disk_of, first_of, place_of, sectors_of}
+use Rattle.slice_rack.specs.Slices.{Slices}
 use Rattle.flat_array.specs.Array.{FlatArray}
-use Rattle.array_image.specs.Places.{log_slice}
-use Rattle.raid_rack.specs.Book.{IsAfter}
-use Rattle.raid_rack.specs.Raid.{Raid}
-use Rattle.raid_rack.specs.Since.{HoldsSince}
-use Rattle.raid_rack.proofs.Apart.{seat_is}
+use Rattle.array_image.specs.Places.{state_sector}
 use Rattle.pool_image.specs.Disks.{disks_of, identities_of}
 use Rattle.pool_image.specs.Drives.{Found}
 use Rattle.pool_model.specs.Alone.{IsStranger}
@@ -26,13 +22,14 @@ use Rattle.pool.specs.declared.replacing.GrowFault.TheVariants.{Attach, Gone, Me
 use Rattle.pool.specs.Moment.{IsNamed, moment_of}
 use Rattle.pool.specs.Replaced.{ChangesDrive, IsAnswer, IsDeclined, IsLookedAt, IsOfDrive}
 use Rattle.pool.specs.Replacing.{refusal_of}
-use Rattle.pool.specs.View.{View, book, slices_shown, volume}
+use Rattle.pool.specs.View.{View, book, volume}
 use Rattle.pool.specs.Volume.{Holds, is_spent, size_of}
 use Rattle.shr_tool.specs.Events.{looks_at}
 use Rattle.shr_tool.specs.Events.Event.{declined}
-use Rattle.shr_tool.specs.Service.{GoesBy, LaysNothing, Lone, StandsLone, said_by}
+use Rattle.shr_tool.specs.Service.{GoesBy, HoldOwn, IsOut, LaysNothing, Lone, StandsLone, said_by}
 use Rattle.shr_tool.specs.Timeline.{Performs}
-use Rattle.shr_tool.proofs.TakenIn.{count_is, disks_more, live_at, sectors_kept}
+use Rattle.shr_tool.proofs.LeavingOut.{alone_later, out_later}
+use Rattle.shr_tool.proofs.TakenIn.{count_is, disks_more, live_at, sectors_kept, sliced_old}
 
 some_same : {X : Type 0} (a b : X) → Some a ≡ Some b → a ≡ b
 some_same a b same = cc
@@ -107,17 +104,19 @@ module _ {L : Type 0} {o : Option Lone} (x y : View) (place : ℕ) (name : List 
       subst (λ h. MayLeave h (i d s)) (stayed.3 d live.disk s)
       (off d s (live_at x y place name unspent performs.continues (performs.outside looks) changes told f goes d s low within) never)
 
-  -- each place that was current by the base has its own copy still
-  since : (s : ℕ) → s < size_of y → is_spent y s ≡ false → HoldsSince l.base (slices_shown y)
-  since s within alive p u few there may =
-      let was = stands.since s (subst (λ n. s < n) performs.continues.size within) (changes.spent s alive) in
-      let slice = log_slice p in
-      let there_first : 0 < sectors_of x.slices slice = subst (λ (t : Slices). 0 < sectors_of t slice) stayed.1 there in
-      let disk : disk_of x.slices slice < x.bay.disks =
-      fit.0.running.set.fit.1.seats (place_of slice) (disk_of x.slices slice) (seat_is x.slices slice 0 goes.orderly there_first) in
-      let may_first : MayLeave (y.bay.held (disk_of x.slices slice) (first_of x.slices slice + 0)) u =
-      subst (λ (t : Slices). MayLeave (y.bay.held (disk_of t slice) (first_of t slice + 0)) u) stayed.1 may in
-      was p u few there_first (subst (λ h. MayLeave h u) (stayed.3 (disk_of x.slices slice) disk (first_of x.slices slice + 0)) may_first)
+  -- each drive has its own copy still
+  own : (s : ℕ) → s < size_of y → is_spent y s ≡ false → HoldOwn f (IsOut l y.shelf.names) (book y).state y.bay
+  own s within alive p d u copy seat why may says =
+      let there : d < x.bay.disks =
+      (let low = (goes.service.arranged.seated p d seat).1 in
+      let same = count_is x y place name unspent performs.continues (performs.outside looks) changes told f goes in
+      omega (arith, low, same)) in
+      stands.own s (subst (λ n. s < n) performs.continues.size within) (changes.spent s alive) p d u copy seat
+      (elim why [
+        | inl now ↦ inl (is.marks.current p now)
+        | inr stays ↦ inr (λ out. stays (out_later l x.shelf.names y.shelf.names performs.continues.names d out))
+      ])
+      (subst (λ h. MayLeave h u) (stayed.3 d there state_sector) may) says
 
   -- ---- a disk that came
 
@@ -148,8 +147,8 @@ module _ {L : Type 0} {o : Option Lone} (x y : View) (place : ℕ) (name : List 
         look : IsLookedAt (moment_of x) place (Err fault)
         look = record {
           listed = listed_of x y place name fault text looks performs;
-          attached = λ same. (nothing.attached more).0 (same_fault fault Attach same);
-          had = λ same. (nothing.attached more).1 (same_fault fault Memory same);
+          attached = λ same. (let none = performs.cause.0.none (inl same) in omega (arith, none, more));
+          had = λ same. (let none = performs.cause.0.none (inr same) in omega (arith, none, more));
           other = λ same. never (performs.cause.0.twice.0 same).1;
         }
 
@@ -170,7 +169,9 @@ module _ {L : Type 0} {o : Option Lone} (x y : View) (place : ℕ) (name : List 
               (let within_now : s < y.bay.sectors d = omega (arith, within, sectors) in
               let free : (v : List ℕ) → IsSliced goes.tables d s v → ⊥ = λ v at. free_stranger f goes.tables d s v goes.service.slices unseated at in
               let left = off d s (live_at x y place name unspent performs.continues (performs.outside looks) changes told f goes d s low within_now) free in
-              let unsliced : (v : List ℕ) → IsSliced y.slices d s v → ⊥ = λ v at. free v (subst (λ (t : Slices). IsSliced t d s v) (stayed.1 ∙ stands.slices) at) in
+              let unsliced : (v : List ℕ) → IsSliced y.slices d s v → ⊥ = λ v at.
+              free v
+              (sliced_old x y place name unspent performs.continues (performs.outside looks) changes told f goes d s v (subst (λ (t : Slices). IsSliced t d s v) stayed.1 at)) in
               elim (image.2 s (i d s) within_now unsliced left) [
                 | inr laid ↦ absurd (against never laid.admitted)
                 | inl held ↦
@@ -182,15 +183,12 @@ module _ {L : Type 0} {o : Option Lone} (x y : View) (place : ℕ) (name : List 
   pub stands_declined : StandsLone l (attached f (disks_of y.bay)) goes.tables y
   stands_declined = record {
     alone =
-        alone_attached f l.bound goes.tables x.bay y.bay goes.service.arranged
+        alone_attached f l.bound (IsOut l y.shelf.names) (book y).state goes.tables x.bay y.bay goes.service.arranged
         (disks_more x y place name unspent performs.continues (performs.outside looks) changes told f goes)
         (sectors_kept x y place name unspent performs.continues (performs.outside looks) changes told f goes) before
-        (λ i off d past low.
+        (λ i off d past low stays.
         (let count = count_is x y place name unspent performs.continues (performs.outside looks) changes told f goes in came d (omega (arith, past, count)) low i off))
-        stands.alone;
-    slices = stayed.1 ∙ stands.slices;
+        (alone_later f l x.shelf.names y.shelf.names performs.continues.names (book x).state (book y).state goes.tables x.bay is.marks.current stands.alone);
     distinct = stands.distinct;
-    after = stands.after;
-    before = subst (λ (v : Raid). IsAfter l.base v.state) (sym stayed.0) stands.before;
-    since = since;
+    own = own;
   }

@@ -2,7 +2,7 @@
 -- the place's own drive was found gone after that, while the disk was being laid.
 use Rattle.std.proofs.Common.{◌≡◌, ◌≢◌, ℕ, ◌+◌, ◌-◌, ◌<◌, ◌≤◌, ◌^◌, true, false, List, length, Some, None, Ok, refl, sym, ap, subst, inl, inr, arith}
 use Rattle.std.proofs.lemmas.Bool.{both_ways, cases_eq}
-use Rattle.rack.specs.Joins.{leaves_then, leaves_weaker, stays_then}
+use Rattle.rack.specs.Joins.{leaves_then, leaves_weaker}
 use Rattle.rack.specs.Moments.{Leaves}
 use Rattle.rack.specs.Seen.{Image, IsLive, Stays}
 use Rattle.rack.specs.Values.{MayLeave}
@@ -26,7 +26,6 @@ use Rattle.raid_rack.specs.RaidRack.{raid_by}
 use Rattle.raid_rack.specs.Unlost.{KeepsPlace}
 use Rattle.raid_rack.proofs.Noted.{current_few}
 use Rattle.raid_rack.proofs.Over.{number_room}
-use Rattle.raid_rack.proofs.Vacated.{vacated_told}
 use Rattle.pool_image.specs.Disks.{disks_of, identities_of}
 use Rattle.pool_image.specs.Drives.{Found, first_of}
 use Rattle.pool_image.specs.Meaning.{is_member}
@@ -42,19 +41,18 @@ use Rattle.pool_model.proofs.ReplacingEarly.{replacing_not_whole}
 use Rattle.pool_model.proofs.Tables.{tables_attached}
 use Rattle.pool_model.proofs.Unsliced.{free_stranger, laid_state, laid_super}
 use Rattle.pool_model.proofs.Vacant.{vacant_free}
-use Rattle.pool.specs.Entering.{Cleaned, LosesOwn, Readies, Vacates, meanwhile}
+use Rattle.pool.specs.Entering.{Cleaned, LosesOwn, Readies, Vacates, meanwhile, table_on}
 use Rattle.pool.specs.Moment.{moment_of, views_of}
 use Rattle.pool.specs.Taking.{AttachesDisk}
 use Rattle.pool.specs.View.{View, book, over, volume}
 use Rattle.pool.specs.Volume.{Holds, is_spent, size_of}
 use Rattle.pool.proofs.Admitted.{reaches_each}
-use Rattle.pool.proofs.Readying.{many_same}
 use Rattle.shr_tool.specs.Service.{GoesBy, IsFitDisk}
 use Rattle.pool_model.proofs.Likewise.{amid_likewise}
-use Rattle.shr_tool.proofs.Former.{not_over, told_by}
+use Rattle.shr_tool.proofs.Entered.{heeded_ready, out as out_ready, set_ready, stays_ready, told_ready as arrays_ready, told_vacated}
+use Rattle.shr_tool.proofs.Former.{copy_parts, not_over, on_same, seat_listed, told_by}
 use Rattle.shr_tool.proofs.GivesWay.{after, copy_then, low_then as low_ready, others_then as others_ready, told_then as told_ready}
 use Rattle.shr_tool.proofs.NamedDisk as one
-use Rattle.shr_tool.proofs.NamedDisk.{copy_parts}
 use Rattle.shr_tool.proofs.Serviced.{goes_amid}
 
 -- What is known of a pool c that was made ready for a disk at a place: t are the tables from which the disk is taken in, f is the pool by which the run went at x, and h the same with the disk.
@@ -137,10 +135,7 @@ module _ {L : Type 0} (x : View) (bay : x.bays.one) (name : List ℕ) (place dis
   h = attached f (disks_of m.bay)
 
   stays : Stays m.bay c.bay
-  stays = elim readies [
-    | inl cleaned ↦ cleaned.ends.passes.apart.stays
-    | inr lose ↦ stays_then lose.cleaned.ends.passes.apart.stays lose.left.not_whole.only.stays
-  ]
+  stays = stays_ready m later arrays refused place disk readies
 
   unspent_named : (d s : ℕ) → m.bay.spent d s ≡ false
   unspent_named d s = stays.spent d s (unspent d s)
@@ -149,10 +144,7 @@ module _ {L : Type 0} (x : View) (bay : x.bays.one) (name : List ℕ) (place dis
   first = (let made = goes.service.arranged.made.0 in omega (arith, made))
 
   low_seat : (p d : ℕ) → f.seats p ≡ Some d → p < length (book x).state.drives.items
-  low_seat p d seat =
-      let low = current_below f.state p (goes.service.arranged.seated p d seat).0 in
-      let same = many_same f.state (book x).state goes.service.after in
-      omega (arith, low, same)
+  low_seat = seat_listed f goes.tables (book x) x.bay goes.service
 
   -- the disk is none of its drives
   apart : (p : ℕ) → f.seats p ≡ Some disk → ⊥
@@ -204,20 +196,14 @@ module _ {L : Type 0} (x : View) (bay : x.bays.one) (name : List ℕ) (place dis
     set_cleaned : IsSet (book z) (slices_of x.slices z.bay)
     set_cleaned = (cleaned.ends.passes.stays.fit).0.running.set
 
-    heeded_cleaned : IsHeeded (book z)
-    heeded_cleaned = (cleaned.ends.passes.stays.fit).0.heeded
-
   -- ---- and the place's own drive was found gone after that
 
   module _ (lose : LosesOwn m c place disk) where
     abbrev w : View
     w = meanwhile m lose.bay lose.arrays lose.refused
 
-    own_tables : lose.left.vacates.tables ≡ x.slices
-    own_tables = elim lose.left.vacates.seats [ inl given ↦ absurd (both_ways (is_current (book w).state place) given.0 lose.current) | inr kept ↦ kept.1 ]
-
-    out : IsNotWhole x.slices disk (book w) (book c) w.bay c.bay
-    out = subst (λ (u : Slices). IsNotWhole u disk (book w) (book c) w.bay c.bay) own_tables lose.left.not_whole
+    out : IsNotWhole x.slices disk (table_on w place disk) (book w) (book c) w.bay c.bay
+    out = out_ready m later arrays refused place disk readies lose
 
     going_lost : (n : ℕ) → n < f.state.made → is_over (book w) n ≡ false
     going_lost n low = out.moments.still n (lasts n low)
@@ -296,7 +282,7 @@ module _ {L : Type 0} (x : View) (bay : x.bays.one) (name : List ℕ) (place dis
           elim (out.only.within disk state_sector (i disk state_sector) live left) [
             | inl was ↦ was
             | inr may ↦ elim may [
-              | inl laid ↦ absurd (laid_state disk (w.bay.sectors disk) (i disk state_sector) copy room_own laid parts.1)
+              | inl laid ↦ absurd (laid_state disk (table_on w place disk) (i disk state_sector) copy room_own laid parts.1)
               | inr slice ↦ absurd (free_disk state_sector (i disk state_sector) slice)
             ]
           ];
@@ -330,7 +316,7 @@ module _ {L : Type 0} (x : View) (bay : x.bays.one) (name : List ℕ) (place dis
         (leaves_weaker (HoldAmid h x.slices (book w).state (book c).state) (HoldAmid h x.slices (book x).state (book c).state)
         (λ i amid.
         amid_likewise h h x.slices (book w).state (book c).state (book x).state (book c).state i refl refl refl lose.cleaned.ends.passes.marks (after_same (book c).state) amid)
-        (replacing_not_whole h x.slices (book w) place disk w.bay service_own apart goes.orderly (inside_own lose) tables_own opened_own room_own lasting_own traced_own (book c) c.bay out
+        (replacing_not_whole h x.slices (book w) place disk w.bay service_own apart goes.orderly (inside_own lose) tables_own opened_own room_own lasting_own traced_own (table_on w place disk) refl (book c) c.bay out
         told_own lasts))
       where
         inside_own : LosesOwn m c place disk → IsInside x.slices w.bay
@@ -345,17 +331,17 @@ module _ {L : Type 0} (x : View) (bay : x.bays.one) (name : List ℕ) (place dis
   tables = elim readies [ inl cleaned ↦ tables_cleaned later arrays refused cleaned lasts | inr lose ↦ tables_lost lose ]
 
   told : (n : ℕ) → n < f.state.made → IsTold (book c) (slices_of x.slices c.bay) n
-  told n low = elim readies [ inl cleaned ↦ told_cleaned later arrays refused cleaned lasts n low | inr lose ↦ (out lose).moments.told n (told_own lose n low) ]
+  told n low = arrays_ready m later arrays refused place disk readies n (told_named n low)
 
   -- what a stop leaves until then
   readying : Leaves m.bay c.bay (HoldAmid h x.slices (book x).state (book c).state)
   readying = elim readies [ inl cleaned ↦ cleaning later arrays refused cleaned lasts | inr lose ↦ losing lose ]
 
   set_then : IsSet (book c) (slices_of x.slices c.bay)
-  set_then = elim readies [ inl cleaned ↦ set_cleaned later arrays refused cleaned lasts | inr lose ↦ (out lose).mends.moves.set ]
+  set_then = set_ready m later arrays refused place disk readies
 
   heeded_then : IsHeeded (book c)
-  heeded_then = elim readies [ inl cleaned ↦ heeded_cleaned later arrays refused cleaned lasts | inr lose ↦ (out lose).mends.heeded ]
+  heeded_then = heeded_ready m later arrays refused place disk readies
 
   inside_then : IsInside x.slices c.bay
   inside_then = set_then.fit.1
@@ -395,7 +381,7 @@ module _ {L : Type 0} (x : View) (bay : x.bays.one) (name : List ℕ) (place dis
           | inr may ↦ elim may [
             | inl laid ↦
                 absurd
-                (laid_super disk ((w lose).bay.sectors disk) s v past (let same = (stays_own lose).sectors disk in omega (arith, before, same)) laid)
+                (laid_super disk (table_on (w lose) place disk) s v past (let same = (stays_own lose).sectors disk in omega (arith, before, same)) laid)
             | inr slice ↦ absurd (free_disk lose s v slice)
           ]
         ])
@@ -435,14 +421,14 @@ module _ {L : Type 0} (x : View) (bay : x.bays.one) (name : List ℕ) (place dis
         let left =
         off d state_sector
         (record {
-          disk = low_ready x bay place name disk at later arrays refused readies vacates.admits.whole unspent fit f goes d seat same_tables holds;
+          disk = low_ready x bay place name disk at later arrays refused readies vacates.admits.whole unspent fit f goes d seat (on_same x f goes place d seat same_tables) holds;
           sector = parts.0;
-          is_told = told_ready x bay place name disk at later arrays refused readies vacates.admits.whole unspent fit f goes d seat same_tables holds;
+          is_told = told_ready x bay place name disk at later arrays refused readies vacates.admits.whole unspent fit f goes d seat (on_same x f goes place d seat same_tables) holds;
           unspent = unspent d state_sector;
         })
         (λ u is.
         vacant_free x.slices vacates.tables place gave h service.slices d state_sector u (λ q other. one_seat h x.slices (book c) c.bay service q place d other seat) is) in
-        let kept = copy_then x bay place name disk at later arrays refused readies vacates.admits.whole unspent fit f goes d seat same_tables holds in
+        let kept = copy_then x bay place name disk at later arrays refused readies vacates.admits.whole unspent fit f goes d seat (on_same x f goes place d seat same_tables) holds in
         let most =
         no_later_epoch (book x).state copy
         (former_value h x.slices vacates.tables (book x) x.bay c.bay place d service.slices seat (current_few f.state place goes.service.arranged.places (goes.service.arranged.seated place d seat).0)
@@ -455,10 +441,9 @@ module _ {L : Type 0} (x : View) (bay : x.bays.one) (name : List ℕ) (place dis
     lacks = record { vacated = gave; missing = missing; earlier = earlier }
 
     -- each array is told by the slices that are left
-    told_vacated : (n : ℕ) → n < f.state.made → IsTold (book c) (slices_of vacates.tables c.bay) n
-    told_vacated n low =
-        vacated_told place x.slices vacates.tables c.bay gave (book c) heeded_then missing set_then vacates.fit.running.set.fit n
-        (let was = goes.service.after.same.made in let made = marks.same.made in omega (arith, low, was, made)) (told n low)
+    left_then : (n : ℕ) → n < f.state.made → IsTold (book c) (slices_of vacates.tables c.bay) n
+    left_then n low =
+        told_vacated c place disk vacates set_then heeded_then n (let was = goes.service.after.same.made in let made = marks.same.made in omega (arith, low, was, made)) (told n low)
 
   pool_then : h ≡ attached f (disks_of c.bay)
   pool_then = ap (attached f) (sym disks_then)
@@ -485,5 +470,5 @@ module _ {L : Type 0} (x : View) (bay : x.bays.one) (name : List ℕ) (place dis
     readying = readying;
     gave = gave;
     lacks = lacks;
-    left = told_vacated;
+    left = left_then;
   })

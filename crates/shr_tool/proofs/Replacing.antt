@@ -36,7 +36,10 @@ former_at : (x y : View) (place : ℕ) (a : FlatArray) (i : Image) → y.linear 
 former_at x y place a i same (inl means) =
     inl (means.0, subst (λ (l : Linear). PicksLive (spent_by l (book y)) a (contents_in x.slices l i)) same means.1)
 former_at x y place a i same (inr means) =
-    inr (means.0, means.1, subst (λ (l : Linear). PicksLive (spent_by l (book y)) a (contents_in means.0 l i)) same means.2)
+    inr (
+      means.0,
+      (means.1.0, means.1.1, subst (λ (l : Linear). PicksLive (spent_by l (book y)) a (contents_in means.1.0 l i)) same means.1.2),
+    )
 
 ok_no_fault : (fault : GrowFault) → ◌≡◌ {A = Result (Unit {0}) GrowFault} (Ok tt) (Err fault) → ⊥
 ok_no_fault fault same = cc
@@ -118,6 +121,7 @@ unlisted_done x at place name text fit sound cut is done =
       record {
         missing = (λ same. past, λ much. refl);
         attach = λ same. absurd (let wrong = same_fault NoSuchDrive Attach same in cc);
+        none = λ never. refl;
         used = done.cause.used;
         twice = (λ same. absurd (let wrong = same_fault NoSuchDrive Twice same in cc), λ both. absurd (let low = both.0 in omega (arith, low, past)));
         named = λ looked. absurd (let low = looked.listed in omega (arith, low, past));

@@ -1,20 +1,27 @@
 -- A pool by which a run goes is one after a line, too.
-use Rattle.std.proofs.Common.{◌≡◌, ◌⊎◌, ℕ, ◌<◌, ◌≤◌, true, false, List, [], ◌∷◌, ◌++◌, length, Option, Some, None, refl, sym, ◌∙◌, ap, subst, inl, inr, arith}
+use Rattle.std.proofs.Common.{◌≡◌, ◌⊎◌, ℕ, ◌+◌, ◌<◌, ◌≤◌, true, false, List, [], ◌∷◌, ◌++◌, length, Option, Some, None, refl, sym, ◌∙◌, ap, subst, inl, inr, arith, Ok, slice_get}
 use Rattle.std.proofs.lemmas.Bool.{both_ways, cases_Bool}
 use Rattle.std.proofs.lemmas.Option.{none-some}
 use Rattle.rack.specs.Moments.{Leaves}
-use Rattle.rack.specs.Seen.{Image, IsPick}
+use Rattle.rack.specs.Seen.{Image, IsLive, IsPick}
 use Rattle.rack.specs.Sequences.{WritesOnly}
+use Rattle.rack.specs.Values.{Keeps, MayLeave}
 use Rattle.rack.proofs.Writing.{only_weaker}
+use Rattle.slice_rack.specs.Changes.{Seats}
 use Rattle.slice_rack.specs.Runs.{IsSliced}
-use Rattle.slice_rack.specs.Slices.{IsOrderly, Slices}
+use Rattle.slice_rack.specs.Slices.{IsOrderly, Slices, disk_of, first_of, place_of, seat_of, sectors_of}
 use Rattle.slice_rack.specs.Sliced.{IsInside, slices_of}
 use Rattle.flat_array.specs.Array.{FlatArray}
 use Rattle.lvm_group.specs.Runs.{Linear, array_of}
-use Rattle.raid_rack.specs.Book.{after_same, after_then}
+use Rattle.pool_state.specs.declared.contents.Copied.{Copied}
+use Rattle.pool_state.specs.Sector.{decoded}
+use Rattle.array_image.specs.Places.{log_slice, state_sector}
+use Rattle.array_image.specs.States.{is_current}
+use Rattle.raid_rack.specs.Book.{after_same}
 use Rattle.raid_rack.specs.Raid.{IsTold, is_over}
 use Rattle.raid_rack.specs.Runs.{KeepsMoments}
 use Rattle.assembler.specs.Sound.{TargetsLand}
+use Rattle.pool_image.specs.Disks.{Disks}
 use Rattle.pool_image.specs.Drives.{Found}
 use Rattle.pool_model.specs.Absent.{AreOnly}
 use Rattle.pool_model.specs.InService.{InService}
@@ -30,30 +37,34 @@ use Rattle.pool_model.proofs.Named.{same_length}
 use Rattle.pool_model.proofs.Vacant.{lacks_calls, sliced_before}
 use Rattle.pool.specs.Calls.{Passes}
 use Rattle.pool.specs.Moment.{moment_of}
-use Rattle.pool.specs.View.{View, book, spent_by, volume}
+use Rattle.pool.specs.View.{View, book, slices_shown, spent_by, volume}
 use Rattle.pool.specs.Volume.{Holds, is_spent, size_of}
 use Rattle.shr_tool.specs.Between.{HoldsNext}
 use Rattle.shr_tool.specs.Events.{Event, takes_disk}
 use Rattle.shr_tool.specs.Events.Event.{answered, spent, lost, last, replaced, declined, stepped, stuck, shown}
 use Rattle.shr_tool.specs.Outcome.{IsRunOn}
-use Rattle.shr_tool.specs.Service.{AreUngiven, GoesBy, GoesOn, IsFitFor, IsLoneFor, IsServed, Lone, StandsLone, lone_then, pool_after}
+use Rattle.shr_tool.specs.Service.{AreUngiven, GoesBy, GoesOn, HoldOwn, IsFitFor, IsLoneFor, IsOut, IsOwnCopy, IsServed, Lone, StandsLone, pool_after}
 use Rattle.shr_tool.specs.Timeline.{Changes, Performs, ground_of}
 use Rattle.shr_tool.proofs.Absent.{stands_first}
-use Rattle.shr_tool.proofs.Chains.{lone_still, pool_still}
-use Rattle.shr_tool.proofs.Former.{not_over, since_now, told_by}
+use Rattle.shr_tool.proofs.Chains.{pool_still}
+use Rattle.shr_tool.proofs.Declined.{on_declined}
+use Rattle.shr_tool.proofs.Former.{going_seat, held_there, lacks_bare, log_many, log_on, not_over, own_current, own_since, seat_or, since_now, small, there as disk_there, told_by}
 use Rattle.shr_tool.proofs.Taking.{none_takes}
 use Rattle.shr_tool.proofs.TakenIn.{on_replaced}
-use Rattle.shr_tool.proofs.TurnedDown.{on_declined}
+use Rattle.shr_tool.proofs.LeavingOut.{alone_later, lone_sector, out_later}
 
 some_same : {X : Type 0} (a b : X) → Some a ≡ Some b → a ≡ b
 some_same a b same = cc
 
 -- at the beginning
+service_first : (x : View) (f : Found) → IsRunOn f (ground_of x) (moment_of x) x.bay → InService f x.slices (book x) x.bay
+service_first x f on = in_service on.before f x.slices (book x) x.bay on.found_is on.sound on.slices on.after on.joined on.geometry on.rest
+
 goes_first : {o : Option Lone} (x : View) (f : Found) → IsRunOn f (ground_of x) (moment_of x) x.bay → ((l : Lone) → o ≡ Some l → StandsLone l f x.slices x)
     → GoesBy (TargetsLand f) o f x
 goes_first x f on alone = record {
   tables = x.slices;
-  service = in_service on.before f x.slices (book x) x.bay on.found_is on.sound on.slices on.after on.joined on.geometry on.rest;
+  service = service_first x f on;
   vacant = inl refl;
   lasting = on.lasting;
   arrays = on.arrays ∙ on.joined;
@@ -65,24 +76,20 @@ goes_first x f on alone = record {
 pub goes_run : (x : View) (f : Found) → IsRunOn f (ground_of x) (moment_of x) x.bay → GoesBy (TargetsLand f) None f x
 goes_run x f on = goes_first x f on (λ l none. absurd (none-some l none))
 
--- how it stands alone
-abbrev pub lone_first : View → (bound : ℕ) → Lone
-lone_first x bound = record { base = (book x).state; bound = bound }
-
 -- where no second disk stood for a place of a drive, and none had an id that is given later
-pub goes_lone : (x : View) (f : Found) (a : FlatArray) (bound : ℕ) → (volume x).fit → Holds x a → IsRunOn f (ground_of x) (moment_of x) x.bay → AreOnly f → AreUngiven f bound
-    → GoesBy (TargetsLand f) (Some (lone_first x bound)) f x
-goes_lone x f a bound fit holds on only ungiven =
+pub goes_lone : (x : View) (f : Found) (a : FlatArray) (l : Lone) → (volume x).fit → Holds x a → IsRunOn f (ground_of x) (moment_of x) x.bay → AreOnly f → AreUngiven f l.bound
+    → GoesBy (TargetsLand f) (Some l) f x
+goes_lone x f a l fit holds on only ungiven =
     goes_first x f on
-    (λ l same.
-    subst (λ (k : Lone). StandsLone k f x.slices x) (some_same (lone_first x bound) l same)
+    (λ k same.
+    subst (λ k. StandsLone k f x.slices x) (some_same l k same)
     (record {
-      alone = alone_begins f bound x.slices x.bay (stands_first f (ground_of x) (moment_of x) x.bay on only) ungiven.others on.rest;
-      slices = refl;
+      alone =
+          alone_begins f l.bound (IsOut l x.shelf.names) (book x).state x.slices x.bay (stands_first f (ground_of x) (moment_of x) x.bay on only) ungiven.others on.rest;
       distinct = ungiven.distinct;
-      after = on.after;
-      before = after_same (book x).state;
-      since = λ s within alive. since_now x a s fit holds within alive;
+      own = λ s within alive p d u copy seat why may is.
+          let goes = goes_run x f on in
+          own_current x p fit f goes d seat (going_seat x f goes p d seat (on.present p d seat)) holds s within alive (on.present p d seat) u copy may is;
     }))
 
 -- a sector of a slice is one by the pool's tables
@@ -93,25 +100,99 @@ sliced_was x f goes d s w is = elim goes.vacant [
 ]
 
 -- a pool stands alone after calls that take no disk
-stands_calls : (l : Lone) (x y : View) (f : Found) (t : Slices) (b : FlatArray) → (volume x).fit → Holds x b → Passes x y → x.bay.lasting
-    → WritesOnly x.bay y.bay (IsSliced t) → StandsLone l f t x → StandsLone l f t y
-stands_calls l x y f t b fit holds passes lasting only stands = record {
-  alone = alone_calls f l.bound t x.bay y.bay lasting only stands.alone;
-  slices = passes.slices ∙ stands.slices;
-  distinct = stands.distinct;
-  after = stands.after;
-  before = after_then l.base (book x).state (book y).state stands.before passes.marks;
-  since = λ s within alive.
-      let within_first : s < size_of x = subst (λ k. s < k) (passes.stays.sectors 0) within in
-      let alive_first : is_spent x s ≡ false = passes.stays.spent 0 s alive in
-      let told = told_by x b s fit holds within_first alive_first in
-      let lasts = not_over x.linear (book y) s (subst (λ (k : Linear). spent_by k (book y) s ≡ false) passes.linear alive) in
-      (passes.moments.since (array_of x.linear s) l.base told lasts stands.before (stands.since s within_first alive_first)).holds;
-}
+module _ {L : Type 0} {o : Option Lone} (x y : View) (f : Found) (b : FlatArray) (unspent : (d s : ℕ) → y.bay.spent d s ≡ false) (fit : (volume x).fit) (holds : Holds x b)
+    (passes : Passes x y) (goes : GoesBy L o f x) (l : Lone) (so : o ≡ Some l) where
+  stands : StandsLone l f goes.tables x
+  stands = goes.alone l so
+
+  names : (d : ℕ) (name : List ℕ) → slice_get x.shelf.names d ≡ Some name → slice_get y.shelf.names d ≡ Some name
+  names d name is = ap (λ (n : List (List ℕ)). slice_get n d) passes.shelf.names ∙ is
+
+  -- a drive's copy, where its place has it by the run's slices
+  module _ (p d : ℕ) (seat : f.seats p ≡ Some d) (on : seat_of x.slices p ≡ Some d) where
+    few : p < 16
+    few = small x p fit f goes d seat on
+
+    there : 0 < sectors_of y.slices (log_slice p)
+    there = (let many = ap (λ (t : Slices). sectors_of t (log_slice p)) passes.slices ∙ log_many x p fit f goes d seat on in omega (arith, many))
+
+    held_shown : (slices_shown y).held (log_slice p) 0 ≡ y.bay.held d state_sector
+    held_shown = ap (λ (t : Slices). (slices_of t y.bay).held (log_slice p) 0) passes.slices ∙ held_there x p fit f goes d seat on y.bay
+
+    -- it is its own where the place was current
+    own_still : (s : ℕ) → s < size_of x → is_spent x s ≡ false → spent_by x.linear (book y) s ≡ false → is_current (book x).state p ≡ true → (u : List ℕ) (copy : Copied)
+        → MayLeave (y.bay.held d state_sector) u → decoded u ≡ Ok copy → IsOwnCopy f.state p copy
+    own_still s within alive left current u copy may is =
+        let told = told_by x b s fit holds within alive in
+        let kept =
+        passes.moments.since (array_of x.linear s) (book x).state told (not_over x.linear (book y) s left) (after_same (book x).state) (since_now x b s fit holds within alive) in
+        own_since f.state (book x).state p u copy goes.service.after ((kept.holds p u few there (subst (λ h. MayLeave h u) (sym held_shown) may)).own current) is
+
+    -- and where it was missing its sector keeps its values
+    kept_missing : is_current (book x).state p ≡ false → Keeps (x.bay.held d state_sector) (y.bay.held d state_sector)
+    kept_missing missing =
+        let at : place_of (log_slice p) ≡ p = omega arith in
+        subst (λ h. Keeps h (y.bay.held d state_sector)) (held_there x p fit f goes d seat on x.bay)
+        (subst (λ h. Keeps ((slices_shown x).held (log_slice p) 0) h) held_shown
+        (passes.unwritten (log_slice p) 0 live (subst (λ k. is_current (book x).state k ≡ false) (sym at) missing)))
+      where
+        live : IsLive (slices_shown x) (slices_shown y) (log_slice p) 0
+        live = record {
+          disk = (let low = few in omega (arith, low));
+          sector = there;
+          is_told = subst x.bay.told (sym (log_on x p fit f goes d seat on)) (holds.disks d (disk_there x p fit f goes d seat on));
+          unspent = unspent (disk_of y.slices (log_slice p)) (first_of y.slices (log_slice p) + 0);
+        }
+
+  -- so it does where the place has given its disk up
+  kept_vacant : (p d : ℕ) → f.seats p ≡ Some d → Seats goes.tables x.slices p None → state_sector < x.bay.sectors d → Keeps (x.bay.held d state_sector) (y.bay.held d state_sector)
+  kept_vacant p d seat vacated within =
+      let low : d < x.bay.disks = subst (λ (k : Disks). d < k.count) goes.service.disks (goes.service.arranged.seated p d seat).1 in
+      passes.apart.others d state_sector
+      (record {
+        disk = subst (λ n. d < n) (sym passes.apart.stays.disks) low;
+        sector = subst (λ n. state_sector < n) (sym (passes.apart.stays.sectors d)) within;
+        is_told = holds.disks d low;
+        unspent = unspent d state_sector;
+      })
+      (lacks_bare x f goes p d seat vacated state_sector)
+
+  own_calls : (s : ℕ) → s < size_of y → is_spent y s ≡ false → HoldOwn f (IsOut l y.shelf.names) (book y).state y.bay
+  own_calls s within alive p d u copy seat why may is = elim (cases_Bool (is_current (book x).state p)) [
+    | inl current ↦ own_still p d seat (going_seat x f goes p d seat current) s within_first alive_first alive_then current u copy may is
+    | inr missing ↦
+        (let why_first : (is_current (book x).state p ≡ true) ⊎ (IsOut l x.shelf.names d → ⊥) =
+        elim why [ inl now ↦ inl (passes.marks.current p now) | inr stays ↦ inr (λ out. stays (out_later l x.shelf.names y.shelf.names names d out)) ] in
+        let kept : Keeps (x.bay.held d state_sector) (y.bay.held d state_sector) =
+        elim (seat_or x f goes p d seat) [
+          | inl on ↦ kept_missing p d seat on missing
+          | inr lacks ↦ kept_vacant p d seat lacks.vacated (lone_sector x f goes l so p d seat why_first)
+        ] in
+        stands.own s within_first alive_first p d u copy seat why_first (kept.within u may) is)
+  ]
+    where
+      within_first : s < size_of x
+      within_first = subst (λ k. s < k) (passes.stays.sectors 0) within
+
+      alive_first : is_spent x s ≡ false
+      alive_first = passes.stays.spent 0 s alive
+
+      alive_then : spent_by x.linear (book y) s ≡ false
+      alive_then = subst (λ (k : Linear). spent_by k (book y) s ≡ false) passes.linear alive
+
+  stands_calls : WritesOnly x.bay y.bay (IsSliced goes.tables) → StandsLone l f goes.tables y
+  stands_calls only = record {
+    alone =
+        alone_later f l x.shelf.names y.shelf.names names (book y).state (book y).state goes.tables y.bay (λ p now. now)
+        (alone_calls f l.bound (IsOut l x.shelf.names) (book x).state (book y).state goes.tables x.bay y.bay passes.marks.current goes.lasting only stands.alone);
+    distinct = stands.distinct;
+    own = own_calls;
+  }
 
 -- after calls that take no disk
-pub goes_calls : {L : Type 0} {o : Option Lone} (x y : View) (f : Found) (b : FlatArray) → (volume x).fit → Holds x b → Passes x y → GoesBy L o f x → GoesBy L o f y
-goes_calls x y f b fit holds passes goes = record {
+pub goes_calls : {L : Type 0} {o : Option Lone} (x y : View) (f : Found) (b : FlatArray) → ((d s : ℕ) → y.bay.spent d s ≡ false) → (volume x).fit → Holds x b → Passes x y
+    → GoesBy L o f x → GoesBy L o f y
+goes_calls x y f b unspent fit holds passes goes = record {
   tables = goes.tables;
   service =
       service_calls f goes.tables (book x) (book y) x.bay y.bay goes.service goes.lasting
@@ -133,8 +214,8 @@ goes_calls x y f b fit holds passes goes = record {
   laid = λ lands.
       tables_calls f goes.tables (book x).state (book y).state x.bay y.bay goes.lasting
       (only_weaker (IsSliced x.slices) (IsSliced goes.tables) (sliced_was x f goes) passes.apart) passes.marks (goes.laid lands);
-  alone = λ l lone.
-      stands_calls l x y f goes.tables b fit holds passes goes.lasting (only_weaker (IsSliced x.slices) (IsSliced goes.tables) (sliced_was x f goes) passes.apart) (goes.alone l lone);
+  alone = λ l so.
+      stands_calls x y f b unspent fit holds passes goes l so (only_weaker (IsSliced x.slices) (IsSliced goes.tables) (sliced_was x f goes) passes.apart);
 }
 
 -- the tables have the members' slices where the run has them
@@ -234,12 +315,11 @@ pub goes_performed :
     → ((d s : ℕ) → y.bay.spent d s ≡ false) → (volume x).fit → Performs x y event text → Holds x b → IsServedBy x y event
     → (f : Found) → GoesBy L o f x → (takes_disk event ≡ true → AreSerial f.state) → IsFitFor f (moment_of x) event
     → ((l : Lone) → o ≡ Some l → IsLoneFor f l (moment_of x) (moment_of y) event) → ((l : Lone) → o ≡ Some l → (book y).state.serial ≤ l.bound)
-    → GoesOn L (lone_then o (moment_of y) event) f (pool_after f (moment_of x) (moment_of y) event) y
+    → GoesOn L o f (pool_after f (moment_of x) (moment_of y) event) y
 goes_performed {L} {o} x y event text b unspent fit performs holds served f goes serials fitting lone early = elim (cases_Bool (takes_disk event)) [
   | inr none ↦
-      subst (λ h. GoesOn L (lone_then o (moment_of y) event) f h y) (sym (pool_still f (moment_of x) (moment_of y) event none))
-      (subst (λ k. GoesOn L k f f y) (sym (lone_still o (moment_of y) event none))
-      (record { goes = goes_calls x y f b fit holds (performs.passes none) goes; serials = λ serial. serial }))
+      subst (λ h. GoesOn L o f h y) (sym (pool_still f (moment_of x) (moment_of y) event none))
+      (record { goes = goes_calls x y f b unspent fit holds (performs.passes none) goes; serials = λ serial. serial })
   | inl takes ↦ taking event takes performs (serials takes) fitting lone (served_taking event takes served)
 ]
   where
@@ -249,12 +329,12 @@ goes_performed {L} {o} x y event text b unspent fit performs holds served f goes
 
     taking : (e : Event) → takes_disk e ≡ true → Performs x y e text → AreSerial f.state → IsFitFor f (moment_of x) e
         → ((l : Lone) → o ≡ Some l → IsLoneFor f l (moment_of x) (moment_of y) e) → (s : ℕ) × (s < size_of x) × (spent_by x.linear (book y) s ≡ false)
-        → GoesOn L (lone_then o (moment_of y) e) f (pool_after f (moment_of x) (moment_of y) e) y
+        → GoesOn L o f (pool_after f (moment_of x) (moment_of y) e) y
     taking (answered line) takes does serial fits lone some = absurd (both_ways false refl takes)
     taking (spent line sector) takes does serial fits lone some = absurd (both_ways false refl takes)
     taking (lost place) takes does serial fits lone some = absurd (both_ways false refl takes)
     taking (last place) takes does serial fits lone some = absurd (both_ways false refl takes)
-    taking (replaced place name) takes does serial fits lone some = on_replaced x y place name text b unspent fit does holds some f goes fits serial lone early
+    taking (replaced place name) takes does serial fits lone some = on_replaced x y place name text b unspent fit does holds some f goes fits serial early
     taking (declined place name fault) takes does serial fits lone some = on_declined x y place name fault text b takes unspent fit does holds some f goes (fits takes) lone
     taking (stepped count left) takes does serial fits lone some = absurd (both_ways false refl takes)
     taking (stuck count array) takes does serial fits lone some = absurd (both_ways false refl takes)

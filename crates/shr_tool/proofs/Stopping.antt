@@ -14,7 +14,8 @@ use Rattle.shr_tool.specs.declared.serve.Stop.{Stop}
 use Rattle.shr_tool.specs.declared.serve.Stop.TheVariants.{Quit as AtQuit, Input, SourceFault, Limit, SinkFault}
 use Rattle.shr_tool.specs.Events.{Event, answer_of, array_by, line_of, lines_of, texts, worse, worst_of}
 use Rattle.shr_tool.specs.Serving.{Answered, IsReplied, LastAnswers, LineAnswers, Serves, StopsAtEnd, StopsAtLimit, StopsAtSource}
-use Rattle.shr_tool.proofs.History.{History, IsLawful, answered_more, lines_of-snoc, ran_more, worse_given, worst_of-snoc}
+use Rattle.shr_tool.proofs.History.{History, IsLawful, answered_more, ran_more}
+use Rattle.shr_tool.proofs.Timelines.{lines_of-snoc, worse_given, worst_of-snoc}
 
 -- a line with a reply stands before those after it
 prepend-replied : (line : Line) (tail : List Line) → IsReplied line → prepend (Some line) tail ≡ line ∷ tail

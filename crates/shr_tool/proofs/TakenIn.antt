@@ -1,10 +1,10 @@
 -- A pool by which a run goes is one after a line that took a drive in.
 use Rattle.std.proofs.Common.{◌≡◌, ◌≢◌, ◌⊎◌, ℕ, ◌+◌, ◌-◌, ◌<◌, ◌≤◌, ◌^◌, ◌||◌, not, nat_lt, if◌then◌else◌, Bool, true, false, is_some, List, length, slice_get, Option, Some, None, unwrap_or, option_map, Result, Ok, Err, refl, sym, ◌∙◌, ap, ap₂, subst, inl, inr, eq-eqb, arith}
 use Rattle.std.specs.Option.{option_map_or}
-use Rattle.std.proofs.lemmas.Bool.{both_ways, cases_Bool, cases_eq, cases_lt}
+use Rattle.std.proofs.lemmas.Bool.{both_ways, cases_eq, cases_lt}
 use Rattle.std.proofs.lemmas.Option.{none-some}
 use Rattle.rack.specs.Seen.{Image, IsLive}
-use Rattle.rack.specs.Values.{Keeps}
+use Rattle.rack.specs.Values.{Keeps, MayLeave}
 use Rattle.slice_rack.specs.Changes.{Seats}
 use Rattle.slice_rack.specs.Runs.{IsSliced}
 use Rattle.slice_rack.specs.Slices.{Slices, seat_of}
@@ -18,32 +18,33 @@ use Rattle.pool_state.specs.declared.contents.Plan.TheVariants.{Replace as Repla
 use Rattle.pool_state.specs.declared.contents.State.{State}
 use Rattle.array_image.specs.Places.{state_sector, super_sector}
 use Rattle.array_image.specs.Supers.{super_of}
-use Rattle.array_image.specs.States.{is_current, id_of}
+use Rattle.array_image.specs.States.{is_current}
 use Rattle.array_core.proofs.Opened.{current_below}
 use Rattle.array_core.specs.Seats.{seat_of as slot_of}
 use Rattle.array_model.specs.View.{View as ArrayView}
-use Rattle.raid_rack.specs.Book.{IsAfter, after_same}
-use Rattle.raid_rack.specs.Enlisting.{enlisted}
+use Rattle.raid_rack.specs.Enlisting.{enlisted, new_table}
 use Rattle.raid_rack.specs.NewDrive.{SeatsDrive, is_reached, joins}
 use Rattle.raid_rack.proofs.Over.{number_room}
 use Rattle.pool_image.specs.Disks.{Disks, disks_of, identities_of}
 use Rattle.pool_image.specs.Drives.{Found, first_of as first_in}
 use Rattle.pool_image.specs.Meaning.{is_member, is_table}
-use Rattle.pool_model.specs.Alone.{IsStranger, TakesAlone}
+use Rattle.pool_model.specs.Alone.{IsStranger, IsTabled, TakesAlone}
+use Rattle.pool_model.specs.InService.{InService}
 use Rattle.pool_model.specs.Left.{IsPickOff}
 use Rattle.raid_rack.specs.Missing.{raised}
 use Rattle.pool_model.specs.Taken.{AreDistinct, AreSerial, KeepsOff, KeepsRest, SeatsNew, taken}
-use Rattle.pool_model.proofs.Alone.{alone_taken, stranger_former}
+use Rattle.pool_model.proofs.Alone.{alone_taken, says_own, stranger_former}
 use Rattle.shr_tool.proofs.NewTabled.{tabled_new}
+use Rattle.pool_model.proofs.Before.{off_before, was as image_before, was_other as image_other}
 use Rattle.pool_model.proofs.InService.{service_taken}
-use Rattle.pool_model.proofs.Lost.{epoch_room}
-use Rattle.pool_model.proofs.Named.{id_same, same_length}
+use Rattle.pool_model.proofs.Joined.{few_same}
+use Rattle.pool_model.proofs.Lost.{epoch_room, log_lies}
 use Rattle.pool_model.proofs.NewMembers.{joins_member, positions_of}
 use Rattle.pool_model.proofs.Serials.{serial_after, serial_enlisted, serial_fresh}
 use Rattle.pool_model.proofs.Tables.{tables_taken}
 use Rattle.pool_model.proofs.Taken.{IsKnownBefore}
 use Rattle.pool_model.proofs.Unsliced.{free_super, laid_super, past_log}
-use Rattle.pool_model.proofs.Vacant.{lacks_still, seat_other, seats_through, sliced_before}
+use Rattle.pool_model.proofs.Vacant.{lacks_still, seats_through, sliced_before}
 use Rattle.pool.specs.declared.replacing.GrowFault.{GrowFault}
 use Rattle.pool.specs.declared.replacing.GrowFault.TheVariants.{Attach, Memory, NoSuchDrive, Twice}
 use Rattle.pool.specs.Continuing.{Continues, KeepsOutside}
@@ -56,26 +57,16 @@ use Rattle.pool.specs.Volume.{Holds, is_spent, size_of}
 use Rattle.pool.proofs.Admitted.{admitted, others_current, reaches_each}
 use Rattle.pool.specs.Replacing.{IsAdmitted}
 use Rattle.shr_tool.specs.Events.Event.{replaced}
-use Rattle.shr_tool.specs.Service.{GoesBy, GoesOn, IsFitDrive, Lone, StandsLone, disk_in, lone_then, pool_after, units_in}
+use Rattle.shr_tool.specs.Service.{GoesBy, GoesOn, HoldOwn, IsFitDrive, IsOut, IsOwnCopy, Lone, StandsLone, disk_in, pool_after, units_in}
 use Rattle.shr_tool.specs.Timeline.{Performs}
-use Rattle.shr_tool.proofs.Chains.{lone_before}
-use Rattle.shr_tool.proofs.Former.{former_copy, gave_below, not_over, since_now}
+use Rattle.shr_tool.proofs.Entered.{own_entered}
+use Rattle.shr_tool.proofs.Former.{copy_parts, gave_below, going_seat, held_log, lacks_bare, not_over, on_same, seat_listed, seat_or}
 use Rattle.shr_tool.proofs.GivesWay.{entered_copy}
+use Rattle.shr_tool.proofs.LeavingOut.{alone_later, lone_sector, out_later}
 use Rattle.shr_tool.proofs.TakenTables.{lies_taken, table_taken}
 
 some_same : {X : Type 0} (a b : X) → Some a ≡ Some b → a ≡ b
 some_same a b same = cc
-
--- a seat of the pool by which a run goes is a seat of the run's, where the place is current
-pub going_seat : {L : Type 0} {o : Option Lone} (x : View) (f : Found) (goes : GoesBy L o f x) (k d : ℕ) → f.seats k ≡ Some d → is_current (book x).state k ≡ true
-    → seat_of x.slices k ≡ Some d
-going_seat x f goes k d seat current = elim goes.vacant [
-  | inl same ↦ ap (λ (t : Slices). seat_of t k) same ∙ goes.service.slices.seats k ∙ seat
-  | inr one ↦
-      seat_other goes.tables x.slices one.0 one.2.vacated k
-      (λ same. both_ways (is_current (book x).state k) (subst (λ q. is_current (book x).state q ≡ false) (sym same) one.2.missing) current)
-      ∙ goes.service.slices.seats k ∙ seat
-]
 
 -- ---- what holds of each line that names a disk
 
@@ -123,10 +114,7 @@ module _ {L : Type 0} {o : Option Lone} (x y : View) (place : ℕ) (name : List 
   seat_now k d seat current = going_seat x f goes k d seat current
 
   pub seat_low : (k d : ℕ) → f.seats k ≡ Some d → k < length (book x).state.drives.items
-  seat_low k d seat =
-      let low = current_below f.state k (goes.service.arranged.seated k d seat).0 in
-      let many = same_length (book x).state.drives.items f.state.drives.items goes.service.after.same.drives in
-      omega (arith, low, many)
+  seat_low = seat_listed f goes.tables (book x) x.bay goes.service
 
 -- an epoch that is below one is below the next
 up_of : (n k : ℕ) → k < n → k < raised n
@@ -175,7 +163,6 @@ reached_of arrays place sectors n each = by (slice_get arrays n) refl
 module _ {L : Type 0} {o : Option Lone} (x y : View) (place : ℕ) (name text : List ℕ) (b : FlatArray) (unspent : (d s : ℕ) → y.bay.spent d s ≡ false) (fit : (volume x).fit)
     (performs : Performs x y (replaced place name) text) (holds : Holds x b) (some : (s : ℕ) × (s < size_of x) × (spent_by x.linear (book y) s ≡ false))
     (f : Found) (goes : GoesBy L o f x) (fitting : IsFitDrive f (moment_of x) place name) (serials : AreSerial f.state)
-    (lone : (l : Lone) → o ≡ Some l → (d : ℕ) → f.seats place ≡ Some d → IsNamed (moment_of x) name d ⊎ (is_current l.base place ≡ true))
     (early : (l : Lone) → o ≡ Some l → (book y).state.serial ≤ l.bound) where
   abbrev pub changes : ChangesDrive x y place name
   changes = (performs.changes refl).0
@@ -282,7 +269,7 @@ module _ {L : Type 0} {o : Option Lone} (x y : View) (place : ℕ) (name text : 
   off = keeps_off x y place name unspent performs.continues (performs.outside refl) changes told f goes t
       (sliced_old x y place name unspent performs.continues (performs.outside refl) changes told f goes) disk only
 
-  fewer : (d s : ℕ) (w : List ℕ) → d ≢ disk → IsSliced y.slices d s w → IsSliced x.slices d s w
+  pub fewer : (d s : ℕ) (w : List ℕ) → d ≢ disk → IsSliced y.slices d s w → IsSliced x.slices d s w
   fewer d s w other at = elim ((performs.outside refl).slices d s w at) [ inl was ↦ was | inr also ↦ absurd (only d other also) ]
 
   known : IsKnownBefore f (book x)
@@ -300,11 +287,11 @@ module _ {L : Type 0} {o : Option Lone} (x y : View) (place : ℕ) (name text : 
       let fit = fitting.alone (y.bay.sectors disk) image.0 image.1 n first low none begins within in
       elim (image.2 sector (i disk sector) within free (pick disk sector live free)) [
         | inl before ↦ fit.1 (i disk sector) before
-        | inr laid ↦ absurd (laid_super disk (y.bay.sectors disk) sector (i disk sector) (omega (arith, past)) fit.0 laid.value)
+        | inr laid ↦ absurd (laid_super disk (new_table (book x).state (views_of (book x)) place (y.bay.sectors disk)) sector (i disk sector) (omega (arith, past)) fit.0 laid.value)
       ]
 
   -- where it gave up no disk before, its drive's has no slices any more
-  bare_now : (d : ℕ) → d ≢ disk → seat_of x.slices place ≡ Some d → (s : ℕ) (w : List ℕ) → IsSliced y.slices d s w → ⊥
+  pub bare_now : (d : ℕ) → d ≢ disk → seat_of x.slices place ≡ Some d → (s : ℕ) (w : List ℕ) → IsSliced y.slices d s w → ⊥
   bare_now d other on = elim (changes.bare d on (only d other)) [
     | inl still ↦
         absurd
@@ -320,7 +307,8 @@ module _ {L : Type 0} {o : Option Lone} (x y : View) (place : ℕ) (name text : 
 
   -- where the place hadn't given it up, the drive that it had has its copy of the state as it was
   kept_old : (d : ℕ) → d ≢ disk → f.seats place ≡ Some d → x.slices ≡ t → Keeps (x.bay.held d state_sector) (y.bay.held d state_sector)
-  kept_old d other seat same = entered_copy x y place name unspent fit f goes d seat same holds disk entered changes other (only d other)
+  kept_old d other seat same =
+      entered_copy x y place name unspent fit f goes d seat (on_same x f goes place d seat same) holds disk entered changes other (only d other)
 
   -- the drive that the place had says an earlier state
   lost_says : (d : ℕ) → d ≢ disk → f.seats place ≡ Some d → (i : Image) → IsPickOff y.slices y.bay i
@@ -357,74 +345,126 @@ module _ {L : Type 0} {o : Option Lone} (x y : View) (place : ℕ) (name text : 
     ];
   }
 
-  below : (l : Lone) → o ≡ Some l → f.state.serial < l.bound
+  -- the pool with the drive
+  abbrev h : Found
+  h = taken f (disks_of y.bay) place disk (enlisted place is.units (Replacing place) (book x).state)
+
+  pub below : (l : Lone) → o ≡ Some l → f.state.serial < l.bound
   below l so =
       let given = is.marks.same.serial in
       let before = goes.service.after.same.serial in
       let most = early l so in
       omega (arith, given, before, most)
 
-  -- The drive that the place had is a stranger: it was current by the base, and its copy is its own and of a state since.
-  former : (l : Lone) (so : o ≡ Some l) (d : ℕ) → d ≢ disk → f.seats place ≡ Some d → is_current l.base place ≡ true → (i : Image) → IsPickOff y.slices y.bay i
-      → IsStranger (taken f (disks_of y.bay) place disk (enlisted place is.units (Replacing place) (book x).state)) l.bound (identities_of (disks_of y.bay) i d)
-  former l so d other seat current i pick =
-      let stands = goes.alone l so in
-      let on : seat_of x.slices place ≡ Some d = ap (λ (u : Slices). seat_of u place) stands.slices ∙ goes.service.slices.seats place ∙ seat in
-      let own =
-      former_copy x place fit f goes d seat stands.slices holds some.0 some.1 alive y performs.continues told unspent (kept_old d other seat stands.slices)
-      (bare_now d other on state_sector) l.base (stands.since some.0 some.1 alive) current i pick in
-      stranger_former f t y.slices (book x) x.bay y.bay place disk is.units (Replacing place) goes.service seats_new keeps_rest l.bound (below l so) serials stands.distinct d seat
-      (identities_of (disks_of y.bay) i d) own.0 own.1 (own.2.same.pool ∙ stands.after.same.pool) (own.3 ∙ id_same f.state l.base stands.after.same place)
+  fewer_old : (d s : ℕ) (w : List ℕ) → d ≢ disk → IsSliced y.slices d s w → IsSliced t d s w
+  fewer_old d s w other at =
+      sliced_old x y place name unspent performs.continues (performs.outside refl) changes told f goes d s w (fewer d s w other at)
+
+  -- ---- the drive that the place had, where it isn't left out
+
+  module _ (l : Lone) (so : o ≡ Some l) (d : ℕ) (other : d ≢ disk) (seat : f.seats place ≡ Some d) (stays : IsOut l y.shelf.names d → ⊥) where
+    stayed : (is_current (book x).state place ≡ true) ⊎ (IsOut l x.shelf.names d → ⊥)
+    stayed = inr (λ out. stays (out_later l x.shelf.names y.shelf.names performs.continues.names d out))
+
+    there : d < x.bay.disks
+    there =
+        let low = (goes.service.arranged.seated place d seat).1 in
+        let same = count_is x y place name unspent performs.continues (performs.outside refl) changes told f goes in
+        omega (arith, low, same)
+
+    within : state_sector < x.bay.sectors d
+    within = lone_sector x f goes l so place d seat stayed
+
+    -- its copy of the state keeps its values, and is in no slice
+    pub kept_there : Keeps (x.bay.held d state_sector) (y.bay.held d state_sector) × ((w : List ℕ) → IsSliced y.slices d state_sector w → ⊥)
+    kept_there = elim (seat_or x f goes place d seat) [
+      | inl on ↦ (
+        entered_copy x y place name unspent fit f goes d seat on holds disk entered changes other (only d other),
+        bare_now d other on state_sector,
+      )
+      | inr lacks ↦
+          (let bare = lacks_bare x f goes place d seat lacks.vacated state_sector in (
+            (performs.outside refl).held d state_sector
+                (record { disk = there; sector = within; is_told = holds.disks d there; unnamed = only d other; unsliced = bare }),
+            λ w at. bare w (fewer d state_sector w other at),
+          ))
+    ]
+
+    own_former : (i : Image) → IsPickOff y.slices y.bay i → (copy : Copied) → (identities_of (disks_of y.bay) i d).copied ≡ Some copy → IsOwnCopy f.state place copy
+    own_former i pick copy here =
+        let parts = copy_parts (y.bay.sectors d) (i d state_sector) copy here in
+        let low : d < y.bay.disks = (let at = there in let more = performs.continues.disks in omega (arith, at, more)) in
+        let left =
+        pick d state_sector (live_at x y place name unspent performs.continues (performs.outside refl) changes told f goes d state_sector low parts.0) kept_there.1 in
+        (goes.alone l so).own some.0 some.1 alive place d (i d state_sector) copy seat stayed (kept_there.0.within (i d state_sector) left) parts.1
+
+    -- It is a stranger: it has its table, and its copy, where it has one, is its own.
+    former : (i : Image) → IsPickOff y.slices y.bay i → IsStranger h l.bound (identities_of (disks_of y.bay) i d)
+    former i pick =
+        let stands = goes.alone l so in
+        let was = image_before t y.slices disk x.bay y.bay off fewer_old i pick in
+        let tabled : IsTabled f place (f.disks.sectors d) (was d) =
+        (stands.alone was (off_before t y.slices disk x.bay y.bay off fewer_old i pick)).tables place d seat stayed in
+        let sectors = sectors_kept x y place name unspent performs.continues (performs.outside refl) changes told f goes d (goes.service.arranged.seated place d seat).1 in
+        stranger_former f t y.slices (book x) x.bay y.bay place disk is.units (Replacing place) goes.service seats_new keeps_rest l.bound (below l so) serials stands.distinct d
+        seat (identities_of (disks_of y.bay) i d) (λ copy here. (own_former i pick copy here).pool)
+        (says_own f place (y.bay.sectors d) (i d) (identities_of (disks_of y.bay) i d).copied
+        (subst (IsTabled f place (y.bay.sectors d)) (image_other t y.slices disk x.bay y.bay off fewer_old i pick d other)
+        (subst (λ n. IsTabled f place n (was d)) (sym sectors) tabled))
+        (λ copy here. (own_former i pick copy here).drive))
 
   -- it has its table, and no other disk came
-  takes_alone : (l : Lone) → o ≡ Some l
-      → TakesAlone f (taken f (disks_of y.bay) place disk (enlisted place is.units (Replacing place) (book x).state)) l.bound y.slices place disk y.bay
+  takes_alone : (l : Lone) → o ≡ Some l → TakesAlone f h l.bound (IsOut l y.shelf.names) y.slices place disk y.bay
   takes_alone l so = record {
     own = λ i pick.
-        ap (λ o. option_map_or (is_table (taken f (disks_of y.bay) place disk (enlisted place is.units (Replacing place) (book x).state)) place (y.bay.sectors disk)) o false)
+        ap (λ o. option_map_or (is_table h place (y.bay.sectors disk)) o false)
         (table_taken x y place name text b unspent performs holds goes.orderly disk named i pick)
         ∙ tabled_new f t y.slices (book x) (disks_of y.bay) place disk is.units (Replacing place) seats_new known
         (sectors_kept x y place name unspent performs.continues (performs.outside refl) changes told f goes)
         (reaches_each (views_of (book x)) place (y.bay.sectors disk) free.reaches).0;
-    strangers = λ i pick d low other why. elim why [
+    strangers = λ i pick d low other stays why. elim why [
       | inl past ↦
           (let same = count_is x y place name unspent performs.continues (performs.outside refl) changes told f goes in
           absurd (only d other (changes.names.came d (omega (arith, past, same)) low)))
-      | inr seat ↦ elim (lone l so d seat) [
-        | inl before ↦ absurd (only d other (performs.continues.names d name before))
-        | inr current ↦ former l so d other seat current i pick
-      ]
+      | inr seat ↦ former l so d other seat stays i pick
     ];
   }
 
-  -- and stands alone then
-  stands_taken : (l : Lone) → lone_then o (moment_of y) (replaced place name) ≡ Some l
-      → StandsLone l (taken f (disks_of y.bay) place disk (enlisted place is.units (Replacing place) (book x).state)) y.slices y
-  stands_taken l so =
-      let was = lone_before o (moment_of y) (replaced place name) l so in
-      let k = was.0 in
-      let stands = goes.alone k was.1 in
-      subst (λ (m : Lone). StandsLone m (taken f (disks_of y.bay) place disk (enlisted place is.units (Replacing place) (book x).state)) y.slices y) was.2
-      (record {
-        alone =
-            alone_taken f t y.slices (book x) x.bay y.bay place disk is.units (Replacing place) goes.service seats_new keeps_rest k.bound (below k was.1) (takes_alone k was.1)
-            stands.alone;
-        slices = refl;
-        distinct = subst (λ (pool : Id). AreDistinct pool.0 k.bound) (sym goes.service.after.same.pool) stands.distinct;
-        after = is.marks;
-        before = after_same (book y).state;
-        since = λ s within left. since_now y b s performs.continues.fit (performs.holds b holds) within left;
-      })
+  service_now : InService h y.slices (book y) y.bay
+  service_now =
+      service_taken f t y.slices (book x) (book y) x.bay y.bay place disk is.units (Replacing place) (joins (views_of (book x)) place (y.bay.sectors disk)) goes.service
+      seats_new keeps_rest (record { marks = is.marks; arrays = is.arrays })
 
-  pool_is : pool_after f (moment_of x) (moment_of y) (replaced place name) ≡ taken f (disks_of y.bay) place disk (enlisted place is.units (Replacing place) (book x).state)
+  -- each of its drives has its own copy
+  own_now : (l : Lone) → HoldOwn h (IsOut l y.shelf.names) (book y).state y.bay
+  own_now l p d u copy seat why may says =
+      let current = current_below h.state p (service_now.arranged.seated p d seat).0 in
+      let same = few_same place is.units (Replacing place) (book x).state listed in
+      let lies = log_lies h y.slices y.bay p d service_now.slices seat in
+      let many = lies.1 in
+      own_entered x y place name disk entered unspent fit performs.continues.fit holds some alive listed is.units is.units_is p u copy (omega (arith, current, same))
+      (omega (arith, many)) (subst (λ k. MayLeave k u) (sym (held_log y.slices y.bay p d (service_now.slices.seats p ∙ seat) lies.0)) may) says
+
+  -- and stands alone then
+  stands_taken : (l : Lone) → o ≡ Some l → StandsLone l h y.slices y
+  stands_taken l so =
+      let stands = goes.alone l so in
+      record {
+        alone =
+            alone_taken f t y.slices (book x) x.bay y.bay place disk is.units (Replacing place) goes.service seats_new keeps_rest l.bound (below l so) (IsOut l y.shelf.names)
+            (book y).state (takes_alone l so)
+            (alone_later f l x.shelf.names y.shelf.names performs.continues.names (book x).state (book x).state t x.bay (λ p now. now) stands.alone);
+        distinct = subst (λ (pool : Id). AreDistinct pool.0 l.bound) (sym goes.service.after.same.pool) stands.distinct;
+        own = λ s within left. own_now l;
+      }
+
+  pool_is : pool_after f (moment_of x) (moment_of y) (replaced place name) ≡ h
   pool_is = ap₂ (λ (d n : ℕ). taken f (disks_of y.bay) place d (enlisted place n (Replacing place) (book x).state)) disk_is units_is
 
-  goes_replaced : GoesBy L (lone_then o (moment_of y) (replaced place name)) (pool_after f (moment_of x) (moment_of y) (replaced place name)) y
-  goes_replaced = subst (λ h. GoesBy L (lone_then o (moment_of y) (replaced place name)) h y) (sym pool_is) (record {
+  goes_replaced : GoesBy L o (pool_after f (moment_of x) (moment_of y) (replaced place name)) y
+  goes_replaced = subst (λ k. GoesBy L o k y) (sym pool_is) (record {
     tables = y.slices;
-    service =
-        service_taken f t y.slices (book x) (book y) x.bay y.bay place disk is.units (Replacing place) (joins (views_of (book x)) place (y.bay.sectors disk)) goes.service
-        seats_new keeps_rest (record { marks = is.marks; arrays = is.arrays });
+    service = service_now;
     vacant = inl refl;
     lasting = performs.continues.lasting goes.lasting;
     arrays = ap (λ (l : Linear). l.arrays) performs.continues.linear ∙ goes.arrays ∙ sym goes.service.after.same.made;
@@ -435,9 +475,9 @@ module _ {L : Type 0} {o : Option Lone} (x y : View) (place : ℕ) (name text : 
     alone = stands_taken;
   })
 
-  pub on_replaced : GoesOn L (lone_then o (moment_of y) (replaced place name)) f (pool_after f (moment_of x) (moment_of y) (replaced place name)) y
+  pub on_replaced : GoesOn L o f (pool_after f (moment_of x) (moment_of y) (replaced place name)) y
   on_replaced = record {
     goes = goes_replaced;
     serials = λ serial.
-        subst (λ (h : Found). AreSerial h.state) (sym pool_is) (serial_enlisted place is.units (Replacing place) (book x).state listed serials_now);
+        subst (λ (k : Found). AreSerial k.state) (sym pool_is) (serial_enlisted place is.units (Replacing place) (book x).state listed serials_now);
   }

@@ -3,7 +3,7 @@ use Rattle.std.proofs.Common.{◌≡◌, ℕ, ◌<◌, ◌||◌, Bool, true, fal
 use Rattle.std.proofs.lemmas.Bool.{both_ways, cases_Bool}
 use Rattle.pool.specs.Moment.{moment_of}
 use Rattle.pool.specs.Replaced.{ChangesDrive, TakesImage}
-use Rattle.pool.specs.View.{View, volume}
+use Rattle.pool.specs.View.{View}
 use Rattle.shr_tool.specs.Timeline.{Changes, KeepsNamed, ground_of}
 use Rattle.shr_tool.specs.Events.{AnyTakes, Event, Takes, any_takes, takes_disk}
 use Rattle.shr_tool.specs.Events.Event.{answered, spent, lost, last, replaced, declined, stepped, stuck, shown}
@@ -59,22 +59,18 @@ takes_last events event takes = elim (cases_Bool (any_takes (events ++ event ∷
 -- ---- what an event leaves
 
 -- what a line leaves on the disk that it names
-named_of : (x y : View) (place : ℕ) (name : List ℕ) → (volume x).fit → ChangesDrive x y place name → x.shelf.told → ((d : ℕ) → d < x.bay.disks → x.bay.told d)
+named_of : (x y : View) (place : ℕ) (name : List ℕ) → ChangesDrive x y place name → x.shelf.told → ((d : ℕ) → d < x.bay.disks → x.bay.told d)
     → TakesImage x.linear (moment_of x) (moment_of y) place name
-named_of x y place name fit changes told all = record {
-  names = changes.names;
-  image = changes.image told all;
-  former = λ missing d s seat unnamed within. (changes.retired missing d seat unnamed).held s within (all d (fit.0.running.set.fit.1.seats place d seat));
-}
+named_of x y place name changes told all = record { names = changes.names; image = changes.image told all }
 
-pub named_by : (x y : View) (event : Event) → (volume x).fit → Changes x y event → x.shelf.told → ((d : ℕ) → d < x.bay.disks → x.bay.told d)
+pub named_by : (x y : View) (event : Event) → Changes x y event → x.shelf.told → ((d : ℕ) → d < x.bay.disks → x.bay.told d)
     → KeepsNamed (ground_of x) (moment_of x) (moment_of y) event
-named_by x y (answered line) fit changes told all = tt
-named_by x y (spent line sector) fit changes told all = tt
-named_by x y (lost place) fit changes told all = tt
-named_by x y (last place) fit changes told all = tt
-named_by x y (replaced place name) fit changes told all = named_of x y place name fit changes.0 told all
-named_by x y (declined place name fault) fit changes told all = named_of x y place name fit changes.0 told all
-named_by x y (stepped count left) fit changes told all = tt
-named_by x y (stuck count array) fit changes told all = tt
-named_by x y (shown text) fit changes told all = tt
+named_by x y (answered line) changes told all = tt
+named_by x y (spent line sector) changes told all = tt
+named_by x y (lost place) changes told all = tt
+named_by x y (last place) changes told all = tt
+named_by x y (replaced place name) changes told all = named_of x y place name changes.0 told all
+named_by x y (declined place name fault) changes told all = named_of x y place name changes.0 told all
+named_by x y (stepped count left) changes told all = tt
+named_by x y (stuck count array) changes told all = tt
+named_by x y (shown text) changes told all = tt

@@ -45,10 +45,10 @@ module _ {L : Type 0} (x y : View) (place : ℕ) (name text : List ℕ) (b : Fla
     (f : Found) (goes : GoesBy L None f x) (missing : is_current (book x).state place ≡ false) (fitting : IsFitDrive f (moment_of x) place name) (waits : IsFitDisk f (moment_of x) name) (serials : AreSerial f.state)
     (lands : L) (lasts : (n : ℕ) → n < f.state.made → is_over (book y) n ≡ false) (traced : x.bay.traced) where
   abbrev disk : ℕ
-  disk = new.disk x y place name text b unspent fit performs holds some f goes fitting serials (λ l none. absurd (none-some l none)) (λ l none. absurd (none-some l none))
+  disk = new.disk x y place name text b unspent fit performs holds some f goes fitting serials (λ l none. absurd (none-some l none))
 
   named : IsNamed (moment_of y) name disk
-  named = new.named x y place name text b unspent fit performs holds some f goes fitting serials (λ l none. absurd (none-some l none)) (λ l none. absurd (none-some l none))
+  named = new.named x y place name text b unspent fit performs holds some f goes fitting serials (λ l none. absurd (none-some l none))
 
   entered : EntersNamed x y place name disk
   entered = (performs.changes refl).2 disk named
@@ -74,10 +74,10 @@ module _ {L : Type 0} (x y : View) (place : ℕ) (name text : List ℕ) (b : Fla
   unspent_then d s = enlists.only.stays.spent d s (unspent d s)
 
   listed : place < length (book x).state.drives.items
-  listed = new.listed x y place name text b unspent fit performs holds some f goes fitting serials (λ l none. absurd (none-some l none)) (λ l none. absurd (none-some l none))
+  listed = new.listed x y place name text b unspent fit performs holds some f goes fitting serials (λ l none. absurd (none-some l none))
 
   alive : is_spent x some.0 ≡ false
-  alive = new.alive x y place name text b unspent fit performs holds some f goes fitting serials (λ l none. absurd (none-some l none)) (λ l none. absurd (none-some l none))
+  alive = new.alive x y place name text b unspent fit performs holds some f goes fitting serials (λ l none. absurd (none-some l none))
 
   -- ---- the pool by which the line goes, with the disk
 
@@ -105,7 +105,7 @@ module _ {L : Type 0} (x y : View) (place : ℕ) (name text : List ℕ) (b : Fla
   size = enlists.only.stays.sectors disk
 
   sits : SeatsNew f goes.tables y.slices (book x) place disk (y.bay.sectors disk)
-  sits = new.seats_new x y place name text b unspent fit performs holds some f goes fitting serials (λ l none. absurd (none-some l none)) (λ l none. absurd (none-some l none))
+  sits = new.seats_new x y place name text b unspent fit performs holds some f goes fitting serials (λ l none. absurd (none-some l none))
 
   -- it gets the place, whose slices are those that it had, or none
   sits_then : SeatsNew h goes.tables y.slices (book x) place disk (m.bay.sectors disk)
@@ -160,7 +160,7 @@ module _ {L : Type 0} (x y : View) (place : ℕ) (name text : List ℕ) (b : Fla
   units_are = new.or_map (slice_get (book x).state.drives.items place) enters.units enters.units_is
 
   disk_is : disk_in (moment_of y) place ≡ disk
-  disk_is = new.disk_is x y place name text b unspent fit performs holds some f goes fitting serials (λ l none. absurd (none-some l none)) (λ l none. absurd (none-some l none))
+  disk_is = new.disk_is x y place name text b unspent fit performs holds some f goes fitting serials (λ l none. absurd (none-some l none))
 
   -- ---- the whole
 

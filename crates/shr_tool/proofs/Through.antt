@@ -1,6 +1,6 @@
 -- A pool holds a reference to its bay: what is done through it is done to the bay.
 use Rattle.std.specs.Option.{option_map_or}
-use Rattle.std.proofs.Common.{◌≡◌, ◌⊎◌, ◌↔◌, ◌&&◌, is_some, ℕ, ◌<◌, List, [], ◌∷◌, Option, Some, None, option_map, refl, sym, subst, ◌∙◌, ap, inl, inr, arith}
+use Rattle.std.proofs.Common.{◌≡◌, ◌⊎◌, ◌↔◌, ◌&&◌, is_some, ℕ, ◌<◌, Bool, List, [], ◌∷◌, Option, Some, None, option_map, refl, sym, subst, ◌∙◌, ap, ap₂, inl, inr, arith}
 use Rattle.std.proofs.lemmas.Option.{none-some}
 use Rattle.rack.specs.Seen.{Image, Seen, Rose, Stays}
 use Rattle.rack.specs.Shelf.{Shelf}
@@ -19,6 +19,8 @@ use Rattle.pool_scan.specs.declared.Known.{Known}
 use Rattle.pool_scan.specs.Scanning.{IsUnfaulted, now_in}
 use Rattle.pool_image.specs.Disks.{Disks, disks_of}
 use Rattle.pool_model.specs.Left.{AreAlone, IsPickOff}
+use Rattle.pool_model.proofs.Found.{found_is}
+use Rattle.pool_model.proofs.Named.{seat_ahead}
 use Rattle.pool_model.proofs.Unrefused.{tables_meant}
 use Rattle.slice_rack.specs.Slices.{IsOrderly}
 use Rattle.slice_rack.specs.Sliced.{slices_of}
@@ -241,6 +243,9 @@ runs_on bay opened g from f sound meant volumes means one_pool truths stays join
   joined = joined;
   arrays = ap (λ (l : Linear). l.arrays) meant.lies.linear;
   geometry = λ n t low truth. (meant.arrays n t (omega (arith, low, joined)) truth).geometry;
+  present = λ p d seat.
+      let ahead = seat_ahead f.state f.disks f.identities p d (sym ((found_is (disks_of bay) (now_in bay) f sound.found_is).0.seats p) ∙ seat) in
+      meant.marks p ∙ ap₂ (λ (a b : Bool). a && b) ahead.current (ap is_some seat);
   tables = tables_meant (disks_of bay) (now_in bay) f sound.found_is (meant_unrefused (disks_of bay) (now_in bay) volumes means);
   landing = meant.landing;
   one_pool = one_pool;

@@ -11,15 +11,16 @@ use Rattle.slice_rack.specs.Slices.{Slices}
 use Rattle.shr_tool.specs.Events.{AnyTakes, Event, becomes}
 use Rattle.shr_tool.specs.Exporting.{ExportOutcome}
 use Rattle.shr_tool.specs.Importing.{ImportOutcome}
-use Rattle.shr_tool.specs.Outcome.{EndsAt, Lasts, Outcome, lone_from}
+use Rattle.shr_tool.specs.Outcome.{EndsAt, Lasts, Outcome}
 use Rattle.shr_tool.specs.Tasks.{TaskOutcome}
 use Rattle.pool.specs.Moment.{Moment}
 use Rattle.shr_tool.specs.Timeline.{Ground, Happens, Steps, Timeline, steps_of}
-use Rattle.shr_tool.specs.Service.{AreFit, AreLone, pool_by}
+use Rattle.shr_tool.specs.Service.{AreFit, AreLone, IsOut, none_out, pool_by}
 use Rattle.assembler.specs.Sound.{TargetsLand}
 use Rattle.pool_model.specs.Absent.{HoldAbsent}
+use Rattle.pool_model.specs.Alone.{LeaveOut}
 use Rattle.pool_model.specs.Taken.{AreSerial}
-use Rattle.shr_tool.specs.Between.{HoldsEach, HoldsInside, HoldsNext}
+use Rattle.shr_tool.specs.Between.{HaveOthers, HoldsEach, HoldsInside, HoldsNext}
 
 pub outside_told :
     (t u : Slices) (named : ℕ → Type 0) (T U : Type 0) (a b : Seen) → (U → T) → KeepsOutside t u named T a b → KeepsOutside t u named U a b
@@ -35,6 +36,7 @@ happens_for P Q stops g p q a event for happens = record {
   disks = happens.disks;
   held = λ traced. happens.held (for traced);
   named = λ traced. happens.named (for traced);
+  missing = λ traced. happens.missing (for traced);
   slices = happens.slices;
   marks = happens.marks;
   stands = happens.stands;
@@ -71,6 +73,7 @@ ends_for T U S R y g p q a told traced ends = record {
   cause = ends.cause;
   stands = ends.stands;
   held = λ is. ends.held (told is);
+  missing = λ is. ends.missing (told is);
   during = λ is so. ends.during (told is) (traced so);
   ended = λ is so. ends.ended (told is) (traced so);
 }
@@ -103,12 +106,22 @@ lasts_for T U S R x y g from a events told traced lasts = record {
       (lasts.closing (told is) (traced so) f on (subst (AreFit f from events lasts.last) same fit));
   agreed = λ is. lasts.agreed (told is);
   safe = λ is. lasts.safe (told is);
-  safe_by = λ is served quiet f on only ungiven own serials fit lone whole goes i pick sized.
+  safe_by = λ is served quiet f on only ungiven own serials fit out lone whole goes i j pick leave sized.
       let same =
       steps_for (S × T) (R × U) y.stops g from a events lasts.last (λ is. (traced is.0, told is.1)) lasts.timeline in
-      subst (λ (steps : Steps from events lasts.last). HoldAbsent (pool_by f from events lasts.last steps) lasts.final.slices lasts.final.book.state i) (sym same)
-      (lasts.safe_by (told is) served quiet f on only ungiven own serials (subst (AreFit f from events lasts.last) same fit) (subst (AreLone f (lone_from from lasts.last) from events lasts.last) same lone) whole goes i
-      pick sized);
+      subst (λ (steps : Steps from events lasts.last). HoldAbsent (pool_by f from events lasts.last steps) lasts.final.slices lasts.final.book.state j) (sym same)
+      (lasts.safe_by (told is) served quiet f on only ungiven own serials (subst (AreFit f from events lasts.last) same fit) out
+      (subst (AreLone f (record { bound = lasts.last.book.state.serial; out = out }) from events lasts.last) same lone) whole goes i j pick
+      (subst
+      (λ (steps : Steps from events lasts.last).
+      LeaveOut (pool_by f from events lasts.last steps) (IsOut (record { bound = lasts.last.book.state.serial; out = out }) lasts.final.names) i j) same leave)
+      sized);
+  others = λ is so served f on only ungiven serials fit lone.
+      let same =
+      steps_for (S × T) (R × U) y.stops g from a events lasts.last (λ is. (traced is.0, told is.1)) lasts.timeline in
+      subst (HaveOthers y.stops f from events lasts.last) (sym same)
+      (lasts.others (told is) (traced so) served f on only ungiven serials (subst (AreFit f from events lasts.last) same fit)
+      (subst (AreLone f (none_out lasts.last.book.state.serial) from events lasts.last) same lone));
   again = λ is served f on known fit goes i pick.
       let same =
       steps_for (S × T) (R × U) y.stops g from a events lasts.last (λ is. (traced is.0, told is.1)) lasts.timeline in

@@ -1,5 +1,5 @@
 -- A pool by which a run goes is one after a line that took no drive in.
-use Rattle.std.proofs.Common.{◌≡◌, ◌≢◌, ◌⊎◌, ℕ, ◌+◌, ◌-◌, ◌<◌, ◌≤◌, ◌^◌, ◌==◌, nat_lt, if◌then◌else◌, Bool, true, false, List, length, Option, Some, None, Ok, Err, refl, sym, ◌∙◌, ap, subst, inl, inr, eq-eqb, lt-ltb, ltb-true, arith}
+use Rattle.std.proofs.Common.{◌≡◌, ◌≢◌, ◌⊎◌, ℕ, ◌+◌, ◌-◌, ◌<◌, ◌≤◌, ◌^◌, ◌==◌, nat_lt, if◌then◌else◌, Bool, true, false, List, length, Option, Some, None, Ok, Err, refl, sym, ◌∙◌, ap, subst, inl, inr, lt-ltb, ltb-true, arith}
 use Rattle.std.specs.Result.{result_ok}
 use Rattle.std.proofs.lemmas.Bool.{both_ways, cases_Bool, cases_eq}
 use Rattle.std.proofs.lemmas.Option.{none-some}
@@ -11,6 +11,7 @@ use Rattle.slice_rack.specs.Slices.{Slices, seat_of}
 use Rattle.flat_array.specs.Array.{FlatArray}
 use Rattle.slice_rack.specs.Sliced.{slices_of}
 use Rattle.lvm_group.specs.Runs.{Linear, array_of}
+use Rattle.raid_rack.specs.Enlisting.{new_table}
 use Rattle.raid_rack.specs.Raid.{IsTold}
 use Rattle.pool_state.specs.declared.contents.Copied.{Copied}
 use Rattle.pool_state.specs.declared.contents.State.{State}
@@ -22,7 +23,7 @@ use Rattle.raid_rack.proofs.Over.{number_room}
 use Rattle.pool_image.specs.Disks.{disks_of, identities_of}
 use Rattle.pool_image.specs.Drives.{Found}
 use Rattle.pool_model.specs.Left.{IsPickOff}
-use Rattle.pool_model.specs.Taken.{AreSerial, KeepsOff, KeepsOthers, LacksDrive, attached}
+use Rattle.pool_model.specs.Taken.{KeepsOff, KeepsOthers, LacksDrive, attached}
 use Rattle.pool_model.proofs.Found.{ok_of, seated_below}
 use Rattle.pool_model.proofs.InService.{one_seat, service_attached}
 use Rattle.pool_model.proofs.Lost.{lost_value}
@@ -40,15 +41,13 @@ use Rattle.pool.specs.Replaced.{ChangesDrive, IsDeclined, IsOfDrive}
 use Rattle.pool.specs.View.{View, book, over, spent_by, volume}
 use Rattle.pool.specs.Volume.{Holds, is_spent, size_of}
 use Rattle.pool.proofs.Admitted.{admitted, others_current, reaches_each}
-use Rattle.pool.specs.Replacing.{IsAdmitted}
 use Rattle.shr_tool.specs.Events.{looks_at}
 use Rattle.shr_tool.specs.Events.Event.{declined}
-use Rattle.shr_tool.specs.Service.{GoesBy, GoesOn, IsFitDisk, LaysNothing, Lone, StandsLone, lone_then, pool_after}
+use Rattle.shr_tool.specs.Service.{GoesBy, IsFitDisk, Lone, StandsLone}
 use Rattle.shr_tool.specs.Timeline.{Performs}
-use Rattle.shr_tool.proofs.Chains.{lone_before}
-use Rattle.shr_tool.proofs.Former.{gave_below, lost_below, not_over, on, sector, small, told_by}
+use Rattle.shr_tool.proofs.Former.{gave_below, lost_below, not_over, on_same, sector, small, told_by}
 use Rattle.shr_tool.proofs.GivesWay.{left_copy, others_left}
-use Rattle.shr_tool.proofs.Quiet.{listed_of, named_or, same_fault, stands_declined, twice_or}
+use Rattle.shr_tool.proofs.Quiet.{listed_of, named_or, same_fault, twice_or}
 use Rattle.shr_tool.proofs.TakenIn.{count_is, disks_more, keeps_but, keeps_off, live_at, seat_low, seat_now, sectors_kept, sliced_old, vacant_not}
 
 some_same : {X : Type 0} (a b : X) → Some a ≡ Some b → a ≡ b
@@ -70,14 +69,14 @@ seats_both t u w place one two = record {
 module _ {L : Type 0} {o : Option Lone} (x y : View) (place : ℕ) (name : List ℕ) (fault : GrowFault) (text : List ℕ) (b : FlatArray) (looks : looks_at fault ≡ true)
     (unspent : (d s : ℕ) → y.bay.spent d s ≡ false) (fit : (volume x).fit)
     (performs : Performs x y (declined place name fault) text) (holds : Holds x b) (some : (s : ℕ) × (s < size_of x) × (spent_by x.linear (book y) s ≡ false))
-    (f : Found) (goes : GoesBy L o f x) (fits : IsFitDisk f (moment_of x) name) (lone : (l : Lone) → o ≡ Some l → looks_at fault ≡ true → LaysNothing f l.bound (moment_of x) (moment_of y) name fault) where
+    (f : Found) (goes : GoesBy L o f x) (fits : IsFitDisk f (moment_of x) name) where
   abbrev pub changes : ChangesDrive x y place name
   changes = (performs.changes looks).0
 
   abbrev pub is : IsDeclined (moment_of x) (moment_of y) place fault
   is = performs.cause.1
 
-  told : (d : ℕ) → d < y.bay.disks → y.bay.told d
+  pub told : (d : ℕ) → d < y.bay.disks → y.bay.told d
   told = (performs.holds b holds).disks
 
   abbrev pub t : Slices
@@ -86,13 +85,13 @@ module _ {L : Type 0} {o : Option Lone} (x y : View) (place : ℕ) (name : List 
   alive : is_spent x some.0 ≡ false
   alive = changes.spent some.0 (subst (λ (l : Linear). spent_by l (book y) some.0 ≡ false) (sym performs.continues.linear) some.2)
 
-  count : f.disks.count ≡ x.bay.disks
+  pub count : f.disks.count ≡ x.bay.disks
   count = count_is x y place name unspent performs.continues (performs.outside looks) changes told f goes
 
-  seat_disk : (k d : ℕ) → f.seats k ≡ Some d → d < x.bay.disks
+  pub seat_disk : (k d : ℕ) → f.seats k ≡ Some d → d < x.bay.disks
   seat_disk k d seat = let low = (goes.service.arranged.seated k d seat).1 in let same = count in omega (arith, low, same)
 
-  old_slices : (d s : ℕ) (w : List ℕ) → IsSliced x.slices d s w → IsSliced t d s w
+  pub old_slices : (d s : ℕ) (w : List ℕ) → IsSliced x.slices d s w → IsSliced t d s w
   old_slices = sliced_old x y place name unspent performs.continues (performs.outside looks) changes told f goes
 
   -- a sector of a slice was one
@@ -102,7 +101,7 @@ module _ {L : Type 0} {o : Option Lone} (x y : View) (place : ℕ) (name : List 
     | inr gave ↦ sliced_before x.slices y.slices place gave.2 d s w at
   ]
 
-  listed : place < length (book x).state.drives.items
+  pub listed : place < length (book x).state.drives.items
   listed = listed_of x y place name fault text looks performs
 
   -- the name is that of a drive, or it isn't
@@ -113,11 +112,11 @@ module _ {L : Type 0} {o : Option Lone} (x y : View) (place : ℕ) (name : List 
   ]
 
   -- The disk that may have been written, which is the named one where there is one: a drive's own disk isn't.
-  record IsOne (disk : ℕ) : Type 0 where
+  pub record IsOne (disk : ℕ) : Type 0 where
     pub off : (u : Slices) → ((d s : ℕ) (w : List ℕ) → IsSliced x.slices d s w → IsSliced u d s w) → KeepsOff u disk x.bay y.bay
     pub or : (IsNamed (moment_of y) name disk × (IsOfDrive (moment_of x) name → ⊥)) ⊎ (y.bay.disks ≤ disk)
 
-  one : (disk : ℕ) × IsOne disk
+  pub one : (disk : ℕ) × IsOne disk
   one = elim of_drive [
     | inl of ↦ (
       y.bay.disks,
@@ -184,7 +183,7 @@ module _ {L : Type 0} {o : Option Lone} (x y : View) (place : ℕ) (name : List 
         | inl before ↦ before
         | inr laid ↦
             (let room = (reaches_each (views_of (book x)) place (y.bay.sectors d) (admitted x.linear (book x) place (y.bay.sectors d) laid.admitted).reaches).0 in
-            absurd (laid_state d (y.bay.sectors d) (i d state_sector) copy room laid.value has.says))
+            absurd (laid_state d (new_table (book x).state (views_of (book x)) place (y.bay.sectors d)) (i d state_sector) copy room laid.value has.says))
       ]
 
   same_named : (d e : ℕ) → IsNamed (moment_of y) name d → IsNamed (moment_of x) name e → e ≡ d
@@ -234,7 +233,7 @@ module _ {L : Type 0} {o : Option Lone} (x y : View) (place : ℕ) (name : List 
       ]
 
   -- it isn't a current drive's
-  not_current : (p : ℕ) → is_current (book x).state p ≡ true → f.seats p ≡ Some disk → ⊥
+  pub not_current : (p : ℕ) → is_current (book x).state p ≡ true → f.seats p ≡ Some disk → ⊥
   not_current p current seat = elim one.1.or [
     | inl named ↦
         (let on = seat_now x y place name unspent performs.continues (performs.outside looks) changes told f goes p disk seat current in
@@ -382,13 +381,13 @@ module _ {L : Type 0} {o : Option Lone} (x y : View) (place : ℕ) (name : List 
         elim named_at [
           | inl named ↦
               (let less =
-              lost_value f t y.slices (book x) x.bay y.bay place d d goes.service.slices seat (small x place fit f goes d seat same) vacant (array_of x.linear some.0)
+              lost_value f t y.slices (book x) x.bay y.bay place d d goes.service.slices seat (small x place fit f goes d seat (on_same x f goes place d seat same)) vacant (array_of x.linear some.0)
               (subst (λ (u : Slices). IsTold (book x) (slices_of u x.bay) (array_of x.linear some.0)) same (told_by x b some.0 fit holds some.1 alive))
               (not_over x.linear (book x) some.0 alive) (i d state_sector) copy (was_held place d seat vacated i off copy here named)
               (has place d seat vacated i off copy here).says in
               omega (arith, less, up))
           | inr unnamed ↦
-              (let kept = (changes.retired vacant d (on x place fit f goes d seat same) unnamed).held state_sector (sector x place fit f goes d seat same) (holds.disks d (seat_disk place d seat)) in
+              (let kept = (changes.retired place d listed vacant (on_same x f goes place d seat same) unnamed).held state_sector (sector x place fit f goes d seat (on_same x f goes place d seat same)) (holds.disks d (seat_disk place d seat)) in
               let less =
               lost_below x place fit f goes d seat same holds some.0 some.1 alive y performs.continues told unspent kept (free place d seat vacated i off copy here) vacant i off copy
               here in
@@ -424,7 +423,7 @@ module _ {L : Type 0} {o : Option Lone} (x y : View) (place : ℕ) (name : List 
     away one =
         named.attaches.ok.2 (
           place,
-          subst (λ e. seat_of x.slices place ≡ Some e) one (on x place fit f goes d seat same),
+          subst (λ e. seat_of x.slices place ≡ Some e) one (on_same x f goes place d seat same),
           vacant_not (book x).state place current,
         )
 
@@ -432,7 +431,7 @@ module _ {L : Type 0} {o : Option Lone} (x y : View) (place : ℕ) (name : List 
         → copy.state.epoch < (book y).state.epoch
     lost_given i off copy here =
         let bare : (w : List ℕ) → IsSliced y.slices d state_sector w → ⊥ = free place d seat given_now i off copy here in
-        let kept = left_copy x y place name named ready unspent fit f goes d seat same holds away bare in
+        let kept = left_copy x y place name named ready unspent fit f goes d seat (on_same x f goes place d seat same) holds away bare in
         let up = later in
         let most = room in
         let below : (book x).state.epoch < 2 ^ 63 - 1 = omega (arith, up, most) in
@@ -464,15 +463,9 @@ module _ {L : Type 0} {o : Option Lone} (x y : View) (place : ℕ) (name : List 
     ]
   ]
 
-  -- it stands alone after it as before
-  stands_now : (l : Lone) → lone_then o (moment_of y) (declined place name fault) ≡ Some l → StandsLone l h t y
-  stands_now l so =
-      let was = lone_before o (moment_of y) (declined place name fault) l so in
-      subst (λ (k : Lone). StandsLone k h t y) was.2
-      (stands_declined x y place name fault text b looks unspent fit performs holds f goes was.0 was.1 (lone was.0 was.1 looks))
-
-  goes_declined : GoesBy L (lone_then o (moment_of y) (declined place name fault)) (pool_after f (moment_of x) (moment_of y) (declined place name fault)) y
-  goes_declined = subst (λ k. GoesBy L (lone_then o (moment_of y) (declined place name fault)) k y) (sym pool_is) (record {
+  -- the pool goes on, and stands alone where this is known
+  pub goes_then : {r : Option Lone} → ((l : Lone) → r ≡ Some l → StandsLone l h t y) → GoesBy L r h y
+  goes_then alone = record {
     tables = t;
     service = service_attached f t (book x) (book y) disk x.bay y.bay goes.service keeps_others is.marks is.arrays;
     vacant = vacant_now;
@@ -482,15 +475,5 @@ module _ {L : Type 0} {o : Option Lone} (x y : View) (place : ℕ) (name : List 
     laid = λ lands i off p d now.
         tables_attached f t (book x).state disk x.bay y.bay goes.service.arranged goes.service.slices keeps_others
         (λ j left q current seat. absurd (not_current q current seat)) (goes.laid lands) i off p d (is.marks.current p now);
-    alone = stands_now;
-  })
-    where
-      pool_is : pool_after f (moment_of x) (moment_of y) (declined place name fault) ≡ h
-      pool_is = ap (λ (c : Bool). if c then h else f) looks
-
-  pub on_declined : GoesOn L (lone_then o (moment_of y) (declined place name fault)) f (pool_after f (moment_of x) (moment_of y) (declined place name fault)) y
-  on_declined = record { goes = goes_declined; serials = λ serial. by (looks_at fault) serial }
-    where
-      by : (c : Bool) → AreSerial f.state → AreSerial (if c then attached f (disks_of y.bay) else f).state
-      by true serial = serial
-      by false serial = serial
+    alone = alone;
+  }

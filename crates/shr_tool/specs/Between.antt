@@ -76,6 +76,25 @@ HoldsEither f p q place name i =
     × (HaveOtherIds (attached f (disks_at q)) p.book.state place (disk_in q place) i
     → HoldAmid (pool_after f p q (replaced place name)) q.slices (coming p place) q.book.state i))
 
+-- In what a stop leaves inside an event no other disk has the id of a drive that it took in.
+abbrev pub HasOthers : (ℕ → Image → Type 0) → Found → (p q : Moment) → Event → Type 0
+HasOthers stops f p q (answered line) = Unit {0}
+HasOthers stops f p q (spent line sector) = Unit {0}
+HasOthers stops f p q (lost place) = Unit {0}
+HasOthers stops f p q (last place) = Unit {0}
+HasOthers stops f p q (replaced place name) =
+    (k : ℕ) (i : Image) → p.clock < k → k ≤ q.clock → stops k i → HaveOtherIds (attached f (disks_at q)) p.book.state place (disk_in q place) i
+HasOthers stops f p q (declined place name fault) = Unit {0}
+HasOthers stops f p q (stepped count left) = Unit {0}
+HasOthers stops f p q (stuck count array) = Unit {0}
+HasOthers stops f p q (shown text) = Unit {0}
+
+-- So it is inside each of several.
+abbrev pub HaveOthers : (ℕ → Image → Type 0) → Found → (p : Moment) → (events : List Event) → (q : Moment) → Steps p events q → Type 0
+HaveOthers stops f p [] q steps = Unit {0}
+HaveOthers stops f p (event ∷ events) q steps =
+    HasOthers stops f p steps.0 event × HaveOthers stops (pool_after f p steps.0 event) steps.0 events q steps.1
+
 -- Whatever a stop leaves inside a line that takes a drive in holds the pool without it or with it, unless an array is over by the line's end. The image that
 -- the line names is fit for the pool, and where it waited it says no state, or an earlier one.
 abbrev pub HoldsTaking : (ℕ → Image → Type 0) → Ground → (Serial Landing : Type 0) → (done : List Event) → Found → (p q : Moment) → (place : ℕ) → (name : List ℕ) → Type 0

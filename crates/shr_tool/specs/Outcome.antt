@@ -14,6 +14,7 @@ use Rattle.pool_image.specs.Disks.{disks_of}
 use Rattle.pool_image.specs.Drives.{Found, found}
 use Rattle.pool_image.specs.Meaning.{has_table, truth_of}
 use Rattle.pool_model.specs.Absent.{AreOnly, HoldAbsent, IsWholeRaid}
+use Rattle.pool_model.specs.Alone.{LeaveOut}
 use Rattle.pool_model.specs.Grouped.{HaveOwnAreas, HoldGroup}
 use Rattle.pool_model.specs.Left.{HoldRest}
 use Rattle.pool_model.specs.Pools.{AreSlicesOf, IsSoundPool}
@@ -42,9 +43,9 @@ use Rattle.pool.specs.Continuing.{KeepsOutside}
 use Rattle.rack.specs.Sequences.{WritesOnly}
 use Rattle.rack.specs.Shelf.{Shelf}
 use Rattle.slice_rack.specs.Runs.{IsSliced}
-use Rattle.shr_tool.specs.Timeline.{Ground, KeepsSlices, KeepsStanding, MeansAt, Timeline, steps_of}
-use Rattle.shr_tool.specs.Service.{AreFit, AreLone, AreUngiven, IsServed, Lone, pool_by}
-use Rattle.shr_tool.specs.Between.{HoldsEach, HoldsInside, HoldsNext}
+use Rattle.shr_tool.specs.Timeline.{Ground, KeepsMissing, KeepsSlices, KeepsStanding, MeansAt, Timeline, steps_of}
+use Rattle.shr_tool.specs.Service.{AreFit, AreLone, AreUngiven, IsOut, IsServed, none_out, pool_by}
+use Rattle.shr_tool.specs.Between.{HaveOthers, HoldsEach, HoldsInside, HoldsNext}
 
 -- no disk's faults rose since they were counted so
 abbrev pub NoneRose : (ℕ → ℕ) → (ℕ → ℕ) → Type 0
@@ -64,8 +65,8 @@ abbrev pub KeepsNames : Shelf → Shelf → Type 0
 KeepsNames s t = (d : ℕ) (name : List ℕ) → slice_get s.names d ≡ Some name → slice_get t.names d ≡ Some name
 
 -- The end of a pool: no disk is attached, the slices of its drives stay where they lie, marks alone come to its book, each of a drive whose disk's faults rose, what
--- a stop inside it leaves means the array, and then its current values alone. Outside the slices disks hold what they held.
--- The clock is told where stops are.
+-- a stop inside it leaves means the array, and then its current values alone. Outside the slices disks hold what they held, and those of places whose drives
+-- were missing everywhere. The clock is told where stops are.
 pub record EndsAt (Told : Type 0) (Traced : Type 0) (y : Seen) (g : Ground) (p q : Moment) (a : FlatArray) : Type 0 where
   pub later : Told → Traced → p.clock ≤ q.clock
   pub slices : KeepsSlices p q
@@ -75,6 +76,7 @@ pub record EndsAt (Told : Type 0) (Traced : Type 0) (y : Seen) (g : Ground) (p q
       → Rose (p.faults (disk_of p.slices (log_slice place))) (q.faults (disk_of p.slices (log_slice place)))
   pub stands : KeepsStanding KeepsBook 1 p q
   pub held : Told → (d s : ℕ) → d < p.disks → s < p.sectors d → ((v : List ℕ) → IsSliced p.slices d s v → ⊥) → Keeps (p.held d s) (q.held d s)
+  pub missing : Told → KeepsMissing p q (λ d. ⊥)
   pub during : Told → Traced → (k : ℕ) (i : Image) → p.clock < k → k ≤ q.clock → y.stops k i → MeansAt g q a i
   pub ended : Told → Traced → (i : Image) → y.stops q.clock i → MeansAt g q (flushed a) i
 
@@ -97,6 +99,8 @@ pub record IsRunOn (f : Found) (g : Ground) (from : Moment) (x : Seen) : Type 0 
   pub joined : f.state.joined ≡ f.state.made
   pub arrays : g.linear.arrays ≡ f.state.joined
   pub geometry : (n : ℕ) (t : Super) → n < f.state.made → truth_of f n ≡ Some t → HasGeometry t (from.book.arrays n).truth
+  -- none of its drives is marked missing
+  pub present : (p d : ℕ) → f.seats p ≡ Some d → is_current from.book.state p ≡ true
   pub tables : (p d : ℕ) → f.seats p ≡ Some d → has_table f p d ≡ true
   -- where targets land in its slices a replay finds these by the tables
   pub landing : TargetsLand f → HaveTables f
@@ -104,10 +108,6 @@ pub record IsRunOn (f : Found) (g : Ground) (from : Moment) (x : Seen) : Type 0 
   pub truths : (n : ℕ) → n < f.state.made → HoldTruth (from.book.arrays n) (slices_of from.slices x)
   pub group : HaveOwnAreas f → HoldGroup from.book (slices_of from.slices x)
   pub rest : HoldRest f from.slices x
-
--- how the pool of a run stands alone when it begins, where ids are given until a later moment
-abbrev pub lone_from : Moment → Moment → Lone
-lone_from from last = record { base = from.book.state; bound = last.book.state.serial }
 
 -- Events of a script from a moment on, when the disks showed x, and the end of the pool: the disks show it afterwards, and where the pool
 -- told its volume to hold an array, each of the volume's arrays is told by the last book. Outside the slices of drives no disk is written
@@ -153,16 +153,26 @@ pub record Lasts (Told Traced : Type 0) (x y : Seen) (g : Ground) (from : Moment
       → (f : Found) → IsRunOn f g from x → AreOnly f → HaveOwnAreas f
       → IsWholeRaid f.state.made final.book → ((n : ℕ) → n < f.state.made → is_over final.book n ≡ false)
       → (i : Image) → IsPick y y y.held i → HasWholeSectors y i → HoldAbsent f final.slices final.book.state i
-  -- So it is where lines replaced drives that were lost in the run, or that were absent (`AreLone`), by the pool with these drives, where ids differ and the
-  -- outset's other disks have none that it gives to drives later (`AreUngiven`).
+  -- So it is where lines replaced drives, by the pool with these drives, where ids differ and the outset's other disks have none that it gives to drives later
+  -- (`AreUngiven`); without disks that say nothing, as where their images are empty, which are to be those of all lines that were declined, unless one laid nothing
+  -- (`AreLone`).
   pub safe_by :
       Told → IsServed g final events → NoneRose last.faults final.faults
       → (f : Found) → IsRunOn f g from x → AreOnly f → AreUngiven f last.book.state.serial → HaveOwnAreas f → (any_takes events ≡ true → AreSerial f.state)
       → AreFit f from events last (steps_of (Traced × Told) y.stops g from a events last timeline)
-      → AreLone f (lone_from from last) from events last (steps_of (Traced × Told) y.stops g from a events last timeline)
+      → (out : List (List ℕ))
+      → AreLone f (record { bound = last.book.state.serial; out = out }) from events last (steps_of (Traced × Told) y.stops g from a events last timeline)
       → IsWholeRaid f.state.made final.book → ((n : ℕ) → n < f.state.made → is_over final.book n ≡ false)
-      → (i : Image) → IsPick y y y.held i → HasWholeSectors y i
-      → HoldAbsent (pool_by f from events last (steps_of (Traced × Told) y.stops g from a events last timeline)) final.slices final.book.state i
+      → (i j : Image) → IsPick y y y.held i
+      → LeaveOut (pool_by f from events last (steps_of (Traced × Told) y.stops g from a events last timeline)) (IsOut (record { bound = last.book.state.serial; out = out }) final.names) i j
+      → HasWholeSectors y j
+      → HoldAbsent (pool_by f from events last (steps_of (Traced × Told) y.stops g from a events last timeline)) final.slices final.book.state j
+  -- Then no other disk has the id of a drive that a line took in, while that comes to be one of the pool.
+  pub others :
+      Told → Traced → IsServed g final events → (f : Found) → IsRunOn f g from x → AreOnly f → AreUngiven f last.book.state.serial → (any_takes events ≡ true → AreSerial f.state)
+      → AreFit f from events last (steps_of (Traced × Told) y.stops g from a events last timeline)
+      → AreLone f (none_out last.book.state.serial) from events last (steps_of (Traced × Told) y.stops g from a events last timeline)
+      → HaveOthers y.stops f from events last (steps_of (Traced × Told) y.stops g from a events last timeline)
   pub again :
       Told → IsServed g final events → (f : Found) → IsRunOn f g from x → (any_takes events ≡ true → Traced × AreSerial f.state)
       → AreFit f from events last (steps_of (Traced × Told) y.stops g from a events last timeline)

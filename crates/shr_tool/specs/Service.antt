@@ -1,6 +1,7 @@
 -- The pool by which a run goes as lines take drives in, and what is to be known of the images that they name, by what these held before.
-use Rattle.std.specs.Prelude.{◌≡◌, ◌≢◌, ◌⊎◌, ℕ, ◌+◌, ◌<◌, false, true, if◌then◌else◌, List, [], ◌∷◌, length, slice_get, Option, Some, None, Ok, option_map, unwrap_or}
+use Rattle.std.specs.Prelude.{◌≡◌, ◌≢◌, ◌⊎◌, ℕ, ◌+◌, ◌<◌, false, true, if◌then◌else◌, List, [], ◌∷◌, length, slice_get, Option, Some, None, Ok, unwrap_or}
 use Rattle.std.specs.Option.{option_map_or}
+use Rattle.rack.specs.Seen.{Seen}
 use Rattle.rack.specs.Values.{MayLeave, Values}
 use Rattle.rack.specs.Shelf.{Waiting}
 use Rattle.slice_rack.specs.Slices.{IsOrderly, Slices, seat_of}
@@ -10,12 +11,10 @@ use Rattle.pool_state.specs.declared.contents.Plan.TheVariants.{Replace as Repla
 use Rattle.pool_state.specs.declared.contents.State.{State}
 use Rattle.pool_state.specs.Sector.{decoded}
 use Rattle.array_image.specs.Places.{state_sector, super_sector}
-use Rattle.array_image.specs.States.{is_current}
+use Rattle.array_image.specs.States.{id_of, is_current}
 use Rattle.array_image.specs.Supers.{super_of}
 use Rattle.lvm_group.specs.Runs.{sectors_in}
-use Rattle.raid_rack.specs.Book.{IsAfter}
 use Rattle.raid_rack.specs.Enlisting.{enlisted}
-use Rattle.raid_rack.specs.Since.{HoldsSince}
 use Rattle.pool_image.specs.Disks.{Disks, Identity, identities_of}
 use Rattle.pool_image.specs.Drives.{Found, first_of}
 use Rattle.pool_image.specs.Meaning.{is_member}
@@ -24,10 +23,10 @@ use Rattle.pool_model.specs.InService.{InService}
 use Rattle.pool_model.specs.Stopped.{HoldTables}
 use Rattle.pool_model.specs.Taken.{AreDistinct, AreSerial, LacksDrive, attached, taken}
 use Rattle.pool.specs.declared.replacing.GrowFault.{GrowFault}
-use Rattle.pool.specs.declared.replacing.GrowFault.TheVariants.{Attach, Gone, Memory}
+use Rattle.pool.specs.declared.replacing.GrowFault.TheVariants.{Gone}
 use Rattle.pool.specs.Moment.{IsImage, IsNamed, Moment}
 use Rattle.pool.specs.Replaced.{HasMarked}
-use Rattle.pool.specs.View.{View, book, slices_shown, spent_by}
+use Rattle.pool.specs.View.{View, book, spent_by}
 use Rattle.pool.specs.Volume.{is_spent, size_of}
 use Rattle.shr_tool.specs.Events.{Event, any_takes, looks_at}
 use Rattle.shr_tool.specs.Events.Event.{answered, spent, lost, last, replaced, declined, stepped, stuck, shown}
@@ -109,52 +108,40 @@ AreFit f p (event ∷ events) q steps = IsFitFor f p event × AreFit (pool_after
 
 -- ---- that it stands alone
 
--- How a pool stands alone: the base is the state with which the run began, or with which the last line ended that replaced a drive; and a serial before
--- which ids are given.
-pub record Lone : Type 0 where
-  pub base : State
-  pub bound : ℕ
-
--- after an event
-abbrev pub lone_after : Lone → Moment → Event → Lone
-lone_after l q (answered line) = l
-lone_after l q (spent line sector) = l
-lone_after l q (lost place) = l
-lone_after l q (last place) = l
-lone_after l q (replaced place name) = record l { base = q.book.state }
-lone_after l q (declined place name fault) = l
-lone_after l q (stepped count left) = l
-lone_after l q (stuck count array) = l
-lone_after l q (shown text) = l
-
--- after events in a row
-abbrev pub lone_by : Lone → (p : Moment) → (events : List Event) → (q : Moment) → Steps p events q → Lone
-lone_by l p [] q steps = l
-lone_by l p (event ∷ events) q steps = lone_by (lone_after l steps.0 event) steps.0 events q steps.1
-
 -- what a disk of so many sectors says
 abbrev pub said_by : (sectors : ℕ) → Contents → Identity
 said_by sectors contents = identities_of (record { count = 1; sectors = λ d. sectors }) (λ d. contents) 0
 
+-- How a pool stands alone: a serial before which ids are given, and the names of images that are left out.
+pub record Lone : Type 0 where
+  pub bound : ℕ
+  pub out : List (List ℕ)
+
+abbrev pub none_out : ℕ → Lone
+none_out bound = record { bound = bound; out = [] }
+
+-- a disk of one of these names, by the names of disks
+abbrev pub IsOut : Lone → (names : List (List ℕ)) → ℕ → Type 0
+IsOut l names d = (k : ℕ) × (name : List ℕ) × (slice_get l.out k ≡ Some name) × (slice_get names d ≡ Some name)
+
 -- A line was declined that laid nothing on the disk that it named: neither this disk nor the drive of another place was found gone in it. If the disk came
--- with the line it was attached, and it is a stranger to the pool by what its image said.
+-- with the line it is a stranger to the pool by what its image said.
 pub record LaysNothing (f : Found) (bound : ℕ) (p q : Moment) (name : List ℕ) (fault : GrowFault) : Type 0 where
   pub stayed : fault ≢ Gone
   pub unmarked : HasMarked p q → ⊥
-  pub attached : p.disks < q.disks → (fault ≢ Attach) × (fault ≢ Memory)
   pub stranger :
       ((d : ℕ) → IsNamed p name d → ⊥) → (w : Waiting) → p.ready name ≡ Some w
       → (c : Contents) → ((s : ℕ) → s < w.sectors → c s ≡ w.contents s) → IsStranger f bound (said_by w.sectors c)
 
--- What is to be known of a line so that a pool stands alone on its disks after it, where it did so before. A place whose drive is replaced was current by
--- the base, so that the drive was lost since, or had no disk, or the named one. A line that was declined laid nothing on a disk.
+-- What is to be known of a line so that a pool stands alone on its disks after it, where it did so before: of one that was declined the image is left out, or it
+-- laid nothing on its disk.
 abbrev pub IsLoneFor : Found → Lone → (p q : Moment) → Event → Type 0
 IsLoneFor f l p q (answered line) = Unit {0}
 IsLoneFor f l p q (spent line sector) = Unit {0}
 IsLoneFor f l p q (lost place) = Unit {0}
 IsLoneFor f l p q (last place) = Unit {0}
-IsLoneFor f l p q (replaced place name) = (d : ℕ) → f.seats place ≡ Some d → IsNamed p name d ⊎ (is_current l.base place ≡ true)
-IsLoneFor f l p q (declined place name fault) = looks_at fault ≡ true → LaysNothing f l.bound p q name fault
+IsLoneFor f l p q (replaced place name) = Unit {0}
+IsLoneFor f l p q (declined place name fault) = looks_at fault ≡ true → ((k : ℕ) × (slice_get l.out k ≡ Some name)) ⊎ LaysNothing f l.bound p q name fault
 IsLoneFor f l p q (stepped count left) = Unit {0}
 IsLoneFor f l p q (stuck count array) = Unit {0}
 IsLoneFor f l p q (shown text) = Unit {0}
@@ -162,8 +149,7 @@ IsLoneFor f l p q (shown text) = Unit {0}
 -- of lines in a row
 abbrev pub AreLone : Found → Lone → (p : Moment) → (events : List Event) → (q : Moment) → Steps p events q → Type 0
 AreLone f l p [] q steps = Unit {0}
-AreLone f l p (event ∷ events) q steps =
-    IsLoneFor f l p steps.0 event × AreLone (pool_after f p steps.0 event) (lone_after l steps.0 event) steps.0 events q steps.1
+AreLone f l p (event ∷ events) q steps = IsLoneFor f l p steps.0 event × AreLone (pool_after f p steps.0 event) l steps.0 events q steps.1
 
 -- The ids differ that a pool gives before its serial is `bound`, and disks that are no drives of it have none that it gives later.
 pub record AreUngiven (f : Found) (bound : ℕ) : Type 0 where
@@ -172,19 +158,24 @@ pub record AreUngiven (f : Found) (bound : ℕ) : Type 0 where
 
 -- ---- how a run goes by a pool
 
--- after an event, where it stands alone
-abbrev pub lone_then : Option Lone → Moment → Event → Option Lone
-lone_then lone q event = option_map (λ l. lone_after l q event) lone
+-- A copy is the own one of a place's drive: of a state of the pool, and it names this drive.
+pub record IsOwnCopy (s : State) (place : ℕ) (copy : Copied) : Type 0 where
+  pub pool : copy.state.pool ≡ s.pool
+  pub drive : id_of copy.state copy.own ≡ id_of s place
 
--- A pool stands alone on its disks, with the run's slices. Marks alone have come to its state until the base, and to that since. Where a sector of the
--- volume can be had, each place that was current by the base has its own copy of a state since.
+-- Whatever copy of a state a drive of the pool may be left with is its own, by the state s also where it is marked missing. But nothing is said of disks of `Out`
+-- whose drives are missing.
+abbrev pub HoldOwn : Found → (Out : ℕ → Type 0) → State → Seen → Type 0
+HoldOwn f Out s y =
+    (p d : ℕ) (u : List ℕ) (copy : Copied) → f.seats p ≡ Some d → (is_current s p ≡ true) ⊎ (Out d → ⊥) → MayLeave (y.held d state_sector) u → decoded u ≡ Ok copy
+    → IsOwnCopy f.state p copy
+
+-- A pool stands alone on its disks: but for those that are left out none but its drives stands for a place of it, and none has an id that it gives before its
+-- serial is the bound. Where a sector of the volume can be had, its drives have their own copies.
 pub record StandsLone (l : Lone) (f : Found) (t : Slices) (x : View) : Type 0 where
-  pub alone : HoldAlone f l.bound t x.bay
-  pub slices : x.slices ≡ t
+  pub alone : HoldAlone f l.bound (IsOut l x.shelf.names) (book x).state t x.bay
   pub distinct : AreDistinct f.state.pool.0 l.bound
-  pub after : IsAfter f.state l.base
-  pub before : IsAfter l.base (book x).state
-  pub since : (s : ℕ) → s < size_of x → is_spent x s ≡ false → HoldsSince l.base (slices_shown x)
+  pub own : (s : ℕ) → s < size_of x → is_spent x s ≡ false → HoldOwn f (IsOut l x.shelf.names) (book x).state x.bay
 
 -- A pool by which a run goes: its slices are those of the run, unless a place whose drive is missing has given its disk up since. The run's slices don't
 -- overlap. Where `Landing` holds the partition tables of the pool's drives have the members' slices, whatever the disks may be left with outside them, and

@@ -18,8 +18,8 @@ use Rattle.shr_tool.specs.Events.{AnyTakes, Event, answer_of, any_takes, array_b
 use Rattle.pool.specs.Moment.{moment_of}
 use Rattle.shr_tool.specs.Timeline.{Timeline, Performs, Steps, ground_of, steps_of}
 use Rattle.shr_tool.specs.Heads.{KeepsHeads}
-use Rattle.shr_tool.specs.Service.{AreFit, AreLone, GoesBy, GoesOn, IsServed, Lone, lone_by, pool_by}
-use Rattle.shr_tool.specs.Between.{HoldsEach}
+use Rattle.shr_tool.specs.Service.{AreFit, AreLone, GoesBy, GoesOn, IsServed, Lone, none_out, pool_by}
+use Rattle.shr_tool.specs.Between.{HaveOthers, HoldsEach}
 use Rattle.assembler.specs.Sound.{TargetsLand}
 use Rattle.pool_image.specs.Drives.{Found}
 use Rattle.pool_model.specs.Taken.{AreSerial}
@@ -98,7 +98,12 @@ pub record Ran (x y : View) (events : List Event) : Type 0 where
       (a : FlatArray) → Holds x a → IsServed (ground_of x) (moment_of y) events → (f : Found) → (l : Lone) → GoesBy (TargetsLand f) (Some l) f x
       → (book y).state.serial ≤ l.bound → (any_takes events ≡ true → AreSerial f.state) → AreFit f (moment_of x) events (moment_of y) steps
       → AreLone f l (moment_of x) events (moment_of y) steps
-      → GoesOn (TargetsLand f) (Some (lone_by l (moment_of x) events (moment_of y) steps)) f (pool_by f (moment_of x) events (moment_of y) steps) y
+      → GoesOn (TargetsLand f) (Some l) f (pool_by f (moment_of x) events (moment_of y) steps) y
+  -- then, where none is left out, no other disk has the id of a drive that it took in, while that comes to be one of the pool
+  pub others :
+      (a : FlatArray) → Holds x a → x.bay.traced → IsServed (ground_of x) (moment_of y) events → (f : Found) → (bound : ℕ) → GoesBy (TargetsLand f) (Some (none_out bound)) f x
+      → (book y).state.serial ≤ bound → (any_takes events ≡ true → AreSerial f.state) → AreFit f (moment_of x) events (moment_of y) steps
+      → AreLone f (none_out bound) (moment_of x) events (moment_of y) steps → HaveOthers y.bay.stops f (moment_of x) events (moment_of y) steps
   pub heads : x.shelf.told → ((d : ℕ) → d < x.bay.disks → x.bay.told d) → KeepsHeads (book x) (book y) (slices_shown x) (slices_shown y)
   -- what a stop between two of them or inside one leaves holds that pool again
   pub between :

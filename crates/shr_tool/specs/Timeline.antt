@@ -1,5 +1,5 @@
 -- A run as a list of events at moments that never fall.
-use Rattle.std.specs.Prelude.{◌≡◌, ◌⊎◌, ℕ, ◌+◌, ◌*◌, ◌<◌, ◌≤◌, min, true, false, List, [], ◌∷◌, None, Ok, Err}
+use Rattle.std.specs.Prelude.{◌≡◌, ◌⊎◌, ℕ, ◌+◌, ◌*◌, ◌<◌, ◌≤◌, min, true, false, List, [], ◌∷◌, Some, None, Ok, Err}
 use Rattle.rack.specs.Seen.{Image, Rose}
 use Rattle.rack.specs.Values.{Keeps}
 use Rattle.shr_script.specs.declared.Command.TheVariants.{Lose}
@@ -8,7 +8,7 @@ use Rattle.array_image.specs.Places.{log_slice}
 use Rattle.array_image.specs.States.{is_current}
 use Rattle.slice_rack.specs.Changes.{Seats}
 use Rattle.slice_rack.specs.Runs.{IsSliced}
-use Rattle.slice_rack.specs.Slices.{Slices, disk_of}
+use Rattle.slice_rack.specs.Slices.{Slices, disk_of, seat_of}
 use Rattle.lvm_group.specs.Runs.{Linear, sectors_in}
 use Rattle.raid_rack.specs.Book.{IsAfter}
 use Rattle.raid_rack.specs.Moves.{RaisesBy}
@@ -20,7 +20,7 @@ use Rattle.pool.specs.Moment.{IsNamed, Moment, moment_of}
 use Rattle.pool.specs.Continuing.{Continues, KeepsOutside}
 use Rattle.pool.specs.Entering.{StaysStill}
 use Rattle.pool.specs.Naming.{EntersNamed, LeavesNamed}
-use Rattle.pool.specs.Replaced.{ChangesDrive, HasGrowCause, HasTable, IsDeclined, IsReplaced, LeavesNew, TakesImage}
+use Rattle.pool.specs.Replaced.{ChangesDrive, DriveWentFrom, HasGrowCause, HasTable, IsDeclined, IsReplaced, LeavesNew, TakesImage, is_vacant}
 use Rattle.pool.specs.View.{View, book, contents_in, spent_by}
 use Rattle.pool.specs.Works.{HasRowsAlone, IsStuck, left_by}
 use Rattle.pool.specs.Volume.{Holds, Means, PicksLive}
@@ -107,6 +107,11 @@ pub record KeepsDisks (p q : Moment) : Type 0 where
       (name : List ℕ)
       → (q.ready name ≡ p.ready name) ⊎ ((q.ready name ≡ None) × ((d : ℕ) × (p.disks ≤ d) × IsNamed q name d))
 
+-- A drive that is marked missing isn't written again: the disk of its place keeps what it holds, unless it is one of these.
+abbrev pub KeepsMissing : Moment → Moment → (ℕ → Type 0) → Type 0
+KeepsMissing p q named =
+    (place d s : ℕ) → is_vacant p.book.state place ≡ true → seat_of p.slices place ≡ Some d → (named d → ⊥) → s < p.sectors d → Keeps (p.held d s) (q.held d s)
+
 -- no disk is attached, and the slices of drives stay where they lie
 pub record KeepsSlices (p q : Moment) : Type 0 where
   pub slices : q.slices ≡ p.slices
@@ -118,11 +123,12 @@ abbrev pub MeansWithout : Ground → Moment → Moment → ℕ → FlatArray →
 MeansWithout g p q place a disks =
     (t : Slices) × Seats p.slices t place None × PicksLive (spent_by g.linear q.book) a (contents_in t g.linear disks)
 
--- Contents mean it by the slices of a pool of which a drive is to be replaced: as they lay, where it wasn't missing, or without the place's disk, where it was, or was
--- found gone.
+-- Contents mean it by the slices of a pool of which a drive is to be replaced: as they lay, where it wasn't missing, or without the place's disk, where it was, or its
+-- disk refused a call.
 abbrev pub MeansFormer : Ground → Moment → Moment → ℕ → FlatArray → Image → Type 0
 MeansFormer g p q place a disks =
-    ((is_current p.book.state place ≡ true) × PicksLive (spent_by g.linear q.book) a (contents_in p.slices g.linear disks)) ⊎ MeansWithout g p q place a disks
+    ((is_current p.book.state place ≡ true) × PicksLive (spent_by g.linear q.book) a (contents_in p.slices g.linear disks))
+    ⊎ (((is_current p.book.state place ≡ false) ⊎ DriveWentFrom p q place) × MeansWithout g p q place a disks)
 
 -- contents mean an array as before an event
 abbrev pub MeansBefore : Ground → Moment → Moment → Event → FlatArray → Image → Type 0
@@ -161,6 +167,8 @@ pub record Happens (Traced : Type 0) (stops : ℕ → Image → Type 0) (g : Gro
       Traced → (d s : ℕ) → d < p.disks → s < p.sectors d → (Takes q.names event d → ⊥) → ((v : List ℕ) → IsSliced p.slices d s v → ⊥)
       → Keeps (p.held d s) (q.held d s)
   pub named : Traced → takes_disk event ≡ true → KeepsNamed g p q event
+  -- a drive that is marked missing isn't written again, unless the line names its disk
+  pub missing : Traced → KeepsMissing p q (Takes q.names event)
   pub slices : takes_disk event ≡ false → KeepsSlices p q
   pub marks : takes_disk event ≡ false → MarksFor p q event
   pub stands : KeepsStanding (KeepsBookIn event) (calls_in (line_of event)) p q

@@ -166,3 +166,25 @@ fn a_stop_while_a_drive_gives_way_loses_nothing(rt: HostRuntime) -> Result<(), F
     }
     Ok(())
 }
+
+// It has superblocks, a state and rows of the pool from the time when it had the place.
+#[test]
+fn a_former_drive_is_taken_in_again(rt: HostRuntime) -> Result<(), Fail> {
+    let alloc = rt.alloc();
+    let mut bay = made_beside(&rt, alloc, b"fill 0 2560 5a\nquit\n")?;
+    let script = b"replace 1 D\nstep 27\nquit\n";
+    let ran = serve_on(&rt, alloc, &mut bay, &["A", "B", "C"], script)?;
+    assert_eq!(rt; ran.put.as_slice(), b"ok\nleft 0\n".as_slice());
+    assert_eq!(rt; ran.status, 0);
+    let mut next = now_of(&rt, alloc, &bay)?;
+    let script = b"fill 128 127 a5\nreplace 1 B\nfill 255 1 a5\nstep 27\nquit\n";
+    let ran = serve_on(&rt, alloc, &mut next, &["A", "D", "C"], script)?;
+    assert_eq!(rt; ran.put.as_slice(), b"ok\nok\nok\nleft 0\n".as_slice());
+    assert_eq!(rt; ran.status, 0);
+    all_but_one_serve(
+        &rt,
+        alloc,
+        &next,
+        [&["A", "B", "C"], &["B", "C"], &["A", "C"], &["A", "B"]],
+    )
+}

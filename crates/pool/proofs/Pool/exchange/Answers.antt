@@ -7,7 +7,7 @@ use Rattle.slice_rack.specs.Slices.{seat_of}
 use Rattle.slice_rack.specs.SliceRack.{below_of, tables}
 use Rattle.pool_state.specs.declared.contents.Plan.TheVariants.{Replace}
 use Rattle.raid_rack.specs.declared.arrays.Arrays.{Arrays}
-use Rattle.raid_rack.specs.Enlisting.{Enlists, IsNotWhole, IsRefused}
+use Rattle.raid_rack.specs.Enlisting.{Enlists, IsNotWhole, IsRefused, new_table}
 use Rattle.raid_rack.specs.NewDrive.{ReachesAll, SeatsDrive, reaches_all}
 use Rattle.raid_rack.specs.RaidRack.{IsFit, arrays_in, arrays_of as arrays_by_number, raid_in, refused_in, slices_in, slices_seen}
 use Rattle.pool.specs.declared.replacing.GrowFault.TheVariants.{Gone, NotWhole}
@@ -83,7 +83,7 @@ returns-in-Err-Gone-clause-takes g c =
     let is = c.in-Err-Gone.ensures in
     let kept = is.kept (ap Err c.in-Err-Gone.field-0-is) ∙ ap arrays_in same in
     let tables_now : tables (slices_in two) ≡ x.slices = is.tables ∙ ap (λ r. tables (slices_in r)) same in
-    let gone = subst (λ r. IsRefused (tables (slices_in r)) c.args.disk (raid_in r) (seen (below_of (slices_in r))) b) same (is.gone (ap Err c.in-Err-Gone.field-0-is)) in
+    let gone = subst (λ r. IsRefused (tables (slices_in r)) c.args.disk (new_table (raid_in r).state (arrays_by_number r) c.args.place ((seen (below_of (slices_in r))).sectors c.args.disk)) (raid_in r) (seen (below_of (slices_in r))) b) same (is.gone (ap Err c.in-Err-Gone.field-0-is)) in
     let after = subst (λ (a : Arrays). IsFit a (slices_of x.slices b)) kept (subst (λ k. IsFit (arrays_in two) (slices_of k b)) tables_now c.enlist.ensures.fit) in
     subst (λ f. TakesBy x (record { bays = x.bays; bay = b; shelf = s; slices = tables (slices_in two); arrays = arrays_in two; refused = f; linear = x.linear }) c.args.place c.args.disk (Err Gone))
     (sym refused)
@@ -107,7 +107,7 @@ returns-in-Err-NotWhole-clause-takes g c =
     let refused : refused_in two ≡ x.refused = λ i n. (c.enlist.ensures.refused n ∙ ap (λ r. refused_in r n) same) i in
     let is = c.in-Err-NotWhole.ensures in
     let tables_now : tables (slices_in two) ≡ x.slices = is.tables ∙ ap (λ r. tables (slices_in r)) same in
-    let lost = subst (λ r. IsNotWhole (tables (slices_in r)) c.args.disk (raid_in r) (raid_in two) (seen (below_of (slices_in r))) b) same (is.not_whole (ap Err c.in-Err-NotWhole.field-0-is)) in
+    let lost = subst (λ r. IsNotWhole (tables (slices_in r)) c.args.disk (new_table (raid_in r).state (arrays_by_number r) c.args.place ((seen (below_of (slices_in r))).sectors c.args.disk)) (raid_in r) (raid_in two) (seen (below_of (slices_in r))) b) same (is.not_whole (ap Err c.in-Err-NotWhole.field-0-is)) in
     let after = subst (λ k. IsFit (arrays_in two) (slices_of k b)) tables_now c.enlist.ensures.fit in
     subst (λ f. TakesBy x (record { bays = x.bays; bay = b; shelf = s; slices = tables (slices_in two); arrays = arrays_in two; refused = f; linear = x.linear }) c.args.place c.args.disk (Err NotWhole))
     (sym refused)

@@ -1,7 +1,8 @@
 -- Each sector is read and put, up to the first that is refused.
 use Rattle.std.proofs.Common.{Err, ◌<◌, ◌∙◌, ap, sym, subst, arith}
 use Rattle.std.proofs.lemmas.List.{append-nil}
-use Rattle.pool.specs.View.{bay_in}
+use Rattle.raid_rack.specs.RaidRack.{slices_in}
+use Rattle.pool.specs.View.{arrays_of, bay_in}
 use Rattle.shr_tool.proofs.History.{ran_none}
 use Rattle.shr_tool.proofs.Exported.{prefix_more, put_more, ran_read, ran_spent, value_read}
 use Rattle.pool.proofs.Keeping.{passes_same, passes_then}
@@ -19,7 +20,7 @@ returns-in-Err-Spent-clause-puts g c =
     let before = c.loop-sector.invariant in (
       c.loop-sector.sector,
       subst (λ n. c.loop-sector.sector < n) c.size-size.ensures.size c.loop-sector-test.true,
-      ran_spent _ _ _ _ _ _ (c.in-Err-Spent.is ∙ ap Err c.in-Err-Spent.field-0-is) (g.met.R.Bay.unspent (bay_in c.read.new.self), g.met.R.Rack.sound (bay_in c.read.new.self)) before.ran c.read.ensures.read,
+      ran_spent _ _ _ _ _ _ (c.in-Err-Spent.is ∙ ap Err c.in-Err-Spent.field-0-is) (g.met.R.Bay.unspent (bay_in c.read.new.self), g.met.R.Rack.sound (bay_in c.read.new.self), (slices_in (arrays_of c.read.new.self)).orderly) before.ran c.read.ensures.read,
       before.put sink,
     )
 
@@ -35,7 +36,7 @@ returns-in-Err-clause-puts g c =
     let before = c.loop-sector.invariant in (
       c.loop-sector.sector,
       subst (λ n. c.loop-sector.sector < n) c.size-size.ensures.size c.loop-sector-test.true,
-      ran_read _ _ _ _ _ _ c.in-Ok.is (g.met.R.Bay.unspent (bay_in c.read.new.self), g.met.R.Rack.sound (bay_in c.read.new.self)) before.ran c.read.ensures.read,
+      ran_read _ _ _ _ _ _ c.in-Ok.is (g.met.R.Bay.unspent (bay_in c.read.new.self), g.met.R.Rack.sound (bay_in c.read.new.self), (slices_in (arrays_of c.read.new.self)).orderly) before.ran c.read.ensures.read,
       λ a holds.
           prefix_more a _ _ _ _ _ (value_read _ _ _ _ _ _ a c.in-Ok.is before.ran c.read.ensures.read holds) (before.put sink a holds)
           (c.in-Err.ensures.prefix (before.told sink)),
@@ -46,7 +47,7 @@ loop-sector-init g c = record {
   until = omega arith;
   runs = g.met.R.Rack.runs_same (bay_in c.args.pool.now);
   passes = passes_same _ c.requires;
-  ran = ran_none _ c.requires (g.met.R.Bay.unspent (bay_in c.args.pool.now), g.met.R.Rack.sound (bay_in c.args.pool.now));
+  ran = ran_none _ c.requires (g.met.R.Bay.unspent (bay_in c.args.pool.now), g.met.R.Rack.sound (bay_in c.args.pool.now), (slices_in (arrays_of c.args.pool.now)).orderly);
   sink = omega arith;
   told = λ sink. sink;
   put = λ sink a holds. sym (append-nil (g.O.Sink.taken c.args.out.now));
@@ -59,7 +60,7 @@ loop-sector-preserved g c =
       until = let inside = c.loop-sector-test.true in omega arith;
       runs = g.met.R.Rack.runs_then _ _ _ before.runs c.read.ensures.runs;
       passes = passes_then _ _ _ before.passes c.read.ensures.read.passes;
-      ran = ran_read _ _ _ _ _ _ c.in-Ok.is (g.met.R.Bay.unspent (bay_in c.read.new.self), g.met.R.Rack.sound (bay_in c.read.new.self)) before.ran c.read.ensures.read;
+      ran = ran_read _ _ _ _ _ _ c.in-Ok.is (g.met.R.Bay.unspent (bay_in c.read.new.self), g.met.R.Rack.sound (bay_in c.read.new.self), (slices_in (arrays_of c.read.new.self)).orderly) before.ran c.read.ensures.read;
       sink = let old = before.sink in let now = c.put.ensures.faults in omega arith;
       told = λ sink. c.put.ensures.told (before.told sink);
       put =

@@ -1,5 +1,6 @@
 -- What was written, once the pool was ended.
-use Rattle.pool.specs.View.{bay_in, view}
+use Rattle.raid_rack.specs.RaidRack.{slices_in}
+use Rattle.pool.specs.View.{arrays_of, bay_in, view}
 use Rattle.shr_tool.proofs.Imported.{import_outcome}
 use Rattle.pool.proofs.Keeping.{passes_then}
 use Rattle.shr_tool.proofs.importing.import_pool.Goals as goal
@@ -14,7 +15,7 @@ pub returns-clause-outcome : goal.returns-clause-outcome
 returns-clause-outcome g c =
     λ source sink a.
     import_outcome _ _ (view g.R.Rack.seen g.R.Bay.shelf c.end.new.self) a _ _ _ _ c.write_pieces-written.result c.say_written.result
-    (g.met.R.Bay.unspent (bay_in c.end.new.self))
+    (g.met.R.Bay.unspent (bay_in c.end.new.self), g.met.R.Rack.sound (bay_in c.end.new.self), (slices_in (arrays_of c.end.new.self)).orderly)
     (c.write_pieces-written.ensures.imports source)
     c.end.ensures.ended
     (c.say_written.ensures.says sink)

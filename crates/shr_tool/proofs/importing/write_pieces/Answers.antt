@@ -1,6 +1,7 @@
 -- Each piece is taken and written, up to the end of the input or of the volume.
 use Rattle.std.proofs.Common.{◌≡◌, ◌*◌, ◌<◌, Err, refl, sym, ◌∙◌, ap, subst, arith}
-use Rattle.pool.specs.View.{bay_in}
+use Rattle.raid_rack.specs.RaidRack.{slices_in}
+use Rattle.pool.specs.View.{arrays_of, bay_in}
 use Rattle.shr_tool.proofs.History.{ran_none}
 use Rattle.shr_tool.proofs.Imported.{ended_before, ended_in, ended_with, failed_behind, failed_in, goes_on, has_taken, spent_at, written_more}
 use Rattle.pool.proofs.Keeping.{passes_same, passes_then}
@@ -38,7 +39,7 @@ returns-in-Err-Spent-clause-imports g c =
     let before = c.loop-sector.invariant in
     let has = before.written source in
     let took = has_taken _ _ _ _ _ _ _ c.in-Ok.is has.rest_is (c.take_sector.ensures.taken (before.told source)) in
-    spent_at _ _ _ _ _ _ _ _ _ _ (c.in-Err-Spent.is ∙ ap Err c.in-Err-Spent.field-0-is) (g.met.R.Bay.unspent (bay_in c.write.new.self), g.met.R.Rack.sound (bay_in c.write.new.self)) has took
+    spent_at _ _ _ _ _ _ _ _ _ _ (c.in-Err-Spent.is ∙ ap Err c.in-Err-Spent.field-0-is) (g.met.R.Bay.unspent (bay_in c.write.new.self), g.met.R.Rack.sound (bay_in c.write.new.self), (slices_in (arrays_of c.write.new.self)).orderly) has took
     (subst (λ n. c.loop-sector.sector < n) c.size-size.ensures.size c.loop-sector-test.true)
     (let some = c.if-count-eq0.false in omega arith)
     c.write.ensures.written
@@ -55,7 +56,7 @@ returns-then-count-lt-SECTOR-clause-imports g c =
     let before = c.loop-sector.invariant in
     let has = before.written source in
     let took = has_taken _ _ _ _ _ _ _ c.in-Ok.is has.rest_is (c.take_sector.ensures.taken (before.told source)) in
-    ended_in _ _ _ _ _ _ _ _ _ _ _ c.in-Ok-write.is (g.met.R.Bay.unspent (bay_in c.write.new.self), g.met.R.Rack.sound (bay_in c.write.new.self)) has took
+    ended_in _ _ _ _ _ _ _ _ _ _ _ c.in-Ok-write.is (g.met.R.Bay.unspent (bay_in c.write.new.self), g.met.R.Rack.sound (bay_in c.write.new.self), (slices_in (arrays_of c.write.new.self)).orderly) has took
     (subst (λ n. c.loop-sector.sector < n) c.size-size.ensures.size c.loop-sector-test.true)
     (let some = c.if-count-eq0.false in omega arith)
     c.if-count-lt-SECTOR.true
@@ -70,7 +71,7 @@ loop-sector-init g c = record {
   passes = passes_same _ c.requires;
   source = omega arith;
   told = λ source. source;
-  written = λ source. record { ran = ran_none _ c.requires (g.met.R.Bay.unspent (bay_in c.args.pool.now), g.met.R.Rack.sound (bay_in c.args.pool.now)); rest_is = refl; some = omega arith };
+  written = λ source. record { ran = ran_none _ c.requires (g.met.R.Bay.unspent (bay_in c.args.pool.now), g.met.R.Rack.sound (bay_in c.args.pool.now), (slices_in (arrays_of c.args.pool.now)).orderly); rest_is = refl; some = omega arith };
 }
 
 pub loop-sector-preserved : goal.loop-sector-preserved
@@ -87,7 +88,7 @@ loop-sector-preserved g c =
           λ source.
           let has = before.written source in
           let took = has_taken _ _ _ _ _ _ _ c.in-Ok.is has.rest_is (c.take_sector.ensures.taken (before.told source)) in
-          written_more _ _ _ _ _ _ _ _ _ _ c.in-Ok-write.is (g.met.R.Bay.unspent (bay_in c.write.new.self), g.met.R.Rack.sound (bay_in c.write.new.self)) has took c.if-count-lt-SECTOR.false c.write.ensures.written;
+          written_more _ _ _ _ _ _ _ _ _ _ c.in-Ok-write.is (g.met.R.Bay.unspent (bay_in c.write.new.self), g.met.R.Rack.sound (bay_in c.write.new.self), (slices_in (arrays_of c.write.new.self)).orderly) has took c.if-count-lt-SECTOR.false c.write.ensures.written;
     }
 
 pub returns-in-Ok-eq0-clause-imports : goal.returns-in-Ok-eq0-clause-imports

@@ -3,7 +3,8 @@ use Rattle.std.proofs.Common.{◌≡◌, ◌++◌, ◌^◌, refl, ◌∙◌, ap,
 use Rattle.shr_script.specs.Line.{line_of}
 use Rattle.shr_script.specs.Script.{without_return}
 use Rattle.shr_script.specs.LongLines.{line_of-kept}
-use Rattle.pool.specs.View.{bay_in, view}
+use Rattle.raid_rack.specs.RaidRack.{slices_in}
+use Rattle.pool.specs.View.{arrays_of, bay_in, view}
 use Rattle.pool.proofs.Continuing.{continues_same, continues_then}
 use Rattle.shr_tool.proofs.History.{history_none}
 use Rattle.shr_tool.proofs.Limits.{passed_none, passed_line, part_within, line_within, most_over}
@@ -26,7 +27,7 @@ lines-init g c =
           passed_none _ _ _ (ap (λ xs. xs ++ left) c.new-reader.ensures.pending) c.new-reader.ensures.consumed;
       history =
           λ source sink.
-          history_none _ _ _ _ _ c.requires (g.met.R.Bay.unspent (bay_in c.args.pool.now), g.met.R.Rack.sound (bay_in c.args.pool.now)) (ap (λ xs. xs ++ left) c.new-reader.ensures.pending) c.new-reader.ensures.consumed;
+          history_none _ _ _ _ _ c.requires (g.met.R.Bay.unspent (bay_in c.args.pool.now), g.met.R.Rack.sound (bay_in c.args.pool.now), (slices_in (arrays_of c.args.pool.now)).orderly) (ap (λ xs. xs ++ left) c.new-reader.ensures.pending) c.new-reader.ensures.consumed;
     }
 
 pub returns-in-Fault-clause-serves : goal.returns-in-Fault-clause-serves
@@ -53,7 +54,7 @@ returns-in-Input-clause-serves g c =
     let r = c.in-Input.ensures.read (c.lines.invariant.source_told source) in
     let is : line_of (without_return c.line.result.now) ≡ line_of (without_return r.part.bytes) =
     ap (λ xs. line_of (without_return xs)) (c.line.ensures ∙ r.part.kept) ∙ line_of-kept r.part.bytes in
-    last_answered (view g.R.Rack.seen g.R.Bay.shelf) (λ r. (g.met.R.Bay.unspent (bay_in r), g.met.R.Rack.sound (bay_in r))) _ _ _ _ _ _ _ _ _ _ h.events _ _ h.answered
+    last_answered (view g.R.Rack.seen g.R.Bay.shelf) (λ r. (g.met.R.Bay.unspent (bay_in r), g.met.R.Rack.sound (bay_in r), (slices_in (arrays_of r)).orderly)) _ _ _ _ _ _ _ _ _ _ h.events _ _ h.answered
     (last_script _ _ _ _ _ _ _ _ _ _ _ h r _ is)
     h.worst_is
     (last_length _ _ _ _ _ _ _ _ _ _ _ h r (let within = c.next.ensures.within (λ same. cc) in omega arith))
@@ -84,7 +85,7 @@ lines-preserved g c =
           let is : line_of (without_return c.line-in-lines.result.now) ≡ line_of (without_return r.part.bytes) =
           ap (λ xs. line_of (without_return xs)) (c.line-in-lines.ensures ∙ r.part.kept)
           ∙ line_of-kept r.part.bytes in
-          line_answered (view g.R.Rack.seen g.R.Bay.shelf) (λ r. (g.met.R.Bay.unspent (bay_in r), g.met.R.Rack.sound (bay_in r))) _ _ _ _ _ _ _ _ _ _ _ _ _ _ _ _ h r is
+          line_answered (view g.R.Rack.seen g.R.Bay.shelf) (λ r. (g.met.R.Bay.unspent (bay_in r), g.met.R.Rack.sound (bay_in r), (slices_in (arrays_of r)).orderly)) _ _ _ _ _ _ _ _ _ _ _ _ _ _ _ _ h r is
           c.worse-worst.ensures
           (c.in-Ok.ensures.answers (before.sink_told sink));
     }
@@ -98,7 +99,7 @@ returns-in-Err-clause-serves g c =
     ap (λ xs. line_of (without_return xs)) (c.line-in-lines.ensures ∙ r.part.kept)
     ∙ line_of-kept r.part.bytes in
     serves_as _ _ _ _ _ _ _ _ _ _ c.stop_at-in-Err.ensures.cause c.stop_at-in-Err.ensures.worst
-    (line_stopped (view g.R.Rack.seen g.R.Bay.shelf) (λ r. (g.met.R.Bay.unspent (bay_in r), g.met.R.Rack.sound (bay_in r))) _ _ _ _ _ _ _ _ _ h.events _ _ c.in-Err.cause h.answered
+    (line_stopped (view g.R.Rack.seen g.R.Bay.shelf) (λ r. (g.met.R.Bay.unspent (bay_in r), g.met.R.Rack.sound (bay_in r), (slices_in (arrays_of r)).orderly)) _ _ _ _ _ _ _ _ _ h.events _ _ c.in-Err.cause h.answered
     (line_script _ _ _ _ _ _ _ _ _ _ _ h r _ is)
     h.worst_is
     (c.in-Err.ensures.answers (c.lines.invariant.sink_told sink)))

@@ -20,7 +20,7 @@ use Rattle.array_image.specs.States.{is_current}
 use Rattle.slice_rack.specs.Runs.{IsSliced, inside_still}
 use Rattle.slice_rack.specs.Slices.{Slices}
 use Rattle.shr_base.specs.declared.Id.{Id}
-use Rattle.raid_rack.specs.Enlisting.{Enlists, FindsEach, HasLost, HasNewSlices, IsEnlisted, JoinsEach, SettlesWhole, next_drive, with_drive}
+use Rattle.raid_rack.specs.Enlisting.{Enlists, FindsEach, HasLost, HasNewSlices, IsEnlisted, JoinsEach, SettlesWhole, new_table, next_drive, with_drive}
 use Rattle.raid_rack.specs.Moves.{IsSet, Mends}
 use Rattle.raid_rack.specs.NewDrive.{IsOfDrive, LaysDrive, ReachesAll, SeatsDrive, drive_table, joins}
 use Rattle.raid_rack.specs.RaidRack.{IsFit, IsRunning, raid_by, slices_in}
@@ -33,6 +33,15 @@ use Rattle.raid_rack.proofs.EnlistAll.{enlists, seats}
 use Rattle.raid_rack.proofs.arrays.RaidRack.enlist.Given.{Over}
 use Rattle.raid_rack.proofs.arrays.RaidRack.enlist.Goals as goal
 use Rattle.raid_rack.proofs.arrays.RaidRack.enlist.Goals.{After-retire}
+
+-- the table that is laid is that of the pool's next drive
+table_next : (r : Arrays) (vs : List View) (place sectors size : ℕ) (drive : Id) (table : Table) → vs ≡ r.all.items → sectors ≡ size → drive ≡ next_drive r.state
+    → table ≡ drive_table drive.0 vs place sectors (length vs) → table ≡ new_table r.state r.all.items place size
+table_next r vs place sectors size drive table same sectors_is drive_is is =
+    is
+    ∙ ap (λ (e : Id). drive_table e.0 vs place sectors (length vs)) drive_is
+    ∙ ap (λ k. drive_table (next_drive r.state).0 vs place k (length vs)) sectors_is
+    ∙ ap (λ ws. drive_table (next_drive r.state).0 ws place size (length ws)) same
 
 pub lay_drive-requires-clause-writable : goal.lay_drive-requires-clause-writable
 lay_drive-requires-clause-writable g c =
@@ -54,11 +63,13 @@ returns-in-Err-clause-gone g c is =
     let disk = c.args.disk in
     let a = g.R.Rack.seen (below_of (slices_in c.args.self.now)) in
     let b = g.R.Rack.seen c.lay_drive.new.rack in
-    let size : c.table_of-table.result.sectors ≡ a.sectors disk =
-    ap (λ (e : Table). e.sectors) c.table_of-table.ensures ∙ c.sectors-sectors.ensures.number ∙ ap (λ r. (g.R.Rack.seen r).sectors disk) c.below.ensures in
-    refused_lay (tables (slices_in c.args.self.now)) disk c.args.self.now.arrays a b c.args.self.now.slices.orderly c.requires.free c.requires.fit
-    (subst (λ n. WritesOnly a b (IsOfDrive disk n)) size
-    (subst (λ r. WritesOnly (g.R.Rack.seen r) b (IsOfDrive disk c.table_of-table.result.sectors)) c.inner.ensures.value c.lay_drive.ensures.lays.only))
+    let table : Table = new_table c.args.self.now.arrays.state c.args.self.now.arrays.all.items c.args.place (a.sectors disk) in
+    let same : c.table_of-table.result ≡ table =
+    table_next c.args.self.now.arrays c.as_slice.result.now c.args.place c.sectors-sectors.result (a.sectors disk) c.next_drive-drive.result c.table_of-table.result c.as_slice.ensures.value
+    (c.sectors-sectors.ensures.number ∙ ap (λ r. (g.R.Rack.seen r).sectors disk) c.below.ensures) c.next_drive-drive.ensures c.table_of-table.ensures in
+    refused_lay (tables (slices_in c.args.self.now)) disk table c.args.self.now.arrays a b c.args.self.now.slices.orderly c.requires.free c.requires.fit
+    (subst (λ (e : Table). WritesOnly a b (IsOfDrive disk e)) same
+    (subst (λ r. WritesOnly (g.R.Rack.seen r) b (IsOfDrive disk c.table_of-table.result)) c.inner.ensures.value c.lay_drive.ensures.lays.only))
     (subst (λ r. Rose ((g.R.Rack.seen r).faults disk) (b.faults disk)) c.inner.ensures.value c.in-Err.ensures.lays.gone.1)
 
 pub settle_whole-requires-clause-running : goal.settle_whole-requires-clause-running
@@ -85,14 +96,17 @@ returns-then-not-settle_whole-clause-not_whole g c is =
     let a = g.R.Rack.seen (below_of (slices_in c.args.self.now)) in
     let m = g.R.Rack.seen c.lay_drive.new.rack in
     let b = g.R.Rack.seen (below_of c.settle_whole.new.rack) in
-    let laid : WritesOnly a m (IsOfDrive disk c.table_of-table.result.sectors) =
-    subst (λ r. WritesOnly (g.R.Rack.seen r) m (IsOfDrive disk c.table_of-table.result.sectors)) c.inner.ensures.value c.lay_drive.ensures.lays.only in
-    let size : c.table_of-table.result.sectors ≡ a.sectors disk =
-    ap (λ (e : Table). e.sectors) c.table_of-table.ensures ∙ c.sectors-sectors.ensures.number ∙ ap (λ r. (g.R.Rack.seen r).sectors disk) c.below.ensures in
+    let laid : WritesOnly a m (IsOfDrive disk c.table_of-table.result) =
+    subst (λ r. WritesOnly (g.R.Rack.seen r) m (IsOfDrive disk c.table_of-table.result)) c.inner.ensures.value c.lay_drive.ensures.lays.only in
+    let table : Table = new_table c.args.self.now.arrays.state c.args.self.now.arrays.all.items c.args.place (a.sectors disk) in
+    let same_table : c.table_of-table.result ≡ table =
+    table_next c.args.self.now.arrays c.as_slice.result.now c.args.place c.sectors-sectors.result (a.sectors disk) c.next_drive-drive.result c.table_of-table.result c.as_slice.ensures.value
+    (c.sectors-sectors.ensures.number ∙ ap (λ r. (g.R.Rack.seen r).sectors disk) c.below.ensures) c.next_drive-drive.ensures c.table_of-table.ensures in
     let same = c.settle_whole.ensures.runs.tables in
     let q = c.settle_whole.new.self in
     let mends = c.settle_whole.ensures.mends c.if-not-settle_whole.true in
-    not_whole t disk c.args.self.now.arrays q a m b c.args.self.now.slices.orderly c.requires.free c.requires.fit (subst (λ n. WritesOnly a m (IsOfDrive disk n)) size laid)
+    not_whole t disk table c.args.self.now.arrays q a m b c.args.self.now.slices.orderly c.requires.free c.requires.fit
+    (subst (λ (e : Table). WritesOnly a m (IsOfDrive disk e)) same_table laid)
     c.settle_whole.ensures.runs.apart (record { running = subst (λ u. IsRunning q (slices_of u b)) same c.settle_whole.ensures.running; heeded = mends.heeded })
     (subst (λ u. Mends v w (slices_of t m) (slices_of u b)) same mends)
     (subst (λ u. HasLost v w (slices_of t m) (slices_of u b)) same (c.settle_whole.ensures.lost c.if-not-settle_whole.true)) c.settle_whole.ensures.raises

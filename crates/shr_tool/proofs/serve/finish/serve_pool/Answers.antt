@@ -1,5 +1,6 @@
 -- How a script came out, by why it stopped.
-use Rattle.pool.specs.View.{bay_in, view}
+use Rattle.raid_rack.specs.RaidRack.{slices_in}
+use Rattle.pool.specs.View.{arrays_of, bay_in, view}
 use Rattle.shr_tool.proofs.Finishing.{limit_status, outcome_by, status_cause, status_limit}
 use Rattle.std.proofs.Common.{◌∙◌, ◌^◌}
 use Rattle.pool.proofs.Continuing.{continues_of, continues_then}
@@ -28,5 +29,5 @@ returns-clause-outcome g c =
     λ source sink a.
     outcome_by _ _ _ _ _ (view g.R.Rack.seen g.R.Bay.shelf c.end.new.self) a _ _ _ _ c.status_of.ensures
     (c.answer_script-stopped.ensures.serves source sink)
-    (g.met.R.Bay.unspent (bay_in c.end.new.self))
+    (g.met.R.Bay.unspent (bay_in c.end.new.self), g.met.R.Rack.sound (bay_in c.end.new.self), (slices_in (arrays_of c.end.new.self)).orderly)
     c.end.ensures.ended

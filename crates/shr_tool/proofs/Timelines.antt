@@ -1,0 +1,123 @@
+-- Events in a row: their array, replies, lines and answers with one event more, and their timeline, with one more and seen after calls more.
+use Rattle.std.proofs.Common.{◌≡◌, ℕ, ◌≤◌, List, [], ◌∷◌, ◌++◌, append_assoc, refl, sym, ◌∙◌, ap, subst, arith}
+use Rattle.std.proofs.lemmas.List.{append-nil}
+use Rattle.rack.specs.Seen.{Image}
+use Rattle.flat_array.specs.Array.{FlatArray}
+use Rattle.shr_tool.specs.declared.perform.Answer.{Answer}
+use Rattle.shr_tool.specs.declared.perform.Answer.TheVariants.{Given, Memory, Spent}
+use Rattle.shr_tool.specs.Events.{Event, answer_of, array_by, becomes, line_of, lines_of, text_of, texts, worse, worst_of}
+use Rattle.pool.specs.Moment.{Moment}
+use Rattle.shr_tool.specs.Timeline.{Ground, Happens, Steps, Timeline, steps_of}
+use Rattle.shr_tool.proofs.Between.{timeline_order}
+use Rattle.shr_tool.proofs.Chains.{steps_more}
+
+-- the array after it
+pub array_by-snoc :
+    (a : FlatArray) (events : List Event) (event : Event) → array_by a (events ++ event ∷ []) ≡ becomes (array_by a events) event
+array_by-snoc a [] event = refl
+array_by-snoc a (first ∷ events) event = array_by-snoc (becomes a first) events event
+
+-- the replies
+pub texts-snoc :
+    (a : FlatArray) (events : List Event) (event : Event)
+    → texts a (events ++ event ∷ []) ≡ texts a events ++ text_of (array_by a events) event
+texts-snoc a [] event = append-nil (text_of a event)
+texts-snoc a (first ∷ events) event =
+    ap (λ bytes. text_of a first ++ bytes) (texts-snoc (becomes a first) events event)
+    ∙ sym (append_assoc (text_of a first) (texts (becomes a first) events) (text_of (array_by (becomes a first) events) event))
+
+-- the lines
+pub lines_of-snoc : (events : List Event) (event : Event) → lines_of (events ++ event ∷ []) ≡ lines_of events ++ line_of event ∷ []
+lines_of-snoc [] event = refl
+lines_of-snoc (first ∷ events) event = ap (λ lines. line_of first ∷ lines) (lines_of-snoc events event)
+
+-- the worst of the answers
+pub worse_given : (a : Answer) → worse a Given ≡ a
+worse_given Given = refl
+worse_given Spent = refl
+worse_given Memory = refl
+
+worse_assoc : (a b c : Answer) → worse a (worse b c) ≡ worse (worse a b) c
+worse_assoc Given b c = refl
+worse_assoc Spent Given c = refl
+worse_assoc Spent Spent Given = refl
+worse_assoc Spent Spent Spent = refl
+worse_assoc Spent Spent Memory = refl
+worse_assoc Spent Memory c = refl
+worse_assoc Memory b c = refl
+
+pub worst_of-snoc : (events : List Event) (event : Event) → worst_of (events ++ event ∷ []) ≡ worse (worst_of events) (answer_of event)
+worst_of-snoc [] event = worse_given (answer_of event)
+worst_of-snoc (first ∷ events) event =
+    ap (λ b. worse (answer_of first) b) (worst_of-snoc events event)
+    ∙ worse_assoc (answer_of first) (worst_of events) (answer_of event)
+
+-- ---- timelines
+
+-- later calls leave the past as it was
+pub timeline_kept :
+    (Traced : Type 0) (old new : ℕ → Image → Type 0) (g : Ground) (limit : ℕ)
+    → (Traced → (k : ℕ) (i : Image) → k ≤ limit → new k i → old k i)
+    → (p : Moment) (a : FlatArray) (events : List Event) (q : Moment)
+    → q.clock ≤ limit
+    → Timeline Traced old g p a events q
+    → Timeline Traced new g p a events q
+timeline_kept Traced old new g limit past p a [] q within line = line
+timeline_kept Traced old new g limit past p a (event ∷ events) q within line =
+    let at = line.0 in
+    let happens = line.1 in
+    let order : Traced → at.clock ≤ q.clock =
+    λ traced. timeline_order Traced old g at (becomes a event) events q traced line.2 in (
+      at,
+      record {
+        later = happens.later;
+        still = happens.still;
+        cause = happens.cause;
+        disks = happens.disks;
+        held = happens.held;
+        named = happens.named;
+        missing = happens.missing;
+        slices = happens.slices;
+        marks = happens.marks;
+        stands = happens.stands;
+        during =
+            λ traced k i since until stops.
+            happens.during traced k i since until (past traced k i (let rest = order traced in omega arith) stops);
+        ended = λ traced i stops. happens.ended traced i (past traced at.clock i (let rest = order traced in omega arith) stops);
+      },
+      timeline_kept Traced old new g limit past at (becomes a event) events q within line.2,
+    )
+
+-- so the moments are the same
+pub steps_kept :
+    (Traced : Type 0) (old new : ℕ → Image → Type 0) (g : Ground) (limit : ℕ)
+    (past : Traced → (k : ℕ) (i : Image) → k ≤ limit → new k i → old k i)
+    (p : Moment) (a : FlatArray) (events : List Event) (q : Moment) (within : q.clock ≤ limit) (line : Timeline Traced old g p a events q)
+    → steps_of Traced new g p a events q (timeline_kept Traced old new g limit past p a events q within line) ≡ steps_of Traced old g p a events q line
+unfolding timeline_kept
+steps_kept Traced old new g limit past p a [] q within line = refl
+steps_kept Traced old new g limit past p a (event ∷ events) q within line =
+    ap (λ (rest : Steps line.0 events q). (line.0, rest)) (steps_kept Traced old new g limit past line.0 (becomes a event) events q within line.2)
+
+-- one event more
+pub timeline_more :
+    (Traced : Type 0) (stops : ℕ → Image → Type 0) (g : Ground) (p : Moment) (a : FlatArray) (events : List Event) (mid : Moment)
+    (event : Event) (q : Moment)
+    → Timeline Traced stops g p a events mid
+    → Happens Traced stops g mid q (array_by a events) event
+    → Timeline Traced stops g p a (events ++ event ∷ []) q
+timeline_more Traced stops g p a [] mid event q same happens =
+    (q, subst (λ m. Happens Traced stops g m q a event) (sym same) happens, refl)
+timeline_more Traced stops g p a (first ∷ events) mid event q line happens =
+    (line.0, line.1, timeline_more Traced stops g line.0 (becomes a first) events mid event q line.2 happens)
+
+pub steps_added :
+    (Traced : Type 0) (stops : ℕ → Image → Type 0) (g : Ground) (p : Moment) (a : FlatArray) (events : List Event) (mid : Moment)
+    (event : Event) (q : Moment) (line : Timeline Traced stops g p a events mid) (happens : Happens Traced stops g mid q (array_by a events) event)
+    → steps_of Traced stops g p a (events ++ event ∷ []) q (timeline_more Traced stops g p a events mid event q line happens)
+    ≡ steps_more p events mid event q (steps_of Traced stops g p a events mid line)
+unfolding timeline_more
+steps_added Traced stops g p a [] mid event q same happens = refl
+steps_added Traced stops g p a (first ∷ events) mid event q line happens =
+    ap (λ (rest : Steps line.0 (events ++ event ∷ []) q). (line.0, rest))
+    (steps_added Traced stops g line.0 (becomes a first) events mid event q line.2 happens)
