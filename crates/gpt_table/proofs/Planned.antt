@@ -1,5 +1,5 @@
 -- The sectors of one copy, written one after the other.
-use Rattle.std.proofs.Common.{◌≡◌, ℕ, ◌+◌, ◌-◌, ◌*◌, ◌<◌, ◌≤◌, ◌⊎◌, ◌==◌, ◌&&◌, nat_le, nat_lt, true, false, List, Some, Result, Ok, Err, OnOk, refl, sym, ap, subst, subst₂, ◌∙◌, inl, inr, ⊎_elim, arith, eqb-true, zero, suc, ◌++◌, length, take, add-one, take-add, take_all}
+use Rattle.std.proofs.Common.{◌≡◌, ℕ, ◌+◌, ◌-◌, ◌*◌, ◌<◌, ◌≤◌, ◌⊎◌, ◌==◌, ◌&&◌, nat_le, nat_lt, true, false, List, Some, Result, Ok, Err, OnOk, refl, sym, ap, subst, subst₂, ◌∙◌, inl, inr, ⊎_elim, arith, eqb-true, zero, suc, ◌++◌, length, length-drop, take, drop, replicate, Option, None, unwrap_or, add-one, take-add, take_all}
 use Rattle.gpt_table.specs.declared.Table.{Table}
 use Rattle.gpt_table.specs.declared.TableCopy.{TableCopy}
 use Rattle.gpt_table.specs.declared.TableCopy.TheVariants.{Primary, Backup}
@@ -7,9 +7,10 @@ use Rattle.gpt_table.specs.Format.{header_sector, entries_sector, IsWritten}
 use Rattle.gpt_table.specs.Disk.{Contents, IsOfCopy, HoldsCopy, joined, entries_bytes}
 use Rattle.gpt_table.proofs.Joined.{joined_more}
 use Rattle.std.proofs.lemmas.Bool.{cases_Bool, cases_lt, cases_eq, and_parts, and_from, and_right, cond-true, cond-false, eq-eqb, ne_eqb, le-leb, lt-ltb, leb-true, ltb-true}
+use Rattle.std.proofs.lemmas.List.{length-take-le}
 use Rattle.std.proofs.lemmas.Option.{cond_some, same_Some}
 use Rattle.rack.specs.declared.Gone.{Gone}
-use Rattle.rack.specs.Values.{Values, append}
+use Rattle.rack.specs.Values.{IsSector, Values, append}
 use Rattle.rack.specs.Seen.{Seen, IsLive, Stays}
 use Rattle.rack.specs.Calls.{Writes, Syncs}
 use Rattle.rack.specs.Joins.{live_first, live_second, rose_later}
@@ -18,7 +19,7 @@ use Rattle.rack.specs.Sequences.{WritesDurably}
 use Rattle.rack.proofs.Writing.{only_quiet, only_written, only_refused, only_weaker, only_then}
 use Rattle.rack.proofs.Durably.{durable_only}
 use Rattle.gpt_table.specs.Calls.{Plan, IsPlanned, Follows}
-use Rattle.gpt_table.specs.Plans.{sector_plan, entries_plan, copy_plan, WritesPlan, WritesSectors}
+use Rattle.gpt_table.specs.Plans.{IsInCopy, sector_plan, entries_plan, copy_plan, WritesPlan, WritesSectors}
 
 -- what is planned for the entries
 pub entries_planned : (first : ℕ) (bytes : List ℕ) (k : ℕ) → k < 32 → entries_plan first bytes (first + k) ≡ Some (bytes_at (512 * k) 512 bytes)
@@ -301,3 +302,45 @@ plan_within copy sectors header bytes s v planned =
     ⊎_elim (λ (here : (s ≡ header_sector copy sectors) × (header ≡ v)). inl here.0)
     (λ (there : (entries_sector copy sectors ≤ s) × (s < entries_sector copy sectors + 32) × (bytes_at (512 * (s - entries_sector copy sectors)) 512 bytes ≡ v)). inr (there.0, there.1))
     (plan_cases (header_sector copy sectors) header (entries_sector copy sectors) bytes s v planned)
+
+sector_of : (offset : ℕ) (bytes : List ℕ) → offset + 512 ≤ length bytes → IsSector (bytes_at offset 512 bytes)
+unfolding bytes_at
+sector_of offset bytes within = length-take-le 512 (drop offset bytes) (omega (arith, length-drop offset bytes))
+
+-- each planned value is a sector
+pub plan_sized : (copy : TableCopy) (sectors : ℕ) (header bytes : List ℕ) → length header ≡ 512 → length bytes ≡ 16384 → (s : ℕ) (v : List ℕ)
+    → copy_plan (header_sector copy sectors) header (entries_sector copy sectors) bytes s ≡ Some v → IsSector v
+plan_sized copy sectors header bytes own all s v planned =
+    let first = entries_sector copy sectors in
+    ⊎_elim (λ (here : (s ≡ header_sector copy sectors) × (header ≡ v)). subst IsSector here.1 own)
+    (λ (there : (first ≤ s) × (s < first + 32) × (bytes_at (512 * (s - first)) 512 bytes ≡ v)). subst IsSector there.2 (sector_of (512 * (s - first)) bytes (omega (arith, there.0, there.1, all))))
+    (plan_cases (header_sector copy sectors) header first bytes s v planned)
+
+sized_or : (planned : Option (List ℕ)) (blank : List ℕ) → IsSector blank → ((v : List ℕ) → planned ≡ Some v → IsSector v) → IsSector (unwrap_or planned blank)
+sized_or None blank sized each = sized
+sized_or (Some v) blank sized each = each v refl
+
+-- a value that is planned of a copy is what its sector holds on a disk of whole sectors with all of them
+pub in_copy : (copy : TableCopy) (table : Table) (plan : Plan) → ((s : ℕ) (v : List ℕ) → plan s ≡ Some v → IsOfCopy copy table.sectors s)
+    → ((s : ℕ) (v : List ℕ) → plan s ≡ Some v → IsSector v)
+    → ((contents : Contents) → ((s : ℕ) (v : List ℕ) → plan s ≡ Some v → contents s ≡ v) → HoldsCopy copy table contents) → (s : ℕ) (v : List ℕ)
+    → plan s ≡ Some v → IsInCopy copy table s v
+in_copy copy table plan within sized says s v is =
+    let blank : List ℕ = replicate 512 0 in
+    let all : Contents = λ k. unwrap_or (plan k) blank in
+    record {
+      within = within s v is;
+      disk = all;
+      sized = λ k. sized_or (plan k) blank refl (sized k);
+      holds = says all (λ k w at. ap (λ o. unwrap_or o blank) at);
+      here = ap (λ o. unwrap_or o blank) is;
+    }
+
+-- so it is what its sector holds in the copy that is written of a table
+pub planned_copy : (copy : TableCopy) (table : Table) (header bytes : List ℕ) → 67 ≤ table.sectors → length header ≡ 512 → length bytes ≡ 16384
+    → IsWritten copy table header bytes → (s : ℕ) (v : List ℕ)
+    → copy_plan (header_sector copy table.sectors) header (entries_sector copy table.sectors) bytes s ≡ Some v → IsInCopy copy table s v
+planned_copy copy table header bytes room own all written s v planned =
+    let plan : Plan = copy_plan (header_sector copy table.sectors) header (entries_sector copy table.sectors) bytes in
+    in_copy copy table plan (plan_within copy table.sectors header bytes) (plan_sized copy table.sectors header bytes own all)
+    (λ contents holds. plan_holds copy table header bytes contents room all written holds) s v planned

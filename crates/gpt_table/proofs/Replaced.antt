@@ -1,6 +1,6 @@
 -- A copy that is replaced in three steps: its header cleared, its entries written, its header written.
-use Rattle.std.proofs.Common.{◌≡◌, ℕ, ◌+◌, ◌-◌, ◌*◌, ◌<◌, ◌≤◌, List, [], Some, None, Result, Ok, Err, false, refl, sym, ap, subst, ◌∙◌, inl, inr, ⊎_elim, arith, length, replicate, codes, bytes_eq}
-use Rattle.std.proofs.lemmas.Bool.{and_left}
+use Rattle.std.proofs.Common.{◌≡◌, ℕ, ◌+◌, ◌-◌, ◌*◌, ◌<◌, ◌≤◌, List, [], Some, None, Result, Ok, Err, false, ◌==◌, refl, sym, ap, subst, ◌∙◌, inl, inr, ⊎_elim, arith, length, replicate, codes, bytes_eq}
+use Rattle.std.proofs.lemmas.Bool.{and_left, cond-false, ne_eqb}
 use Rattle.rack.specs.declared.Gone.{Gone}
 use Rattle.rack.specs.Values.{MayLeave}
 use Rattle.rack.specs.Seen.{Seen, IsLive, Stays}
@@ -11,12 +11,13 @@ use Rattle.gpt_table.specs.declared.Table.{Table}
 use Rattle.gpt_table.specs.declared.TableCopy.{TableCopy}
 use Rattle.gpt_table.specs.Format.{header_sector, entries_sector, table_of, is_header, IsWritten}
 use Rattle.gpt_table.specs.Disk.{Contents, IsOfCopy, HoldsCopy, entries_bytes, table_at}
-use Rattle.rack.specs.Sequences.{MayBecome}
+use Rattle.rack.specs.Sequences.{MayBecome, WritesOnly}
+use Rattle.rack.proofs.Writing.{only_then, only_weaker}
 use Rattle.gpt_table.specs.Calls.{Plan, IsPlanned}
-use Rattle.gpt_table.specs.Plans.{sector_plan, entries_plan, WritesSectors}
-use Rattle.gpt_table.specs.Changes.{Changes, Passes, ReplacesCopy, IsPickOf, AreLive}
+use Rattle.gpt_table.specs.Plans.{copy_plan, sector_plan, entries_plan, WritesSectors}
+use Rattle.gpt_table.specs.Changes.{Changes, IsInReplaced, Passes, ReplacesCopy, IsPickOf, AreLive}
 use Rattle.gpt_table.proofs.Decoded.{invalid_header}
-use Rattle.gpt_table.proofs.Planned.{plan_cases, plan_holds, parts_apart, entries_cases, entries_planned, sector_cases, sector_planned}
+use Rattle.gpt_table.proofs.Planned.{plan_cases, plan_holds, plan_own, planned_copy, parts_apart, entries_cases, entries_planned, sector_cases, sector_planned}
 use Rattle.gpt_table.proofs.Changed.{live_back, changes_from, changes_join, changes_wider}
 
 -- a sector of zeros is no header
@@ -33,9 +34,14 @@ cleared copy sectors contents zeros =
     ap (λ (h : List ℕ). table_of copy sectors h (entries_bytes contents start)) zeros
     ∙ invalid_header copy sectors (replicate 512 0) (entries_bytes contents start) (cleared_header copy sectors)
 
+-- what a sector may come to hold while a copy of a disk is replaced
+abbrev IsReplacing : ℕ → TableCopy → Table → ℕ → ℕ → List ℕ → Type 0
+IsReplacing disk copy table d s v = (d ≡ disk) × IsInReplaced copy table s v
+
 -- a header and entries as they are written of a table
 pub record Written (copy : TableCopy) (header bytes : List ℕ) (table : Table) : Type 0 where
   pub room : 67 ≤ table.sectors
+  pub own : length header ≡ 512
   pub long : length bytes ≡ 16384
   pub says : IsWritten copy table header bytes
 
@@ -199,6 +205,42 @@ finished a m n b disk copy table header bytes written start second third live co
     ((third.follows.others disk s (live_second early (live s among))
     (λ w here. not_own copy table.sectors bytes s v written.room planned (sector_cases own header s w here.1).0)).within (contents s) (pick s among)))
 
+-- what each step may write is zeros in the header's place, or what the copy has there
+first_only : (a m : Seen) (disk : ℕ) (copy : TableCopy) (table : Table) (result : Result (Unit {0}) Gone) →
+    WritesSectors a m disk (sector_plan (header_sector copy table.sectors) (replicate 512 0)) result → WritesOnly a m (IsReplacing disk copy table)
+first_only a m disk copy table result first =
+    only_weaker (IsPlanned disk (sector_plan (header_sector copy table.sectors) (replicate 512 0))) (IsReplacing disk copy table)
+    (λ d s v planned.
+    let is = sector_cases (header_sector copy table.sectors) (replicate 512 0) s v planned.1 in
+    (planned.0, inl (is.0, sym is.1)))
+    first.follows
+
+second_only : (m n : Seen) (disk : ℕ) (copy : TableCopy) (table : Table) (header bytes : List ℕ) (result : Result (Unit {0}) Gone) → Written copy header bytes table →
+    WritesSectors m n disk (entries_plan (entries_sector copy table.sectors) bytes) result → WritesOnly m n (IsReplacing disk copy table)
+second_only m n disk copy table header bytes result written second =
+    let own = header_sector copy table.sectors in
+    let plan : Plan = entries_plan (entries_sector copy table.sectors) bytes in
+    only_weaker (IsPlanned disk plan) (IsReplacing disk copy table)
+    (λ d s v planned. (
+      planned.0,
+      inr (planned_copy copy table header bytes written.room written.own written.long written.says s v
+          (cond-false (s == own) (Some header) (plan s) (ne_eqb s own (not_own copy table.sectors bytes s v written.room planned.1)) ∙ planned.1)),
+    ))
+    second.follows
+
+third_only : (n b : Seen) (disk : ℕ) (copy : TableCopy) (table : Table) (header bytes : List ℕ) (result : Result (Unit {0}) Gone) → Written copy header bytes table →
+    WritesSectors n b disk (sector_plan (header_sector copy table.sectors) header) result → WritesOnly n b (IsReplacing disk copy table)
+third_only n b disk copy table header bytes result written third =
+    let own = header_sector copy table.sectors in
+    only_weaker (IsPlanned disk (sector_plan own header)) (IsReplacing disk copy table)
+    (λ d s v planned.
+    let is = sector_cases own header s v planned.1 in (
+      planned.0,
+      inr (planned_copy copy table header bytes written.room written.own written.long written.says s v
+          (ap (copy_plan own header (entries_sector copy table.sectors) bytes) is.0 ∙ plan_own own header (entries_sector copy table.sectors) bytes ∙ ap Some is.1)),
+    ))
+    third.follows
+
 -- what was shown of each step holds, as the copy's sectors are told
 passes : (a b : Seen) (disk : ℕ) (copy : TableCopy) (table : Table) → Changes a b disk (IsOfCopy copy table.sectors) (Passing a disk copy table) →
     Changes a b disk (IsOfCopy copy table.sectors) (Passes a disk copy table)
@@ -212,19 +254,21 @@ pub replaced_gone_first : (a m : Seen) (disk : ℕ) (copy : TableCopy) (table : 
     ReplacesCopy a m disk copy table {X = Unit {0}} {E = Gone} (Err gone)
 replaced_gone_first a m disk copy table gone first = record {
   changes = passes a m disk copy table (first_step a m disk copy table (Err gone) first);
+  only = first_only a m disk copy table (Err gone) first;
   says = tt;
   gone = first.gone.1;
 }
 
 -- the entries couldn't be written
-pub replaced_gone_second : (a m n : Seen) (disk : ℕ) (copy : TableCopy) (table : Table) (bytes : List ℕ) (gone : Gone) → 67 ≤ table.sectors →
+pub replaced_gone_second : (a m n : Seen) (disk : ℕ) (copy : TableCopy) (table : Table) (header bytes : List ℕ) (gone : Gone) → Written copy header bytes table →
     WritesSectors a m disk (sector_plan (header_sector copy table.sectors) (replicate 512 0)) {X = Unit {0}} (Ok tt) →
     WritesSectors m n disk (entries_plan (entries_sector copy table.sectors) bytes) {X = Unit {0}} (Err gone) →
     ReplacesCopy a n disk copy table {X = Unit {0}} {E = Gone} (Err gone)
-replaced_gone_second a m n disk copy table bytes gone room first second = record {
+replaced_gone_second a m n disk copy table header bytes gone written first second = record {
   changes = passes a n disk copy table
       (changes_join a m n disk (IsOfCopy copy table.sectors) (Passing a disk copy table) (first_step a m disk copy table (Ok tt) first)
-      (second_step a m n disk copy table bytes (Err gone) room first second));
+      (second_step a m n disk copy table bytes (Err gone) written.room first second));
+  only = only_then (IsReplacing disk copy table) (first_only a m disk copy table (Ok tt) first) (second_only m n disk copy table header bytes (Err gone) written second);
   says = tt;
   gone = rose_later a m n disk first.follows.stays second.gone.1;
 }
@@ -244,6 +288,16 @@ all_steps a m n b disk copy table header bytes result written first second third
     (changes_join a m n disk of P (first_step a m disk copy table (Ok tt) first) (second_step a m n disk copy table bytes (Ok tt) written.room first second))
     (third_step a m n b disk copy table header bytes result written first second third))
 
+all_only : (a m n b : Seen) (disk : ℕ) (copy : TableCopy) (table : Table) (header bytes : List ℕ) (result : Result (Unit {0}) Gone) →
+    Written copy header bytes table →
+    WritesSectors a m disk (sector_plan (header_sector copy table.sectors) (replicate 512 0)) {X = Unit {0}} (Ok tt) →
+    WritesSectors m n disk (entries_plan (entries_sector copy table.sectors) bytes) {X = Unit {0}} (Ok tt) →
+    WritesSectors n b disk (sector_plan (header_sector copy table.sectors) header) result → WritesOnly a b (IsReplacing disk copy table)
+all_only a m n b disk copy table header bytes result written first second third =
+    only_then (IsReplacing disk copy table)
+    (only_then (IsReplacing disk copy table) (first_only a m disk copy table (Ok tt) first) (second_only m n disk copy table header bytes (Ok tt) written second))
+    (third_only n b disk copy table header bytes result written third)
+
 -- the copy was replaced, or the last step refused
 pub replaced_by : (a m n b : Seen) (disk : ℕ) (copy : TableCopy) (table : Table) (header bytes : List ℕ) (result : Result (Unit {0}) Gone) →
     Written copy header bytes table →
@@ -253,11 +307,13 @@ pub replaced_by : (a m n b : Seen) (disk : ℕ) (copy : TableCopy) (table : Tabl
     ReplacesCopy a b disk copy table {X = Unit {0}} {E = Gone} result
 replaced_by a m n b disk copy table header bytes (Ok tt) written first second third = record {
   changes = all_steps a m n b disk copy table header bytes (Ok tt) written first second third;
+  only = all_only a m n b disk copy table header bytes (Ok tt) written first second third;
   says = finished a m n b disk copy table header bytes written first.follows.stays second third;
   gone = tt;
 }
 replaced_by a m n b disk copy table header bytes (Err gone) written first second third = record {
   changes = all_steps a m n b disk copy table header bytes (Err gone) written first second third;
+  only = all_only a m n b disk copy table header bytes (Err gone) written first second third;
   says = tt;
   gone = rose_later a n b disk (stays_then first.follows.stays second.follows.stays) third.gone.1;
 }

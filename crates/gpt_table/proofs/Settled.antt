@@ -1,5 +1,5 @@
 -- The copy that isn't the first valid one is replaced by it.
-use Rattle.std.proofs.Common.{◌≡◌, ◌≢◌, ℕ, ◌≤◌, ◌⊎◌, Option, Some, None, option_map, Result, Ok, Err, IfSome, OnErr, Bool, true, false, refl, sym, ap, subst, ◌∙◌, inl, inr, ⊎_elim}
+use Rattle.std.proofs.Common.{◌≡◌, ◌≢◌, ℕ, List, ◌≤◌, ◌⊎◌, Option, Some, None, option_map, Result, Ok, Err, IfSome, OnErr, Bool, true, false, refl, sym, ap, subst, ◌∙◌, inl, inr, ⊎_elim}
 use Rattle.rack.specs.Values.{MayLeave, Keeps}
 use Rattle.rack.specs.Seen.{Seen, Rose, Stays}
 use Rattle.rack.specs.Joins.{keeps_then, live_first, live_second, rose_later}
@@ -10,8 +10,9 @@ use Rattle.gpt_table.specs.declared.TableFault.{TableFault}
 use Rattle.gpt_table.specs.declared.TableFault.TheVariants.{NoTable, Gone}
 use Rattle.gpt_table.specs.Format.{IsWritableOn}
 use Rattle.gpt_table.specs.Disk.{Contents, IsOfCopy, now_on, table_at, first_of, first_table}
-use Rattle.rack.specs.Sequences.{OnlyReads}
-use Rattle.gpt_table.specs.Changes.{the_table, AreLive, BothLive, IsPickOf, AreSingle, IsOfCopies, Passes, Changes, ReplacesCopy, Settles, BothSay, IsKeptOrWritten, SettlesTable}
+use Rattle.rack.specs.Sequences.{OnlyReads, WritesOnly}
+use Rattle.rack.proofs.Writing.{only_quiet, only_then, only_weaker}
+use Rattle.gpt_table.specs.Changes.{IsInReplaced, IsInSettled, the_table, AreLive, BothLive, IsPickOf, AreSingle, IsOfCopies, Passes, Changes, ReplacesCopy, Settles, BothSay, IsKeptOrWritten, SettlesTable}
 use Rattle.std.proofs.lemmas.Bool.{both_ways}
 use Rattle.rack.proofs.Reading.{only_reads_join}
 use Rattle.gpt_table.proofs.Joined.{table_at_agrees}
@@ -153,18 +154,29 @@ both_say a m b disk table target contents source replaced live same pick =
           (table_at_agrees (other_copy target) table.sectors contents (now_on a disk) same ∙ source.says told),
     )
 
+-- what is written while a copy is replaced by what the other one says
+settled_only : (a m b : Seen) (disk : ℕ) (table : Table) (target : TableCopy) (result : Result (Unit {0}) TableFault) → Source a m disk table target →
+    ReplacesCopy m b disk target table result → WritesOnly a b (λ d s v. (d ≡ disk) × IsInSettled a disk table.sectors s v)
+settled_only a m b disk table target result source replaced =
+    let may = λ (d s : ℕ) (v : List ℕ). (d ≡ disk) × IsInSettled a disk table.sectors s v in
+    only_then may (only_quiet may source.only.stays source.only.keeps)
+    (only_weaker (λ d s v. (d ≡ disk) × IsInReplaced target table s v) may
+    (λ d s v is. (is.0, record { copy = target; table = table; size = refl; first = source.first; within = is.1 })) replaced.only)
+
 -- a copy was replaced by what the other one says
 settled_copy : (a m b : Seen) (disk : ℕ) (table : Table) (target : TableCopy) (result : Result (Unit {0}) TableFault) → 67 ≤ table.sectors →
     Source a m disk table target → Changes a b disk (IsOfCopies table.sectors) (Settling a disk table.sectors) →
     ReplacesCopy m b disk target table result → SettlesTable a b disk table.sectors result
 settled_copy a m b disk table target (Err e) room source settles replaced = record {
   changes = settling_told a b disk table.sectors settles;
+  only = settled_only a m b disk table target (Err e) source replaced;
   both = tt;
   written = tt;
   durable = tt;
 }
 settled_copy a m b disk table target (Ok tt) room source settles replaced = record {
   changes = settling_told a b disk table.sectors settles;
+  only = settled_only a m b disk table target (Ok tt) source replaced;
   both = λ live.
       both_say a m b disk table target (now_on b disk) source replaced live (λ s among. (kept live s among).current) (λ s among. inl refl);
   durable = λ live single contents pick.
@@ -187,6 +199,7 @@ settled_same : (a m b : Seen) (disk sectors : ℕ) (table : Table) → Read a m 
     SettlesTable a b disk sectors {X = Unit {0}} {E = TableFault} (Ok tt)
 settled_same a m b disk sectors table read later = record {
   changes = settling_told a b disk sectors (reads_settle a b disk sectors only);
+  only = only_quiet (λ d s v. (d ≡ disk) × IsInSettled a disk sectors s v) only.stays only.keeps;
   both = λ live. says live (now_on b disk) (λ copy s among. (only.keeps.held disk s (live copy s among)).current);
   durable = λ live single contents pick.
       says live contents
@@ -212,6 +225,7 @@ pub settled_none : (a b : Seen) (disk sectors : ℕ) (fault : TableFault) → On
     SettlesTable a b disk sectors {X = Unit {0}} {E = TableFault} (Err fault)
 settled_none a b disk sectors fault only = record {
   changes = settling_told a b disk sectors (reads_settle a b disk sectors only);
+  only = only_quiet (λ d s v. (d ≡ disk) × IsInSettled a disk sectors s v) only.stays only.keeps;
   both = tt;
   written = tt;
   durable = tt;

@@ -1,5 +1,5 @@
 -- A whole table: the backup, the protective MBR, the primary.
-use Rattle.std.proofs.Common.{◌≡◌, ℕ, ◌-◌, ◌<◌, ◌≤◌, ◌⊎◌, ◌==◌, false, cond, Bool, List, [], Option, Some, None, Result, Ok, Err, unwrap_or, refl, sym, ap, subst, ◌∙◌, inl, inr, ⊎_elim, arith, eqb-true}
+use Rattle.std.proofs.Common.{◌≡◌, ℕ, ◌-◌, ◌<◌, ◌≤◌, ◌⊎◌, ◌==◌, false, cond, Bool, List, Option, Some, None, Result, Ok, Err, refl, sym, ap, subst, ◌∙◌, inl, inr, ⊎_elim, arith, eqb-true}
 use Rattle.std.proofs.lemmas.Bool.{cases_Bool, cond-false, ne_eqb}
 use Rattle.std.proofs.lemmas.Option.{none-some}
 use Rattle.rack.specs.declared.Gone.{Gone}
@@ -10,12 +10,12 @@ use Rattle.gpt_table.specs.declared.Table.{Table}
 use Rattle.gpt_table.specs.declared.TableCopy.{TableCopy}
 use Rattle.gpt_table.specs.declared.TableCopy.TheVariants.{Primary, Backup}
 use Rattle.gpt_table.specs.Format.{mbr_of}
-use Rattle.gpt_table.specs.Disk.{Contents, IsOfCopy, IsAmong, HoldsCopy, now_on}
+use Rattle.gpt_table.specs.Disk.{IsOfCopy, IsAmong, HoldsCopy, now_on}
 use Rattle.gpt_table.specs.Calls.{Plan, IsPlanned, Follows}
 use Rattle.gpt_table.specs.Plans.{IsInCopy, IsInTable, IsOfTable, WritesCopy, WritesTable}
 use Rattle.gpt_table.proofs.Copies.{copy_is_on_disk}
 use Rattle.rack.proofs.Writing.{only_weaker, only_then}
-use Rattle.gpt_table.proofs.Planned.{write_keeps, write_sets, follows_served, follows_refused}
+use Rattle.gpt_table.proofs.Planned.{in_copy, write_keeps, write_sets, follows_served, follows_refused}
 
 some_same : {X : Type 0} (a b : X) → Some a ≡ Some b → a ≡ b
 some_same a b same = cc
@@ -82,9 +82,7 @@ primary_is_part sectors mbr backup primary parts s v is =
 -- a value that is planned of a copy is what its sector holds on a disk with all of them
 planned_in : (a b : Seen) (disk : ℕ) (copy : TableCopy) (table : Table) (r : Result (Unit {0}) Gone) (writes : WritesCopy a b disk copy table r) (s : ℕ) (v : List ℕ)
     → writes.plan s ≡ Some v → IsInCopy copy table s v
-planned_in a b disk copy table r writes s v is =
-    let all : Contents = λ k. unwrap_or (writes.plan k) [] in
-    record { within = writes.within s v is; disk = all; holds = writes.says all (λ k w at. ap (λ o. unwrap_or o []) at); here = ap (λ o. unwrap_or o []) is }
+planned_in a b disk copy table r writes s v is = in_copy copy table writes.plan writes.within writes.sized writes.says s v is
 
 -- so it is of the whole plan
 pub whole_within : (table : Table) (mbr : List ℕ) (backup primary : Plan) → mbr ≡ mbr_of table.sectors → ((s : ℕ) (v : List ℕ) → backup s ≡ Some v → IsInCopy Backup table s v)

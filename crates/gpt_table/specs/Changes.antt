@@ -1,5 +1,5 @@
 -- Copies that are replaced one after the other: what a stop leaves at any moment, and what stands at the end.
-use Rattle.std.specs.Prelude.{◌≡◌, ◌≢◌, ◌⊎◌, ℕ, nat_lt, Bool, List, ◌∷◌, ◌++◌, filter, Option, Some, None, option_map, Result, Ok, Err, OnOk, OnErr, IfErr}
+use Rattle.std.specs.Prelude.{◌≡◌, ◌≢◌, ◌⊎◌, ℕ, nat_lt, Bool, List, ◌∷◌, ◌++◌, filter, replicate, Option, Some, None, option_map, Result, Ok, Err, OnOk, OnErr, IfErr}
 use Rattle.rack.specs.declared.Gone.{Gone}
 use Rattle.rack.specs.Values.{MayLeave, Keeps, IsSingle}
 use Rattle.rack.specs.Seen.{Image, Seen, Rose, IsLive, Stays}
@@ -10,8 +10,10 @@ use Rattle.gpt_table.specs.declared.TableCopy.{TableCopy}
 use Rattle.gpt_table.specs.declared.TableCopy.TheVariants.{Primary, Backup}
 use Rattle.gpt_table.specs.declared.TableFault.{TableFault}
 use Rattle.gpt_table.specs.declared.TableFault.TheVariants.{NoTable}
-use Rattle.rack.specs.Sequences.{OnlyReads}
+use Rattle.rack.specs.Sequences.{OnlyReads, WritesOnly}
 use Rattle.gpt_table.specs.Disk.{Contents, IsOfCopy, HoldsCopy, now_on, table_at, first_table}
+use Rattle.gpt_table.specs.Format.{header_sector}
+use Rattle.gpt_table.specs.Plans.{IsInCopy}
 
 -- whether an entry has a lower number, or a higher one
 abbrev pub is_below : ℕ → Entry → Bool
@@ -78,10 +80,16 @@ Passes a disk copy table contents =
     IsPickOf a disk copy table.sectors contents
     ⊎ ((table_at copy table.sectors contents ≡ None) ⊎ (table_at copy table.sectors contents ≡ Some table))
 
+-- what a sector may come to hold while a copy is replaced by one of a table: zeros in the header's place, or what the copy has there
+abbrev pub IsInReplaced : TableCopy → Table → ℕ → List ℕ → Type 0
+IsInReplaced copy table sector value =
+    ((sector ≡ header_sector copy table.sectors) × (value ≡ replicate 512 0)) ⊎ IsInCopy copy table sector value
+
 -- a copy was replaced by one of this table, which is durable, or the disk's faults rose
 pub record ReplacesCopy (a b : Seen) (disk : ℕ) (copy : TableCopy) (table : Table) {X E : Type 0} (result : Result X E)
     : Type 0 where
   pub changes : Changes a b disk (IsOfCopy copy table.sectors) (Passes a disk copy table)
+  pub only : WritesOnly a b (λ d s v. (d ≡ disk) × IsInReplaced copy table s v)
   pub says :
       OnOk
       result
@@ -134,12 +142,21 @@ abbrev pub IsKeptOrWritten : Seen → ℕ → ℕ → TableCopy → Contents →
 IsKeptOrWritten a disk sectors copy contents =
     IsPickOf a disk copy sectors contents ⊎ ((table : Table) × (table.sectors ≡ sectors) × HoldsCopy copy table contents)
 
+-- what a sector may come to hold while the copies of a disk are settled: what one of them holds while it is replaced by the table that the disk had
+pub record IsInSettled (a : Seen) (disk sectors sector : ℕ) (value : List ℕ) : Type 0 where
+  pub copy : TableCopy
+  pub table : Table
+  pub size : table.sectors ≡ sectors
+  pub first : a.told disk → the_table sectors (now_on a disk) ≡ Some table
+  pub within : IsInReplaced copy table sector value
+
 -- the table stays the same at each moment and at the end, where each sector of the copies had one held value; at Ok both
 -- copies say it
 pub record SettlesTable (a b : Seen) (disk sectors : ℕ) {X E : Type 0} (result : Result X E) : Type 0 where
   pub changes :
       Changes a b disk (IsOfCopies sectors)
       (λ contents. AreSingle a disk sectors → the_table sectors contents ≡ the_table sectors (now_on a disk))
+  pub only : WritesOnly a b (λ d s v. (d ≡ disk) × IsInSettled a disk sectors s v)
   pub both : OnOk result (BothLive a b disk sectors → BothSay a disk sectors (now_on b disk))
   pub written :
       OnOk

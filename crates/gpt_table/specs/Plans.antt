@@ -2,7 +2,7 @@
 use Rattle.std.specs.Prelude.{◌≡◌, ℕ, ◌+◌, ◌-◌, ◌*◌, ◌==◌, ◌&&◌, nat_le, nat_lt, if◌then◌else◌, List, Some, None, Result, OnOk, IfErr, ◌⊎◌, false}
 use Rattle.std.proofs.Common.{inl, inr}
 use Rattle.rack.specs.declared.Gone.{Gone}
-use Rattle.rack.specs.Values.{IsSingle}
+use Rattle.rack.specs.Values.{IsSector, IsSingle}
 use Rattle.rack.specs.Seen.{Seen, Rose, IsLive}
 use Rattle.shr_base.specs.Blocks.{bytes_at}
 use Rattle.gpt_table.specs.Calls.{Plan, Follows}
@@ -42,6 +42,7 @@ pub record WritesSectors (a b : Seen) (disk : ℕ) (plan : Plan) {X : Type 0} (r
 pub record WritesCopy (a b : Seen) (disk : ℕ) (copy : TableCopy) (table : Table) {X : Type 0} (result : Result X Gone) : Type 0 where
   pub plan : Plan
   pub within : (s : ℕ) (v : List ℕ) → plan s ≡ Some v → IsOfCopy copy table.sectors s
+  pub sized : (s : ℕ) (v : List ℕ) → plan s ≡ Some v → IsSector v
   pub says :
       (contents : Contents) → ((s : ℕ) (v : List ℕ) → plan s ≡ Some v → contents s ≡ v)
       → HoldsCopy copy table contents
@@ -51,10 +52,11 @@ pub record WritesCopy (a b : Seen) (disk : ℕ) (copy : TableCopy) (table : Tabl
 abbrev pub IsOfTable : ℕ → ℕ → Type 0
 IsOfTable sectors sector = (sector ≡ 0) ⊎ (IsOfCopy Primary sectors sector ⊎ IsOfCopy Backup sectors sector)
 
--- what a sector of a copy holds where the copy is as it is written of a table
+-- what a sector of a copy holds on a disk of whole sectors, where the copy is as it is written of a table
 pub record IsInCopy (copy : TableCopy) (table : Table) (sector : ℕ) (value : List ℕ) : Type 0 where
   pub within : IsOfCopy copy table.sectors sector
   pub disk : Contents
+  pub sized : (s : ℕ) → IsSector (disk s)
   pub holds : HoldsCopy copy table disk
   pub here : disk sector ≡ value
 

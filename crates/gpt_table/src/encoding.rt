@@ -59,6 +59,7 @@ pub(crate) fn encode_entries(table: &Table) -> [u8; ENTRIES_BYTES]
 fn header_without_sum(copy: TableCopy, sectors: u64, guid: &[u8; 16], sum: u32) -> [u8; 512]
     requires { 67 ≤ sectors }
     ensures written { result ≡ put_all (header_fields copy sectors guid.now sum) (replicate 512 0) }
+    ensures long { length result ≡ 512 }
     ensures guid_fits { length guid.now ≡ 16 }
     ensures sum_fits { sum < 2 ^ 32 }
     ensures sectors_fit { sectors < 2 ^ 64 }
@@ -92,7 +93,8 @@ pub(crate) fn encode_header(
     requires writable { IsWritable table.now }
     requires written { AreWritten table.now.entries.items bytes.now }
     requires entries { entries_of bytes.now ≡ table.now.entries.items }
-    ensures { IsWritten copy table.now result bytes.now }
+    ensures long { length result ≡ 512 }
+    ensures written { IsWritten copy table.now result bytes.now }
 {
     let guid = guid_bytes(&table.disk_id);
     let mut header = header_without_sum(copy, table.sectors, &guid, crc32(bytes));

@@ -42,7 +42,8 @@ returns-in-Err-write_entries_durably-clause-replaced g c =
     let own : c.header_sector-own.result ≡ header_sector c.args.copy sectors = c.header_sector-own.ensures ∙ ap (header_sector c.args.copy) same in
     let first : c.entries_sector-first.result ≡ entries_sector c.args.copy sectors = c.entries_sector-first.ensures ∙ ap (entries_sector c.args.copy) same in
     replaced_gone_second (g.R.Rack.seen c.args.rack.now) (g.R.Rack.seen c.write_durably.new.rack) (g.R.Rack.seen c.write_entries_durably.new.rack) c.args.disk c.args.copy
-    c.args.table.now c.encode_entries-bytes.result c.in-Err-write_entries_durably.gone c.requires.writable.room
+    c.args.table.now c.encode_header-header.result c.encode_entries-bytes.result c.in-Err-write_entries_durably.gone
+    (record { room = c.requires.writable.room; own = c.encode_header-header.ensures.long; long = c.encode_entries-bytes.ensures.long; says = c.encode_header-header.ensures.written })
     (rw (← own) (sector_durable _ _ _ _ _ _ c.in_default.ensures.writes)) (rw (← first) c.in-Err-write_entries_durably.ensures.writes)
 
 pub write_durably-requires-2-clause-sector : goal.write_durably-requires-2-clause-sector
@@ -62,5 +63,5 @@ returns-clause-replaced g c =
     let first : c.entries_sector-first.result ≡ entries_sector c.args.copy sectors = c.entries_sector-first.ensures ∙ ap (entries_sector c.args.copy) same in
     replaced_by (g.R.Rack.seen c.args.rack.now) (g.R.Rack.seen c.write_durably.new.rack) (g.R.Rack.seen c.write_entries_durably.new.rack)
     (g.R.Rack.seen c.write_durably-2.new.rack) c.args.disk c.args.copy c.args.table.now c.encode_header-header.result c.encode_entries-bytes.result c.write_durably-2.result
-    (record { room = c.requires.writable.room; long = c.encode_entries-bytes.ensures.long; says = c.encode_header-header.ensures })
+    (record { room = c.requires.writable.room; own = c.encode_header-header.ensures.long; long = c.encode_entries-bytes.ensures.long; says = c.encode_header-header.ensures.written })
     (rw (← own) (sector_durable _ _ _ _ _ _ c.in_default.ensures.writes)) (rw (← first) c.in_default-write_entries_durably.ensures.writes) (rw (← own) (sector_durable _ _ _ _ _ _ c.write_durably-2.ensures.writes))

@@ -11,9 +11,9 @@ use Rattle.gpt_table.proofs.Headers.{summed_fields, header_reads, header_entries
 use Rattle.gpt_table.proofs.Decoded.{decodes_to}
 use Rattle.gpt_table.proofs.encoding.encode_header.Goals as goal
 
-pub returns : goal.returns
+pub returns-clause-written : goal.returns-clause-written
 unfolding written_header
-returns c =
+returns-clause-written c =
     let table = c.args.table.now in
     let guid = c.guid_bytes-guid.result in
     let entries_sum = c.crc32.result in

@@ -1,7 +1,7 @@
 use Rattle.std.proofs.Common.{◌≡◌, ◌∙◌, sym, ap, subst₂, ℕ}
 use Rattle.gpt_table.specs.Format.{header_sector, entries_sector}
 use Rattle.gpt_table.specs.Plans.{copy_plan, WritesSectors}
-use Rattle.gpt_table.proofs.Planned.{plan_holds, plan_within}
+use Rattle.gpt_table.proofs.Planned.{plan_holds, plan_sized, plan_within}
 use Rattle.gpt_table.proofs.writing.write_copy.Goals as goal
 
 pub returns-clause-writes : goal.returns-clause-writes
@@ -15,9 +15,10 @@ returns-clause-writes g c =
     record {
       plan = copy_plan (header_sector c.args.copy sectors) header (entries_sector c.args.copy sectors) bytes;
       within = plan_within c.args.copy sectors header bytes;
+      sized = plan_sized c.args.copy sectors header bytes c.encode_header-header.ensures.long c.encode_entries-bytes.ensures.long;
       says = λ contents holds.
           plan_holds c.args.copy c.args.table.now header bytes contents c.requires.writable.room c.encode_entries-bytes.ensures.long
-          c.encode_header-header.ensures holds;
+          c.encode_header-header.ensures.written holds;
       writes = subst₂ (λ (o f : ℕ). WritesSectors (g.R.Rack.seen c.args.rack.now) (g.R.Rack.seen c.write_sectors.new.rack) c.args.disk (copy_plan o header f bytes) c.write_sectors.result)
           own first c.write_sectors.ensures.writes;
     }
