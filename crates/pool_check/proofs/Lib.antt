@@ -18,5 +18,6 @@ pub mod Valid
 pub mod Wells
 pub mod Founded
 pub mod TableSectors
+pub mod SettledValues
 pub mod Settled
 pub mod Compared

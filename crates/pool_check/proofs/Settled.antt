@@ -1,20 +1,20 @@
 -- Tables of disks are settled one after the other.
-use Rattle.std.proofs.Common.{◌≡◌, ◌≢◌, ◌⊎◌, ℕ, ◌+◌, ◌<◌, ◌≤◌, Bool, true, List, [], Result, Ok, Err, Option, Some, None, option_map, inl, inr, refl, sym, ap, ap₂, subst, ◌∙◌, arith}
+use Rattle.std.proofs.Common.{◌≡◌, ◌≢◌, ◌⊎◌, ℕ, ◌+◌, ◌<◌, ◌≤◌, Bool, true, List, Result, Ok, Err, Option, Some, None, option_map, inl, inr, refl, sym, ap, ap₂, subst, ◌∙◌, arith}
 use Rattle.std.proofs.lemmas.Bool.{cases_eq}
 use Rattle.std.proofs.lemmas.Option.{none-some}
 use Rattle.rack.specs.Values.{IsSingle, Keeps}
 use Rattle.rack.specs.Seen.{Image, IsLive, IsPick, Rose, Seen, Stays}
 use Rattle.rack.specs.Moments.{Leaves}
 use Rattle.rack.specs.Joins.{leaves_same, leaves_then, leaves_weaker, live_first, live_second, rose_later}
-use Rattle.rack.specs.Sequences.{IsMix, MayBecome, OnlyReads, WritesOnly}
+use Rattle.rack.specs.Sequences.{IsMix, OnlyReads, WritesOnly}
 use Rattle.rack.proofs.Reading.{only_reads_start}
-use Rattle.rack.proofs.Writing.{only_none, only_quiet, only_then, only_weaker}
+use Rattle.rack.proofs.Writing.{only_none}
 use Rattle.gpt_table.specs.declared.Table.{Table}
 use Rattle.gpt_table.specs.declared.TableFault.{TableFault}
 use Rattle.gpt_table.specs.declared.TableFault.TheVariants.{NoTable, Gone}
 use Rattle.gpt_table.specs.declared.TableCopy.{TableCopy}
 use Rattle.gpt_table.specs.declared.TableCopy.TheVariants.{Primary, Backup}
-use Rattle.gpt_table.specs.Changes.{AreSingle, BothLive, BothSay, Changes, IsElsewhere, IsKeptOrWritten, IsLeftover, IsOfCopies, IsPickOf, SettlesTable, the_table}
+use Rattle.gpt_table.specs.Changes.{AreSingle, BothLive, BothSay, Changes, IsInSettled, IsKeptOrWritten, IsLeftover, IsOfCopies, IsPickOf, SettlesTable, the_table}
 use Rattle.gpt_table.specs.Disk.{Contents, CopiesAgree, first_of, first_table, now_on, table_at}
 use Rattle.gpt_table.proofs.Changed.{changes_read, live_both}
 use Rattle.gpt_table.proofs.Joined.{table_at_agrees}
@@ -23,7 +23,8 @@ use Rattle.pool_image.specs.Disks.{Seats}
 use Rattle.pool_check.specs.Drives.{Goes, flag_by}
 use Rattle.pool_check.specs.Settling.{AreDistinct, AreSettled, IsAgreement, IsLeftOn, IsSettled, IsTableSector, IsTrueOf, KeepsTable, SettlesDisk, SettlesPlace}
 use Rattle.pool_check.proofs.AfterReads.{goes_early}
-use Rattle.pool_check.proofs.TableSectors.{live_of, of_one, place_of_sector, table_end}
+use Rattle.pool_check.proofs.TableSectors.{live_of, of_one}
+use Rattle.pool_check.proofs.SettledValues.{only_more, only_same}
 use Rattle.pool_check.proofs.Losing.{IsWithout, without_here, without_other}
 
 -- ---- one table
@@ -236,47 +237,6 @@ keeps_after a b c may e stays only never old =
     keeps_by stays e only.stays (kept_tables may e (a.sectors e) only never)
     (λ traced live. left_tables may e (a.sectors e) only never traced (λ copy s is. live_second stays (live copy s is))) old
 
--- ---- what is written
-
--- the table of a place's disk was settled
-only_table : {b c : Seen} (x : Seen) (seats : Seats) (place d : ℕ) (P : Contents → Type 0) → seats place ≡ Some d → b.sectors d ≡ x.sectors d
-    → Changes b c d (IsOfCopies (b.sectors d)) P → WritesOnly b c (IsTableSector x seats (place + 1))
-only_table {b} {c} x seats place d P seat same changes = record {
-  stays = changes.stays;
-  others = λ e s live never. elim (place_of_sector d (b.sectors d) e s) [
-    | inl other ↦ changes.others e s live other
-    | inr here ↦ absurd (never [] (table e s [] here))
-  ];
-  within = λ e s v live left. elim (place_of_sector d (b.sectors d) e s) [
-    | inl other ↦ inl ((changes.others e s live other).within v left)
-    | inr here ↦ inr (table e s v here)
-  ];
-  stops = λ traced.
-      leaves_weaker (IsLeftover b c d (IsOfCopies (b.sectors d)) P) (IsMix b c (IsTableSector x seats (place + 1)))
-      (λ i left e s live. becomes i left e s live (place_of_sector d (b.sectors d) e s)) (changes.stops traced);
-}
-  where
-    table : (e s : ℕ) (v : List ℕ) → (e ≡ d) × IsOfCopies (b.sectors d) s → IsTableSector x seats (place + 1) e s v
-    table e s v here = record {
-      place = place;
-      below = omega arith;
-      seat = seat ∙ ap Some (sym here.0);
-      at_end = elim (table_end (b.sectors d) s here.1) [
-        | inl low ↦ inl low
-        | inr high ↦ inr (subst (λ m. m ≤ s + 33) (same ∙ ap x.sectors (sym here.0)) high)
-      ];
-    }
-
-    becomes : (i : Image) → IsLeftover b c d (IsOfCopies (b.sectors d)) P i → (e s : ℕ) → IsLive b c e s
-        → IsElsewhere d (IsOfCopies (b.sectors d)) e s ⊎ ((e ≡ d) × IsOfCopies (b.sectors d) s)
-        → MayBecome b (IsTableSector x seats (place + 1)) e s (i e s)
-    becomes i left e s live (inl other) = inl (left.0 e s live other)
-    becomes i left e s live (inr here) = inr (table e s (i e s) here)
-
-one_more : (x : Seen) (seats : Seats) (many d s : ℕ) (v : List ℕ) → IsTableSector x seats many d s v → IsTableSector x seats (many + 1) d s v
-one_more x seats many d s v is =
-    let below = is.below in record { place = is.place; below = omega (arith, below); seat = is.seat; at_end = is.at_end }
-
 -- ---- one place
 
 -- a table was settled, or there was none
@@ -327,6 +287,7 @@ place_agreed a seats place flag fit is = record {
       (λ contents. AreSingle a d (a.sectors d) → the_table (a.sectors d) contents ≡ the_table (a.sectors d) (now_on a d)) (only_reads_start a fit)
       (λ live contents pick single.
       tables_agree (a.sectors d) contents (now_on a d) (λ s of. single_in a d (a.sectors d) single s of (contents s) (pick s of)));
+  only = λ d seat. only_none a (λ e s v. (e ≡ d) × IsInSettled a d (a.sectors d) s v) fit;
   settles = λ d seat. inl (seat, λ says. agreed_settled a d (says is));
 }
 
@@ -335,6 +296,7 @@ place_empty a seats place flag fit none = record {
   others = λ p other. refl;
   empty = λ is. (only_reads_start a fit, none);
   changes = λ d seat. absurd (none-some d (sym none ∙ seat));
+  only = λ d seat. absurd (none-some d (sym none ∙ seat));
   settles = λ d seat. absurd (none-some d (sym none ∙ seat));
 }
 
@@ -350,6 +312,7 @@ place_kept a b seats place d flag result seat settles none gone = record {
       subst (λ k. Changes a b k (IsOfCopies (a.sectors k))
       (λ contents. AreSingle a k (a.sectors k) → the_table (a.sectors k) contents ≡ the_table (a.sectors k) (now_on a k)))
       (same e at) settles.changes;
+  only = λ e at. subst (λ k. WritesOnly a b (λ f s v. (f ≡ k) × IsInSettled a k (a.sectors k) s v)) (same e at) settles.only;
   settles = λ e at. inl (at, λ says. subst (IsSettled a b) (same e at) (settled_table a b d result settles none gone));
 }
   where
@@ -366,6 +329,7 @@ place_lost a b before after place d flag result seat without settles rose = reco
       subst (λ k. Changes a b k (IsOfCopies (a.sectors k))
       (λ contents. AreSingle a k (a.sectors k) → the_table (a.sectors k) contents ≡ the_table (a.sectors k) (now_on a k)))
       (same e at) settles.changes;
+  only = λ e at. subst (λ k. WritesOnly a b (λ f s v. (f ≡ k) × IsInSettled a k (a.sectors k) s v)) (same e at) settles.only;
   settles = λ e at. inr (without_here before after place without, subst (λ k. Rose (a.faults k) (b.faults k)) (same e at) rose);
 }
   where
@@ -376,7 +340,7 @@ place_lost a b before after place d flag result seat without settles rose = reco
 
 pub settled_none : (a : Seen) (seats : Seats) (agreed : List Bool) → a.fit → AreSettled a a seats seats agreed 0
 settled_none a seats agreed fit = record {
-  only = only_none a (IsTableSector a seats 0) fit;
+  only = only_none a (IsTableSector a a seats 0) fit;
   seats = λ place. inl refl;
   later = λ p least. refl;
   tables = λ d. keeps_start a d;
@@ -396,9 +360,6 @@ module _ (a b c : Seen) (first before after : Seats) (agreed : List Bool) (place
   stays : Stays a b
   stays = old.only.stays
 
-  wide : WritesOnly a b (IsTableSector a first (place + 1))
-  wide = only_weaker (IsTableSector a first place) (IsTableSector a first (place + 1)) (one_more a first place) old.only
-
   other_seats : Stays b c → (p : ℕ) → (p ≡ place → ⊥) → (after p ≡ first p) ⊎ ((after p ≡ None) × Goes a c first p)
   other_seats later p other = by (old.seats p)
     where
@@ -414,7 +375,7 @@ module _ (a b c : Seen) (first before after : Seats) (agreed : List Bool) (place
   empty_more none =
       let is = settles.empty none in
       let reads = is.0 in record {
-        only = only_then (IsTableSector a first (place + 1)) wide (only_quiet (IsTableSector a first (place + 1)) reads.stays reads.keeps);
+        only = only_same a b c reads.stays first place old.only reads;
         seats = λ p. elim (cases_eq p place) [
           | inl same ↦
               subst (λ q. (after q ≡ first q) ⊎ ((after q ≡ None) × Goes a c first q)) (sym same)
@@ -465,7 +426,7 @@ module _ (a b c : Seen) (first before after : Seats) (agreed : List Bool) (place
 
     seated_more : AreSettled a c first after agreed (place + 1)
     seated_more = record {
-      only = only_then (IsTableSector a first (place + 1)) wide (only_table a first place d P (had place d seat) (stays.sectors d) changes);
+      only = only_more a b c changes.stays first place d (had place d seat) (old.tables d) old.only (settles.only d seat);
       seats = λ p. elim (cases_eq p place) [
         | inl same ↦
             subst (λ q. (after q ≡ first q) ⊎ ((after q ≡ None) × Goes a c first q)) (sym same) (here_seats (settles.settles d seat))

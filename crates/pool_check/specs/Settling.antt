@@ -4,18 +4,28 @@ use Rattle.rack.specs.Values.{MayLeave}
 use Rattle.rack.specs.Seen.{Seen, Rose}
 use Rattle.rack.specs.Moments.{Leaves}
 use Rattle.rack.specs.Sequences.{OnlyReads, WritesOnly}
+use Rattle.gpt_table.specs.declared.Table.{Table}
 use Rattle.gpt_table.specs.declared.TableCopy.{TableCopy}
-use Rattle.gpt_table.specs.Changes.{AreSingle, BothLive, BothSay, Changes, IsKeptOrWritten, IsOfCopies, IsPickOf, the_table}
+use Rattle.gpt_table.specs.Changes.{AreSingle, BothLive, BothSay, Changes, IsInReplaced, IsInSettled, IsKeptOrWritten, IsOfCopies, IsPickOf, the_table}
 use Rattle.gpt_table.specs.Disk.{AgreesUnspent, Contents, CopiesAgree, now_on}
 use Rattle.pool_image.specs.Disks.{Seats}
 use Rattle.pool_check.specs.Drives.{Loses, flag_by}
 
--- a sector of a partition table on the disk of one of the first so many places: before sector 34, or one of the last 33
-pub record IsTableSector (x : Seen) (seats : Seats) (many d s : ℕ) (v : List ℕ) : Type 0 where
+-- what a copy of a disk's partition table has in a sector while it is replaced by the table that the disk had in x, where each sector of its copies, live until y, had one value
+pub record IsSettledValue (x y : Seen) (d s : ℕ) (v : List ℕ) : Type 0 where
+  pub copy : TableCopy
+  pub table : Table
+  pub size : table.sectors ≡ x.sectors d
+  pub first : BothLive x y d (x.sectors d) → AreSingle x d (x.sectors d) → the_table (x.sectors d) (now_on x d) ≡ Some table
+  pub within : IsInReplaced copy table s v
+
+-- a sector of a partition table on the disk of one of the first so many places: before sector 34, or one of the last 33; and what a copy of the table has there
+pub record IsTableSector (x y : Seen) (seats : Seats) (many d s : ℕ) (v : List ℕ) : Type 0 where
   pub place : ℕ
   pub below : place < many
   pub seat : seats place ≡ Some d
   pub at_end : (s < 34) ⊎ (x.sectors d ≤ s + 33)
+  pub value : IsSettledValue x y d s v
 
 -- no two places have one disk
 abbrev pub AreDistinct : Seats → Type 0
@@ -72,11 +82,12 @@ pub record SettlesPlace (a b : Seen) (before after : Seats) (place : ℕ) (flag 
       (d : ℕ) → before place ≡ Some d
       → Changes a b d (IsOfCopies (a.sectors d))
       (λ contents. AreSingle a d (a.sectors d) → the_table (a.sectors d) contents ≡ the_table (a.sectors d) (now_on a d))
+  pub only : (d : ℕ) → before place ≡ Some d → WritesOnly a b (λ e s v. (e ≡ d) × IsInSettled a d (a.sectors d) s v)
   pub settles : (d : ℕ) → before place ≡ Some d → SettlesDisk a b after place flag d
 
 -- What stands once the tables of the first so many places are settled.
 pub record AreSettled (a b : Seen) (first now : Seats) (agreed : List Bool) (many : ℕ) : Type 0 where
-  pub only : WritesOnly a b (IsTableSector a first many)
+  pub only : WritesOnly a b (IsTableSector a b first many)
   pub seats : Loses a b first now
   pub later : (p : ℕ) → many ≤ p → now p ≡ first p
   pub tables : (d : ℕ) → KeepsTable a b d

@@ -50,7 +50,7 @@ pub fn settle_tables<R: Rack>(rack: &mut R, seats: &mut Seats, agreed: &Flags)
     requires inside { (place d : ℕ) → seats_by seats.old place ≡ Some d → d < (R.seen rack.old).disks }
     requires distinct { AreDistinct (seats_by seats.old) }
     // Of the disks that had a place, only sectors of tables are written.
-    ensures only { WritesOnly (R.seen rack.old) (R.seen rack.new) (IsTableSector (R.seen rack.old) (seats_by seats.old) 16) }
+    ensures only { WritesOnly (R.seen rack.old) (R.seen rack.new) (IsTableSector (R.seen rack.old) (R.seen rack.new) (seats_by seats.old) 16) }
     // Each place that has lost its disk has its cause.
     ensures seats { Loses (R.seen rack.old) (R.seen rack.new) (seats_by seats.old) (seats_by seats.new) }
     ensures tables { (d : ℕ) → KeepsTable (R.seen rack.old) (R.seen rack.new) d }
