@@ -1,16 +1,18 @@
 -- Parts of a call keep the frames of arrays.
-use Rattle.std.proofs.Common.{◌≡◌, ℕ, ◌≤◌, Bool, ◌∷◌, [], Option, Some, List, map, option_map, unwrap_or, refl, sym, ap, subst, ◌∙◌}
+use Rattle.std.proofs.Common.{◌≡◌, ℕ, ◌-◌, ◌≤◌, ◌==◌, bit_and, int_eq, pos, if◌then◌else◌, Bool, ◌∷◌, [], Option, Some, List, map, option_map, unwrap_or, refl, sym, ap, subst, ◌∙◌}
 use Rattle.std.specs.List.{range_with_len}
+use Rattle.std.proofs.lemmas.Nat.{and_assoc}
 use Rattle.rack.specs.Calls.{KeepsAll}
 use Rattle.rack.specs.Joins.{leaves_same, leaves_then, leaves_weaker}
 use Rattle.rack.specs.Seen.{Image, IsPick, Seen, Stays}
 use Rattle.rack.specs.Values.{Values}
 use Rattle.md_super.specs.declared.superblock.Super.{Super}
 use Rattle.pool_state.specs.declared.contents.State.{State}
-use Rattle.array_image.specs.Arrays.{Member, Shape, member_in, place_with, replayed, shape_by, shape_in}
+use Rattle.array_image.specs.Arrays.{Member, Shape, final_layout, first_layout, member_in, place_with, replayed, shape_by, shape_in}
 use Rattle.array_image.specs.Left.{IsInside, Picks}
 use Rattle.array_image.specs.SoundArray.{array_fields}
 use Rattle.array_image.specs.States.{state_in}
+use Rattle.array_image.specs.Stripes.{mirror, parity}
 use Rattle.array_image.specs.Supers.{truth_in}
 use Rattle.array_image.proofs.Frames.{Agree, supers_same, truth_by_supers}
 use Rattle.array_model.specs.Says.{IsEarlier}
@@ -26,7 +28,7 @@ some_same x y same = cc
 -- ---- frames of shapes and of superblocks
 
 abbrev pub shape_frame : Shape → Frame
-shape_frame shape = record { size = shape.size; places = map (λ (m : Member). m.place) shape.members }
+shape_frame shape = record { size = shape.size; layout = shape.layout; places = map (λ (m : Member). m.place) shape.members }
 
 map_places : (f : ℕ → Member) (ks : List ℕ) → map (λ (m : Member). m.place) (map f ks) ≡ map (λ k. (f k).place) ks
 map_places f [] = refl
@@ -34,11 +36,11 @@ map_places f (k ∷ ks) = ap (λ ps. (f k).place ∷ ps) (map_places f ks)
 
 shape_by_frame : (s : State) (r : Image) (n : ℕ) (t : Super) → shape_frame (shape_by s r n t) ≡ frame_of t
 unfolding shape_by
-shape_by_frame s r n t = ap (λ ps. record { size = t.size; places = ps }) (map_places (member_in s r n t) (range_with_len 0 t.raid_disks))
+shape_by_frame s r n t = ap (λ ps. record { size = t.size; layout = first_layout t; places = ps }) (map_places (member_in s r n t) (range_with_len 0 t.raid_disks))
 
 pub view_frame : (v : View) → shape_frame (shape_of v) ≡ frame_of v.truth
 unfolding shape_of
-view_frame v = ap (λ ps. record { size = v.truth.size; places = ps }) (map_places (member_on v) (range_with_len 0 v.truth.raid_disks))
+view_frame v = ap (λ ps. record { size = v.truth.size; layout = first_layout v.truth; places = ps }) (map_places (member_on v) (range_with_len 0 v.truth.raid_disks))
 
 -- the truth of contents that have a shape
 pub says_frame : (s : State) (n : ℕ) (shape : Shape) (r : Image) (t : Super) → shape_in s r n ≡ Some shape → truth_in s r n ≡ Some t → frame_of t ≡ shape_frame shape
@@ -46,15 +48,26 @@ says_frame s n shape r t has is =
     sym (shape_by_frame s r n t)
     ∙ ap shape_frame (some_same (shape_by s r n t) shape (sym (ap (λ (o : Option Super). option_map (shape_by s r n) o) is) ∙ has))
 
+-- a superblock's fields of the array have its layout: the mark of a reshape is one of them
+stripped_layout : (t : Super) → first_layout (array_fields t) ≡ first_layout t
+stripped_layout t = ap (λ (k : ℕ). if k == 4 then parity (t.raid_disks - 1) else final_layout t) (and_assoc 4 t.feature_map 0xfffffffd)
+
+stripped_frame : (t : Super) → frame_of (array_fields t) ≡ frame_of t
+stripped_frame t = ap (λ l. record { size = t.size; layout = l; places = map (λ k. unwrap_or (place_with t.roles.items k) 16) (range_with_len 0 t.raid_disks) }) (stripped_layout t)
+
 pub fields_frame : (t u : Super) → array_fields t ≡ array_fields u → frame_of t ≡ frame_of u
-fields_frame t u same = ap frame_of same
+fields_frame t u same = sym (stripped_frame t) ∙ ap frame_of same ∙ stripped_frame u
 
 pub earlier_frame : (t u : Super) → IsEarlier t u → frame_of t ≡ frame_of u
-earlier_frame t u earlier = ap frame_of earlier.fields
+earlier_frame t u earlier = sym (stripped_frame t) ∙ ap frame_of earlier.fields ∙ stripped_frame u
 
 pub geometry_frame : (t u : Super) → HasGeometry t u → frame_of u ≡ frame_of t
 geometry_frame t u same =
-    λ i. record { size = same.size i; places = map (λ k. unwrap_or (place_with (same.roles i).items k) 16) (range_with_len 0 (same.disks i)) }
+    λ i. record {
+      size = same.size i;
+      layout = if bit_and (same.features i) 4 == 4 then parity (same.disks i - 1) else if int_eq (same.level i) (pos 1) then mirror (same.disks i) else parity (same.disks i);
+      places = map (λ k. unwrap_or (place_with (same.roles i).items k) 16) (range_with_len 0 (same.disks i));
+    }
 
 -- ---- contents
 

@@ -1,23 +1,29 @@
--- The size of an array and the places of its members, as its truth has them: no call changes them.
+-- The size of an array, its layout and the places of its members, as its truth has them: no call changes them.
 use Rattle.std.specs.Prelude.{◌≡◌, ℕ, List, map, Some, unwrap_or}
 use Rattle.std.specs.List.{range_with_len}
 use Rattle.rack.specs.Seen.{Image, Seen}
 use Rattle.rack.specs.Moments.{Leaves}
 use Rattle.md_super.specs.declared.superblock.Super.{Super}
 use Rattle.pool_state.specs.declared.contents.State.{State}
-use Rattle.array_image.specs.Arrays.{place_with, replayed}
+use Rattle.array_image.specs.Arrays.{first_layout, place_with, replayed}
 use Rattle.array_image.specs.Left.{IsInside}
 use Rattle.array_image.specs.States.{state_in}
+use Rattle.array_image.specs.Stripes.{Layout}
 use Rattle.array_image.specs.Supers.{truth_in}
 use Rattle.array_model.specs.View.{View}
 
--- the sectors of a member's data, and the place of each position
+-- the sectors of a member's data, the layout of its rows, but for those that a reshape has moved, and the place of each position
 pub record Frame : Type 0 where
   pub size : ℕ
+  pub layout : Layout
   pub places : List ℕ
 
 abbrev pub frame_of : Super → Frame
-frame_of t = record { size = t.size; places = map (λ k. unwrap_or (place_with t.roles.items k) 16) (range_with_len 0 t.raid_disks) }
+frame_of t = record {
+  size = t.size;
+  layout = first_layout t;
+  places = map (λ k. unwrap_or (place_with t.roles.items k) 16) (range_with_len 0 t.raid_disks);
+}
 
 -- where contents have a truth of array n, it has this frame
 abbrev pub HasFrame : Frame → ℕ → Image → Type 0
