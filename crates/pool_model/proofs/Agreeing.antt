@@ -50,7 +50,7 @@ pub agree_opened : (f : Found) (from : ℕ) (c i : Image) → HoldOpened f from 
 agree_opened f from c i holds agree =
     let h = holds.now in
     let disks : h.disks ≡ f.disks = (found_is f.disks c h holds.found_is).1 in
-    let again = agree_holds f.disks c i h holds.found_is holds.sound holds.logs holds.apart holds.stops agree in
+    let again = agree_holds f.disks c i h holds.found_is holds.sound holds.logs holds.apart holds.alone holds.stops agree in
     let means = agree_means f.disks c i h holds.found_is holds.logs agree in
     let found_now : found f.disks i ≡ Some again.now = ap (λ (k : Disks). found k i) (sym disks) ∙ again.found_is in
     let is : IsSamePool h again.now =
@@ -66,5 +66,6 @@ agree_opened f from c i holds agree =
       seats = λ p counts. is.seats p ∙ holds.seats p (sym (ap (λ (z : State). is_current z p) is.state) ∙ counts);
       values = λ n x low behind inside. ap (λ (k : Arrays). k.contents n x) (joined_same h again.now is) ∙ holds.values n x low behind inside;
       apart = again.apart;
+      alone = again.alone;
       stops = subst (λ (k : Disks). MayReplay k i again.now) disks again.stops;
     }

@@ -95,16 +95,16 @@ says_own f place sectors disk None tabled own = by (the_table sectors disk) tabl
 
 -- ---- at the opening, and after calls
 
--- disks on which a pool was found that stood alone, and no other one had an id that it gives later
+-- disks on which a pool was found that stood alone, and no other one that stays had an id that it gives later
 pub alone_begins : (f : Found) (bound : ℕ) (Out : ℕ → Type 0) (s : State) (t : Slices) (x : Seen) → StandsAlone f
-    → ((d : ℕ) → ((p : ℕ) → f.seats p ≡ Some d → ⊥) → d < f.disks.count → IsUngiven f.state bound (f.identities d))
+    → ((d : ℕ) → ((p : ℕ) → f.seats p ≡ Some d → ⊥) → (Out d → ⊥) → d < f.disks.count → IsUngiven f.state bound (f.identities d))
     → HoldRest f t x → HoldAlone f bound Out s t x
 alone_begins f bound Out s t x stands ungiven rest i off =
     let elsewhere = rest.elsewhere i off in
     record {
       tables = λ p d seat why. ap (λ o. option_map_or (is_table f p (f.disks.sectors d)) o false) (elsewhere.tables p d seat) ∙ stands.tables p d seat;
       others = λ d never stays low.
-          subst (IsStranger f bound) (sym (elsewhere.others d never low)) (record { apart = stands.others d never low; ungiven = ungiven d never low });
+          subst (IsStranger f bound) (sym (elsewhere.others d never low)) (record { apart = stands.others d never low; ungiven = ungiven d never stays low });
     }
 
 -- calls that write slices alone, while marks come to the state

@@ -14,13 +14,12 @@ use Rattle.pool_state.specs.Sector.{decoded}
 use Rattle.commit_log.specs.Kept.{IsNoLater}
 use Rattle.array_image.specs.Places.{member_slice, state_sector, super_sector, place_of}
 use Rattle.array_image.specs.States.{epoch_of}
-use Rattle.array_image.specs.Supers.{super_of}
 use Rattle.array_image.proofs.Frames.{super_of_sector, truth_by_supers}
 use Rattle.pool_image.specs.Disks.{Disks, Identities, Identity, disks_of, identities_of, stands_for}
 use Rattle.pool_image.specs.Drives.{Found, drive_sector, first_of, slices_from}
 use Rattle.pool_image.specs.Meaning.{is_member}
 use Rattle.pool_model.specs.InService.{HasSeat, HoldSaid, IsArranged, IsSaid, epoch_at}
-use Rattle.pool_model.specs.Left.{AreAloneBy, IsPickOff}
+use Rattle.pool_model.specs.Left.{AreAloneBy, HasNoSuper, IsPickOff}
 use Rattle.pool_model.specs.Taken.{KeepsOthers, attached}
 use Rattle.pool_model.proofs.Alike.{HasTruths, first_same, member_same, outset_said, truth_same}
 use Rattle.pool_model.proofs.Before.{off_before, was as image_before, was_other as image_other}
@@ -274,10 +273,10 @@ module _ (f : Found) (t : Slices) (s : State) (disk : ℕ) (x z : Seen) (arrange
         let first_was : first_of f n ≡ Some first = sym (first_same f h arranged.made.1 arranged.truths truths n (omega (arith, low))) ∙ begins in
         elim (cases_eq d disk) [
           | inl same ↦
-              subst (λ k. super_of (i k (first + super_sector)) ≡ None) (sym same)
+              subst (λ k. HasNoSuper f.state.pool.0 n (i k (first + super_sector))) (sym same)
               (keeps.alone i off n p first low counts (seat ∙ ap Some same) member first_was (subst (λ k. first + super_sector < z.sectors k) same within))
           | inr other ↦
-              subst (λ (c : ℕ → List ℕ). super_of (c (first + super_sector)) ≡ None) (was_other d other)
+              subst (λ (c : ℕ → List ℕ). HasNoSuper f.state.pool.0 n (c (first + super_sector))) (was_other d other)
               (held.alone was off_was n p d first low counts seat member first_was
               (subst (λ k. first + super_sector < k) (keeps.sectors d (arranged.seated p d seat).1) within))
         ]

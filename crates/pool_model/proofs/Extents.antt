@@ -1,22 +1,25 @@
 -- The slices of the pool that such contents have lie where they lay.
-use Rattle.std.proofs.Common.{◌≡◌, ℕ, zero, suc, ◌+◌, ◌<◌, ◌≤◌, ◌&&◌, Bool, true, false, nat_lt, if◌then◌else◌, [], Option, Some, None, option_map, unwrap_or, refl, sym, ap, ap₂, ◌∙◌, inl, inr, lt-ltb, le-ltb, ltb-true, arith}
+use Rattle.std.proofs.Common.{◌≡◌, ℕ, zero, suc, ◌+◌, ◌<◌, ◌≤◌, ◌&&◌, Bool, true, false, nat_lt, if◌then◌else◌, [], Option, Some, None, option_map, unwrap_or, refl, sym, ap, ap₂, subst, ◌∙◌, inl, inr, lt-ltb, le-ltb, ltb-true, arith}
 use Rattle.std.specs.Option.{option_and_then, option_map_or}
 use Rattle.std.proofs.lemmas.Bool.{cases_Bool}
 use Rattle.rack.specs.Seen.{Image}
 use Rattle.slice_rack.specs.Sliced.{sliced}
 use Rattle.slice_rack.specs.Slices.{Slices, disk_of, first_of as slice_first, seat_of as slice_seat, sectors_of}
+use Rattle.shr_base.specs.declared.Id.{Id}
 use Rattle.md_super.specs.declared.superblock.Super.{Super}
 use Rattle.pool_state.specs.declared.contents.State.{State}
 use Rattle.array_image.specs.Places.{data_sector, member_slice, place_of, super_sector}
 use Rattle.array_image.specs.States.{is_current}
-use Rattle.array_image.specs.Supers.{is_named, super_in, super_of, truth_in}
+use Rattle.array_image.specs.Supers.{is_named, super_in, truth_in}
 use Rattle.array_image.proofs.Frames.{super_of_sector}
 use Rattle.pool_image.specs.Drives.{Found, drive_sector, end_of, extent_from, extent_of, first_of, slices_from, truth_from}
 use Rattle.pool_image.specs.Meaning.{is_member, truth_of}
 use Rattle.pool_image.specs.Replay.{Extent, Standing}
 use Rattle.pool_image.proofs.Truths.{extent_found, truth_found}
 use Rattle.pool_model.proofs.Current.{truth_current}
-use Rattle.pool_model.proofs.Layers.{IsLaid, laid, no_super, none_there, nothing_super}
+use Rattle.pool_model.specs.Left.{HasNoSuper}
+use Rattle.pool_model.proofs.Layers.{IsLaid, laid, none_there, nothing_super}
+use Rattle.pool_model.proofs.NoSuper.{no_super_bare, no_super_in}
 use Rattle.pool_model.proofs.Said.{SaysPool, pool_of}
 
 module _ (f : Found) (t : Slices) (book : State) (i : Image) (before : Standing) (said : SaysPool f t book i) where
@@ -112,17 +115,19 @@ module _ (f : Found) (t : Slices) (book : State) (i : Image) (before : Standing)
               ∙ sym (ap (λ (b : Bool). if b then i (disk_of t (member_slice p n)) (slice_first t (member_slice p n) + super_sector) else [])
               (lt-ltb super_sector (sectors_of t (member_slice p n)) (omega (arith, many))))
 
-        -- one that isn't a member has no superblock
-        pub alone : is_member f n p ≡ false → (now_seat : g.seats p ≡ Some d) → super_of (slices_from g first (member_slice p n) super_sector) ≡ None
+        -- one that isn't a member has no superblock of the array
+        pub alone : is_member f n p ≡ false → (now_seat : g.seats p ≡ Some d) → HasNoSuper book.pool.0 n (slices_from g first (member_slice p n) super_sector)
         alone none now_seat =
-            ap super_of (ap (λ q. drive_sector g q (first + super_sector)) place_is
-            ∙ ap (λ o. option_map_or (λ e. if nat_lt (first + super_sector) (f.disks.sectors e) then i e (first + super_sector) else []) o []) now_seat)
-            ∙ of (nat_lt (first + super_sector) (f.disks.sectors d)) refl
+            subst (HasNoSuper book.pool.0 n)
+            (sym (ap (λ q. drive_sector g q (first + super_sector)) place_is
+            ∙ ap (λ o. option_map_or (λ e. if nat_lt (first + super_sector) (f.disks.sectors e) then i e (first + super_sector) else []) o []) now_seat))
+            (of (nat_lt (first + super_sector) (f.disks.sectors d)) refl)
           where
-            of : (b : Bool) → nat_lt (first + super_sector) (f.disks.sectors d) ≡ b → super_of (if b then i d (first + super_sector) else []) ≡ None
+            of : (b : Bool) → nat_lt (first + super_sector) (f.disks.sectors d) ≡ b → HasNoSuper book.pool.0 n (if b then i d (first + super_sector) else [])
             of true within =
-                said.alone n p d first low counts seat none lies.begins (ltb-true (first + super_sector) (f.disks.sectors d) within)
-            of false past = none_there
+                subst (λ (z : Id). HasNoSuper z.0 n (i d (first + super_sector))) (sym said.after.same.pool)
+                (said.alone n p d first low counts seat none lies.begins (ltb-true (first + super_sector) (f.disks.sectors d) within))
+            of false past = no_super_bare book.pool.0 n [] none_there
 
       -- its superblock is the one of the slices
       super_now : is_current book p ≡ true → super_in book (slices_from g first) n p ≡ super_in book held n p
@@ -140,7 +145,7 @@ module _ (f : Found) (t : Slices) (book : State) (i : Image) (before : Standing)
               elim (cases_Bool (is_member f n p)) [
                 | inl member ↦ super_of_sector book (slices_from g first) held n p (super_same d has counts member seat)
                 | inr none ↦
-                    no_super book (slices_from g first) n p (alone d has counts none seat)
+                    no_super_in book (slices_from g first) n p (alone d has counts none seat)
                     ∙ sym (nothing_super book held n p (reads_nothing none super_sector))
               ]
 

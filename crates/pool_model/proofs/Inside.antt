@@ -17,7 +17,6 @@ use Rattle.pool_state.specs.Sector.{decoded}
 use Rattle.array_image.specs.Arrays.{array_in, arrays_in, replayed}
 use Rattle.array_image.specs.Places.{data_sector, log_sectors, log_slice, member_slice, place_of, slice_of, state_sector, super_sector}
 use Rattle.array_image.specs.States.{current_places, epoch_of, is_current}
-use Rattle.array_image.specs.Supers.{super_of}
 use Rattle.array_image.proofs.Frames.{super_of_sector}
 use Rattle.commit_log.specs.Kept.{IsNoLater}
 use Rattle.commit_log.specs.Saying.{AreOwnCopies}
@@ -32,7 +31,7 @@ use Rattle.pool_image.proofs.Truths.{extent_found}
 use Rattle.pool_rest.proofs.BroughtCopies.{tables}
 use Rattle.pool_rest.proofs.Landings.{where_landed}
 use Rattle.pool_model.specs.InService.{epoch_at}
-use Rattle.pool_model.specs.Left.{AreAloneBy, HoldStill}
+use Rattle.pool_model.specs.Left.{AreAloneBy, HasNoSuper, HoldStill}
 use Rattle.pool_model.specs.Pools.{extent_in}
 use Rattle.pool_model.specs.Stopped.{SaysArray, SaysStopped, StandFor}
 use Rattle.pool_model.proofs.Brought.{apart, e, e_is, e_none, lands_as, replays, ys, zs}
@@ -286,12 +285,13 @@ module _ (f : Found) (t : Slices) (base s : State) (i : Image) (stop : SaysStopp
   ]
 
   -- so no target lands there
-  alone_now_written : AreAloneBy s f after
+  pub alone_now_written : AreAloneBy s f after
   alone_now_written n p d first low now seat none begins within =
-      ap super_of (e_none f t base s i stop st d (first + super_sector)
+      subst (HasNoSuper f.state.pool.0 n)
+      (sym (e_none f t base s i stop st d (first + super_sector)
       (ap (λ (ws : List Target). look ws d (first + super_sector)) (lands_as f t base s i stop st)
-      ∙ look_nowhere t (zs f t base s i stop st) d (first + super_sector) nowhere_there))
-      ∙ stop.alone n p d first low now seat none begins within
+      ∙ look_nowhere t (zs f t base s i stop st) d (first + super_sector) nowhere_there)))
+      (stop.alone n p d first low now seat none begins within)
     where
       was : is_current base p ≡ true
       was = stop.after.current p now
@@ -375,6 +375,6 @@ module _ (f : Found) (t : Slices) (base s : State) (i : Image) (stop : SaysStopp
     seats = seats_now f s after says_seats;
     slices = slices_now f t s after (standing_by f.disks i st.stood) says_pool;
     joined = (later_base f t base s i stop).same.joined ∙ stop.joined ∙ sym (later_base f t base s i stop).same.made;
-    alone = alone_now f t s after (standing_by f.disks i st.stood) says_pool i stop.alone;
+    alone = alone_now f t s after (standing_by f.disks i st.stood) says_pool after alone_now_written;
     values = λ n x low. value_now f t s after (standing_by f.disks i st.stood) says_pool n low x ∙ value_same n low x;
   }

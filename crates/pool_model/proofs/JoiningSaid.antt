@@ -9,14 +9,13 @@ use Rattle.slice_rack.specs.Runs.{IsSliced}
 use Rattle.slice_rack.specs.Slices.{Slices}
 use Rattle.pool_state.specs.declared.contents.Plan.{Plan}
 use Rattle.array_image.specs.Places.{super_sector}
-use Rattle.array_image.specs.Supers.{super_of}
 use Rattle.raid_rack.specs.Enlisting.{enlisted}
 use Rattle.raid_rack.specs.Raid.{Raid}
 use Rattle.pool_image.specs.Disks.{Disks, disks_of, identities_of}
 use Rattle.pool_image.specs.Drives.{Found}
 use Rattle.pool_model.specs.InService.{HoldSaid, InService, IsSaid}
 use Rattle.pool_model.specs.Laid.{IsJoinedOff}
-use Rattle.pool_model.specs.Left.{AreAloneBy, IsPickOff}
+use Rattle.pool_model.specs.Left.{AreAloneBy, HasNoSuper, IsPickOff}
 use Rattle.pool_model.specs.Taken.{KeepsOff, KeepsRest, SeatsNew, taken}
 use Rattle.pool_model.proofs.Before.{off_before, was as image_before, was_other as image_other}
 use Rattle.pool_model.proofs.Staying.{held_taken}
@@ -75,9 +74,10 @@ module _ (f : Found) (s u : Slices) (v : Raid) (place disk units : ℕ) (plan : 
     sectors = λ d low. ap (λ (q : Disks). q.sectors d) (sym is.disks);
     outside = keeps_off s;
     alone = λ j off n first low none begins within.
-        ap super_of (on_disk j off (first + super_sector) within
-        (λ w. free_super f s u v place disk (x.sectors disk) new is.slices known n first low begins none w))
-        ∙ joined.alone n first low none begins within;
+        subst (HasNoSuper f.state.pool.0 n)
+        (sym (on_disk j off (first + super_sector) within
+        (λ w. free_super f s u v place disk (x.sectors disk) new is.slices known n first low begins none w)))
+        (joined.alone n first low none begins within);
     earlier = λ j off d low other which copy here. elim which [
       | inl past ↦ (let same = count in absurd (omega (arith, low, past, same)))
       | inr lost ↦

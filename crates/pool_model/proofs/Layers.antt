@@ -19,11 +19,8 @@ unfolding bytes_at number_at
 none_there = refl
 
 -- a sector that is none says none
-pub no_super : (s : State) (c : Image) (n p : ℕ) → super_of (c (member_slice p n) super_sector) ≡ None → super_in s c n p ≡ None
-no_super s c n p none = ap (only_if (is_super_of s.pool.0 s.extent (length s.drives.items) n p)) none
-
 pub nothing_super : (s : State) (c : Image) (n p : ℕ) → c (member_slice p n) super_sector ≡ [] → super_in s c n p ≡ None
-nothing_super s c n p nothing = no_super s c n p (ap super_of nothing ∙ none_there)
+nothing_super s c n p nothing = ap (only_if (is_super_of s.pool.0 s.extent (length s.drives.items) n p)) (ap super_of nothing ∙ none_there)
 
 none_all : (g : ℕ → Option Super) (ps : List ℕ) → ((p : ℕ) → g p ≡ None) → foremost (λ t. t.events) (map g ps) ≡ None
 unfolding foremost

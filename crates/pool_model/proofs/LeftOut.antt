@@ -11,13 +11,12 @@ use Rattle.pool_state.specs.declared.contents.Drive.{Drive}
 use Rattle.pool_state.specs.declared.contents.State.{State}
 use Rattle.array_image.specs.Places.{drive_id, super_sector}
 use Rattle.array_image.specs.States.{is_current}
-use Rattle.array_image.specs.Supers.{super_of}
 use Rattle.commit_log.specs.Kept.{IsNoLater}
 use Rattle.pool_image.specs.Disks.{Identities, Identity, id_by, identities_of, stands_for}
 use Rattle.pool_image.specs.Drives.{Found}
 use Rattle.pool_model.specs.Alone.{IsSilent, IsStranger, IsTabled, LeaveOut, SaysAlone}
 use Rattle.pool_model.specs.InService.{HasSeat, IsArranged, IsSaid, epoch_at}
-use Rattle.pool_model.specs.Left.{AreAloneBy}
+use Rattle.pool_model.specs.Left.{AreAloneBy, HasNoSuper}
 use Rattle.pool_model.proofs.Alike.{outset_said}
 
 -- a disk that says nothing stands for no place
@@ -50,7 +49,7 @@ module _ (f : Found) (Out : ℕ → Type 0) (i j : Image) (leave : LeaveOut f Ou
 
   pub alone_out : (s : State) → AreAloneBy s f i → AreAloneBy s f j
   alone_out s alone n p d first low counts seat none begins within =
-      subst (λ (c : Contents). super_of (c (first + super_sector)) ≡ None) (sym (stays p d seat)) (alone n p d first low counts seat none begins within)
+      subst (λ (c : Contents). HasNoSuper f.state.pool.0 n (c (first + super_sector))) (sym (stays p d seat)) (alone n p d first low counts seat none begins within)
 
   -- where all drives are current none of those that stay is one of `Out`
   pub says_out : (bound : ℕ) (s : State) → ((p d : ℕ) → f.seats p ≡ Some d → is_current s p ≡ true) → SaysAlone f bound Out s i → SaysAlone f bound (λ d. ⊥) s j

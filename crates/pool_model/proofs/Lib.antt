@@ -8,6 +8,7 @@ pub mod Seats
 pub mod Copies
 pub mod Rested
 pub mod Layers
+pub mod NoSuper
 pub mod Extents
 pub mod Known
 pub mod Still

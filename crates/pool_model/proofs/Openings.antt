@@ -30,6 +30,7 @@ opened_from f from later i before holds = record {
   seats = holds.seats;
   values = λ n x low behind inside. holds.values n x low (omega (arith, before, behind)) inside;
   apart = holds.apart;
+  alone = holds.alone;
   stops = holds.stops;
 }
 
@@ -47,6 +48,7 @@ opened_same e f from i same holds = record {
       holds.values n x (subst (λ (s : State). n < s.made) (sym same.state) low) behind (subst (λ (k : Arrays). x < k.sectors n) (sym (joined_same e f same)) inside)
       ∙ ap (λ (k : Arrays). k.contents n x) (joined_same e f same);
   apart = holds.apart;
+  alone = holds.alone;
   stops = subst (λ (d : Disks). MayReplay d i holds.now) same.disks holds.stops;
 }
 
@@ -68,6 +70,7 @@ amid_opened f t s u from i begun marks values amid =
       seats = λ p counts. still.seats p (sym (ap (λ (z : State). is_current z p) still.state) ∙ counts);
       values = λ n x low behind inside. still.values n x low ∙ values n x low behind inside;
       apart = amid.apart;
+      alone = still.alone;
       stops = inr (amid.stood, amid.lower);
     }
   where

@@ -28,9 +28,12 @@ use Rattle.pool_rest.proofs.LaterCopies.{IsCopied, newest_latest}
 use Rattle.pool_rest.proofs.Midway.{still_stands}
 use Rattle.pool_rest.proofs.MidwayDisks.{copy_room, new_copy, seats_written}
 use Rattle.pool_rest.proofs.MidwayPool.{copied_or, early, early_found, early_ids, early_logs, early_lower, early_pool, found_was, late, late_found, late_logs, late_lower, late_pool, stands_late, stands_so, targets_late, was}
+use Rattle.pool_model.specs.Left.{AreAlone}
 use Rattle.pool_model.specs.Openings.{HoldOpened, IsIdleIn, MayReplay}
 use Rattle.pool_model.specs.Pools.{IsSoundPool}
 use Rattle.pool_model.specs.Stopped.{LieApart, StoodInLog}
+use Rattle.pool_model.proofs.Found.{found_is, some_made}
+use Rattle.pool_model.proofs.SameAlone.{own_alone}
 
 some_same : {X : Type 0} (x y : X) → Some x ≡ Some y → x ≡ y
 some_same x y same = cc
@@ -53,9 +56,10 @@ same_apart f g same apart m n p d a b less low seat none member lies there =
     (sym (lies_same f g same (suc n)) ∙ there)
 
 -- contents that have it hold the pool, where their logs are sound and what is pending there may be replayed
-pub same_holds : (disks : Disks) (i : Image) (f g : Found) → f.disks ≡ disks → found disks i ≡ Some g → IsSamePool f g → IsSoundPool f → HasSoundLogs disks i → LieApart f → MayReplay disks i g
+pub same_holds : (disks : Disks) (i : Image) (f g : Found) → f.disks ≡ disks → found disks i ≡ Some g → IsSamePool f g → IsSoundPool f → HasSoundLogs disks i → LieApart f → AreAlone f f.contents
+    → MayReplay disks i g
     → HoldOpened f 0 i
-same_holds disks i f g on found_now same sound logs apart may = record {
+same_holds disks i f g on found_now same sound logs apart alone may = record {
   now = g;
   found_is = ap (λ (d : Disks). found d i) on ∙ found_now;
   sound = same_sound f g same sound;
@@ -65,6 +69,9 @@ same_holds disks i f g on found_now same sound logs apart may = record {
   seats = λ p counts. same.seats p;
   values = λ n x low from inside. ap (λ (k : Arrays). k.contents n x) (joined_same f g same);
   apart = same_apart f g same apart;
+  alone =
+      own_alone f g same (subst (λ (s : State). s.made ≤ 16) same.state (some_made g (found_is disks i g found_now).0).1)
+      (λ n low. let one = sound.rules.arrays n low in (one.0, one.1)) alone;
   stops = subst (λ (d : Disks). MayReplay d i g) (sym on) may;
 }
 
@@ -75,6 +82,7 @@ module _ (disks : Disks) (c i : Image) (s0 : State) (newest_before : newest disk
     (log : IsSoundLog disks c (standing_by disks c s0) (seated_state (standing_by disks c s0).targets s0))
     (mid : StandsReplaying disks s0 (seated_state (standing_by disks c s0).targets s0) (standing_by disks c s0).targets c i)
     (sound : IsSoundPool (was disks c i s0 newest_before log mid)) (apart : LieApart (was disks c i s0 newest_before log mid))
+    (alone : AreAlone (was disks c i s0 newest_before log mid) (was disks c i s0 newest_before log mid).contents)
     (may : MayReplay disks c (was disks c i s0 newest_before log mid)) where
   abbrev s : State
   s = seated_state (standing_by disks c s0).targets s0
@@ -128,7 +136,7 @@ module _ (disks : Disks) (c i : Image) (s0 : State) (newest_before : newest disk
     holds_early : HoldOpened f 0 i
     holds_early =
         same_holds disks i f e refl (early_found disks c i s0 newest_before log mid states kept) same_early sound
-        (early_logs disks c i s0 newest_before log mid states kept) apart may_early
+        (early_logs disks c i s0 newest_before log mid states kept) apart alone may_early
 
   -- the state stands that the record is for
   module _ (brought : StandsBrought disks s0 s (standing_by disks c s0).targets c i) where
@@ -217,15 +225,16 @@ module _ (disks : Disks) (c i : Image) (s0 : State) (newest_before : newest disk
 
     holds_late : HoldOpened f 0 i
     holds_late =
-        same_holds disks i f g refl (late_found disks c i s0 newest_before log mid brought) same_late sound (late_logs disks c i s0 newest_before log mid brought) apart may_late
+        same_holds disks i f g refl (late_found disks c i s0 newest_before log mid brought) same_late sound (late_logs disks c i s0 newest_before log mid brought) apart alone may_late
 
   holds_replaying : HoldOpened f 0 i
   holds_replaying = elim mid.says [ inl kept ↦ holds_early kept.0 kept.1 | inr brought ↦ holds_late brought ]
 
 -- what a stop in the replay of the pending record leaves
-pub midway_holds : (disks : Disks) (c i : Image) (f : Found) → found disks c ≡ Some f → IsSoundPool f → HasSoundLogs disks c → LieApart f → MayReplay disks c f → StandsMidway disks c i
+pub midway_holds : (disks : Disks) (c i : Image) (f : Found) → found disks c ≡ Some f → IsSoundPool f → HasSoundLogs disks c → LieApart f → AreAlone f f.contents
+    → MayReplay disks c f → StandsMidway disks c i
     → HoldOpened f 0 i
-midway_holds disks c i f found_before sound logs apart may midway =
+midway_holds disks c i f found_before sound logs apart alone may midway =
     let by = stood_by disks c logs.before logs.stands in
     let stands : standing disks c ≡ Some (standing_by disks c by.0) = logs.stands ∙ ap Some by.2 in
     let log : IsSoundLog disks c (standing_by disks c by.0) (seated_state (standing_by disks c by.0).targets by.0) =
@@ -234,14 +243,15 @@ midway_holds disks c i f found_before sound logs apart may midway =
     subst (λ (x : Standing). StandsReplaying disks x.state (seated_state x.targets x.state) x.targets c i)
     (some_same midway.before (standing_by disks c by.0) (sym midway.stands ∙ stands)) midway.is in
     let same : was disks c i by.0 by.1 log mid ≡ f = some_same (was disks c i by.0 by.1 log mid) f (sym (found_was disks c i by.0 by.1 log mid stands) ∙ found_before) in
-    subst (λ (h : Found). IsSoundPool h → LieApart h → MayReplay disks c h → HoldOpened h 0 i) same
-    (λ sound apart may. holds_replaying disks c i by.0 by.1 stands log mid sound apart may) sound apart may
+    subst (λ (h : Found). IsSoundPool h → LieApart h → AreAlone h h.contents → MayReplay disks c h → HoldOpened h 0 i) same
+    (λ sound apart alone may. holds_replaying disks c i by.0 by.1 stands log mid sound apart alone may) sound apart alone may
 
 -- contents that agree inside the disks
-pub agree_holds : (disks : Disks) (c i : Image) (f : Found) → found disks c ≡ Some f → IsSoundPool f → HasSoundLogs disks c → LieApart f → MayReplay disks c f → Agree disks i c
+pub agree_holds : (disks : Disks) (c i : Image) (f : Found) → found disks c ≡ Some f → IsSoundPool f → HasSoundLogs disks c → LieApart f → AreAlone f f.contents
+    → MayReplay disks c f → Agree disks i c
     → HoldOpened f 0 i
-agree_holds disks c i f found_before sound logs apart may agree =
-    midway_holds disks c i f found_before sound logs apart may (record {
+agree_holds disks c i f found_before sound logs apart alone may agree =
+    midway_holds disks c i f found_before sound logs apart alone may (record {
       before = logs.before;
       stands = logs.stands;
       is = still_stands disks logs.before.state (seated_state logs.before.targets logs.before.state) logs.before.targets c i agree;

@@ -1,5 +1,5 @@
--- Contents of the same pool but for gates: each drive has its table where it had one, and no superblock stands where none did.
-use Rattle.std.proofs.Common.{◌≡◌, ℕ, suc, ◌+◌, ◌<◌, ◌≤◌, ◌&&◌, ◌||◌, Bool, false, not, bytes_eq, List, Option, Some, sym, ap, ap₂, subst, ◌∙◌, refl, arith}
+-- Contents of the same pool but for gates: each drive has its table where it had one, and no superblock of an array stands where none did.
+use Rattle.std.proofs.Common.{◌≡◌, ◌⊎◌, ℕ, suc, ◌+◌, ◌<◌, ◌≤◌, ◌&&◌, ◌||◌, Bool, false, not, bytes_eq, List, Option, Some, sym, ap, ap₂, subst, ◌∙◌, refl, inl, inr, arith}
 use Rattle.std.specs.Option.{option_map_or}
 use Rattle.std.specs.List.{list_all, range_with_len}
 use Rattle.rack.specs.Seen.{Image}
@@ -8,7 +8,7 @@ use Rattle.md_super.specs.declared.superblock.Super.{Super}
 use Rattle.array_image.specs.States.{id_of}
 use Rattle.pool_state.specs.declared.contents.State.{State}
 use Rattle.array_image.specs.Places.{data_sector, super_sector}
-use Rattle.array_image.specs.Supers.{is_named, super_of}
+use Rattle.array_image.specs.Supers.{is_named}
 use Rattle.pool_image.specs.Alike.{IsSamePool}
 use Rattle.pool_image.specs.Disks.{Disks, Identity}
 use Rattle.pool_image.specs.Drives.{Found, extent_of, first_of}
@@ -16,7 +16,7 @@ use Rattle.pool_image.specs.Meaning.{has_slice, has_table, is_member, kind_of, t
 use Rattle.pool_image.specs.Replay.{Extent, extent_by}
 use Rattle.pool_image.proofs.Founds.{first_behind, lies_same, truths_same}
 use Rattle.pool_image.proofs.Truths.{extent_found}
-use Rattle.pool_model.specs.Left.{AreAlone}
+use Rattle.pool_model.specs.Left.{AreAlone, HasNoSuper}
 use Rattle.pool_model.specs.Openings.{HaveGoodTables}
 use Rattle.pool_model.specs.Stopped.{HaveTables}
 use Rattle.pool_model.proofs.Layers.{laid}
@@ -77,8 +77,9 @@ module _ (f g : Found) (same : IsSamePool f g) where
     pub alone_same : (i : Image) → AreAlone f i → AreAlone g i
     alone_same i alone n p d first low seat none begins within =
         let less : n < f.state.made = subst (λ k. n < k) made_same low in
-        alone n p d first less (sym (same.seats p) ∙ seat) (sym (member_same n p) ∙ none) (begins_same n first less begins)
-        (subst (λ (k : Disks). first + super_sector < k.sectors d) same.disks within)
+        subst (λ (s : State). HasNoSuper s.pool.0 n (i d (first + super_sector))) (sym same.state)
+        (alone n p d first less (sym (same.seats p) ∙ seat) (sym (member_same n p) ∙ none) (begins_same n first less begins)
+        (subst (λ (k : Disks). first + super_sector < k.sectors d) same.disks within))
 
     -- and in the pools' own
     pub own_alone : AreAlone f f.contents → AreAlone g g.contents
@@ -88,8 +89,20 @@ module _ (f g : Found) (same : IsSamePool f g) where
         let begun = begins_same n first less begins in
         let behind = first_behind f n first begun in
         let inside : first + super_sector < f.disks.sectors d = subst (λ (k : Disks). first + super_sector < k.sectors d) same.disks within in
-        ap super_of (same.contents p d (first + super_sector) was inside (λ is. absurd (omega (arith, is, behind))))
-        ∙ alone n p d first less was (sym (member_same n p) ∙ none) begun inside
+        subst (HasNoSuper g.state.pool.0 n) (sym (same.contents p d (first + super_sector) was inside (λ is. absurd (omega (arith, is, behind)))))
+        (subst (λ (s : State). HasNoSuper s.pool.0 n (f.contents d (first + super_sector))) (sym same.state)
+        (alone n p d first less was (sym (member_same n p) ∙ none) begun inside))
+
+-- ---- contents in which other sectors have none
+
+-- Contents in which each sector of the drives is as it was, or has no superblock of any array.
+pub alone_but : (f : Found) (c i : Image)
+    → ((p d u : ℕ) → f.seats p ≡ Some d → u < f.disks.sectors d → (i d u ≡ c d u) ⊎ ((n : ℕ) → HasNoSuper f.state.pool.0 n (i d u)))
+    → AreAlone f c → AreAlone f i
+alone_but f c i each alone n p d first low seat none begins within = elim (each p d (first + super_sector) seat within) [
+  | inl same ↦ subst (HasNoSuper f.state.pool.0 n) (sym same) (alone n p d first low seat none begins within)
+  | inr bare ↦ bare n
+]
 
 -- ---- the other way round
 

@@ -16,7 +16,7 @@ use Rattle.array_image.specs.Foremost.{foremost}
 use Rattle.array_image.specs.Places.{arrays_first, data_sector, log_slice, member_slice, place_of, state_sector, super_sector}
 use Rattle.array_image.specs.Record.{damaged_log, pending}
 use Rattle.array_image.specs.States.{current_places, is_current}
-use Rattle.array_image.specs.Supers.{is_named, super_in, super_of}
+use Rattle.array_image.specs.Supers.{is_named, super_in}
 use Rattle.array_image.proofs.Frames.{super_of_sector}
 use Rattle.raid_rack.specs.Book.{after_same}
 use Rattle.commit_log.proofs.Places.{joins_none}
@@ -30,13 +30,14 @@ use Rattle.pool_image.proofs.Rested.{stood_by, written_none}
 use Rattle.pool_image.proofs.Truths.{extent_found, slice_of_member, slice_sector, truth_found}
 use Rattle.pool_rest.specs.Resting.{seated_state}
 use Rattle.pool_rest.specs.SoundLogs.{HasSoundLogs, IsSoundLog}
-use Rattle.pool_model.specs.Left.{AreAlone}
+use Rattle.pool_model.specs.Left.{AreAlone, HasNoSuper}
 use Rattle.pool_model.specs.Openings.{HaveGoodTables, HoldOpened, IsButTables, IsIdleIn}
 use Rattle.pool_model.specs.Pools.{IsSoundPool}
 use Rattle.pool_model.specs.Stopped.{LieApart}
 use Rattle.pool_model.proofs.Current.{SameCurrent, SameMembers, array_current, shape_current, sound_current, truth_current}
 use Rattle.pool_model.proofs.Found.{found_is, some_made}
-use Rattle.pool_model.proofs.Layers.{IsLaid, laid, no_super, none_there}
+use Rattle.pool_model.proofs.Layers.{IsLaid, laid, none_there}
+use Rattle.pool_model.proofs.NoSuper.{no_super_bare, no_super_in}
 use Rattle.pool_rest.proofs.SameLogs.{logs_same}
 use Rattle.pool_model.proofs.TableRoom.{log_room, member_room}
 
@@ -196,18 +197,18 @@ module _ (disks : Disks) (c i : Image) (s : State) (newest_is : newest disks (id
     room : (p d : ℕ) → is_member f n p ≡ true → f.seats p ≡ Some d → first + (data_sector + truth.size) + 32 < disks.sectors d
     room p d member seat = member_room f p d (tables p d seat) n (record { first = first; sectors = data_sector + truth.size }) low member extent_before
 
-    -- a place that is no member has no superblock there
+    -- a place that is no member has no superblock of the array there
     none_on : (j : Image) → AreAlone f j → (p : ℕ) → is_member f n p ≡ false
-        → super_of (option_map_or (λ d. if nat_lt (first + super_sector) (disks.sectors d) then j d (first + super_sector) else []) (f.seats p) []) ≡ None
+        → HasNoSuper s.pool.0 n (option_map_or (λ d. if nat_lt (first + super_sector) (disks.sectors d) then j d (first + super_sector) else []) (f.seats p) [])
     none_on j is p none = of (f.seats p) refl
       where
-        of_test : (d : ℕ) → f.seats p ≡ Some d → (b : Bool) → nat_lt (first + super_sector) (disks.sectors d) ≡ b → super_of (if b then j d (first + super_sector) else []) ≡ None
+        of_test : (d : ℕ) → f.seats p ≡ Some d → (b : Bool) → nat_lt (first + super_sector) (disks.sectors d) ≡ b → HasNoSuper s.pool.0 n (if b then j d (first + super_sector) else [])
         of_test d seat true within = is n p d first low seat none lie.begins (ltb-true (first + super_sector) (disks.sectors d) within)
-        of_test d seat false past = none_there
+        of_test d seat false past = no_super_bare s.pool.0 n [] none_there
 
         of : (o : Option ℕ) → f.seats p ≡ o
-            → super_of (option_map_or (λ d. if nat_lt (first + super_sector) (disks.sectors d) then j d (first + super_sector) else []) o []) ≡ None
-        of None seat = none_there
+            → HasNoSuper s.pool.0 n (option_map_or (λ d. if nat_lt (first + super_sector) (disks.sectors d) then j d (first + super_sector) else []) o [])
+        of None seat = no_super_bare s.pool.0 n [] none_there
         of (Some d) seat = of_test d seat (nat_lt (first + super_sector) (disks.sectors d)) refl
 
     place_is : (p : ℕ) → place_of (member_slice p n) ≡ p
@@ -215,14 +216,16 @@ module _ (disks : Disks) (c i : Image) (s : State) (newest_is : newest disks (id
 
     none_before : (p : ℕ) → is_member f n p ≡ false → super_in s (slices_from f first) n p ≡ None
     none_before p none =
-        no_super s (slices_from f first) n p (ap (λ q. super_of (drive_sector f q (first + super_sector))) (place_is p) ∙ none_on c alone p none)
+        no_super_in s (slices_from f first) n p
+        (subst (HasNoSuper s.pool.0 n) (sym (ap (λ q. drive_sector f q (first + super_sector)) (place_is p))) (none_on c alone p none))
 
     none_after : (p : ℕ) → is_member f n p ≡ false → super_in s (slices_from g first) n p ≡ None
     none_after p none =
-        no_super s (slices_from g first) n p
-        (ap (λ q. super_of (drive_sector g q (first + super_sector))) (place_is p)
-        ∙ ap (λ o. super_of (option_map_or (λ d. if nat_lt (first + super_sector) (disks.sectors d) then i d (first + super_sector) else []) o [])) (seats_kept p)
-        ∙ none_on i alone_now p none)
+        no_super_in s (slices_from g first) n p
+        (subst (HasNoSuper s.pool.0 n)
+        (sym (ap (λ q. drive_sector g q (first + super_sector)) (place_is p)
+        ∙ ap (λ o. option_map_or (λ d. if nat_lt (first + super_sector) (disks.sectors d) then i d (first + super_sector) else []) o []) (seats_kept p)))
+        (none_on i alone_now p none))
 
     -- sectors of a member's slice
     sector_kept : (p u : ℕ) → is_member f n p ≡ true → u < data_sector + truth.size → drive_sector g (place_of (member_slice p n)) (first + u) ≡ drive_sector f (place_of (member_slice p n)) (first + u)
@@ -324,6 +327,10 @@ module _ (disks : Disks) (c i : Image) (s : State) (newest_is : newest disks (id
       (ap (λ (z : Identity). extent_by (disks.sectors d) z.table (suc m)) (sym (ids d (below p d was))) ∙ lies)
       (extent_before n low ∙ sym (extent_now n low) ∙ there)
 
+  alone_kept : AreAlone g i
+  alone_kept n p d first low seat none begins within =
+      alone_now n p d first low (sym (seats_kept p) ∙ seat) (sym (member_kept n p low) ∙ none) (sym (begins_kept n (omega (arith, low))) ∙ begins) within
+
   pub tables_hold : HoldOpened f 0 i
   tables_hold = record {
     now = g;
@@ -335,6 +342,7 @@ module _ (disks : Disks) (c i : Image) (s : State) (newest_is : newest disks (id
     seats = λ p counts. seats_kept p;
     values = λ n x low from inside. value_kept n low x;
     apart = apart_kept;
+    alone = alone_kept;
     stops = inl idle_now;
   }
 

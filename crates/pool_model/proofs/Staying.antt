@@ -9,11 +9,11 @@ use Rattle.slice_rack.specs.Slices.{Slices, place_of, seat_of}
 use Rattle.gpt_table.specs.Changes.{the_table}
 use Rattle.pool_state.specs.declared.contents.Copied.{Copied}
 use Rattle.pool_state.specs.declared.contents.Drive.{Drive}
+use Rattle.shr_base.specs.declared.Id.{Id}
 use Rattle.pool_state.specs.declared.contents.Plan.{Plan}
 use Rattle.pool_state.specs.declared.contents.State.{State}
 use Rattle.array_image.specs.Places.{super_sector}
 use Rattle.array_image.specs.States.{epoch_of, is_current}
-use Rattle.array_image.specs.Supers.{super_of}
 use Rattle.array_model.specs.View.{View}
 use Rattle.commit_log.specs.Kept.{IsNoLater}
 use Rattle.pool_image.specs.Disks.{Disks, Identities, Identity, disks_of, identities_of, stands_for}
@@ -24,7 +24,7 @@ use Rattle.raid_rack.specs.NewDrive.{SeatsDrive}
 use Rattle.raid_rack.specs.Raid.{Raid}
 use Rattle.raid_rack.proofs.Noted.{current_few}
 use Rattle.pool_model.specs.InService.{HasSeat, HoldSaid, IsArranged, IsOutset, IsSaid, epoch_at}
-use Rattle.pool_model.specs.Left.{AreAloneBy, IsPickOff}
+use Rattle.pool_model.specs.Left.{AreAloneBy, HasNoSuper, IsPickOff}
 use Rattle.pool_model.specs.Taken.{KeepsRest, SeatsNew, views_of}
 use Rattle.pool_model.proofs.Alike.{first_same, member_same, outset_said}
 use Rattle.pool_model.proofs.Before.{off_before, was as image_before, was_other as image_other}
@@ -276,16 +276,17 @@ module _ (f : Found) (t u : Slices) (v : Raid) (x z : Seen) (place disk units : 
         let truths = has_truths f t u v disks place disk units plan new known keeps.sectors in
         let member : is_member f n p ≡ false = sym (member_same f h known.outset.made.1 known.outset.truths truths n less p) ∙ none in
         let first_was : first_of f n ≡ Some first = sym (first_same f h known.outset.made.1 known.outset.truths truths n (omega (arith, less))) ∙ begins in
-        elim (cases_eq p place) [
+        subst (λ (z : Id). HasNoSuper z.0 n (i d (first + super_sector))) (sym known.after.same.pool)
+        (elim (cases_eq p place) [
           | inl same ↦
               (let is : d ≡ disk = some_same d disk (sym seat ∙ ap h.seats same ∙ new_seat) in
-              subst (λ k. super_of (i k (first + super_sector)) ≡ None) (sym is)
+              subst (λ k. HasNoSuper f.state.pool.0 n (i k (first + super_sector))) (sym is)
               (keeps.alone i off n first less (subst (λ q. is_member f n q ≡ false) same member) first_was (subst (λ k. first + super_sector < z.sectors k) is within)))
           | inr other ↦
-              subst (λ (c : ℕ → List ℕ). super_of (c (first + super_sector)) ≡ None) (was_other d (apart p d other seat))
+              subst (λ (c : ℕ → List ℕ). HasNoSuper f.state.pool.0 n (c (first + super_sector))) (was_other d (apart p d other seat))
               (held.alone was off_was n p d first less (sym (current_other place units plan v.state new.listed p other) ∙ counts) (was_seat p d other seat) member first_was
               (subst (λ k. first + super_sector < k) (keeps.sectors d (had p d other seat).low) within))
-        ]
+        ])
 
   -- what the disks may be left with outside the slices
   pub held_taken : HoldSaid h u fresh_state z

@@ -6,6 +6,7 @@ use Rattle.std.proofs.lemmas.Option.{none-some}
 use Rattle.rack.specs.Seen.{Image}
 use Rattle.slice_rack.specs.Slices.{Slices, first_of as slice_first, sectors_of}
 use Rattle.slice_rack.specs.Sliced.{sliced}
+use Rattle.shr_base.specs.declared.Id.{Id}
 use Rattle.md_super.specs.declared.superblock.Super.{Super}
 use Rattle.pool_state.specs.declared.contents.Copied.{Copied}
 use Rattle.pool_state.specs.declared.contents.State.{State}
@@ -24,10 +25,11 @@ use Rattle.pool_image.specs.Sound.{IsSoundState}
 use Rattle.pool_image.proofs.Composed.{same_slices, seated}
 use Rattle.pool_image.proofs.Truths.{extent_found, slice_of_member, slice_sector}
 use Rattle.pool_model.specs.Pools.{IsSoundPool}
-use Rattle.pool_model.specs.Left.{AreAlone, AreAloneBy, HaveSlices}
+use Rattle.pool_model.specs.Left.{AreAlone, AreAloneBy, HasNoSuper, HaveSlices}
 use Rattle.pool_model.proofs.Current.{SameCurrent, SameMembers, array_current, sound_current}
 use Rattle.pool_model.proofs.Extents.{alone as alone_there, begins_now, disk_is, few, is, is_is, lies, lies_now, made_same, member_same, named_same, no_slice, place_is, reads_absent, reads_nothing, room, truth_is, truth_now, was_is}
-use Rattle.pool_model.proofs.Layers.{no_super, nothing_super}
+use Rattle.pool_model.proofs.Layers.{nothing_super}
+use Rattle.pool_model.proofs.NoSuper.{no_super_in}
 use Rattle.pool_model.proofs.Said.{SaysPool, pool_of}
 use Rattle.pool_model.proofs.Seats.{nowhere}
 
@@ -61,7 +63,7 @@ module _ (f : Found) (t : Slices) (book : State) (e : Image) (before : Standing)
         (ap (extent_of g) (slice_of_member p n (few f t book e before said n low))
         ∙ extent_found g n (lies f t book e before said n low).first (is f t book e before said n low) (begins_now f t book e before said n low) (truth_now f t book e before said n low))
         (omega arith))
-        ∙ no_super book (slices_from g (lies f t book e before said n low).first) n p
+        ∙ no_super_in book (slices_from g (lies f t book e before said n low).first) n p
         (alone_there f t book e before said n low p d seat counts none (said.seats p counts ∙ seat))
 
     -- a place without a drive has no slice
@@ -182,5 +184,6 @@ module _ (f : Found) (t : Slices) (book : State) (e : Image) (before : Standing)
   alone_now i alone n p d first low seat none begins within =
       let less = low_before n low in
       let was = seat_before p d seat in
-      alone n p d first less was.0 was.1 (sym (member_same f t book e before said n less p) ∙ none)
-      ((lies f t book e before said n less).begins ∙ sym (begins_now f t book e before said n less) ∙ begins) within
+      subst (λ (z : Id). HasNoSuper z.0 n (i d (first + super_sector))) (sym said.after.same.pool)
+      (alone n p d first less was.0 was.1 (sym (member_same f t book e before said n less p) ∙ none)
+      ((lies f t book e before said n less).begins ∙ sym (begins_now f t book e before said n less) ∙ begins) within)

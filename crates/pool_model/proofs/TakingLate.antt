@@ -19,7 +19,6 @@ use Rattle.pool_state.specs.declared.contents.State.{State}
 use Rattle.array_image.specs.Arrays.{replayed}
 use Rattle.array_image.specs.Places.{log_slice, super_sector}
 use Rattle.array_image.specs.States.{is_current, state_in}
-use Rattle.array_image.specs.Supers.{super_of}
 use Rattle.array_model.specs.View.{View}
 use Rattle.commit_log.proofs.Kept.{live_on}
 use Rattle.raid_rack.specs.Book.{IsAfter, after_then}
@@ -39,7 +38,7 @@ use Rattle.pool_image.specs.Drives.{Found, first_of as first_in_pool}
 use Rattle.pool_image.specs.Meaning.{is_member}
 use Rattle.pool_model.specs.InService.{InService}
 use Rattle.pool_model.specs.Laid.{HaveOtherIds, IsFormerYet, IsJoinedOff, SaysFormerly}
-use Rattle.pool_model.specs.Left.{IsPickOff}
+use Rattle.pool_model.specs.Left.{HasNoSuper, IsPickOff}
 use Rattle.pool_model.specs.Stopped.{HoldAmid, HoldTables, LieOn}
 use Rattle.pool_model.specs.Taken.{KeepsOff, LacksDrive, SeatsNew, taken, views_of}
 use Rattle.pool_model.proofs.Joined.{current_other}
@@ -54,8 +53,8 @@ some_same : {X : Type 0} (a b : X) → Some a ≡ Some b → a ≡ b
 some_same a b same = cc
 
 -- What is known of a pool and of the disk when it is taken in at a place: s are the tables by which the pool goes, t those in which the place has no disk, and u those with the new one,
--- whose table of these arrays has its slices there. Each place that is current has its drive. No superblock stands on the disk where slices of arrays would begin that the place is no
--- member of.
+-- whose table of these arrays has its slices there. Each place that is current has its drive. No superblock of an array stands on the disk where the slice of one would begin that the
+-- place is no member of.
 pub record IsTaking (f : Found) (s t u : Slices) (arrays : List View) (v : Raid) (place disk : ℕ) (x : Seen) : Type 0 where
   pub service : InService f s v x
   pub new : SeatsNew f s u v place disk (x.sectors disk)
@@ -70,7 +69,7 @@ pub record IsTaking (f : Found) (s t u : Slices) (arrays : List View) (v : Raid)
   pub lies : (c : Contents) → the_table (x.sectors disk) c ≡ Some (new_table v.state arrays place (x.sectors disk)) → LieOn u place (x.sectors disk) c
   pub alone :
       (n first : ℕ) → n < f.state.made → is_member f n place ≡ false → first_in_pool f n ≡ Some first → first + super_sector < x.sectors disk
-      → (first + super_sector + 33 < x.sectors disk) × ((w : List ℕ) → MayLeave (x.held disk (first + super_sector)) w → super_of w ≡ None)
+      → (w : List ℕ) → MayLeave (x.held disk (first + super_sector)) w → HasNoSuper f.state.pool.0 n w
 
 -- So it is of any place that gets another disk, u being the tables with it.
 pub record IsEntering (f : Found) (s u : Slices) (arrays : List View) (v : Raid) (place disk : ℕ) (x : Seen) : Type 0 where
@@ -86,7 +85,7 @@ pub record IsEntering (f : Found) (s u : Slices) (arrays : List View) (v : Raid)
   pub lies : (c : Contents) → the_table (x.sectors disk) c ≡ Some (new_table v.state arrays place (x.sectors disk)) → LieOn u place (x.sectors disk) c
   pub alone :
       (n first : ℕ) → n < f.state.made → is_member f n place ≡ false → first_in_pool f n ≡ Some first → first + super_sector < x.sectors disk
-      → (first + super_sector + 33 < x.sectors disk) × ((w : List ℕ) → MayLeave (x.held disk (first + super_sector)) w → super_of w ≡ None)
+      → (w : List ℕ) → MayLeave (x.held disk (first + super_sector)) w → HasNoSuper f.state.pool.0 n w
 
 taking_enters : (f : Found) (s t u : Slices) (arrays : List View) (v : Raid) (place disk : ℕ) (x : Seen) → IsTaking f s t u arrays v place disk x → IsEntering f s u arrays v place disk x
 taking_enters f s t u arrays v place disk x is = record {
@@ -139,12 +138,11 @@ module _ (f : Found) (s u : Slices) (arrays : List View) (v : Raid) (place disk 
       | inr written ↦ elim written [ inl own ↦ absurd (other own.0) | inr slice ↦ absurd (never (i d k) slice) ]
     ];
     alone = λ n first low none begins within.
-        let fit = is.alone n first low none begins within in
         let past = past_log f s u v place disk (x.sectors disk) is.new is.service.slices known n first low begins none in
         elim (mix disk (first + super_sector) (live_on is.lasting only.stays (is.opened (first + super_sector) within))) [
-          | inl may ↦ fit.1 (i disk (first + super_sector)) may
+          | inl may ↦ is.alone n first low none begins within (i disk (first + super_sector)) may
           | inr written ↦ elim written [
-            | inl own ↦ absurd (laid_super disk table (first + super_sector) (i disk (first + super_sector)) (omega (arith, past)) fit.0 own)
+            | inl own ↦ laid_super f.state.pool.0 n disk table (first + super_sector) (i disk (first + super_sector)) (omega (arith, past)) own
             | inr slice ↦
                 absurd (free_super f s u v place disk (x.sectors disk) is.new is.service.slices known n first low begins none (i disk (first + super_sector)) slice)
           ]

@@ -18,9 +18,11 @@ use Rattle.pool_image.specs.Meaning.{is_member}
 use Rattle.raid_rack.specs.NewDrive.{IsOfDrive, first_in, first_laid, joins, length_in, no_state, sectors_laid, slice_length}
 use Rattle.raid_rack.specs.Raid.{Raid}
 use Rattle.array_model.specs.View.{View}
+use Rattle.pool_model.specs.Left.{HasNoSuper}
 use Rattle.pool_model.specs.Pools.{AreSlicesOf}
 use Rattle.pool_model.specs.Taken.{SeatsNew, views_of}
 use Rattle.pool_model.proofs.Beginnings.{first_is, no_view, take_sum, view_at}
+use Rattle.pool_model.proofs.NoSuper.{no_super_table}
 use Rattle.pool_model.proofs.Taken.{IsKnownBefore}
 
 some_same : {X : Type 0} (a b : X) → Some a ≡ Some b → a ≡ b
@@ -63,22 +65,15 @@ laid_state d table v copy room is says = elim is.1 [
     off_table (inr (inr (inl header))) = omega (arith, header, room)
     off_table (inr (inr (inr entries))) = (let low = entries.0 in omega (arith, low, room))
 
--- nothing is laid between the log slice and the backup of the table
-pub laid_super : (d : ℕ) (table : Table) (s : ℕ) (v : List ℕ) → arrays_first ≤ s → s + 33 < table.sectors → IsOfDrive d table d s v → ⊥
-laid_super d table s v past before is = elim is.1 [
-  | inl state ↦ (let at = state.0 in omega (arith, at, past))
+-- what is laid behind the log slice is of the table, and no superblock
+pub laid_super : (pool : List ℕ) (n d : ℕ) (table : Table) (s : ℕ) (v : List ℕ) → arrays_first ≤ s → IsOfDrive d table d s v → HasNoSuper pool n v
+laid_super pool n d table s v past is = elim is.1 [
+  | inl state ↦ (let at = state.0 in absurd (omega (arith, at, past)))
   | inr other ↦ elim other [
-    | inl gate ↦ (let at = gate.0 in omega (arith, at, past))
-    | inr tabled ↦ off_table (in_table table s v tabled)
+    | inl gate ↦ (let at = gate.0 in absurd (omega (arith, at, past)))
+    | inr tabled ↦ no_super_table pool n table s v (omega (arith, past)) tabled
   ]
 ]
-  where
-    off_table : IsOfTable table.sectors s → ⊥
-    off_table (inl first) = omega (arith, first, past)
-    off_table (inr (inl (inl header))) = omega (arith, header, past)
-    off_table (inr (inl (inr entries))) = (let high = entries.1 in omega (arith, high, past))
-    off_table (inr (inr (inl header))) = omega (arith, header, before)
-    off_table (inr (inr (inr entries))) = (let low = entries.0 in omega (arith, low, before))
 
 -- ---- a drive that was taken in
 

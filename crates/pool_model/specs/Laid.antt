@@ -12,7 +12,6 @@ use Rattle.array_image.specs.Arrays.{replayed}
 use Rattle.array_image.specs.Places.{log_slice, state_sector, super_sector}
 use Rattle.array_image.specs.Record.{GateAt, gate_sector, pending_at}
 use Rattle.array_image.specs.States.{current_places, is_current, state_in, id_of}
-use Rattle.array_image.specs.Supers.{super_of}
 use Rattle.array_model.specs.View.{HasGeometry}
 use Rattle.commit_log.specs.Kept.{IsNoLater}
 use Rattle.commit_log.specs.Saying.{PlaceJoins}
@@ -30,7 +29,7 @@ use Rattle.pool_image.specs.Meaning.{is_member, truth_of}
 use Rattle.pool_image.specs.Replay.{logs_of}
 use Rattle.pool_rest.specs.Moments.{IsNoneOrBelow}
 use Rattle.pool_model.specs.InService.{IsArranged, IsSaid, epoch_at}
-use Rattle.pool_model.specs.Left.{AreAloneBy, IsPickOff}
+use Rattle.pool_model.specs.Left.{AreAloneBy, HasNoSuper, IsPickOff}
 use Rattle.pool_model.specs.Stopped.{AreSlicesNow, LieByTables}
 
 -- A pool by which a call on slices t goes that begins with the book v: marks alone have come to its state, all its arrays are ready for the volume, with the
@@ -93,7 +92,7 @@ pub record IsJoinedOff (f : Found) (u : Slices) (v : Raid) (place disk : ℕ) (x
   pub others : (d k : ℕ) → d ≢ disk → IsLive x x d k → ((w : List ℕ) → IsSliced u d k w → ⊥) → MayLeave (x.held d k) (i d k)
   pub alone :
       (n first : ℕ) → n < f.state.made → is_member f n place ≡ false → first_in_pool f n ≡ Some first → first + super_sector < x.sectors disk
-      → super_of (i disk (first + super_sector)) ≡ None
+      → HasNoSuper f.state.pool.0 n (i disk (first + super_sector))
   pub earlier :
       (d : ℕ) → d ≢ disk → f.seats place ≡ Some d → (j : Image) → IsPickOff u x j → (copy : Copied) → (identities_of (disks_of x) j d).copied ≡ Some copy
       → copy.state.epoch < raised v.state.epoch

@@ -1,5 +1,5 @@
 -- What a stop between two calls of a pool leaves on its disks.
-use Rattle.std.specs.Prelude.{◌≡◌, ℕ, suc, ◌+◌, ◌<◌, ◌≤◌, true, false, List, [], None, Some, is_some}
+use Rattle.std.specs.Prelude.{◌≡◌, ◌≢◌, ◌⊎◌, ℕ, suc, ◌+◌, ◌<◌, ◌≤◌, true, false, List, [], None, Some, is_ok, is_some}
 use Rattle.rack.specs.Values.{MayLeave}
 use Rattle.rack.specs.Seen.{Image, IsLive, Seen}
 use Rattle.slice_rack.specs.Runs.{IsSliced}
@@ -7,10 +7,11 @@ use Rattle.slice_rack.specs.Slices.{Slices, first_of as slice_first, place_of as
 use Rattle.slice_rack.specs.Sliced.{sliced}
 use Rattle.gpt_table.specs.Changes.{the_table}
 use Rattle.md_super.specs.declared.superblock.Super.{Super}
+use Rattle.md_super.specs.Profile.{profiled}
 use Rattle.pool_state.specs.declared.contents.State.{State}
 use Rattle.array_image.specs.Arrays.{arrays_in, replayed}
 use Rattle.array_image.specs.Left.{Picks}
-use Rattle.array_image.specs.Places.{log_slice, member_slice, super_sector}
+use Rattle.array_image.specs.Places.{array_id, log_slice, member_slice, super_sector}
 use Rattle.array_image.specs.States.{is_current}
 use Rattle.array_image.specs.Supers.{is_unclean, super_of, truth_in}
 use Rattle.array_model.specs.View.{HasGeometry}
@@ -41,17 +42,22 @@ pub record AreElsewhere (f : Found) (i : Image) : Type 0 where
   pub tables : (p d : ℕ) → f.seats p ≡ Some d → the_table (f.disks.sectors d) (i d) ≡ (f.identities d).table
   pub others : (d : ℕ) → ((p : ℕ) → f.seats p ≡ Some d → ⊥) → d < f.disks.count → identities_of f.disks i d ≡ f.identities d
 
--- On a drive that is no member of an array no superblock stands where its slice would be.
+-- A block has no superblock of an array of a pool: none at all, one of another array, or one that breaks the profile of members.
+abbrev pub HasNoSuper : (pool : List ℕ) → (array : ℕ) → List ℕ → Type 0
+HasNoSuper pool array block =
+    (t : Super) → super_of block ≡ Some t → (t.set_id.0 ≢ array_id pool array) ⊎ ((extent : ℕ) → is_ok (profiled t extent) ≡ false)
+
+-- On a drive that is no member of an array no superblock of it stands where its slice would be.
 abbrev pub AreAlone : Found → Image → Type 0
 AreAlone f i =
     (n p d first : ℕ) → n < f.state.made → f.seats p ≡ Some d → is_member f n p ≡ false → first_of f n ≡ Some first
-    → first + super_sector < f.disks.sectors d → super_of (i d (first + super_sector)) ≡ None
+    → first + super_sector < f.disks.sectors d → HasNoSuper f.state.pool.0 n (i d (first + super_sector))
 
 -- So it is on the drives of the places that are current by a state.
 abbrev pub AreAloneBy : State → Found → Image → Type 0
 AreAloneBy s f i =
     (n p d first : ℕ) → n < f.state.made → is_current s p ≡ true → f.seats p ≡ Some d → is_member f n p ≡ false → first_of f n ≡ Some first
-    → first + super_sector < f.disks.sectors d → super_of (i d (first + super_sector)) ≡ None
+    → first + super_sector < f.disks.sectors d → HasNoSuper f.state.pool.0 n (i d (first + super_sector))
 
 -- contents that disks may be left with outside the slices
 abbrev pub IsPickOff : Slices → Seen → Image → Type 0
@@ -92,7 +98,7 @@ pub record HoldStill (f : Found) (t : Slices) (s : State) (i : Image) : Type 0 w
   pub seats : (p : ℕ) → is_current s p ≡ true → now.seats p ≡ f.seats p
   pub slices : HaveSlices now t
   pub joined : now.state.joined ≡ now.state.made
-  pub alone : AreAlone now i
+  pub alone : AreAlone now now.contents
   pub values : (n x : ℕ) → n < f.state.made → arrays_held now n x ≡ arrays_in (replayed (sectors_of t) (sliced t i)) n x
 
 -- They hold it so, nothing is pending, and each current place has its drive.

@@ -10,6 +10,7 @@ use Rattle.pool_image.specs.Replay.{Standing, standing}
 use Rattle.pool_rest.specs.Moments.{TakesLowerIn}
 use Rattle.pool_rest.specs.SoundLogs.{HasSoundLogs}
 use Rattle.raid_rack.specs.Book.{IsAfter}
+use Rattle.pool_model.specs.Left.{AreAlone}
 use Rattle.pool_model.specs.Pools.{IsSoundPool}
 use Rattle.pool_model.specs.Stopped.{LieApart, StoodInLog}
 
@@ -44,7 +45,7 @@ MayReplay disks i g = IsIdleIn disks i ⊎ (StoodInLog g × TakesLowerIn disks i
 -- Contents of the disks of a pool f, as a stop inside an opening leaves them, hold it still: they have a sound pool, whose logs are sound, by f's state or
 -- one to which just marks of places have come that have no disk. Each place that is current by it has the disk that it had, and the arrays hold what they
 -- held, from a sector of theirs on: from the first one up to when the volume's texts are brought up to date, from the first extent's on meanwhile. Targets
--- land where its slices are by the drives' tables, and a record that is pending may be replayed.
+-- land where its slices are by the drives' tables, no superblock of an array stands on a drive that is no member of it, and a record that is pending may be replayed.
 pub record HoldOpened (f : Found) (from : ℕ) (i : Image) : Type 0 where
   pub now : Found
   pub found_is : found f.disks i ≡ Some now
@@ -55,4 +56,5 @@ pub record HoldOpened (f : Found) (from : ℕ) (i : Image) : Type 0 where
   pub seats : (p : ℕ) → is_current now.state p ≡ true → now.seats p ≡ f.seats p
   pub values : (n x : ℕ) → n < f.state.made → from ≤ x → x < array_sectors f n → arrays_held now n x ≡ arrays_held f n x
   pub apart : LieApart now
+  pub alone : AreAlone now now.contents
   pub stops : MayReplay f.disks i now

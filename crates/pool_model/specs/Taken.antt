@@ -11,7 +11,6 @@ use Rattle.pool_state.specs.declared.contents.Plan.{Plan}
 use Rattle.pool_state.specs.declared.contents.State.{State}
 use Rattle.array_image.specs.Places.{drive_id, state_sector, super_sector}
 use Rattle.array_image.specs.States.{is_current, id_of}
-use Rattle.array_image.specs.Supers.{super_of}
 use Rattle.array_model.specs.View.{View}
 use Rattle.pool_image.specs.Disks.{Disks, disks_of, identities_of}
 use Rattle.pool_image.specs.Drives.{Found, drive_sector, first_of}
@@ -22,7 +21,7 @@ use Rattle.raid_rack.specs.Missing.{raised}
 use Rattle.raid_rack.specs.Moves.{KeepsArrays}
 use Rattle.raid_rack.specs.NewDrive.{SeatsDrive, joins}
 use Rattle.raid_rack.specs.Raid.{Raid}
-use Rattle.pool_model.specs.Left.{IsPickOff}
+use Rattle.pool_model.specs.Left.{HasNoSuper, IsPickOff}
 
 -- The pool f on these disks once a place has a disk by the state s: all other places have the disks that they had. What is remembered of
 -- the disk are the superblocks that the place's drive had.
@@ -64,7 +63,7 @@ pub record KeepsRest (f : Found) (t u : Slices) (v : Raid) (place disk : ℕ) (x
   pub outside : KeepsOff t disk x z
   pub alone :
       (i : Image) → IsPickOff u z i → (n first : ℕ) → n < f.state.made → is_member f n place ≡ false → first_of f n ≡ Some first
-      → first + super_sector < z.sectors disk → super_of (i disk (first + super_sector)) ≡ None
+      → first + super_sector < z.sectors disk → HasNoSuper f.state.pool.0 n (i disk (first + super_sector))
   pub earlier :
       (i : Image) → IsPickOff u z i → (d : ℕ) → d < z.disks → d ≢ disk → (f.disks.count ≤ d) ⊎ (f.seats place ≡ Some d)
       → (copy : Copied) → (identities_of (disks_of z) i d).copied ≡ Some copy → copy.state.epoch < raised v.state.epoch
@@ -90,7 +89,7 @@ pub record KeepsOthers (f : Found) (t : Slices) (s : State) (disk : ℕ) (x z : 
   pub outside : KeepsOff t disk x z
   pub alone :
       (i : Image) → IsPickOff t z i → (n p first : ℕ) → n < f.state.made → is_current s p ≡ true → f.seats p ≡ Some disk → is_member f n p ≡ false
-      → first_of f n ≡ Some first → first + super_sector < z.sectors disk → super_of (i disk (first + super_sector)) ≡ None
+      → first_of f n ≡ Some first → first + super_sector < z.sectors disk → HasNoSuper f.state.pool.0 n (i disk (first + super_sector))
   pub earlier :
       (i : Image) → IsPickOff t z i → (d : ℕ) → d < z.disks → f.disks.count ≤ d
       → (copy : Copied) → (identities_of (disks_of z) i d).copied ≡ Some copy → copy.state.epoch < f.state.epoch

@@ -34,10 +34,10 @@
 //! (`ruled_apart`), and where the drives' tables have them (`tables_apart`, `again_apart`, `landing_again`); where each drive has its table a replay then finds them (`apart_tables`).
 //!
 //! **Inside an opening** (`specs/Openings.antt`): `HoldOpened f from i` says of contents `i` that a stop inside it leaves that they hold the pool still, that
-//! targets land in it, and that it may be replayed where a record is pending. So it is while disks are read (`proofs/Rereading.antt`), while gates are closed (`idle_holds`, `proofs/GatesSame.antt`),
-//! while the copies of tables are made to agree (`settled_holds`, `proofs/Settled.antt`), and while places without a disk are marked (`marking_amid`,
-//! `proofs/Marking.antt`; `amid_opened`, `proofs/Openings.antt`), where no superblock stands in them where a drive that is no member of an array would have its
-//! slice (`AreAlone`).
+//! targets land in it, that no superblock of an array stands on a drive that is no member of it (`AreAlone`), and that it may be replayed where a record is pending.
+//! So it is while disks are read (`proofs/Rereading.antt`), while gates are closed (`idle_holds`, `proofs/GatesSame.antt`), while the copies of tables are made to
+//! agree (`settled_holds`, `proofs/Settled.antt`), and while places without a disk are marked (`marking_amid`, `proofs/Marking.antt`; `amid_opened`,
+//! `proofs/Openings.antt`). Sectors of tables have no superblock (`proofs/NoSuper.antt`).
 //!
 //! `proofs/Absent.antt`: any one drive of a whole pool may be absent, `IsWholePool` (`specs/Absent.antt`): the disks without its disk mean what all of
 //! them mean (`safe_in_absence`). `proofs/EndedWhole.antt`: so it is of all that disks may be left with by a pool that has ended whole, by its
