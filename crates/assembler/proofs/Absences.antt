@@ -18,7 +18,7 @@ use Rattle.raid_rack.specs.Raid.{Raid}
 use Rattle.raid_rack.specs.Since.{HoldsSince}
 use Rattle.pool_image.specs.Drives.{Found}
 use Rattle.pool_image.specs.Meaning.{array_sectors, arrays_held}
-use Rattle.pool_model.specs.Left.{AreAlone, AreAloneBy}
+use Rattle.pool_model.specs.Left.{AreAlone, AreAloneBy, IsPickOff}
 use Rattle.pool_model.specs.Openings.{HoldOpened}
 use Rattle.pool_model.specs.Stopped.{HaveTables, HoldBetween, LieByTables}
 use Rattle.pool_model.proofs.Amid.{IsReady, tables_amid, tables_lie}
@@ -26,12 +26,13 @@ use Rattle.pool_model.proofs.Found.{IsFound}
 use Rattle.pool_model.proofs.Marking.{marking_amid, parts_tell}
 use Rattle.pool_model.proofs.Openings.{amid_opened}
 use Rattle.assembler.specs.Holding.{pool_values}
+use Rattle.assembler.proofs.Alone.{alone_stops}
 use Rattle.assembler.proofs.Amid.{says_only}
 use Rattle.assembler.proofs.Moments.{says_values}
 
 -- A part of an opening that moves no value, from the book v, whose state is the pool's, to w, by which just the places without a disk are marked.
 module _ (f : Found) (t : Slices) (v w : Raid) (x y : Seen) (spent : ℕ → ℕ → Bool) (vals : ℕ → ℕ → Values) (found : IsFound f) (ready : IsReady f t v x) (same : v.state ≡ f.state)
-    (have : HaveTables f) (orderly : IsOrderly t) (inside : IsInside t x) (lasting : x.lasting) (only : WritesOnly x y (IsSliced t))
+    (have : HaveTables f) (alone : (i : Image) → IsPickOff t x i → AreAlone f i) (orderly : IsOrderly t) (inside : IsInside t x) (lasting : x.lasting) (only : WritesOnly x y (IsSliced t))
     (parts : (n : ℕ) → n < f.state.made → PartOf v w (slices_of t x) (slices_of t y) n (vals n) (vals n) (spent n))
     (amid : (n : ℕ) → n < f.state.made → IsAmid v (slices_of t x) n (vals n) (spent n))
     (means : (n s : ℕ) (u : List ℕ) → n < f.state.made → MayLeave (vals n s) u → u ≡ arrays_held f n s)
@@ -50,7 +51,10 @@ module _ (f : Found) (t : Slices) (v w : Raid) (x y : Seen) (spent : ℕ → ℕ
   lie : Leaves x y (LieByTables f t v.state)
   lie = tables_amid f t v.state x y lasting only (tables_lie f t v.state x have ready.slices ready.elsewhere) traced
 
-  module _ (k : ℕ) (i : Image) (late : x.clock < k) (early : k ≤ y.clock) (stop : y.stops k i) (alone : AreAlone f i) where
+  lone : Leaves x y (AreAlone f)
+  lone = alone_stops f t x y lasting only alone traced
+
+  module _ (k : ℕ) (i : Image) (late : x.clock < k) (early : k ≤ y.clock) (stop : y.stops k i) where
     gives : (n s : ℕ) → n < f.state.made → 0 ≤ s → s < array_sectors f n → arrays_in (replayed (sectors_of t) (sliced t i)) n s ≡ arrays_held f n s
     gives n s low least within =
         says_values f w.state n (spent n) (replayed (sectors_of t) (sliced t i)) s
@@ -63,7 +67,7 @@ module _ (f : Found) (t : Slices) (v w : Raid) (x y : Seen) (spent : ℕ → ℕ
     opened : HoldOpened f 0 i
     opened =
         amid_opened f t v.state w.state 0 i ready.after marks gives
-        (holds.new k i late early stop (lie.new k i late early stop) (λ n p d first low counts. alone n p d first low))
+        (holds.new k i late early stop (lie.new k i late early stop) (λ n p d first low counts. lone.new k i late early stop n p d first low))
 
-  pub marking_leaves : Leaves x y (λ i. AreAlone f i → HoldOpened f 0 i)
+  pub marking_leaves : Leaves x y (HoldOpened f 0)
   marking_leaves = record { later = holds.later; kept = holds.kept; past = holds.past; new = opened }

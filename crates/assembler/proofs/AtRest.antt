@@ -18,8 +18,10 @@ use Rattle.pool_model.proofs.Settled.{idle_logs, idle_pool}
 use Rattle.pool_model.specs.Left.{AreAlone}
 use Rattle.pool_model.specs.Openings.{HoldOpened}
 use Rattle.pool_model.specs.Stopped.{LieApart}
+use Rattle.pool_model.proofs.Found.{found_is, some_made}
 use Rattle.pool_model.proofs.Openings.{opened_same}
 use Rattle.pool_model.proofs.Rereading.{same_apart}
+use Rattle.pool_model.proofs.SameAlone.{own_alone}
 use Rattle.assembler.specs.Sound.{HoldSound}
 use Rattle.assembler.proofs.Entry.{IsRested, f, pool_same, rest_found}
 use Rattle.assembler.proofs.Rereading.{rereading_leaves}
@@ -55,6 +57,12 @@ module _ {R : Type 0} (seen : R → Seen) (a : Seen) (rest : AtRest R) (e : Foun
   pub rest_idle : IsIdle x
   rest_idle before at = ap (λ (k : Standing). k.targets) (some_same before now (sym at ∙ stands)) ∙ none
 
+  -- where no superblock of an array stood on a drive that is no member of it none does
+  pub pool_alone : AreAlone e e.contents → AreAlone (f seen a rest e sound rested) (f seen a rest e sound rested).contents
+  pool_alone =
+      own_alone e (f seen a rest e sound rested) (pool_same seen a rest e sound rested) (some_made e (found_is (disks_of a) (now_in a) e sound.found_is).0).1
+      (λ n low. let truth = sound.sound.rules.arrays n low in (truth.0, truth.1))
+
   -- its contents are theirs
   pub rest_alone : AreAlone (f seen a rest e sound rested) (f seen a rest e sound rested).contents → AreAlone (f seen a rest e sound rested) (now_in x)
   rest_alone =
@@ -62,8 +70,8 @@ module _ {R : Type 0} (seen : R → Seen) (a : Seen) (rest : AtRest R) (e : Foun
       (sym (ap (λ (h : Found). h.contents) (idle_pool (disks_of x) (now_in x) (f seen a rest e sound rested) rest_sound.found_is rest_idle rest_sound.logs).same))
 
   -- what stops leave in reads since then
-  pub until_read : (y : Seen) → LieApart e → OnlyReads x y → Leaves a x (HoldOpened e 0) → a.traced → Leaves a y (HoldOpened e 0)
-  until_read y apart reads early traced =
+  pub until_read : (y : Seen) → LieApart e → AreAlone e e.contents → OnlyReads x y → Leaves a x (HoldOpened e 0) → a.traced → Leaves a y (HoldOpened e 0)
+  until_read y apart alone reads early traced =
       leaves_then (HoldOpened e 0) early
       (leaves_weaker (HoldOpened (f seen a rest e sound rested) 0) (HoldOpened e 0) (λ i. opened_same e (f seen a rest e sound rested) 0 i (pool_same seen a rest e sound rested))
-      (rereading_leaves x y (f seen a rest e sound rested) rest_sound (same_apart e (f seen a rest e sound rested) (pool_same seen a rest e sound rested) apart) (inl rest_idle) reads (rested.stays.traced traced)))
+      (rereading_leaves x y (f seen a rest e sound rested) rest_sound (same_apart e (f seen a rest e sound rested) (pool_same seen a rest e sound rested) apart) (pool_alone alone) (inl rest_idle) reads (rested.stays.traced traced)))

@@ -1,5 +1,4 @@
--- While a volume is opened on a pool's arrays, and their texts are brought up to date, what a stop leaves holds the pool, if no superblock stands where none
--- is to be.
+-- While a volume is opened on a pool's arrays, and their texts are brought up to date, what a stop leaves holds the pool.
 use Rattle.std.proofs.Common.{◌≡◌, ℕ, ◌<◌, ◌≤◌, ◌&&◌, false, is_some, List, Some, inl, inr, refl, sym, ap, subst, ◌∙◌, arith}
 use Rattle.rack.specs.Moments.{Leaves}
 use Rattle.rack.specs.Seen.{Image, IsLive, Seen}
@@ -35,6 +34,7 @@ use Rattle.pool_model.proofs.Openings.{amid_opened}
 use Rattle.pool_model.proofs.Outset.{outset_of}
 use Rattle.assembler.specs.Holding.{HoldsArrays}
 use Rattle.assembler.specs.Volume.{AllLive}
+use Rattle.assembler.proofs.Alone.{alone_stops}
 
 -- The arrays `raid` were made over the slices t of a pool e, which is f at rest, all of them ready for the volume; calls from then on write no sector of the
 -- arrays but before `from`, and in the end just the places without a disk are marked.
@@ -45,6 +45,7 @@ module _ {R : Type 0} (seen : R → Seen) (runs : R → R → Type 0) (e f : Fou
     (before : Image) (found_before : found (disks_of (seen (below_of (slices_in raid)))) before ≡ Some e) (sound : IsSoundPool e)
     (slices : AreSlicesOf e (tables (slices_in raid))) (have : HaveTables e)
     (elsewhere : (i : Image) → IsPickOff (tables (slices_in raid)) (seen (below_of (slices_in raid))) i → AreElsewhere e i)
+    (alone : (i : Image) → IsPickOff (tables (slices_in raid)) (seen (below_of (slices_in raid))) i → AreAlone e i)
     (marks : (p : ℕ) → is_current (raid_in last).state p ≡ (is_current e.state p && is_some (e.seats p)))
     (orderly : IsOrderly (tables (slices_in raid))) (inside : IsInside (tables (slices_in raid)) (seen (below_of (slices_in raid))))
     (lasting : (seen (below_of (slices_in raid))).lasting)
@@ -117,6 +118,9 @@ module _ {R : Type 0} (seen : R → Seen) (runs : R → R → Type 0) (e f : Fou
   lie : Leaves z y (LieByTables e t v.state)
   lie = tables_amid e t v.state z y lasting only (tables_lie e t v.state z have slices elsewhere) traced
 
+  lone : Leaves z y (AreAlone e)
+  lone = alone_stops e t z y lasting only alone traced
+
   module _ (k : ℕ) (i : Image) (late : z.clock < k) (early : k ≤ y.clock) (stop : y.stops k i) where
     value_in : (u : Slices) → u ≡ tables (slices_in last) → (n x : ℕ) → n < e.state.made → from ≤ x → x < array_sectors e n
         → arrays_in (replayed (sectors_of u) (sliced u i)) n x ≡ arrays_held e n x
@@ -138,10 +142,10 @@ module _ {R : Type 0} (seen : R → Seen) (runs : R → R → Type 0) (e f : Fou
         ]
         ∙ ap (λ (k : Arrays). k.contents n x) (joined_same e f pool)
 
-    opened : AreAlone e i → HoldOpened e from i
-    opened alone =
+    opened : HoldOpened e from i
+    opened =
         amid_opened e t v.state w.state from i begun marks (value_in t (sym there))
-        (amid.new k i late early stop (lie.new k i late early stop) (λ n p d first low counts seat. alone n p d first low seat)).between
+        (amid.new k i late early stop (lie.new k i late early stop) (λ n p d first low counts. lone.new k i late early stop n p d first low)).between
 
-  pub bringing_leaves : Leaves z y (λ i. AreAlone e i → HoldOpened e from i)
+  pub bringing_leaves : Leaves z y (HoldOpened e from)
   bringing_leaves = record { later = amid.later; kept = amid.kept; past = amid.past; new = opened }

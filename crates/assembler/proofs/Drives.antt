@@ -5,7 +5,7 @@ use Rattle.std.proofs.lemmas.Bool.{cases_eq}
 use Rattle.std.proofs.lemmas.Option.{none-some}
 use Rattle.rack.specs.Seen.{Seen}
 use Rattle.rack.specs.Sequences.{OnlyReads, WritesOnly}
-use Rattle.rack.proofs.Writing.{only_quiet, only_then, only_weaker}
+use Rattle.rack.proofs.Writing.{only_weaker}
 use Rattle.slice_rack.specs.Runs.{IsSliced}
 use Rattle.slice_rack.specs.Slices.{Slices, IsOrderly, first_of, place_of, seat_of, sectors_of}
 use Rattle.pool_state.specs.declared.contents.State.{State}
@@ -22,6 +22,7 @@ use Rattle.raid_rack.proofs.Noted.{current_few}
 use Rattle.pool_scan.proofs.Valid.{valid_places}
 use Rattle.assembler.specs.Members.{AreMembers}
 use Rattle.assembler.specs.Writing.{IsDriveOrTable, IsSlicedOrTable}
+use Rattle.assembler.proofs.Written.{rack_then, sector_around}
 
 -- where a member's slice is laid
 record IsLaidMember (seats : Seats) (arrays : List View) (extents : List Extent) (n p : ℕ) (e : Extent) : Type 0 where
@@ -102,10 +103,10 @@ module _ (s : State) (t : Slices) (y : Seen) (checked : Checked) (absent : List 
           )
 
 -- so only drives are written after reads, where only slices and tables are
-module _ (s : State) (t : Slices) (x y z : Seen) (checked : Checked) (absent : List ℕ) (known : List Known) (orderly : IsOrderly t)
+module _ (s : State) (t : Slices) (x y z w : Seen) (checked : Checked) (absent : List ℕ) (known : List Known) (orderly : IsOrderly t)
     (m : AreMembers s t y checked absent) (seats : (p d : ℕ) → seat_of t p ≡ Some d → seat_by s known p ≡ Some d)
-    (reads : OnlyReads x y) (writes : WritesOnly y z (IsSlicedOrTable y t)) where
-  earlier : (d u : ℕ) (v : List ℕ) → IsSlicedOrTable y t d u v → IsDriveOrTable x known s d u v
+    (reads : OnlyReads x y) (writes : WritesOnly y z (IsSlicedOrTable y z t)) (texts : WritesOnly z w (IsSliced t)) where
+  earlier : (d u : ℕ) (v : List ℕ) → IsSlicedOrTable y z t d u v → IsDriveOrTable x w known s d u v
   earlier d u v (inl is) =
       let at = sliced_at s t y checked absent orderly m d u v is in
       inl (record {
@@ -115,23 +116,15 @@ module _ (s : State) (t : Slices) (x y z : Seen) (checked : Checked) (absent : L
         before = subst (λ n. (u < arrays_first) ⊎ (u + 33 < n)) (reads.stays.sectors d) at.3;
       })
   earlier d u v (inr is) =
-      inr (record {
-        place = is.place;
-        below = is.below;
-        seat = seats is.place d is.seat;
-        at_end = subst (λ n. (u < 34) ⊎ (n ≤ u + 33)) (reads.stays.sectors d) is.at_end;
-      })
+      inr (sector_around x y z w reads.stays writes.stays texts.stays (seat_of t) (seat_by s known) seats (λ p j k seat of live. reads.keeps.held j k live) d u v is)
 
-  pub writes_drives : WritesOnly x z (IsDriveOrTable x known s)
-  writes_drives =
-      only_then (IsDriveOrTable x known s) (only_quiet (IsDriveOrTable x known s) reads.stays reads.keeps)
-      (only_weaker (IsSlicedOrTable y t) (IsDriveOrTable x known s) earlier writes)
+  pub writes_drives : WritesOnly x w (IsDriveOrTable x w known s)
+  writes_drives = only_weaker (IsSlicedOrTable y z t) (IsDriveOrTable x w known s) earlier (rack_then t x y z w reads writes texts)
 
 -- in an opening: the drives' check, then the rack of arrays, then the volume
 pub members_drives : (s : State) (t : Slices) (y : Seen) (checked : Checked) (absent : List ℕ) (known : List Known) (r : State) → IsOrderly t → AreMembers s t y checked absent
     → s ≡ r → ((p d : ℕ) → seat_of t p ≡ Some d → seat_by r known p ≡ Some d)
-    → (x z w : Seen) → OnlyReads x y → WritesOnly y z (IsSlicedOrTable y t) → WritesOnly z w (IsSliced t) → WritesOnly x w (IsDriveOrTable x known r)
+    → (x z w : Seen) → OnlyReads x y → WritesOnly y z (IsSlicedOrTable y z t) → WritesOnly z w (IsSliced t) → WritesOnly x w (IsDriveOrTable x w known r)
 members_drives s t y checked absent known r orderly m same seats x z w reads one two =
-    subst (λ k. WritesOnly x w (IsDriveOrTable x known k)) same
-    (writes_drives s t x y w checked absent known orderly m (λ p d seat. subst (λ k. seat_by k known p ≡ Some d) (sym same) (seats p d seat))
-    reads (only_then (IsSlicedOrTable y t) one (only_weaker (IsSliced t) (IsSlicedOrTable y t) (λ d u v is. inl is) two)))
+    subst (λ k. WritesOnly x w (IsDriveOrTable x w known k)) same
+    (writes_drives s t x y z w checked absent known orderly m (λ p d seat. subst (λ k. seat_by k known p ≡ Some d) (sym same) (seats p d seat)) reads one two)

@@ -4,7 +4,6 @@ use Rattle.rack.specs.Values.{MayLeave}
 use Rattle.rack.specs.Seen.{Image, IsLive, Seen, Stays}
 use Rattle.rack.specs.Joins.{stays_then}
 use Rattle.rack.specs.Sequences.{OnlyReads, WritesOnly}
-use Rattle.rack.proofs.Writing.{only_quiet, only_then, only_weaker}
 use Rattle.slice_rack.specs.Runs.{IsSliced}
 use Rattle.slice_rack.specs.Slices.{Slices, IsOrderly, seat_of}
 use Rattle.gpt_table.specs.declared.TableCopy.{TableCopy}
@@ -30,9 +29,10 @@ use Rattle.assembler.specs.Members.{AreMembers}
 use Rattle.assembler.specs.Writing.{IsSlicedOrTable}
 use Rattle.assembler.proofs.Drives.{sliced_at}
 use Rattle.assembler.proofs.Mended.{drive_never, slices_never}
+use Rattle.assembler.proofs.Written.{rack_then}
 
 module _ (s r : State) (t : Slices) (a x y z w : Seen) (checked : Checked) (absent : List ℕ) (known : List Known) (orderly : IsOrderly t) (m : AreMembers s t y checked absent)
-    (early : WritesOnly a x (IsOfDrive a known r)) (reads : OnlyReads x y) (rack : WritesOnly y z (IsSlicedOrTable y t)) (texts : WritesOnly z w (IsSliced t))
+    (early : WritesOnly a x (IsOfDrive a known r)) (reads : OnlyReads x y) (rack : WritesOnly y z (IsSlicedOrTable y z t)) (texts : WritesOnly z w (IsSliced t))
     (steady : AreSteady a) (steady_x : AreSteady x) (e f : Found) (same : IsSamePool e f) (disks : e.disks ≡ disks_of a)
     (is : (d : ℕ) → f.identities d ≡ identities_of (disks_of x) (now_in x) d) (seats : (p : ℕ) → seat_of t p ≡ f.seats p)
     (keeps : (p d : ℕ) → seat_of t p ≡ Some d → KeepsTable a w d) where
@@ -43,10 +43,8 @@ module _ (s r : State) (t : Slices) (a x y z w : Seen) (checked : Checked) (abse
   aw = stays_then early.stays xw
 
   -- from the check on, slices and tables were written
-  late : WritesOnly x w (IsSlicedOrTable y t)
-  late =
-      only_then (IsSlicedOrTable y t) (only_quiet (IsSlicedOrTable y t) reads.stays reads.keeps)
-      (only_then (IsSlicedOrTable y t) rack (only_weaker (IsSliced t) (IsSlicedOrTable y t) (λ d u v at. inl at) texts))
+  late : WritesOnly x w (IsSlicedOrTable y z t)
+  late = rack_then t x y z w reads rack texts
 
   disks_same : (d : ℕ) → (e.disks.count ≡ x.disks) × (e.disks.sectors d ≡ x.sectors d)
   disks_same d = (
@@ -77,7 +75,7 @@ module _ (s r : State) (t : Slices) (a x y z w : Seen) (checked : Checked) (abse
       not_sliced : (u : ℕ) (v : List ℕ) → IsSliced t d u v → ⊥
       not_sliced u v at = let one = sliced_at s t y checked absent orderly m d u v at in nobody one.0 one.1
 
-      never : (u : ℕ) (v : List ℕ) → IsSlicedOrTable y t d u v → ⊥
+      never : (u : ℕ) (v : List ℕ) → IsSlicedOrTable y z t d u v → ⊥
       never u v (inl at) = not_sliced u v at
       never u v (inr at) = nobody at.place at.seat
 

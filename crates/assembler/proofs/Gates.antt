@@ -35,6 +35,7 @@ use Rattle.pool_scan.specs.Scanning.{now_in}
 use Rattle.pool_check.specs.declared.Checked.{Checked}
 use Rattle.pool_rest.specs.Resting.{IsIdle}
 use Rattle.pool_rest.specs.SoundLogs.{HasSoundLogs}
+use Rattle.pool_model.specs.Left.{AreAlone}
 use Rattle.pool_model.specs.Openings.{HoldOpened, IsIdleIn}
 use Rattle.pool_model.proofs.Found.{found_is}
 use Rattle.pool_model.proofs.GatesSame.{HoldButGates, gates_opened, idle_holds}
@@ -304,7 +305,7 @@ module _ (f e : Found) (t : Slices) (y : Seen) (checked : Checked) (absent : Lis
       opened_there : HoldOpened e 0 i
       opened_there =
           gates_opened (disks_of y) i e (found_is (disks_of y) (now_in y) e rest.sound.found_is).1 rest.sound.sound (tables_apart e rest.tables)
-          (closed_holds i closed_there)
+          (subst (AreAlone e) (ap (λ (h : Found). h.contents) idle_y.same) rest.alone) (closed_holds i closed_there)
 
     -- ---- at the end
 

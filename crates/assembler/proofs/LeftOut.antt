@@ -39,12 +39,12 @@ module _ (t : Slices) (x : Seen) (orderly : IsOrderly t) (fit : (slices_of t x).
   pub left_distinct : AreDistinct (seats_by left)
   left_distinct p q d low high one two = orderly.one_place p q d (kept p d one) (kept q d two)
 
-  pub mends_so : (y : Seen) (now : List (Option ℕ)) → WritesOnly x y (IsTableSector x (seats_by left) 16) → Loses x y (seats_by left) (seats_by now)
+  pub mends_so : (y : Seen) (now : List (Option ℕ)) → WritesOnly x y (IsTableSector x y (seats_by left) 16) → Loses x y (seats_by left) (seats_by now)
       → ((d : ℕ) → KeepsTable x y d) → ((p d : ℕ) → p < 16 → seats_by now p ≡ Some d → IsTrueOf x d (flag_by agreed p) → IsSettled x y d)
       → (s : State) (places : List ℕ) → places ≡ filter (λ p. is_none (seats_by now p)) (current_places s) → MendsTables x y s (seat_of t) agreed gone places
   mends_so y now only loses tables settled s places listed = record {
-    only = only_weaker (IsTableSector x (seats_by left) 16) (IsTableSector x (seat_of t) 16)
-        (λ d u v is. record { place = is.place; below = is.below; seat = kept is.place d is.seat; at_end = is.at_end }) only;
+    only = only_weaker (IsTableSector x y (seats_by left) 16) (IsTableSector x y (seat_of t) 16)
+        (λ d u v is. record { place = is.place; below = is.below; seat = kept is.place d is.seat; at_end = is.at_end; value = is.value }) only;
     left = seats_by now;
     listed = listed;
     out = λ p few named.

@@ -42,6 +42,7 @@ mod Unseated
 mod Volumes
 mod Whole
 mod Written
+mod Alone
 mod Grouped
 mod TruthFound
 pub mod Settling

@@ -30,7 +30,7 @@ use Rattle.raid_rack.specs.Raid.{Raid, gone_in, held_in, is_over, spent_of}
 use Rattle.raid_rack.specs.Since.{HoldsSince}
 use Rattle.raid_rack.proofs.Opening.{opened_amid}
 use Rattle.raid_rack.proofs.Over.{number_room, someone_left}
-use Rattle.pool_model.specs.Left.{AreAlone}
+use Rattle.pool_model.specs.Left.{AreAlone, IsPickOff}
 use Rattle.pool_model.specs.Openings.{HoldOpened}
 use Rattle.pool_model.specs.Stopped.{HaveTables}
 use Rattle.pool_model.proofs.AbsentCopies.{absent_holds, absent_since}
@@ -47,7 +47,8 @@ use Rattle.assembler.proofs.Mended.{reads_move}
 module _ (e f : Found) (pool : IsSamePool f e) (t : Slices) (v w : Raid) (a : Seen) (b d z : Seen) (stand : StandOver f v (slices_of t b)) (set : IsSet v (slices_of t b))
     (reads : OnlyReads (slices_of t b) (slices_of t d)) (marks : Mends v w (slices_of t d) (slices_of t z)) (made : HoldsArrays f w a (slices_of t z)) (alive : AllLive w)
     (unseated : (p : ℕ) → gone_in v p ≡ true → seat_of t p ≡ None)
-    (found : IsFound e) (ready : IsReady e t v d) (same : v.state ≡ e.state) (have : HaveTables e) (orderly : IsOrderly t) (inside : IsInside t d) (lasting : d.lasting)
+    (found : IsFound e) (ready : IsReady e t v d) (same : v.state ≡ e.state) (have : HaveTables e)
+    (alone : (i : Image) → IsPickOff t d i → AreAlone e i) (orderly : IsOrderly t) (inside : IsInside t d) (lasting : d.lasting)
     (only : WritesOnly d z (IsSliced t)) (marks_are : (p : ℕ) → is_current w.state p ≡ (is_current e.state p && is_some (e.seats p))) (traced : d.traced) where
   abbrev before : Seen
   before = slices_of t b
@@ -152,6 +153,6 @@ module _ (e f : Found) (pool : IsSamePool f e) (t : Slices) (v w : Raid) (a : Se
       some_drive None is = absurd (both_ways false refl is)
       some_drive (Some k) is = (k, refl)
 
-  pub marked_leaves : Leaves d z (λ i. AreAlone e i → HoldOpened e 0 i)
+  pub marked_leaves : Leaves d z (HoldOpened e 0)
   marked_leaves =
-      marking_leaves e t v w d z (spent_of w) vals found ready same have orderly inside lasting only part amid means copies since room someone live marks_are traced
+      marking_leaves e t v w d z (spent_of w) vals found ready same have alone orderly inside lasting only part amid means copies since room someone live marks_are traced

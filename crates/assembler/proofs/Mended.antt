@@ -42,6 +42,7 @@ use Rattle.assembler.specs.Mending.{MendsTables}
 use Rattle.assembler.specs.Writing.{IsSlicedOrTable}
 use Rattle.assembler.proofs.Drives.{sliced_at}
 use Rattle.assembler.proofs.Running.{members_later}
+use Rattle.assembler.proofs.Written.{sector_around}
 use Rattle.raid_rack.specs.Truths.{MakesTruths}
 use Rattle.raid_rack.proofs.Truths.{makes_after}
 
@@ -94,19 +95,11 @@ pub drive_never : (a : Seen) (known : List Known) (s : State) (d : ℕ) → arra
 drive_never a known s d room u v of is = outside (a.sectors d) u room is.behind is.before (table_end (a.sectors d) u of)
 
 module _ (s : State) (t : Slices) (a : Seen) (checked : Checked) (absent : List ℕ) (orderly : IsOrderly t) (m : AreMembers s t a checked absent) where
-  slices_apart : (d u : ℕ) (v w : List ℕ) → IsSliced t d u v → IsTableSector a (seat_of t) 16 d u w → ⊥
-  slices_apart d u v w is table =
-      let at = sliced_at s t a checked absent orderly m d u v is in
-      outside (a.sectors d) u (m.room table.place d table.seat) at.2 at.3 table.at_end
+  slices_apart : (p d u : ℕ) (v : List ℕ) → seat_of t p ≡ Some d → IsSliced t d u v → (u < 34) ⊎ (a.sectors d ≤ u + 33) → ⊥
+  slices_apart p d u v seat is at_end = (let at = sliced_at s t a checked absent orderly m d u v is in outside (a.sectors d) u (m.room p d seat) at.2 at.3 at_end)
 
   pub slices_never : (p d n : ℕ) → p < 16 → seat_of t p ≡ Some d → a.sectors d ≡ n → (u : ℕ) (v : List ℕ) → IsOfCopies n u → IsSliced t d u v → ⊥
-  slices_never p d n few seat same u v of is =
-      slices_apart d u v v is (record {
-        place = p;
-        below = few;
-        seat = seat;
-        at_end = subst (λ k. (u < 34) ⊎ (k ≤ u + 33)) (sym same) (table_end n u of);
-      })
+  slices_never p d n few seat same u v of is = slices_apart p d u v seat is (subst (λ k. (u < 34) ⊎ (k ≤ u + 33)) (sym same) (table_end n u of))
 
   -- writes to slices keep tables
   slices_keep : (b : Seen) (p d n : ℕ) → WritesOnly a b (IsSliced t) → p < 16 → seat_of t p ≡ Some d → a.sectors d ≡ n
@@ -114,7 +107,7 @@ module _ (s : State) (t : Slices) (a : Seen) (checked : Checked) (absent : List 
   slices_keep b p d n only few seat same u of live = only.others d u live (λ v. slices_never p d n few seat same u v of)
 
   -- and writes to tables keep slices
-  pub tables_read : (b : Seen) → WritesOnly a b (IsTableSector a (seat_of t) 16) → OnlyReads (slices_of t a) (slices_of t b)
+  pub tables_read : (b : Seen) → WritesOnly a b (IsTableSector a b (seat_of t) 16) → OnlyReads (slices_of t a) (slices_of t b)
   tables_read b only = record {
     stays = stays_sliced m.fit.1 only.stays;
     keeps = record {
@@ -136,9 +129,9 @@ module _ (s : State) (t : Slices) (a : Seen) (checked : Checked) (absent : List 
       inside : IsInside t b
       inside = inside_still only.stays m.fit.1
 
-      never : (k u : ℕ) (v : List ℕ) → u < sectors_of t k → IsTableSector a (seat_of t) 16 (disk_of t k) (first_of t k + u) v → ⊥
+      never : (k u : ℕ) (v : List ℕ) → u < sectors_of t k → IsTableSector a b (seat_of t) 16 (disk_of t k) (first_of t k + u) v → ⊥
       never k u v within is =
-          slices_apart (disk_of t k) (first_of t k + u) v v (record { slice = k; at = u; within = within; disk_is = refl; sector_is = refl }) is
+          slices_apart is.place (disk_of t k) (first_of t k + u) v is.seat (record { slice = k; at = u; within = within; disk_is = refl; sector_is = refl }) is.at_end
 
   -- ---- places that are left
 
@@ -210,17 +203,19 @@ module _ (s : State) (t : Slices) (a b c : Seen) (gone now : List ℕ) (checked 
       subst (λ u. WritesOnly c e (IsSliced u)) same (runs.apart mended_members.fit.0 (subst (λ u. IsInside u c) (sym same) mended_members.fit.1))
 
   module _ (e : Seen) (marking : WritesOnly c e (IsSliced t)) where
-    pub rack_writes : WritesOnly a e (IsSlicedOrTable a t)
+    pub rack_writes : WritesOnly a e (IsSlicedOrTable a e t)
     rack_writes =
-        only_then (IsSlicedOrTable a t) (only_weaker (IsSliced t) (IsSlicedOrTable a t) (λ d u v at. inl at) is.closing)
-        (only_then (IsSlicedOrTable a t)
-        (only_weaker (IsTableSector b (seat_of t) 16) (IsSlicedOrTable a t) (λ d u v at. inr (record {
-          place = at.place;
-          below = at.below;
-          seat = at.seat;
-          at_end = subst (λ n. (u < 34) ⊎ (n ≤ u + 33)) (is.closing.stays.sectors d) at.at_end;
-        })) is.mends.only)
-        (only_weaker (IsSliced t) (IsSlicedOrTable a t) (λ d u v at. inl at) marking))
+        only_then (IsSlicedOrTable a e t) (only_weaker (IsSliced t) (IsSlicedOrTable a e t) (λ d u v at. inl at) is.closing)
+        (only_then (IsSlicedOrTable a e t)
+        (only_weaker (IsTableSector b c (seat_of t) 16) (IsSlicedOrTable a e t)
+        (λ d u v at.
+        inr (sector_around a b c e is.closing.stays is.mends.only.stays marking.stays (seat_of t) (seat_of t) (λ p j seat. seat)
+        (λ p j k seat. slices_keep s t a checked absent orderly m b p j (a.sectors j) is.closing (few p j seat) seat refl k) d u v at))
+        is.mends.only)
+        (only_weaker (IsSliced t) (IsSlicedOrTable a e t) (λ d u v at. inl at) marking))
+      where
+        few : (p d : ℕ) → seat_of t p ≡ Some d → p < 16
+        few p d seat = current_few s p (valid_places s 0 m.valid).1 (m.current p d seat)
 
     pub rack_settled : (p d : ℕ) → p < 16 → seat_of t p ≡ Some d → is.mends.left p ≡ Some d → IsTrueOf a d (flag_by checked.agreed p) → IsSettled a e d
     rack_settled p d few seat left says =

@@ -33,6 +33,7 @@ use Rattle.pool_rest.specs.Moments.{AreOfDrives, StandsMidway, TakesLower}
 use Rattle.pool_rest.specs.Resting as resting
 use Rattle.pool_rest.specs.Standing.{IsLaid}
 use Rattle.pool_rest.specs.declared.resting.AtRest.{AtRest}
+use Rattle.pool_model.specs.Left.{AreAlone}
 use Rattle.pool_model.specs.Openings.{HoldOpened, IsIdleIn, MayReplay}
 use Rattle.pool_model.specs.Stopped.{LieApart, StoodInLog}
 use Rattle.pool_model.proofs.Found.{few_places, found_is}
@@ -41,6 +42,7 @@ use Rattle.pool_model.proofs.Outset.{outset_of}
 use Rattle.pool_model.proofs.Rereading.{agree_holds, midway_holds, same_apart}
 use Rattle.pool_model.proofs.Settled.{idle_logs}
 use Rattle.assembler.specs.Sound.{HoldSound}
+use Rattle.assembler.proofs.AtRest.{pool_alone}
 use Rattle.assembler.proofs.Before.{before_is}
 use Rattle.assembler.proofs.Entry.{IsRested, f, pool_same, rest_found}
 use Rattle.assembler.proofs.Finding.{idle, newest_is, same as found_same, some_same}
@@ -88,7 +90,8 @@ laid_drives x known s t on orderly inside laid = record {
 
 -- ---- where they are brought to rest
 
-module _ {R : Type 0} (seen : R → Seen) (a : Seen) (rest : AtRest R) (e : Found) (sound : HoldSound a e) (rested : IsRested seen a rest) (apart : LieApart e) where
+module _ {R : Type 0} (seen : R → Seen) (a : Seen) (rest : AtRest R) (e : Found) (sound : HoldSound a e) (rested : IsRested seen a rest) (apart : LieApart e)
+    (alone : AreAlone e e.contents) where
   abbrev x : Seen
   x = seen (below_of rest.slices)
 
@@ -116,7 +119,7 @@ module _ {R : Type 0} (seen : R → Seen) (a : Seen) (rest : AtRest R) (e : Foun
       ap (λ (z : Standing). z.targets) (some_same before (standing_by (disks_of x) (now_in x) rest.state) (sym is ∙ rested.stands.stands)) ∙ idle_rest in
       opened_same e pool 0 i (pool_same seen a rest e sound rested)
       (agree_holds (disks_of x) (now_in x) i pool at.found_is at.sound
-      (idle_logs (disks_of x) (now_in x) rest.state newest_rest idle_rest whole) (same_apart e pool (pool_same seen a rest e sound rested) apart) (inl none) (subst (λ (k : Disks). Agree k i (now_in x)) disks_same agree))
+      (idle_logs (disks_of x) (now_in x) rest.state newest_rest idle_rest whole) (same_apart e pool (pool_same seen a rest e sound rested) apart) (pool_alone seen a rest e sound rested alone) (inl none) (subst (λ (k : Disks). Agree k i (now_in x)) disks_same agree))
 
   module _ (laid : IsLaid x known rest.state (tables rest.slices) rest.on.items) (fit : (slices_of (tables rest.slices) x).fit) where
     abbrev u : Slices
@@ -206,11 +209,11 @@ module _ {R : Type 0} (seen : R → Seen) (a : Seen) (rest : AtRest R) (e : Foun
         → a.traced → Leaves a x (λ i. StandsMidway (disks_of a) (now_in a) i ⊎ Agree (disks_of a) i (now_in x)))
         → a.traced → Leaves a x (HoldOpened e 0)
     replaying_leaves may idle midway traced = elim may [
-      | inl none ↦ rereading_leaves a x e sound apart (inl none) (idle none) traced
+      | inl none ↦ rereading_leaves a x e sound apart alone (inl none) (idle none) traced
       | inr amid ↦
           leaves_weaker (λ i. StandsMidway (disks_of a) (now_in a) i ⊎ Agree (disks_of a) i (now_in x)) (HoldOpened e 0)
           (λ i stop. elim stop [
-            | inl mid ↦ midway_holds (disks_of a) (now_in a) i e sound.found_is sound.sound sound.logs apart (inr amid) mid
+            | inl mid ↦ midway_holds (disks_of a) (now_in a) i e sound.found_is sound.sound sound.logs apart alone (inr amid) mid
             | inr end ↦ rest_agrees i end
           ])
           (midway amid.1 u (laid_drives x known rest.state u rest.on.items rest.slices.orderly fit.1 laid) (λ b stands. stood_state amid.0 b stands) traced)

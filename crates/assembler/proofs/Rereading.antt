@@ -6,20 +6,21 @@ use Rattle.rack.specs.Sequences.{OnlyReads}
 use Rattle.pool_image.specs.Disks.{disks_of}
 use Rattle.pool_image.specs.Drives.{Found}
 use Rattle.pool_scan.specs.Scanning.{now_in}
+use Rattle.pool_model.specs.Left.{AreAlone}
 use Rattle.pool_model.specs.Openings.{HoldOpened, MayReplay}
 use Rattle.pool_model.specs.Stopped.{LieApart}
 use Rattle.pool_model.proofs.Rereading.{agree_holds}
 use Rattle.assembler.specs.Sound.{HoldSound}
 
-pub rereading_leaves : (x y : Seen) (f : Found) → HoldSound x f → LieApart f → MayReplay (disks_of x) (now_in x) f → OnlyReads x y → x.traced → Leaves x y (HoldOpened f 0)
-rereading_leaves x y f sound apart may reads traced =
+pub rereading_leaves : (x y : Seen) (f : Found) → HoldSound x f → LieApart f → AreAlone f f.contents → MayReplay (disks_of x) (now_in x) f → OnlyReads x y → x.traced → Leaves x y (HoldOpened f 0)
+rereading_leaves x y f sound apart alone may reads traced =
     let stops = reads.keeps.stops traced in
     record {
       later = stops.later;
       kept = stops.kept;
       past = stops.past;
       new = λ k i late early stop.
-          agree_holds (disks_of x) (now_in x) i f sound.found_is sound.sound sound.logs apart may
+          agree_holds (disks_of x) (now_in x) i f sound.found_is sound.sound sound.logs apart alone may
           (λ d u low within.
           sound.steady.single d u low within (i d u)
           (stops.new k i late early stop d u (record {

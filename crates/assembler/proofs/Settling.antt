@@ -7,16 +7,17 @@ use Rattle.gpt_table.specs.declared.TableCopy.TheVariants.{Backup, Primary}
 use Rattle.gpt_table.specs.Changes.{the_table}
 use Rattle.gpt_table.specs.Disk.{IsOfCopy}
 use Rattle.pool_state.specs.declared.contents.State.{State}
-use Rattle.array_image.specs.Places.{arrays_first}
+use Rattle.array_image.specs.Places.{arrays_first, super_sector}
 use Rattle.pool_image.specs.Disks.{Disks, Seats, disks_of}
 use Rattle.pool_image.specs.Drives.{Found}
-use Rattle.pool_image.proofs.Identities.{table_same}
+use Rattle.pool_image.proofs.Identities.{seat_inside, table_same}
 use Rattle.pool_scan.specs.Scanning.{now_in}
 use Rattle.pool_rest.specs.Resting.{IsIdle}
-use Rattle.pool_model.specs.Left.{AreAlone}
+use Rattle.pool_model.specs.Left.{AreAlone, HasNoSuper}
 use Rattle.pool_model.specs.Openings.{HaveGoodTables, HoldOpened, IsButTables}
 use Rattle.pool_model.specs.Stopped.{LieApart}
 use Rattle.pool_model.proofs.Found.{few_places, found_is, seated_below}
+use Rattle.pool_model.proofs.NoSuper.{no_super_replaced}
 use Rattle.pool_model.proofs.Outset.{outset_of}
 use Rattle.pool_model.proofs.Settled.{settled_holds}
 use Rattle.pool_model.proofs.TableRoom.{log_room}
@@ -91,13 +92,25 @@ module _ (x y : Seen) (f : Found) (s : State) (seats : Seats) (agreed : List Boo
           (λ p seat at_end. never (record { place = p; seat = seat; at_end = subst (λ n. (u < 34) ⊎ (n ≤ u + 33)) (sym (sectors_is d)) at_end }));
     }
 
-  pub settling_leaves : Leaves x y (λ i. AreAlone f i → HoldOpened f 0 i)
+    -- what came to a table is no superblock
+    alone_now : AreAlone f i
+    alone_now n p d first low seat none begins within =
+        let u : ℕ = first + super_sector in
+        let at = (found_is (disks_of x) (now_in x) f sound.found_is).0 in
+        let there : d < x.disks = subst (λ n. d < n) count_is (seat_inside f.state f.disks f.identities p d (sym (at.seats p) ∙ seat)) in
+        let inside : u < x.sectors d = subst (λ n. u < n) (sectors_is d) within in
+        elim ((mends.only.stops traced).new k i late early stop d u (live d u there inside)) [
+          | inl may ↦ subst (HasNoSuper f.state.pool.0 n) (sym (sound.steady.single d u there inside (i d u) may)) (alone n p d first low seat none begins within)
+          | inr sector ↦ no_super_replaced f.state.pool.0 n sector.value.copy sector.value.table u (i d u) sector.value.within
+        ]
+
+  pub settling_leaves : Leaves x y (HoldOpened f 0)
   settling_leaves =
       let stops = mends.only.stops traced in
       record {
         later = stops.later;
         kept = stops.kept;
         past = stops.past;
-        new = λ k i late early stop alone_now.
-            settled_holds (disks_of x) (now_in x) i f sound.found_is idle sound.sound sound.logs tables apart (but k i late early stop) alone alone_now;
+        new = λ k i late early stop.
+            settled_holds (disks_of x) (now_in x) i f sound.found_is idle sound.sound sound.logs tables apart (but k i late early stop) alone (alone_now k i late early stop);
       }

@@ -38,13 +38,15 @@ use Rattle.pool_model.proofs.Landing.{tables_apart}
 use Rattle.pool_model.proofs.Openings.{opened_same}
 use Rattle.pool_model.proofs.Outset.{outset_of}
 use Rattle.pool_model.proofs.Rereading.{same_apart}
-use Rattle.pool_model.proofs.SameAlone.{alone_same, good_same, own_alone, same_back, same_self}
+use Rattle.pool_model.proofs.SameAlone.{good_same, own_alone, same_back, same_self}
 use Rattle.pool_model.proofs.Settled.{IsIdlePool, idle_pool}
 use Rattle.assembler.specs.Holding.{HoldPool, HoldsArrays}
 use Rattle.assembler.specs.Members.{AreMembers}
 use Rattle.assembler.specs.Rested.{HoldRested}
 use Rattle.assembler.specs.Sound.{HoldSound}
 use Rattle.assembler.specs.Volume.{AllLive}
+use Rattle.assembler.specs.Writing.{IsSlicedOrTable}
+use Rattle.assembler.proofs.Alone.{alone_off, unsliced}
 use Rattle.assembler.proofs.Closed.{StandOver, at_rest, geometry_now, gone_unseated, idle, on, own, stand_closed, stand_still}
 use Rattle.assembler.proofs.Elsewhere.{elsewhere}
 use Rattle.assembler.proofs.Gates.{IsClosedSo, closing_so}
@@ -74,7 +76,7 @@ module _ (f e : Found) (s : State) (t : Slices) (y b d z : Seen) (went places : 
     (mended : IsMended s t y b d checked.agreed went places) (closed : absent ≡ [] → ReplayCall l (current_places s) [] (slices_of t y) (slices_of t b))
     (still : (absent ≡ [] → ⊥) → b ≡ y)
     (settles : (g : Found) → HoldSound b g → IsIdle b → HaveGoodTables g → LieApart g → ((p : ℕ) → seat_of t p ≡ g.seats p) → AreAlone g (now_in b) → b.traced
-    → Leaves b d (λ i. AreAlone g i → HoldOpened g 0 i))
+    → Leaves b d (HoldOpened g 0))
     (marking : WritesOnly d z (IsSliced t)) (set : IsSet v (slices_of t b)) (marks : Mends v w (slices_of t d) (slices_of t z))
     (made : HoldsArrays f w (slices_of t y) (slices_of t z)) (alive : AllLive w)
     (marked : (p : ℕ) → is_current w.state p ≡ (is_current s p && not (names absent p))) (traced : y.traced) where
@@ -126,9 +128,6 @@ module _ (f e : Found) (s : State) (t : Slices) (y b d z : Seen) (went places : 
   idle_b : IsIdlePool (disks_of b) (now_in b) g
   idle_b = idle_pool (disks_of b) (now_in b) g gates.sound.found_is gates.idle gates.sound.logs
 
-  closing : Leaves y b (λ i. AreAlone e i → HoldOpened e 0 i)
-  closing = leaves_weaker (HoldOpened e 0) (λ i. AreAlone e i → HoldOpened e 0 i) (λ i holds alone. holds) (gates.leaves traced)
-
   -- ---- tables
 
   alone_y : AreAlone e e.contents
@@ -137,10 +136,9 @@ module _ (f e : Found) (s : State) (t : Slices) (y b d z : Seen) (went places : 
   alone_b : AreAlone g (now_in b)
   alone_b = subst (AreAlone g) (sym (ap (λ (h : Found). h.contents) idle_b.same)) (own_alone e g gates.same outset.made.1 outset.truths alone_y)
 
-  settling : Leaves b d (λ i. AreAlone e i → HoldOpened e 0 i)
+  settling : Leaves b d (HoldOpened e 0)
   settling =
-      leaves_weaker (λ i. AreAlone g i → HoldOpened g 0 i) (λ i. AreAlone e i → HoldOpened e 0 i)
-      (λ i holds alone. opened_same e g 0 i gates.same (holds (alone_same e g gates.same outset.made.1 outset.truths i alone)))
+      leaves_weaker (HoldOpened g 0) (HoldOpened e 0) (λ i. opened_same e g 0 i gates.same)
       (settles g gates.sound gates.idle (good_same e g gates.same rest.good) (same_apart e g gates.same (tables_apart e rest.tables)) (λ p. seats p ∙ sym (gates.same.seats p)) alone_b (mended.closing.stays.traced traced))
 
   -- ---- marks
@@ -157,12 +155,15 @@ module _ (f e : Found) (s : State) (t : Slices) (y b d z : Seen) (went places : 
   few : (p disk : ℕ) → seat_of t p ≡ Some disk → p < 16
   few p disk seat = current_few s p (valid_places s 0 members.valid).1 (members.current p disk seat)
 
+  writes : WritesOnly y d (IsSlicedOrTable y d t)
+  writes = rack_writes s t y b d went places checked absent orderly members mended d none_now
+
   -- outside the slices the disks say what they said
   as_before : (i : Image) → IsPickOff t d i → AreElsewhere e i
   as_before =
       elsewhere s s t y y y d d checked absent [] orderly members
       (only_none y (IsOfDrive y [] s) members.fit.0) (still_reads y members.fit.0)
-      (rack_writes s t y b d went places checked absent orderly members mended d none_now) none_now
+      writes none_now
       rest.sound.steady rest.sound.steady e e (same_self e) at.1 (λ k. ap (λ (h : Found). h.identities k) (sym idle_y.same)) seats
       (λ p disk seat. rack_keeps s t y b d went places checked absent orderly members mended d none_now p disk (few p disk seat) seat)
 
@@ -171,6 +172,12 @@ module _ (f e : Found) (s : State) (t : Slices) (y b d z : Seen) (went places : 
       slices_same e f (same_back f e rest.same) t
       (slices_lie f t y checked absent orderly (own f s t y checked absent places orderly l holds found members rules v state number are nobody) holds.steady
       (on f s t y checked absent places orderly l holds found members rules v state number are nobody) found.opened)
+
+  -- and no superblock of an array stands there on a drive that is no member of it
+  lone : (i : Image) → IsPickOff t d i → AreAlone e i
+  lone =
+      alone_off e t y d rest.alone rest.sound.steady at.1 (λ p disk seat. members.fit.1.seats p disk (seats p ∙ seat))
+      (unsliced e t orderly slices outset.made.1 outset.truths) y d writes
 
   ready : IsReady e t v d
   ready = record {
@@ -191,11 +198,11 @@ module _ (f e : Found) (s : State) (t : Slices) (y b d z : Seen) (went places : 
       ∙ ap (λ b. is_current s p && b) (some_is (seat_of t p))
       ∙ ap₂ (λ (r : State) (o : Option ℕ). is_current r p && is_some o) (sym holds.pool.state ∙ sym rest.same.state) (seats p)
 
-  marking_now : Leaves d z (λ i. AreAlone e i → HoldOpened e 0 i)
+  marking_now : Leaves d z (HoldOpened e 0)
   marking_now =
       marked_leaves e f rest.same t v w (slices_of t y) b d z stand set (mended_reads s t y b d went places checked absent orderly members mended) marks made alive
       (gone_unseated f s t y checked absent places orderly l holds found members rules v state number are nobody)
-      at.0 ready same_state rest.tables orderly inside (stays.lasting members.lasting) marking marks_are (stays.traced traced)
+      at.0 ready same_state rest.tables lone orderly inside (stays.lasting members.lasting) marking marks_are (stays.traced traced)
 
-  pub making_leaves : Leaves y z (λ i. AreAlone e i → HoldOpened e 0 i)
-  making_leaves = leaves_then (λ i. AreAlone e i → HoldOpened e 0 i) (leaves_then (λ i. AreAlone e i → HoldOpened e 0 i) closing settling) marking_now
+  pub making_leaves : Leaves y z (HoldOpened e 0)
+  making_leaves = leaves_then (HoldOpened e 0) (leaves_then (HoldOpened e 0) (gates.leaves traced) settling) marking_now

@@ -12,7 +12,7 @@ use Rattle.pool_check.specs.Settling.{IsSettled, IsTableSector, IsTrueOf, KeepsT
 -- Both copies of the table of each place's disk were made to agree, but of those places that had gone, where the place's flag is true of it. `left` are the disks of those that are
 -- left, and `now` the current places without one: each had none, had gone, or its disk refused a call.
 pub record MendsTables (x y : Seen) (s : State) (seats : Seats) (agreed : List Bool) (gone now : List ℕ) : Type 0 where
-  pub only : WritesOnly x y (IsTableSector x seats 16)
+  pub only : WritesOnly x y (IsTableSector x y seats 16)
   pub left : Seats
   pub listed : now ≡ filter (λ p. is_none (left p)) (current_places s)
   pub out : (p : ℕ) → p < 16 → names gone p ≡ true → left p ≡ None

@@ -28,7 +28,8 @@ use Rattle.raid_rack.specs.Raid.{IsTold, Raid}
 use Rattle.raid_rack.specs.RaidRack.{raid_in, raid_seen, slices_in, slices_seen}
 use Rattle.assembler.specs.declared.refusal.Refusal.{Refusal}
 use Rattle.pool_model.specs.Grouped.{HaveOwnAreas, HoldGroup}
-use Rattle.pool_model.specs.Left.{AreAlone, AreElsewhere, HoldSame, IsPickOff}
+pub use Rattle.pool_model.specs.Left.{AreAlone}
+use Rattle.pool_model.specs.Left.{AreElsewhere, HoldSame, IsPickOff}
 use Rattle.pool_model.specs.Openings.{HoldOpened, MayReplay}
 use Rattle.pool_model.specs.Pools.{AreSlicesOf, IsSoundPool}
 pub use Rattle.pool_model.specs.Stopped.{HaveStood, LieApart}
@@ -61,11 +62,11 @@ MayStop x f =
 
 -- At each moment from x to y what a stop leaves holds the pool f still, its arrays from a sector of theirs on, and targets land in it: where nothing was pending, or
 -- a record that may be replayed, targets land where the pool's slices are, all its arrays are ready for the volume, and no superblock stands where a drive that is no member of an
--- array would have its slice, in the pool's contents and in those that the stop leaves.
+-- array would have its slice.
 abbrev pub StopsHold : Seen → Seen → Found → ℕ → Type 0
 StopsHold x y f from =
     MayReplay (disks_of x) (now_in x) f → TargetsLand f → f.state.joined ≡ f.state.made → AreAlone f f.contents → x.traced
-    → Leaves x y (λ i. AreAlone f i → HoldOpened f from i)
+    → Leaves x y (HoldOpened f from)
 
 -- no disk had the state of another pool, once the pending record was replayed
 abbrev pub HaveOnePool : Found → Type 0
@@ -91,6 +92,8 @@ pub record IsMeantBy {R : Type 0} (seen : R → Seen) (x : Seen) (f : Found) (ra
   pub landing : TargetsLand f → HaveTables f
   -- outside the slices the disks have each drive's table, and other disks say what they said
   pub elsewhere : (i : Image) → IsPickOff (tables (slices_in rack)) (seen (below_of (slices_in rack))) i → AreElsewhere f i
+  -- and where no superblock of an array stood on a drive that is no member of it, none does
+  pub alone : AreAlone f f.contents → (i : Image) → IsPickOff (tables (slices_in rack)) (seen (below_of (slices_in rack))) i → AreAlone f i
   -- what a stop leaves inside the opening holds that volume, where it may come amid the replay of the record that was pending
   pub moments : MayStop x f → x.traced → Leaves x (seen (below_of (slices_in rack))) (HoldsAt (tables (slices_in rack)) l volume)
   -- and where all arrays are ready for the volume, and have the pool's metadata areas, they say that volume at each moment
@@ -119,12 +122,13 @@ pub record KeepsPool (x y : Seen) (f : Found) : Type 0 where
   pub state : State
   pub after : IsAfter f.state state
   pub marks : (p : ℕ) → is_current state p ≡ (is_current f.state p && is_some (f.seats p))
-  pub again : f.state.joined ≡ f.state.made → (i : Image) → IsPick y y y.held i → AreAlone f i → HoldSame f slices state i
+  pub again : f.state.joined ≡ f.state.made → AreAlone f f.contents → (i : Image) → IsPick y y y.held i → HoldSame f slices state i
   -- and targets land in it, if they did in the pool that there was
   pub landing :
-      TargetsLand f → (all : f.state.joined ≡ f.state.made) → (i : Image) → (pick : IsPick y y y.held i) → (alone : AreAlone f i)
-      → LieApart (again all i pick alone).again.still.now
-  pub refusal : f.state.joined ≡ f.state.made → (i : Image) → IsPick y y y.held i → AreAlone f i → refusal_of (disks_of y) i ≡ refusal_of (disks_of x) (now_in x)
+      TargetsLand f → (all : f.state.joined ≡ f.state.made) → (alone : AreAlone f f.contents) → (i : Image) → (pick : IsPick y y y.held i)
+      → LieApart (again all alone i pick).again.still.now
+  pub refusal :
+      f.state.joined ≡ f.state.made → AreAlone f f.contents → (i : Image) → IsPick y y y.held i → refusal_of (disks_of y) i ≡ refusal_of (disks_of x) (now_in x)
 
 -- the meaning of these disks is refused so
 abbrev pub IsMeantRefusal : Seen → Refusal → Type 0

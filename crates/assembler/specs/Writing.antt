@@ -12,17 +12,17 @@ use Rattle.pool_rest.specs.Resting.{IsOfDrive, WritesDrives}
 use Rattle.pool_rest.specs.Standing.{IsLasting, IsNewest, IsOnePool, since}
 use Rattle.pool_check.specs.Settling.{IsTableSector}
 
--- a sector of a slice, or of a partition table of a disk that a place has
-abbrev pub IsSlicedOrTable : Seen → Slices → ℕ → ℕ → List ℕ → Type 0
-IsSlicedOrTable x t d s v = IsSliced t d s v ⊎ IsTableSector x (seat_of t) 16 d s v
+-- a sector of a slice, or of a partition table of a disk that a place has, with what a copy of that table has there while it is settled from x to y
+abbrev pub IsSlicedOrTable : Seen → Seen → Slices → ℕ → ℕ → List ℕ → Type 0
+IsSlicedOrTable x y t d s v = IsSliced t d s v ⊎ IsTableSector x y (seat_of t) 16 d s v
 
--- a sector of a drive: in its log slice, in the arrays' part of its disk, or in its partition table
-abbrev pub IsDriveOrTable : Seen → List Known → State → ℕ → ℕ → List ℕ → Type 0
-IsDriveOrTable x known s d t v = IsOfDrive x known s d t v ⊎ IsTableSector x (seat_by s known) 16 d t v
+-- a sector of a drive: in its log slice, in the arrays' part of its disk, or in its partition table, with what a copy of that has there while it is settled from x to y
+abbrev pub IsDriveOrTable : Seen → Seen → List Known → State → ℕ → ℕ → List ℕ → Type 0
+IsDriveOrTable x y known s d t v = IsOfDrive x known s d t v ⊎ IsTableSector x y (seat_by s known) 16 d t v
 
 -- The pending record was written on drives of the pool, and the rack was `mid` then. By what was read of its disks, only drives were written
 -- from there on: in their log slices, in the arrays' part behind these and before the backup of the partition table, and in both copies of
--- that table.
+-- that table, where just values of the table that the disk had came.
 pub record WritesPool {R : Type 0} (seen : R → Seen) (runs : R → R → Type 0) (rack back : R) : Type 0 where
   pub mid : R
   pub kept : runs rack mid × runs mid back
@@ -31,4 +31,4 @@ pub record WritesPool {R : Type 0} (seen : R → Seen) (runs : R → R → Type 
   pub state : State
   pub newest : AllTold (seen rack) → IsLasting (seen rack) → IsNewest (since (seen rack) (seen mid)) (seen mid) known state
   pub one : IsOnePool known state
-  pub late : WritesOnly (seen mid) (seen back) (IsDriveOrTable (seen mid) known state)
+  pub late : WritesOnly (seen mid) (seen back) (IsDriveOrTable (seen mid) (seen back) known state)

@@ -69,7 +69,7 @@ pub(crate) fn mend_tables<R: Rack>(
     // stands where a place that is no member would have a slice.
     ensures moments { (f : Found) → HoldSound (R.seen (below_of slices.old)) f → IsIdle (R.seen (below_of slices.old)) → HaveGoodTables f → LieApart f
         → ((p : ℕ) → seat_of (tables slices.old) p ≡ f.seats p) → AreAlone f (now_in (R.seen (below_of slices.old))) → (R.seen (below_of slices.old)).traced
-        → Leaves (R.seen (below_of slices.old)) (R.seen (below_of slices.new)) (λ i. AreAlone f i → HoldOpened f 0 i) }
+        → Leaves (R.seen (below_of slices.old)) (R.seen (below_of slices.new)) (HoldOpened f 0) }
 {
     let mut seats = seats;
     leave_out(&mut seats, gone);

@@ -116,7 +116,7 @@ pub(crate) fn make_rack<R: Rack>(members: Members<R>, seconds: u64) -> RaidRack<
     ensures runs { R.runs (below_of members.slices) (below_of (slices_in result)) }
     // Only slices and partition tables are written.
     ensures only { WritesOnly (R.seen (below_of members.slices)) (R.seen (below_of (slices_in result)))
-        (IsSlicedOrTable (R.seen (below_of members.slices)) (tables members.slices)) }
+        (IsSlicedOrTable (R.seen (below_of members.slices)) (R.seen (below_of (slices_in result))) (tables members.slices)) }
     ensures fresh { (n : ℕ) → refused_in result n ≡ 0 }
     ensures unwritten { (n : ℕ) → written_in result n ≡ false }
     ensures made { (raid_in result).state.made ≡ members.state.made }
@@ -143,15 +143,14 @@ pub(crate) fn make_rack<R: Rack>(members: Members<R>, seconds: u64) -> RaidRack<
         → IsChecked (is_well None) f members.checked
         → IsUnfaulted (R.seen (below_of members.slices)) (R.seen (below_of (slices_in result)))
         → HoldsArrays f (raid_in result) (slices_of (tables members.slices) (R.seen (below_of members.slices))) (slices_seen R.seen result) }
-    // And what a stop leaves meanwhile holds the pool still, where no superblock stands in it where a drive that is no member of an array would have
-    // its slice, and no sector of the arrays is spent in the end.
+    // And what a stop leaves meanwhile holds the pool still, where no sector of the arrays is spent in the end.
     ensures moments { (f e : Found) → HoldPool members.state (tables members.slices) (R.seen (below_of members.slices)) members.log f
         → IsChecked (is_well None) f members.checked
         → HoldRested (R.seen (below_of members.slices)) f e
         → IsUnfaulted (R.seen (below_of members.slices)) (R.seen (below_of (slices_in result)))
         → AllLive (raid_in result)
         → (R.seen (below_of members.slices)).traced
-        → Leaves (R.seen (below_of members.slices)) (R.seen (below_of (slices_in result))) (λ i. AreAlone e i → HoldOpened e 0 i) }
+        → Leaves (R.seen (below_of members.slices)) (R.seen (below_of (slices_in result))) (HoldOpened e 0) }
 {
     let Members {
         slices,

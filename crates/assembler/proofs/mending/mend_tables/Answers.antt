@@ -31,7 +31,7 @@ returns-clause-mends g c =
     let same = c.inner.ensures.value in
     mends_so (tables slices) (seen (below_of slices)) slices.orderly c.requires.fit c.args.gone.now.items c.args.seats left
     c.requires.seats c.leave_out.ensures.each c.leave_out.ensures.beyond c.args.agreed.now y now
-    (subst (λ r. WritesOnly (seen r) y (IsTableSector (seen r) (seats_by left) 16)) same c.settle_tables.ensures.only)
+    (subst (λ r. WritesOnly (seen r) y (IsTableSector (seen r) y (seats_by left) 16)) same c.settle_tables.ensures.only)
     (subst (λ r. Loses (seen r) y (seats_by left) (seats_by now)) same c.settle_tables.ensures.seats)
     (λ d. subst (λ r. KeepsTable (seen r) y d) same (c.settle_tables.ensures.tables d))
     (λ p d few seat.

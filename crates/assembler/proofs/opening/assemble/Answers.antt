@@ -10,7 +10,7 @@ use Rattle.std.proofs.lemmas.Bool.{both_ways}
 use Rattle.std.proofs.lemmas.Slice.Eq.{bytes_eq-Decides}
 use Rattle.shr_base.specs.declared.Id.{Id}
 use Rattle.rack.specs.Seen.{Image, Seen, Stays}
-use Rattle.rack.specs.Joins.{leaves_weaker, stays_then}
+use Rattle.rack.specs.Joins.{stays_then}
 use Rattle.rack.specs.Sequences.{WritesOnly}
 use Rattle.slice_rack.specs.Runs.{IsSliced}
 use Rattle.slice_rack.specs.Slices.{Slices, seat_of}
@@ -30,8 +30,7 @@ use Rattle.raid_rack.specs.Raid.{is_over}
 use Rattle.array_model.specs.View.{sectors_of}
 use Rattle.assembler.specs.Marking.{AreMarkedFor}
 use Rattle.assembler.specs.Refusing.{is_early, meant_by}
-use Rattle.pool_model.specs.Left.{AreAlone, IsPickOff}
-use Rattle.pool_model.specs.Openings.{HoldOpened}
+use Rattle.pool_model.specs.Left.{IsPickOff}
 use Rattle.pool_model.specs.Pools.{AreSlicesOf}
 use Rattle.assembler.proofs.Agreed.{agree_opened}
 use Rattle.assembler.proofs.Apart.{lands_apart}
@@ -50,7 +49,7 @@ use Rattle.assembler.proofs.Meaning.{check_fails}
 use Rattle.assembler.proofs.Mended.{opening_settled}
 use Rattle.assembler.proofs.Volumes.{volume_opened, volume_refused}
 use Rattle.assembler.proofs.Lies.{slices_same, volume_same}
-use Rattle.assembler.proofs.opening.assemble.Answers.Assembling.{a, x, y, z, t, known, ax, ay, yz, says_so, ready, marked, drives_only, tables_kept, from_y, rested, f, same, checked, state, members, holds, lie, passes, early, arrays, made, opened, texts, own_texts, first_quiet, nobody_failed, live_first, live_last, marks_made, off_slices, landing}
+use Rattle.assembler.proofs.opening.assemble.Answers.Assembling.{a, x, y, z, t, known, ax, ay, yz, says_so, ready, marked, drives_only, tables_kept, from_y, rested, f, same, checked, state, members, holds, lie, passes, early, arrays, made, opened, texts, own_texts, first_quiet, nobody_failed, live_first, live_last, marks_made, off_alone, off_slices, landing}
 use Rattle.assembler.proofs.opening.assemble.Answers.Stopping.{checked_leaves, marks_last, opened_leaves, opened_says, refused_leaves}
 use Rattle.assembler.proofs.opening.assemble.Answers.Unopened.{built, own_calls, arrays_for, pool_for, made_quiet, live_still, numbers_ended, pool_kept}
 use Rattle.assembler.proofs.opening.assemble.Goals as goal
@@ -142,6 +141,9 @@ returns-in-Ok-open_volume-clause-meant g c e sound quiet =
       landing = landing g k before e sound;
       elsewhere = λ i off.
           off_slices g k before e sound (seen (below_of (slices_in (rack_in volume)))) (own_texts g c) i
+          (subst (λ (u : Slices). IsPickOff u (seen (below_of (slices_in (rack_in volume)))) i) (opens.kept.0.tables ∙ c.make_rack.ensures.tables) off);
+      alone = λ alone i off.
+          off_alone g k before e sound alone (seen (below_of (slices_in (rack_in volume)))) (own_texts g c) i
           (subst (λ (u : Slices). IsPickOff u (seen (below_of (slices_in (rack_in volume)))) i) (opens.kept.0.tables ∙ c.make_rack.ensures.tables) off);
       says = λ all own calm traced. opened_says g c quiet e sound all own calm traced;
       moments = λ calm traced.
@@ -400,15 +402,13 @@ returns-in-Ok-open_volume-clause-stops g c e sound quiet may lands all alone tra
 pub returns-in-Err-clause-stopped : goal.returns-in-Err-clause-stopped
 returns-in-Err-clause-stopped g c e sound quiet =
     inl (λ may lands all alone traced.
-    leaves_weaker (HoldOpened e 0) (λ i. AreAlone e i → HoldOpened e 0 i) (λ i holds alone_now. holds)
-    (rereading_leaves (g.R.Rack.seen c.args.rack) (g.R.Rack.seen c.in-Err.back.rack) e sound
-    (lands_apart (disks_of (g.R.Rack.seen c.args.rack)) (now_in (g.R.Rack.seen c.args.rack)) e sound.found_is lands) may
-    (c.in-Err.ensures.found sound.steady.told sound.steady.lasts quiet sound.logs).0 traced))
+    rereading_leaves (g.R.Rack.seen c.args.rack) (g.R.Rack.seen c.in-Err.back.rack) e sound
+    (lands_apart (disks_of (g.R.Rack.seen c.args.rack)) (now_in (g.R.Rack.seen c.args.rack)) e sound.found_is lands) alone may
+    (c.in-Err.ensures.found sound.steady.told sound.steady.lasts quiet sound.logs).0 traced)
 
 pub returns-in-Err-check-clause-stopped : goal.returns-in-Err-check-clause-stopped
 returns-in-Err-check-clause-stopped g c e sound quiet =
-    inl (λ may lands all alone traced.
-    leaves_weaker (HoldOpened e 0) (λ i. AreAlone e i → HoldOpened e 0 i) (λ i holds alone_now. holds) (checked_leaves g c quiet e sound may lands traced))
+    inl (λ may lands all alone traced. checked_leaves g c quiet e sound may lands alone traced)
 
 pub returns-in-Err-open_volume-clause-stopped : goal.returns-in-Err-open_volume-clause-stopped
 returns-in-Err-open_volume-clause-stopped g c e sound quiet =

@@ -5,7 +5,7 @@ use Rattle.raid_rack.specs.RaidRack.{raid_in, slices_in, slices_seen}
 use Rattle.array_image.specs.States.{is_current}
 use Rattle.commit_log.specs.View.{names}
 use Rattle.pool_state.specs.declared.contents.State.{State}
-use Rattle.std.proofs.Common.{◌≡◌, ◌≤◌, ◌&&◌, ℕ, is_none, is_some, List, Option, Some, None, option_map, sym, ap, ap₂, subst, ◌∙◌, arith}
+use Rattle.std.proofs.Common.{◌≡◌, ◌<◌, ◌≤◌, ◌&&◌, ℕ, is_none, is_some, List, Option, Some, None, option_map, sym, ap, ap₂, subst, ◌∙◌, arith}
 use Rattle.rack.specs.Seen.{Image, Rose, Seen, Stays}
 use Rattle.rack.specs.Moments.{Leaves}
 use Rattle.rack.specs.Joins.{stays_then}
@@ -13,10 +13,11 @@ use Rattle.rack.specs.Sequences.{WritesOnly}
 use Rattle.slice_rack.specs.Runs.{IsSliced}
 use Rattle.slice_rack.specs.Slices.{Slices, disk_of, seat_of}
 use Rattle.lvm_group.specs.Volume.{below_of as rack_in}
+use Rattle.md_super.specs.declared.superblock.Super.{Super}
 use Rattle.pool_image.specs.Alike.{IsSamePool}
 use Rattle.pool_image.specs.Disks.{disks_of}
 use Rattle.pool_image.specs.Drives.{Found}
-use Rattle.pool_image.specs.Meaning.{bad_volume, joined_arrays, refused_by}
+use Rattle.pool_image.specs.Meaning.{bad_volume, joined_arrays, refused_by, truth_of}
 use Rattle.pool_image.specs.Volumes.{first_bad}
 use Rattle.pool_scan.specs.declared.Known.{Known}
 use Rattle.pool_scan.specs.Choosing.{seat_by}
@@ -32,14 +33,17 @@ use Rattle.raid_rack.proofs.Live.{runs_unused}
 use Rattle.assembler.specs.Marking.{AreMarkedFor}
 use Rattle.assembler.specs.Holding.{HoldPool, HoldsArrays}
 use Rattle.assembler.specs.Members.{AreMembers}
-use Rattle.pool_model.specs.Left.{AreElsewhere, IsPickOff}
+use Rattle.pool_model.specs.Left.{AreAlone, AreElsewhere, IsPickOff}
 use Rattle.pool_model.specs.Pools.{AreSlicesOf}
 use Rattle.pool_model.specs.Stopped.{HaveTables}
-use Rattle.pool_model.proofs.Found.{found_is}
+use Rattle.pool_model.proofs.Found.{found_is, some_made}
+use Rattle.pool_model.proofs.SameAlone.{alone_same, same_back}
 use Rattle.assembler.specs.Sound.{HoldSound, MayStop, TargetsLand}
 use Rattle.assembler.specs.Volume.{AllLive}
 use Rattle.assembler.specs.Writing.{IsDriveOrTable}
+use Rattle.assembler.proofs.Alone.{alone_off, unsliced}
 use Rattle.assembler.proofs.Apart.{lands_apart, tables_landed}
+use Rattle.assembler.proofs.AtRest.{pool_alone, rest_alone, rest_sound}
 use Rattle.assembler.proofs.Causes.{loses_since, marked_since}
 use Rattle.assembler.proofs.Drives.{members_drives}
 use Rattle.assembler.proofs.Early.{early_leaves}
@@ -52,6 +56,7 @@ use Rattle.assembler.proofs.Meaning.{check_passes}
 use Rattle.assembler.proofs.Mended.{opening_keeps}
 use Rattle.assembler.proofs.Volumes.{live_later}
 use Rattle.assembler.proofs.Lies.{slices_lie}
+use Rattle.assembler.proofs.Written.{rack_then}
 use Rattle.assembler.proofs.opening.assemble.Given.{Over}
 use Rattle.assembler.proofs.opening.assemble.Goals.{After-make_rack, In-Ok-open_volume}
 
@@ -121,7 +126,7 @@ module _ (g : Over) (c : After-make_rack g) where
 
   -- where slices alone are written from then on
   module _ (w : Seen) (texts : WritesOnly z w (IsSliced t)) where
-    pub drives_only : WritesOnly x w (IsDriveOrTable x known c.in-Ok.rest.state)
+    pub drives_only : WritesOnly x w (IsDriveOrTable x w known c.in-Ok.rest.state)
     drives_only =
         members_drives c.in-Ok-check.members.state t y c.in-Ok-check.members.checked c.in-Ok-check.members.absent.items known c.in-Ok.rest.state
         c.in-Ok-check.members.slices.orderly c.in-Ok-check.ensures.members c.in-Ok-check.ensures.state c.in-Ok-check.ensures.seats x z w c.in-Ok-check.ensures.only
@@ -230,6 +235,19 @@ module _ (g : Over) (c : After-make_rack g) where
           (found_is (disks_of a) (now_in a) e sound.found_is).1
           (λ d. ap (λ (j : Found). j.identities d) (sym (found_by_rest x rest.scan.disks.items rest.state (tables rest.slices) rest.on.items rest.log rest.pending rest.damaged f found)))
           (λ p. sym (holds.pool.seats p)) (tables_kept w own) i off
+
+      -- and no superblock of an array stands there on a drive that is no member of it, where none stood
+      pub off_alone : AreAlone e e.contents → (w : Seen) → WritesOnly z w (IsSliced t) → (i : Image) → IsPickOff t w i → AreAlone e i
+      off_alone alone w own i off =
+          let rest = c.in-Ok.rest in
+          let at = rest_sound g.R.Rack.seen a rest e sound rested in
+          let is = found_is (disks_of x) (now_in x) f at.found_is in
+          let most = (some_made f is.0).1 in
+          let truths : (n : ℕ) → n < f.state.made → (u : Super) × (truth_of f n ≡ Some u) = λ n low. let truth = at.sound.rules.arrays n low in (truth.0, truth.1) in
+          alone_same f e (same_back e f same) most truths i
+          (alone_off f t x w (rest_alone g.R.Rack.seen a rest e sound rested (pool_alone g.R.Rack.seen a rest e sound rested alone)) at.steady is.1
+          (λ p d seat. subst (λ n. d < n) xy.disks (members.fit.1.seats p d (sym (holds.pool.seats p) ∙ seat)))
+          (unsliced f t c.in-Ok-check.members.slices.orderly lie most truths) y z (rack_then t x y z w c.in-Ok-check.ensures.only c.make_rack.ensures.only own) i off)
 
 -- ---- once a volume is opened on them
 

@@ -17,10 +17,8 @@ use Rattle.slice_rack.specs.Slices.{Slices, sectors_of}
 use Rattle.lvm_group.specs.Images.{HasOwnArea, MeansVolume}
 use Rattle.lvm_group.specs.Runs.{data_start}
 use Rattle.lvm_group.specs.Volume.{below_of as rack_in, linear, seqno_of}
-use Rattle.md_super.specs.declared.superblock.Super.{Super}
 use Rattle.pool_image.specs.Disks.{Disks, disks_of}
 use Rattle.pool_image.specs.Drives.{Found, found}
-use Rattle.pool_image.specs.Meaning.{truth_of}
 use Rattle.pool_image.specs.Volumes.{Arrays}
 use Rattle.pool_image.proofs.Founds.{joined_same}
 use Rattle.pool_scan.specs.Scanning.{IsUnfaulted, now_in}
@@ -29,16 +27,15 @@ use Rattle.pool_model.specs.Left.{AreAlone, AreElsewhere, IsPickOff}
 use Rattle.pool_model.specs.Openings.{HoldOpened, MayReplay}
 use Rattle.pool_model.specs.Pools.{AreSlicesOf}
 use Rattle.pool_model.specs.Stopped.{LieApart}
-use Rattle.pool_model.proofs.Found.{found_is, some_made}
+use Rattle.pool_model.proofs.Found.{found_is}
 use Rattle.pool_model.proofs.Openings.{opened_from, opened_same}
 use Rattle.pool_model.proofs.Refused.{table_there}
-use Rattle.pool_model.proofs.SameAlone.{alone_same, own_alone}
 use Rattle.assembler.specs.Moments.{SaysVolume}
 use Rattle.assembler.specs.Sound.{HoldSound, MayStop, TargetsLand}
 use Rattle.assembler.specs.Rested.{HoldRested}
 use Rattle.assembler.specs.Volume.{AllLive, AreStill}
 use Rattle.assembler.proofs.Apart.{lands_apart, slices_landed}
-use Rattle.assembler.proofs.AtRest.{rest_alone, rest_idle, rest_sound, until_read}
+use Rattle.assembler.proofs.AtRest.{pool_alone, rest_alone, rest_idle, rest_sound, until_read}
 use Rattle.assembler.proofs.Bringing.{bringing_leaves}
 use Rattle.assembler.proofs.Entry.{quiet_first, rested_so}
 use Rattle.assembler.proofs.Grouped.{brought_means, given_means}
@@ -50,7 +47,7 @@ use Rattle.assembler.proofs.Rested.{rested_reads}
 use Rattle.assembler.proofs.Volumes.{live_before, opened_writes}
 use Rattle.assembler.proofs.opening.assemble.Given.{Over}
 use Rattle.assembler.proofs.opening.assemble.Goals.{After-make_rack, In-Err-check, In-Err-open_volume, In-Ok-open_volume}
-use Rattle.assembler.proofs.opening.assemble.Answers.Assembling.{a, x, y, z, t, ay, yz, arrays, checked, disks_still, early, f, first_quiet, from_y, holds, landing, lie, live_first, live_last, made, marks_made, members, nobody_failed, off_slices, opened, passes, ready, rested, same, texts, to_x}
+use Rattle.assembler.proofs.opening.assemble.Answers.Assembling.{a, x, y, z, t, ay, yz, arrays, checked, disks_still, early, f, first_quiet, from_y, holds, landing, lie, live_first, live_last, made, marks_made, members, nobody_failed, off_alone, off_slices, opened, passes, ready, rested, same, texts, to_x}
 use Rattle.assembler.proofs.opening.assemble.Answers.Unopened.{built, calls, live_still, made_quiet, marks_kept}
 
 -- ---- until arrays are made
@@ -59,12 +56,6 @@ module _ (g : Over) (c : After-make_rack g) (to_z : IsUnfaulted (a g c) (z g c))
     (all : e.state.joined ≡ e.state.made) (alone : AreAlone e e.contents) (alive : AllLive (raid_in c.make_rack.result)) (traced : (a g c).traced) where
   abbrev pool : Found
   pool = f g c to_z e sound
-
-  few : e.state.made ≤ 16
-  few = (some_made e (found_is (disks_of (a g c)) (now_in (a g c)) e sound.found_is).0).1
-
-  truths : (n : ℕ) → n < e.state.made → (u : Super) × (truth_of e n ≡ Some u)
-  truths n low = (let truth = sound.sound.rules.arrays n low in (truth.0, truth.1))
 
   -- its slices lie apart
   apart : LieApart e
@@ -82,20 +73,18 @@ module _ (g : Over) (c : After-make_rack g) (to_z : IsUnfaulted (a g c) (z g c))
       (ap (λ (s : State). s.joined) is.state ∙ all ∙ sym (ap (λ (s : State). s.made) is.state))
       (slices_landed pool (t g c) (y g c) m.checked m.absent.items m.slices.orderly are has.steady has.pool (checked g c to_z e sound).1 (found_is (disks_of (x g c)) (now_in (x g c)) pool (rest_sound g.R.Rack.seen (a g c) c.in-Ok.rest e sound (rested g c to_z e sound)).found_is).0 e is apart)
       (λ p d seat. table_there pool (passes g c to_z e sound) p d (are.current p d (sym (has.pool.seats p) ∙ seat)) seat)
-      (rest_alone g.R.Rack.seen (a g c) c.in-Ok.rest e sound (rested g c to_z e sound) (own_alone e pool is few truths alone)) c.in-Ok-check.ensures.only
-
-  -- no superblock stands where none is to be, by that pool
-  alone_checked : (i : Image) → AreAlone e i → AreAlone at_rest.0 i
-  alone_checked i alone_now =
-      let rest = rest_sound g.R.Rack.seen (a g c) c.in-Ok.rest e sound (rested g c to_z e sound) in
-      alone_same pool at_rest.0 at_rest.1.same (some_made pool (found_is (disks_of (x g c)) (now_in (x g c)) pool rest.found_is).0).1
-      (λ n low. let truth = rest.sound.rules.arrays n low in (truth.0, truth.1)) i
-      (alone_same e pool (same g c to_z e sound) few truths i alone_now)
+      (rest_alone g.R.Rack.seen (a g c) c.in-Ok.rest e sound (rested g c to_z e sound) (pool_alone g.R.Rack.seen (a g c) c.in-Ok.rest e sound (rested g c to_z e sound) alone)) c.in-Ok-check.ensures.only
 
   -- outside the slices the disks are as the pool has them
   pub own_elsewhere : (i : Image) → IsPickOff (tables (slices_in c.make_rack.result)) (z g c) i → AreElsewhere e i
   own_elsewhere i off =
       off_slices g c to_z e sound (z g c) (only_none (z g c) (IsSliced (t g c)) (yz g c).fit) i
+      (subst (λ (u : Slices). IsPickOff u (z g c) i) c.make_rack.ensures.tables off)
+
+  -- with no superblock of an array on a drive that is no member of it
+  pub own_alone : (i : Image) → IsPickOff (tables (slices_in c.make_rack.result)) (z g c) i → AreAlone e i
+  own_alone i off =
+      off_alone g c to_z e sound alone (z g c) (only_none (z g c) (IsSliced (t g c)) (yz g c).fit) i
       (subst (λ (u : Slices). IsPickOff u (z g c) i) c.make_rack.ensures.tables off)
 
   pub own_slices : AreSlicesOf e (tables (slices_in c.make_rack.result))
@@ -112,36 +101,33 @@ module _ (g : Over) (c : After-make_rack g) (to_z : IsUnfaulted (a g c) (z g c))
       let is = c.in-Ok.ensures in
       let told = sound.steady.told in
       let lasts = sound.steady.lasts in
-      replaying_leaves g.R.Rack.seen (a g c) c.in-Ok.rest e sound (rested g c to_z e sound) apart is.laid is.fit may (is.idle told lasts (to_x g c to_z))
+      replaying_leaves g.R.Rack.seen (a g c) c.in-Ok.rest e sound (rested g c to_z e sound) apart alone is.laid is.fit may (is.idle told lasts (to_x g c to_z))
       (λ lower u of stood. is.midway told lasts (to_x g c to_z) sound.logs lower sound.steady.single u of stood) traced
 
   -- gates, tables, marks and superblocks
-  making : Leaves (y g c) (z g c) (λ i. AreAlone e i → HoldOpened e 0 i)
+  making : Leaves (y g c) (z g c) (HoldOpened e 0)
   making =
-      leaves_weaker (λ i. AreAlone at_rest.0 i → HoldOpened at_rest.0 0 i) (λ i. AreAlone e i → HoldOpened e 0 i)
-      (λ i holds_now alone_now.
-      opened_same e pool 0 i (same g c to_z e sound) (opened_same pool at_rest.0 0 i at_rest.1.same (holds_now (alone_checked i alone_now))))
+      leaves_weaker (HoldOpened at_rest.0 0) (HoldOpened e 0)
+      (λ i holds_now. opened_same e pool 0 i (same g c to_z e sound) (opened_same pool at_rest.0 0 i at_rest.1.same holds_now))
       (c.make_rack.ensures.moments pool at_rest.0 (checked g c to_z e sound).0 (checked g c to_z e sound).1 at_rest.1 (from_y g c to_z) alive ((ay g c).traced traced))
 
-  pub made_leaves : Leaves (a g c) (z g c) (λ i. AreAlone e i → HoldOpened e 0 i)
+  pub made_leaves : Leaves (a g c) (z g c) (HoldOpened e 0)
   made_leaves =
-      leaves_then (λ i. AreAlone e i → HoldOpened e 0 i)
-      (leaves_weaker (HoldOpened e 0) (λ i. AreAlone e i → HoldOpened e 0 i) (λ i holds alone_now. holds)
-      (until_read g.R.Rack.seen (a g c) c.in-Ok.rest e sound (rested g c to_z e sound) (y g c) apart c.in-Ok-check.ensures.only replaying traced))
+      leaves_then (HoldOpened e 0)
+      (until_read g.R.Rack.seen (a g c) c.in-Ok.rest e sound (rested g c to_z e sound) (y g c) apart alone c.in-Ok-check.ensures.only replaying traced)
       making
 
   -- from a later sector of the arrays on
-  pub made_from : (from : ℕ) → Leaves (a g c) (z g c) (λ i. AreAlone e i → HoldOpened e from i)
-  made_from from =
-      leaves_weaker (λ i. AreAlone e i → HoldOpened e 0 i) (λ i. AreAlone e i → HoldOpened e from i) (λ i holds alone_now. opened_from e 0 from i (omega arith) (holds alone_now)) made_leaves
+  pub made_from : (from : ℕ) → Leaves (a g c) (z g c) (HoldOpened e from)
+  made_from from = leaves_weaker (HoldOpened e 0) (HoldOpened e from) (λ i. opened_from e 0 from i (omega arith)) made_leaves
 
 -- ---- the drives didn't pass
 
 module _ (g : Over) (c : In-Err-check g) (quiet : IsUnfaulted (g.R.Rack.seen c.args.rack) (g.R.Rack.seen c.in-Err-check.back.rack)) (e : Found)
     (sound : HoldSound (g.R.Rack.seen c.args.rack) e) where
-  pub checked_leaves : MayReplay (disks_of (g.R.Rack.seen c.args.rack)) (now_in (g.R.Rack.seen c.args.rack)) e → TargetsLand e → (g.R.Rack.seen c.args.rack).traced
-      → Leaves (g.R.Rack.seen c.args.rack) (g.R.Rack.seen c.in-Err-check.back.rack) (HoldOpened e 0)
-  checked_leaves may lands traced =
+  pub checked_leaves : MayReplay (disks_of (g.R.Rack.seen c.args.rack)) (now_in (g.R.Rack.seen c.args.rack)) e → TargetsLand e → AreAlone e e.contents
+      → (g.R.Rack.seen c.args.rack).traced → Leaves (g.R.Rack.seen c.args.rack) (g.R.Rack.seen c.in-Err-check.back.rack) (HoldOpened e 0)
+  checked_leaves may lands alone traced =
       let seen = g.R.Rack.seen in
       let apart = lands_apart (disks_of (seen c.args.rack)) (now_in (seen c.args.rack)) e sound.found_is lands in
       let rest = c.in-Ok.rest in
@@ -151,8 +137,8 @@ module _ (g : Over) (c : In-Err-check g) (quiet : IsUnfaulted (g.R.Rack.seen c.a
       let rested = rested_so seen (seen c.args.rack) rest e sound is.only.only.stays to_x is.newest is.stands is.settled is.steady is.looked is.single in
       let told = sound.steady.told in
       let lasts = sound.steady.lasts in
-      until_read seen (seen c.args.rack) rest e sound rested (seen c.in-Err-check.back.rack) apart reads
-      (replaying_leaves seen (seen c.args.rack) rest e sound rested apart is.laid is.fit may (is.idle told lasts to_x)
+      until_read seen (seen c.args.rack) rest e sound rested (seen c.in-Err-check.back.rack) apart alone reads
+      (replaying_leaves seen (seen c.args.rack) rest e sound rested apart alone is.laid is.fit may (is.idle told lasts to_x)
       (λ lower u of stood. is.midway told lasts to_x sound.logs lower sound.steady.single u of stood) traced)
       traced
 
@@ -169,7 +155,7 @@ module _ (g : Over) (c : In-Ok-open_volume g) (quiet : IsUnfaulted (a g (made g 
       ∙ marks_made g (made g c) (first_quiet g c quiet) e sound p
 
   pub opened_leaves : MayReplay (disks_of (a g (made g c))) (now_in (a g (made g c))) e → TargetsLand e → e.state.joined ≡ e.state.made → AreAlone e e.contents → (a g (made g c)).traced
-      → Leaves (a g (made g c)) (opened g c) (λ i. AreAlone e i → HoldOpened e data_start i)
+      → Leaves (a g (made g c)) (opened g c) (HoldOpened e data_start)
   opened_leaves may lands all alone traced =
       let k = made g c in
       let alive = live_first g c quiet in
@@ -179,11 +165,12 @@ module _ (g : Over) (c : In-Ok-open_volume g) (quiet : IsUnfaulted (a g (made g 
       let volume = c.in-Ok-open_volume.volume in
       let opens = c.in-Ok-open_volume.ensures.opens in
       let whole = stays_then (ay g k) (yz g k) in
-      leaves_then (λ i. AreAlone e i → HoldOpened e data_start i) (made_from g k before e sound may lands all alone alive traced data_start)
+      leaves_then (HoldOpened e data_start) (made_from g k before e sound may lands all alone alive traced data_start)
       (bringing_leaves seen g.R.Rack.runs e (f g k before e sound) (same g k before e sound) (slices_of (t g k) (y g k)) raid (rack_in volume) (arrays g k before e sound)
       (live_last g c quiet) opens.kept data_start _ (opened_writes seen g.R.Rack.runs raid (rack_in volume) (linear volume) (seqno_of volume) opens) (λ n s v early. early.1)
       (ready g k) all (now_in (a g k)) (began g k before e sound may lands all alone alive traced) sound.sound (own_slices g k before e sound may lands all alone alive traced)
-      (landing g k before e sound lands) (own_elsewhere g k before e sound may lands all alone alive traced) marks_last (slices_in raid).orderly c.make_rack.ensures.fit.running.set.fit.1
+      (landing g k before e sound lands) (own_elsewhere g k before e sound may lands all alone alive traced)
+      (own_alone g k before e sound may lands all alone alive traced) marks_last (slices_in raid).orderly c.make_rack.ensures.fit.running.set.fit.1
       (whole.lasting sound.steady.lasts.lasting) (texts g c) (whole.traced traced))
 
   -- and the arrays say the volume
@@ -246,7 +233,7 @@ module _ (g : Over) (c : In-Err-open_volume g) (quiet : IsUnfaulted (a g (built 
   nothing = only_quiet (λ n s v. ⊥) still.reads.stays still.reads.keeps
 
   pub refused_leaves : MayReplay (disks_of (a g (built g c))) (now_in (a g (built g c))) e → TargetsLand e → e.state.joined ≡ e.state.made → AreAlone e e.contents → (a g (built g c)).traced
-      → Leaves (a g (built g c)) (g.R.Rack.seen c.in-Err-open_volume.back.rack) (λ i. AreAlone e i → HoldOpened e 0 i)
+      → Leaves (a g (built g c)) (g.R.Rack.seen c.in-Err-open_volume.back.rack) (HoldOpened e 0)
   refused_leaves may lands all alone traced =
       let k = built g c in
       let alive = live_before g.R.Rack.seen g.R.Rack.runs c.make_rack.result c.in-Err-open_volume.ensures.refused.last c.in-Err-open_volume.ensures.refused.kept (live_still g c quiet e sound still) in
@@ -255,10 +242,11 @@ module _ (g : Over) (c : In-Err-open_volume g) (quiet : IsUnfaulted (a g (built 
       let raid = c.make_rack.result in
       let refused = c.in-Err-open_volume.ensures.refused in
       let whole = stays_then (ay g k) (yz g k) in
-      subst (λ r. Leaves (a g k) (seen r) (λ i. AreAlone e i → HoldOpened e 0 i)) refused.back
-      (leaves_then (λ i. AreAlone e i → HoldOpened e 0 i) (made_leaves g k before e sound may lands all alone alive traced)
+      subst (λ r. Leaves (a g k) (seen r) (HoldOpened e 0)) refused.back
+      (leaves_then (HoldOpened e 0) (made_leaves g k before e sound may lands all alone alive traced)
       (bringing_leaves seen g.R.Rack.runs e (f g k before e sound) (same g k before e sound) (slices_of (t g k) (y g k)) raid refused.last (arrays g k before e sound)
       (live_still g c quiet e sound still) refused.kept 0 _ nothing (λ n s v none. absurd none)
       (ready g k) all (now_in (a g k)) (began g k before e sound may lands all alone alive traced) sound.sound (own_slices g k before e sound may lands all alone alive traced)
-      (landing g k before e sound lands) (own_elsewhere g k before e sound may lands all alone alive traced) (marks_kept g c quiet e sound still) (slices_in raid).orderly
+      (landing g k before e sound lands) (own_elsewhere g k before e sound may lands all alone alive traced)
+      (own_alone g k before e sound may lands all alone alive traced) (marks_kept g c quiet e sound still) (slices_in raid).orderly
       c.make_rack.ensures.fit.running.set.fit.1 (whole.lasting sound.steady.lasts.lasting) (calls g c) (whole.traced traced)))

@@ -47,7 +47,7 @@ use Rattle.assembler.proofs.Volumes.{live_later}
 use Rattle.assembler.proofs.Lies.{slices_same}
 use Rattle.assembler.proofs.opening.assemble.Given.{Over}
 use Rattle.assembler.proofs.opening.assemble.Goals.{After-make_rack, In-Err-open_volume}
-use Rattle.assembler.proofs.opening.assemble.Answers.Assembling.{disks_still, a, x, y, z, t, known, ay, yz, ready, lost, marked, tables_kept, from_y, rested, f, same, checked, state, members, holds, lie, passes, early, arrays, landing, marks_made, off_slices}
+use Rattle.assembler.proofs.opening.assemble.Answers.Assembling.{disks_still, a, x, y, z, t, known, ay, yz, ready, lost, marked, tables_kept, from_y, rested, f, same, checked, state, members, holds, lie, passes, early, arrays, landing, marks_made, off_alone, off_slices}
 
 module _ (g : Over) (c : In-Err-open_volume g) where
   abbrev pub built : After-make_rack g
@@ -210,12 +210,13 @@ module _ (g : Over) (c : In-Err-open_volume g) where
             (checked g built made_quiet e sound).1.opened n z (omega (arith, low, least, book, made)) truth)
             truths)
 
-        module _ (i : Image) (pick : IsPick ended ended ended.held i) (alone : AreAlone e i) where
+        module _ (alone : AreAlone e e.contents) (i : Image) (pick : IsPick ended ended ended.held i) where
           known_left : IsKnown e (t g built) v shown i
           known_left =
               left_known e (t g built) ended v serves (inside_still (stays_then (yz g built) calls.stays) (members g built made_quiet e sound).fit.1) (disks_of (a g built))
               (now_in (a g built)) i sound.found_is (disks_still (a g built) ended whole) sound.sound
-              (off_slices g built made_quiet e sound ended own_calls i (λ d u live never. pick d u live)) alone pick
+              (off_slices g built made_quiet e sound ended own_calls i (λ d u live never. pick d u live))
+              (off_alone g built made_quiet e sound alone ended own_calls i (λ d u live never. pick d u live)) pick
 
           -- whatever the disks may be left with holds the pool again
           pub pool_again : HoldSame e (t g built) v.state i
@@ -266,6 +267,6 @@ module _ (g : Over) (c : In-Err-open_volume g) where
             after = later seen runs e (f g built made_quiet e sound) pool (slices_of (t g built) (y g built)) raid refused.last refused.kept (arrays g built made_quiet e sound) live_still (ready g built);
             marks = marks_kept;
             again = pool_again;
-            landing = λ lands all i pick alone. apart_again all i pick alone lands;
+            landing = λ lands all alone i pick. apart_again all alone i pick lands;
             refusal = refused_again;
           })
