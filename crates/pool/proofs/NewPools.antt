@@ -1,16 +1,19 @@
 -- The disks on which a pool was made hold a sound pool, and mean its volume.
-use Rattle.std.proofs.Common.{◌≡◌, ℕ, zero, suc, ◌+◌, ◌*◌, ◌<◌, ◌≤◌, List, refl, sym, ap, subst, ◌∙◌, inl, inr, arith}
+use Rattle.std.proofs.Common.{◌≡◌, ℕ, zero, suc, ◌+◌, ◌*◌, ◌<◌, ◌≤◌, false, List, Some, refl, sym, ap, subst, ◌∙◌, inl, inr, arith}
 use Rattle.std.proofs.lemmas.Bool.{cases_lt}
+use Rattle.std.proofs.lemmas.Option.{none-some}
 use Rattle.rack.specs.Seen.{Image, IsLive, Seen, Stays}
 use Rattle.rack.specs.Joins.{leaves_weaker}
 use Rattle.rack.specs.Sequences.{IsMix}
-use Rattle.array_image.specs.Places.{state_sector}
+use Rattle.array_image.specs.Places.{state_sector, super_sector}
+use Rattle.array_image.specs.Supers.{super_of}
 use Rattle.lvm_group.specs.Made.{new_volume}
 use Rattle.lvm_group.specs.Runs.{Linear, sectors_in}
 use Rattle.lvm_group.proofs.NewMeaning.{new_extents_are}
 use Rattle.raid_rack.specs.declared.arrays.Arrays.{Arrays}
-use Rattle.pool_image.specs.Disks.{disks_of}
+use Rattle.pool_image.specs.Disks.{Disks, disks_of}
 use Rattle.pool_image.specs.Drives.{Found}
+use Rattle.pool_image.specs.Meaning.{is_member}
 use Rattle.pool_scan.specs.Scanning.{now_in}
 use Rattle.pool_rest.specs.Resting.{AreSectors}
 use Rattle.pool_format.specs.declared.Birth.{Birth}
@@ -18,18 +21,25 @@ use Rattle.pool_format.specs.declared.planning.NewPool.{NewPool}
 use Rattle.pool_format.specs.Data.{IsGroupRead, extents_of}
 use Rattle.pool_format.specs.Drives.{HasParts, IsCopyOf, IsWhole, no_state}
 use Rattle.pool_format.specs.Format.{IsGivenBack, IsMade}
-use Rattle.pool_format.specs.Plan.{HasRoom, IsPlan, IsPlanOf, capacity_of, units_on}
+use Rattle.pool_format.specs.Plan.{HasRoom, IsPlan, IsPlanOf, capacity_of, has, units_on}
 use Rattle.pool_format.specs.Writing.{InCleared}
 use Rattle.pool_format.specs.Stops.{HaveCopiesTo, IsStop, StopsAmid, clearing, filling, saying}
+use Rattle.pool_format.proofs.Lists.{got}
 use Rattle.assembler.specs.Holding.{AreSteady}
+use Rattle.assembler.specs.Sound.{AreAlone}
 use Rattle.new_pool.specs.Contents.{IsNewPool, MeanNoneOrZeros, MeanZeros, SaysNone, unsaid}
 use Rattle.new_pool.proofs.Founds.{found_is, shown, sound_logs}
-use Rattle.new_pool.proofs.Identities.{zeros_say_none}
+use Rattle.new_pool.proofs.Identities.{no_seat, seat_at, zeros_say_none}
 use Rattle.new_pool.proofs.Meaning.{new_meant, none_meant, zeros_meant}
 use Rattle.new_pool.proofs.Sound.{own_truth, sound_state}
+use Rattle.new_pool.proofs.Truths.{first_at}
+use Rattle.new_pool.proofs.Undamaged.{member_is}
 use Rattle.new_pool.proofs.Unlisted.{no_slice}
 use Rattle.new_pool.proofs.Values.{sectors_now, value_now}
 use Rattle.pool.specs.Made.{AreFair, HaveNoOthers, HaveOwnIds, HaveWholeSectors, HeldNone, IsPoolOf, IsSafelyRefused, IsSoundlyMade, MeansStop, StopsMean}
+
+some_same : (x y : ℕ) → Some x ≡ Some y → x ≡ y
+some_same x y same = cc
 
 -- ---- contents of disks on which a plan was written
 
@@ -146,6 +156,31 @@ stops_meant x y extent birth plan planned is room stays stops traced =
     of c (saying k parts have read) =
         later c (λ fair. meant_amid x y extent birth plan planned is room stays fair.steady fair.ids c fair.sized fair.others parts read k have)
 
+-- ---- on a drive that is no member of an array
+
+module _ (plan : NewPool) (birth : Birth) (disks : Disks) (c : Image) (is : IsNewPool plan birth disks c) where
+  abbrev f : Found
+  f = shown plan birth disks c is
+
+  -- a place's disk is the one of its number
+  seat_is : (p d : ℕ) → f.seats p ≡ Some d → (d < disks.count) × (p ≡ d)
+  seat_is p d seat = elim (cases_lt p disks.count) [
+    | inl low ↦
+        let same : p ≡ d = some_same p d (sym (seat_at plan birth disks c is p low) ∙ seat) in
+        (subst (λ n. n < disks.count) same low, same)
+    | inr past ↦ absurd (none-some d (sym (no_seat plan birth disks c is p past) ∙ seat))
+  ]
+
+  -- what stands where its slice would begin is none of the array's
+  pub alone_now : AreAlone f c
+  alone_now n p d first made seat none begins inside t here =
+      let at = seat_is p d seat in
+      let a = got plan.arrays.items n made in
+      let apart : has a.0.members.items d ≡ false =
+      sym (member_is plan birth disks c is n a.0 a.1 d at.0) ∙ subst (λ q. is_member f n q ≡ false) at.1 none in
+      let same : first ≡ a.0.first = some_same first a.0.first (sym begins ∙ first_at plan birth disks c is n a.0 a.1) in
+      inl (is.others n d a.0 t a.1 apart at.0 (subst (λ s. super_of (c d (s + super_sector)) ≡ Some t) same here))
+
 -- ---- a pool that was made
 
 module _ (x y : Seen) (extent : ℕ) (birth : Birth) (a : Arrays) (l : Linear) (made : IsMade x y extent birth a l) where
@@ -195,6 +230,7 @@ module _ (x y : Seen) (extent : ℕ) (birth : Birth) (a : Arrays) (l : Linear) (
         values = λ n t e at inside. value_now made.plan birth (disks_of y) (now_in y) is_new n e at t inside;
         apart = λ m n p d e b low least seat none member lies there.
             absurd (no_slice made.plan birth (disks_of y) (now_in y) is_new m p d e (omega (arith, low, least)) seat none lies);
+        alone = alone_now made.plan birth (disks_of y) (now_in y) is_new;
         means =
             subst (MeanZeros (disks_of y) (now_in y)) (ap (λ e. sectors_in (new_volume e (extents_of made.plan))) made.planned.extent_is ∙ ap sectors_in (sym made.volume))
             (zeros_meant made.plan birth (disks_of y) (now_in y) is_new made.group all_said);

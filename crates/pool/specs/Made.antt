@@ -24,7 +24,7 @@ use Rattle.pool_format.specs.Plan.{capacity_of, has}
 use Rattle.pool_format.specs.Writing.{InCleared}
 use Rattle.new_pool.specs.Contents.{MeanNoneOrZeros, MeanZeros, SaysNone}
 use Rattle.assembler.specs.Holding.{AreSteady}
-use Rattle.assembler.specs.Sound.{HoldSound, LieApart}
+use Rattle.assembler.specs.Sound.{AreAlone, HoldSound, LieApart}
 
 -- the ids of a pool's first drives, which are named after it, differ
 abbrev pub HaveOwnIds : Birth → ℕ → Type 0
@@ -74,6 +74,8 @@ pub record IsPoolOf (plan : NewPool) (birth : Birth) (y : Seen) (f : Found) (siz
       (n x : ℕ) (a : NewArray) → slice_get plan.arrays.items n ≡ Some a → x < (length a.members.items - 1) * a.size
       → arrays_held f n x ≡ array_sector plan birth n x
   pub apart : LieApart f
+  -- no superblock of an array stands on a drive that is no member of it
+  pub alone : AreAlone f f.contents
   pub means : MeanZeros (disks_of y) (now_in y) size
 
 -- A pool was made on disks. Its volume has all the extents that the plan offers, and no slicing of the drives offers more. Where the
