@@ -221,12 +221,12 @@ lasts_of x m y a events laws ran ends =
           agreed_at x m y f (ran.heads serving.0.shelf serving.0.disks) ends quiet on (told_at x m y a events ran ends serving served) n low goes r left;
       safe = λ serving none quiet f on.
           safe_at x m y f (ran.passes none) ends quiet on (λ n low. serving.1 n low) (told_at x m y a events ran ends serving (inl none));
-      safe_by = λ serving served quiet f on only ungiven own serials fit out lone whole lasts i j pick leave sized.
+      safe_by = λ serving served quiet f on only own serials fit out ungiven lone whole lasts i j pick leave sized.
           let same = steps_told x m y a events ran (continues_of m y ends.passes) in
           let l : Lone = record { bound = (book m).state.serial; out = out } in
           subst (λ (steps : Steps (moment_of x) events (moment_of m)). HoldAbsent (pool_by f (moment_of x) events (moment_of m) steps) y.slices (book y).state j) (sym same)
-          (lone_at x m y a events laws.0 ran ends serving (served_before x m y events ran.continues ends.passes served) quiet (told_at x m y a events ran ends serving served) f on only ungiven own
-          serials (subst (AreFit f (moment_of x) events (moment_of m)) same fit) out (subst (AreLone f l (moment_of x) events (moment_of m)) same lone) whole lasts i j pick
+          (lone_at x m y a events laws.0 ran ends serving (served_before x m y events ran.continues ends.passes served) quiet (told_at x m y a events ran ends serving served) f on only own
+          serials (subst (AreFit f (moment_of x) events (moment_of m)) same fit) out ungiven (subst (AreLone f l (moment_of x) events (moment_of m)) same lone) whole lasts i j pick
           (subst (λ (steps : Steps (moment_of x) events (moment_of m)). LeaveOut (pool_by f (moment_of x) events (moment_of m) steps) (IsOut l y.shelf.names) i j) same leave) sized);
       others = λ serving traced served f on only ungiven serials fit lone.
           let same = steps_told x m y a events ran (continues_of m y ends.passes) in

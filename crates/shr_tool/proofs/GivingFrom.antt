@@ -1,5 +1,5 @@
 -- What a stop leaves while a disk is taken in at a place from a pool by which the place's own drive is current: the pool with the drive that it has, or with the new one.
-use Rattle.std.proofs.Common.{◌≡◌, ◌⊎◌, ◌≢◌, ℕ, ◌+◌, ◌<◌, ◌≤◌, true, false, List, Some, None, refl, subst, inl, inr, arith}
+use Rattle.std.proofs.Common.{◌≡◌, ◌⊎◌, ◌≢◌, ℕ, ◌+◌, ◌<◌, ◌≤◌, true, false, List, Some, refl, subst, inl, inr, arith}
 use Rattle.std.proofs.lemmas.Bool.{cases_lt}
 use Rattle.rack.specs.Seen.{Image}
 use Rattle.rack.specs.Values.{MayLeave}
@@ -10,7 +10,6 @@ use Rattle.pool_state.specs.declared.contents.Plan.TheVariants.{Replace as Repla
 use Rattle.pool_state.specs.declared.contents.State.{State}
 use Rattle.array_image.specs.Places.{super_sector}
 use Rattle.array_image.specs.States.{is_current, id_of}
-use Rattle.array_image.specs.Supers.{super_of}
 use Rattle.raid_rack.specs.Enlisting.{Enlists, IsOpenDisk, KeepsTold, enlisted, new_table, next_drive}
 use Rattle.raid_rack.specs.Logs.{LogsBetween}
 use Rattle.raid_rack.specs.Losses.{has_other}
@@ -20,7 +19,7 @@ use Rattle.pool_image.specs.Drives.{Found, first_of}
 use Rattle.pool_image.specs.Meaning.{is_member}
 use Rattle.pool_model.specs.InService.{InService}
 use Rattle.pool_model.specs.Laid.{HaveOtherIds}
-use Rattle.pool_model.specs.Left.{HavePlaces}
+use Rattle.pool_model.specs.Left.{HasNoSuper, HavePlaces}
 use Rattle.pool_model.specs.Stopped.{HoldAmid, HoldTables}
 use Rattle.pool_model.specs.Taken.{SeatsNew, taken}
 use Rattle.pool_model.proofs.Replacing.{IsReplacing, replacing_late}
@@ -39,7 +38,7 @@ module _ (c y : View) (place disk : ℕ) (enters : EntersBy c y place disk) (h :
     (lasts : (n : ℕ) → n < h.state.made → is_over (book y) n ≡ false) (other : has_other (book y).state place ≡ true) (lasting : c.bay.lasting) (traced : c.bay.traced)
     (ordered : IsOrderly t) (inside : IsInside t c.bay) (orderly : IsOrderly y.slices) (within : IsInside y.slices y.bay)
     (bare : (n first : ℕ) → n < h.state.made → is_member h n place ≡ false → first_of h n ≡ Some first → first + super_sector < c.bay.sectors disk
-    → (first + super_sector + 33 < c.bay.sectors disk) × ((v : List ℕ) → MayLeave (c.bay.held disk (first + super_sector)) v → super_of v ≡ None)) where
+    → (v : List ℕ) → MayLeave (c.bay.held disk (first + super_sector)) v → HasNoSuper h.state.pool.0 n v) where
   enlists : Enlists t y.slices (views_of (book c)) place disk enters.units (Replacing place) (book c) (book y) c.bay y.bay
   enlists =
       subst (λ (u : Slices). Enlists u y.slices (views_of (book c)) place disk enters.units (Replacing place) (book c) (book y) c.bay y.bay) same enters.enlists

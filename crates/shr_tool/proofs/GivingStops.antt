@@ -13,7 +13,6 @@ use Rattle.pool_state.specs.declared.contents.Plan.TheVariants.{Replace as Repla
 use Rattle.pool_state.specs.declared.contents.State.{State}
 use Rattle.array_image.specs.Places.{super_sector}
 use Rattle.array_image.specs.States.{is_current, id_of}
-use Rattle.array_image.specs.Supers.{super_of}
 use Rattle.raid_rack.specs.Book.{IsAfter}
 use Rattle.raid_rack.specs.Enlisting.{enlisted, next_drive}
 use Rattle.raid_rack.specs.Laws.{live_parts}
@@ -26,6 +25,7 @@ use Rattle.pool_image.specs.Disks.{Disks, disks_of}
 use Rattle.pool_image.specs.Drives.{Found, first_of}
 use Rattle.pool_image.specs.Meaning.{is_member}
 use Rattle.pool_model.specs.Laid.{HaveOtherIds}
+use Rattle.pool_model.specs.Left.{HasNoSuper}
 use Rattle.pool_model.specs.Stopped.{HoldAmid}
 use Rattle.pool_model.specs.Taken.{AreDistinct, AreSerial, SeatsNew, attached, taken}
 use Rattle.pool_model.proofs.NewMembers.{joins_member, positions_of}
@@ -149,20 +149,19 @@ module _ {L : Type 0} (x y : View) (place : ℕ) (name text : List ℕ) (b : Fla
 
   -- no superblock stands on it where the place is no member, by what its image held
   bare : (n first : ℕ) → n < h.state.made → is_member h n place ≡ false → first_of h n ≡ Some first → first + super_sector < c.bay.sectors disk
-      → (first + super_sector + 33 < c.bay.sectors disk) × ((v : List ℕ) → MayLeave (c.bay.held disk (first + super_sector)) v → super_of v ≡ None)
-  bare n first low none begins within =
+      → (v : List ℕ) → MayLeave (c.bay.held disk (first + super_sector)) v → HasNoSuper h.state.pool.0 n v
+  bare n first low none begins within v left =
       let image = entered.attaches.image holds.shelf disk entered.attaches.ok.0 in
       let sector = first + super_sector in
       let same = size_named in
       let within_named : sector < m.bay.sectors disk = omega (arith, within, same) in
       let past = past_log h x.slices y.slices (book c) place disk (c.bay.sectors disk) sits is.service.slices known n first low begins none in
-      let alone =
-      fitting.alone (m.bay.sectors disk) image.0 image.1 n first low (sym (is.members n place low) ∙ none) (sym (is.firsts n low) ∙ begins) within_named in (
-        (let room = alone.0 in omega (arith, room, same)),
-        λ v left.
-            alone.1 v
-            (subst (λ g. MayLeave g v) (image.2 sector within_named) (is.kept sector (omega (arith, past)) alone.0 v left)),
-      )
+      elim (is.kept sector (omega (arith, past)) within_named v left) [
+        | inl was ↦
+            fitting.alone (m.bay.sectors disk) image.0 image.1 n first low (sym (is.members n place low) ∙ none) (sym (is.firsts n low) ∙ begins) within_named v
+            (subst (λ g. MayLeave g v) (image.2 sector within_named) was)
+        | inr laid ↦ laid h.state.pool.0 n
+      ]
 
   orderly : IsOrderly y.slices
   orderly = performs.continues.orderly goes.orderly

@@ -63,9 +63,9 @@ lone_absent l y h goes inside told lasts whole agree group alive i j pick leave 
 module _ (x m y : View) (a : FlatArray) (events : List Event) (unspent : (d s : ℕ) → y.bay.spent d s ≡ false) (ran : Ran x m events) (ends : Ends m y) (serving : IsServing x a)
     (served : IsServed (ground_of x) (moment_of m) events) (quiet : (d : ℕ) → Rose (m.bay.faults d) (y.bay.faults d) → ⊥)
     (told : (n : ℕ) → n < x.linear.arrays → IsTold (book y) (slices_shown y) n)
-    (f : Found) (on : IsRunOn f (ground_of x) (moment_of x) x.bay) (only : AreOnly f) (ungiven : AreUngiven f (book m).state.serial) (own : HaveOwnAreas f)
+    (f : Found) (on : IsRunOn f (ground_of x) (moment_of x) x.bay) (only : AreOnly f) (own : HaveOwnAreas f)
     (serials : any_takes events ≡ true → AreSerial f.state) (fit : AreFit f (moment_of x) events (moment_of m) ran.steps)
-    (out : List (List ℕ)) (lone : AreLone f (record { bound = (book m).state.serial; out = out }) (moment_of x) events (moment_of m) ran.steps) (whole : IsWholeRaid f.state.made (book y))
+    (out : List (List ℕ)) (ungiven : AreUngiven f (record { bound = (book m).state.serial; out = out }) x.shelf.names) (lone : AreLone f (record { bound = (book m).state.serial; out = out }) (moment_of x) events (moment_of m) ran.steps) (whole : IsWholeRaid f.state.made (book y))
     (lasts : (n : ℕ) → n < f.state.made → is_over (book y) n ≡ false) where
   abbrev h : Found
   h = pool_by f (moment_of x) events (moment_of m) ran.steps

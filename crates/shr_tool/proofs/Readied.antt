@@ -1,6 +1,6 @@
 -- A pool that was made ready for a disk at a place, whose drive wasn't missing: how a run's pool goes by it, and what stops leave until then. It was cleaned, and it may be that
 -- the place's own drive was found gone after that, while the disk was being laid.
-use Rattle.std.proofs.Common.{◌≡◌, ◌≢◌, ℕ, ◌+◌, ◌-◌, ◌<◌, ◌≤◌, ◌^◌, true, false, List, length, Some, None, Ok, refl, sym, ap, subst, inl, inr, arith}
+use Rattle.std.proofs.Common.{◌≡◌, ◌≢◌, ◌⊎◌, ℕ, ◌-◌, ◌<◌, ◌≤◌, ◌^◌, true, false, List, length, Some, None, Ok, refl, sym, ap, subst, inl, inr, arith}
 use Rattle.std.proofs.lemmas.Bool.{both_ways, cases_eq}
 use Rattle.rack.specs.Joins.{leaves_then, leaves_weaker}
 use Rattle.rack.specs.Moments.{Leaves}
@@ -30,7 +30,7 @@ use Rattle.pool_image.specs.Disks.{disks_of, identities_of}
 use Rattle.pool_image.specs.Drives.{Found, first_of}
 use Rattle.pool_image.specs.Meaning.{is_member}
 use Rattle.pool_model.specs.InService.{InService}
-use Rattle.pool_model.specs.Left.{IsPickOff}
+use Rattle.pool_model.specs.Left.{HasNoSuper, IsPickOff}
 use Rattle.pool_model.specs.Stopped.{HoldAmid, HoldTables}
 use Rattle.pool_model.specs.Taken.{KeepsOthers, LacksDrive, attached}
 use Rattle.pool_model.proofs.Amid.{tables_calls}
@@ -74,8 +74,10 @@ pub record IsReadied (x m c : View) (place disk : ℕ) (t : Slices) (f h : Found
   pub opened : IsOpenDisk c.bay disk
   pub room : 10273 ≤ c.bay.sectors disk
   pub disks : disks_of c.bay ≡ disks_of m.bay
-  -- outside its tables, its state and its gate the disk holds what it held
-  pub kept : (s : ℕ) → arrays_first ≤ s → s + 33 < m.bay.sectors disk → (v : List ℕ) → MayLeave (c.bay.held disk s) v → MayLeave (m.bay.held disk s) v
+  -- behind its log slice the disk holds what it held, or what has no superblock
+  pub kept :
+      (s : ℕ) → arrays_first ≤ s → s < m.bay.sectors disk → (v : List ℕ) → MayLeave (c.bay.held disk s) v
+      → MayLeave (m.bay.held disk s) v ⊎ ((pool : List ℕ) (n : ℕ) → HasNoSuper pool n v)
   -- what a stop leaves until then
   pub readying : Leaves m.bay c.bay (HoldAmid h x.slices (book x).state (book c).state)
   -- where the place's drive was lost until then
@@ -370,18 +372,17 @@ module _ {L : Type 0} (x : View) (bay : x.bays.one) (name : List ℕ) (place dis
   disks_then : disks_of c.bay ≡ disks_of m.bay
   disks_then j = record { count = stays.disks j; sectors = λ d. stays.sectors d j }
 
-  -- outside its tables, its state and its gate the disk holds what it held
-  kept_then : (s : ℕ) → arrays_first ≤ s → s + 33 < m.bay.sectors disk → (v : List ℕ) → MayLeave (c.bay.held disk s) v → MayLeave (m.bay.held disk s) v
+  -- behind its log slice the disk holds what it held, or what was laid on it
+  kept_then : (s : ℕ) → arrays_first ≤ s → s < m.bay.sectors disk → (v : List ℕ) → MayLeave (c.bay.held disk s) v
+      → MayLeave (m.bay.held disk s) v ⊎ ((pool : List ℕ) (n : ℕ) → HasNoSuper pool n v)
   kept_then s past before v left = elim readies [
-    | inl cleaned ↦ still later arrays refused cleaned unspent left
+    | inl cleaned ↦ inl (still later arrays refused cleaned unspent left)
     | inr lose ↦
         (let within : s < (w lose).bay.sectors disk = (let same = (stays_own lose).sectors disk in omega (arith, before, same)) in
         elim ((out lose).only.within disk s v (live_own lose disk s (low_own lose) within) left) [
-          | inl was ↦ still lose.bay lose.arrays lose.refused lose.cleaned (unspent_own lose) was
+          | inl was ↦ inl (still lose.bay lose.arrays lose.refused lose.cleaned (unspent_own lose) was)
           | inr may ↦ elim may [
-            | inl laid ↦
-                absurd
-                (laid_super disk (table_on (w lose) place disk) s v past (let same = (stays_own lose).sectors disk in omega (arith, before, same)) laid)
+            | inl laid ↦ inr (λ pool n. laid_super pool n disk (table_on (w lose) place disk) s v past laid)
             | inr slice ↦ absurd (free_disk lose s v slice)
           ]
         ])

@@ -76,8 +76,8 @@ goes_first x f on alone = record {
 pub goes_run : (x : View) (f : Found) → IsRunOn f (ground_of x) (moment_of x) x.bay → GoesBy (TargetsLand f) None f x
 goes_run x f on = goes_first x f on (λ l none. absurd (none-some l none))
 
--- where no second disk stood for a place of a drive, and none had an id that is given later
-pub goes_lone : (x : View) (f : Found) (a : FlatArray) (l : Lone) → (volume x).fit → Holds x a → IsRunOn f (ground_of x) (moment_of x) x.bay → AreOnly f → AreUngiven f l.bound
+-- where no second disk stood for a place of a drive, and none that isn't left out had an id that is given later
+pub goes_lone : (x : View) (f : Found) (a : FlatArray) (l : Lone) → (volume x).fit → Holds x a → IsRunOn f (ground_of x) (moment_of x) x.bay → AreOnly f → AreUngiven f l x.shelf.names
     → GoesBy (TargetsLand f) (Some l) f x
 goes_lone x f a l fit holds on only ungiven =
     goes_first x f on

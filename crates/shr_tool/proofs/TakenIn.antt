@@ -17,7 +17,6 @@ use Rattle.pool_state.specs.declared.contents.Drive.{Drive}
 use Rattle.pool_state.specs.declared.contents.Plan.TheVariants.{Replace as Replacing}
 use Rattle.pool_state.specs.declared.contents.State.{State}
 use Rattle.array_image.specs.Places.{state_sector, super_sector}
-use Rattle.array_image.specs.Supers.{super_of}
 use Rattle.array_image.specs.States.{is_current}
 use Rattle.array_core.proofs.Opened.{current_below}
 use Rattle.array_core.specs.Seats.{seat_of as slot_of}
@@ -30,7 +29,7 @@ use Rattle.pool_image.specs.Drives.{Found, first_of as first_in}
 use Rattle.pool_image.specs.Meaning.{is_member, is_table}
 use Rattle.pool_model.specs.Alone.{IsStranger, IsTabled, TakesAlone}
 use Rattle.pool_model.specs.InService.{InService}
-use Rattle.pool_model.specs.Left.{IsPickOff}
+use Rattle.pool_model.specs.Left.{HasNoSuper, IsPickOff}
 use Rattle.raid_rack.specs.Missing.{raised}
 use Rattle.pool_model.specs.Taken.{AreDistinct, AreSerial, KeepsOff, KeepsRest, SeatsNew, taken}
 use Rattle.pool_model.proofs.Alone.{alone_taken, says_own, stranger_former}
@@ -275,9 +274,9 @@ module _ {L : Type 0} {o : Option Lone} (x y : View) (place : ℕ) (name text : 
   known : IsKnownBefore f (book x)
   known = record { outset = goes.service.arranged; after = goes.service.after; geometry = goes.service.geometry }
 
-  -- no superblock stands on the new disk where the place is no member, by what its image held
+  -- no superblock stands on the new disk where the place is no member, by what its image held and what was laid on it
   fit_alone : (i : Image) → IsPickOff y.slices y.bay i → (n first : ℕ) → n < f.state.made → is_member f n place ≡ false → first_in f n ≡ Some first
-      → first + super_sector < y.bay.sectors disk → super_of (i disk (first + super_sector)) ≡ None
+      → first + super_sector < y.bay.sectors disk → HasNoSuper f.state.pool.0 n (i disk (first + super_sector))
   fit_alone i pick n first low none begins within =
       let sector = first + super_sector in
       let image = changes.image holds.shelf holds.disks disk named in
@@ -286,8 +285,9 @@ module _ {L : Type 0} {o : Option Lone} (x y : View) (place : ℕ) (name text : 
       let live = live_at x y place name unspent performs.continues (performs.outside refl) changes told f goes disk sector (changes.names.there disk named) within in
       let fit = fitting.alone (y.bay.sectors disk) image.0 image.1 n first low none begins within in
       elim (image.2 sector (i disk sector) within free (pick disk sector live free)) [
-        | inl before ↦ fit.1 (i disk sector) before
-        | inr laid ↦ absurd (laid_super disk (new_table (book x).state (views_of (book x)) place (y.bay.sectors disk)) sector (i disk sector) (omega (arith, past)) fit.0 laid.value)
+        | inl before ↦ fit (i disk sector) before
+        | inr laid ↦
+            laid_super f.state.pool.0 n disk (new_table (book x).state (views_of (book x)) place (y.bay.sectors disk)) sector (i disk sector) (omega (arith, past)) laid.value
       ]
 
   -- where it gave up no disk before, its drive's has no slices any more

@@ -1,5 +1,5 @@
 -- What a stop leaves while a disk is taken in at a place from a pool by which the place's drive is missing: the pool without it, or with it.
-use Rattle.std.proofs.Common.{◌≡◌, ◌⊎◌, ◌≢◌, ℕ, ◌+◌, ◌<◌, ◌≤◌, ◌^◌, true, false, List, length, Some, None, refl, sym, ap, subst, ◌∙◌, inl, inr, arith}
+use Rattle.std.proofs.Common.{◌≡◌, ◌⊎◌, ◌≢◌, ℕ, ◌+◌, ◌<◌, ◌≤◌, ◌^◌, true, false, List, length, Some, refl, sym, ap, subst, ◌∙◌, inl, inr, arith}
 use Rattle.std.proofs.lemmas.Bool.{both_ways, cases_Bool}
 use Rattle.std.proofs.lemmas.List.FromFn.{length-map-range_with_len}
 use Rattle.rack.specs.Seen.{Image, Seen}
@@ -11,7 +11,6 @@ use Rattle.gpt_table.specs.Disk.{Contents}
 use Rattle.pool_state.specs.declared.contents.Plan.TheVariants.{Replace as Replacing}
 use Rattle.pool_state.specs.declared.contents.State.{State}
 use Rattle.array_image.specs.Places.{super_sector}
-use Rattle.array_image.specs.Supers.{super_of}
 use Rattle.array_model.specs.View.{spent_in}
 use Rattle.raid_rack.specs.Enlisting.{Enlists, IsOpenDisk, KeepsTold, enlisted, new_table, next_drive}
 use Rattle.raid_rack.specs.Logs.{LogsBetween}
@@ -24,7 +23,7 @@ use Rattle.pool_image.specs.Drives.{Found, first_of}
 use Rattle.pool_image.specs.Meaning.{is_member}
 use Rattle.pool_model.specs.InService.{InService}
 use Rattle.pool_model.specs.Laid.{HaveOtherIds}
-use Rattle.pool_model.specs.Left.{HavePlaces}
+use Rattle.pool_model.specs.Left.{HasNoSuper, HavePlaces}
 use Rattle.pool_model.specs.Stopped.{HoldAmid, HoldTables, LieOn}
 use Rattle.pool_model.specs.Taken.{LacksDrive, SeatsNew, taken}
 use Rattle.pool_model.proofs.TakingEarly.{entering_early, entering_places, entering_told}
@@ -75,7 +74,7 @@ module _ (c y : View) (place disk : ℕ) (enters : EntersBy c y place disk) (h :
     (lasts : (n : ℕ) → n < h.state.made → is_over (book y) n ≡ false) (other : has_other (book y).state place ≡ true) (lasting : c.bay.lasting) (traced : c.bay.traced)
     (orderly : IsOrderly y.slices) (within : IsInside y.slices y.bay)
     (bare : (n first : ℕ) → n < h.state.made → is_member h n place ≡ false → first_of h n ≡ Some first → first + super_sector < c.bay.sectors disk
-    → (first + super_sector + 33 < c.bay.sectors disk) × ((v : List ℕ) → MayLeave (c.bay.held disk (first + super_sector)) v → super_of v ≡ None)) where
+    → (v : List ℕ) → MayLeave (c.bay.held disk (first + super_sector)) v → HasNoSuper h.state.pool.0 n v) where
   abbrev t : Slices
   t = enters.vacates.tables
 

@@ -11,7 +11,6 @@ use Rattle.flat_array.specs.Array.{FlatArray}
 use Rattle.lvm_group.specs.Runs.{array_of, sector_of}
 use Rattle.pool_state.specs.declared.contents.Plan.TheVariants.{Replace as Replacing}
 use Rattle.array_image.specs.Places.{super_sector}
-use Rattle.array_image.specs.Supers.{super_of}
 use Rattle.raid_rack.specs.Book.{after_same}
 use Rattle.raid_rack.specs.Enlisting.{Enlists, IsOpenDisk}
 use Rattle.raid_rack.specs.Laws.{live_parts}
@@ -22,6 +21,7 @@ use Rattle.pool_image.specs.Disks.{disks_of}
 use Rattle.pool_image.specs.Drives.{Found, first_of}
 use Rattle.pool_image.specs.Meaning.{is_member}
 use Rattle.pool_model.specs.InService.{InService}
+use Rattle.pool_model.specs.Left.{HasNoSuper}
 use Rattle.pool_model.specs.Stopped.{HoldAmid, HoldTables}
 use Rattle.pool_model.specs.Taken.{AreSerial, LacksDrive, SeatsNew, attached}
 use Rattle.array_image.specs.States.{is_current}
@@ -141,16 +141,13 @@ module _ {L : Type 0} (x y : View) (place : ℕ) (name text : List ℕ) (b : Fla
 
   -- no superblock stands on the disk where the place is no member, by what its image held
   bare : (n first : ℕ) → n < h.state.made → is_member h n place ≡ false → first_of h n ≡ Some first → first + super_sector < m.bay.sectors disk
-      → (first + super_sector + 33 < m.bay.sectors disk) × ((v : List ℕ) → MayLeave (m.bay.held disk (first + super_sector)) v → super_of v ≡ None)
-  bare n first low none begins within =
+      → (v : List ℕ) → MayLeave (m.bay.held disk (first + super_sector)) v → HasNoSuper h.state.pool.0 n v
+  bare n first low none begins within v left =
       let image = entered.attaches.image holds.shelf disk entered.attaches.ok.0 in
-      let alone =
       fitting.alone (m.bay.sectors disk) image.0 image.1 n first low
       (sym (one.member_named x entered.bay name disk entered.attaches unspent_then fit b holds f goes waits n place low) ∙ none)
-      (sym (one.first_named x entered.bay name disk entered.attaches unspent_then fit b holds f goes waits n low) ∙ begins) within in (
-        alone.0,
-        λ v left. alone.1 v (subst (λ g. MayLeave g v) (image.2 (first + super_sector) within) left),
-      )
+      (sym (one.first_named x entered.bay name disk entered.attaches unspent_then fit b holds f goes waits n low) ∙ begins) within v
+      (subst (λ g. MayLeave g v) (image.2 (first + super_sector) within) left)
 
   -- the disks after the line are those
   disks_same : disks_of m.bay ≡ disks_of y.bay

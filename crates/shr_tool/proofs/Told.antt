@@ -106,11 +106,11 @@ lasts_for T U S R x y g from a events told traced lasts = record {
       (lasts.closing (told is) (traced so) f on (subst (AreFit f from events lasts.last) same fit));
   agreed = λ is. lasts.agreed (told is);
   safe = λ is. lasts.safe (told is);
-  safe_by = λ is served quiet f on only ungiven own serials fit out lone whole goes i j pick leave sized.
+  safe_by = λ is served quiet f on only own serials fit out ungiven lone whole goes i j pick leave sized.
       let same =
       steps_for (S × T) (R × U) y.stops g from a events lasts.last (λ is. (traced is.0, told is.1)) lasts.timeline in
       subst (λ (steps : Steps from events lasts.last). HoldAbsent (pool_by f from events lasts.last steps) lasts.final.slices lasts.final.book.state j) (sym same)
-      (lasts.safe_by (told is) served quiet f on only ungiven own serials (subst (AreFit f from events lasts.last) same fit) out
+      (lasts.safe_by (told is) served quiet f on only own serials (subst (AreFit f from events lasts.last) same fit) out ungiven
       (subst (AreLone f (record { bound = lasts.last.book.state.serial; out = out }) from events lasts.last) same lone) whole goes i j pick
       (subst
       (λ (steps : Steps from events lasts.last).

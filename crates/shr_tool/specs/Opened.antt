@@ -140,11 +140,11 @@ pub record OpenedOn {R : Type 0} (seen : R → Seen) (shelf : R → Shelf) (runs
   -- just marks of places have come that have no disk, with the same disks for its places, and its arrays hold what they held from their first extents on.
   pub stops :
       (f : Found) → HoldSound (seen bay) f → IsUnfaulted (seen bay) (seen opened) → StopsHold (seen bay) (seen opened) f data_start
-  -- The run is one on that pool, where all its arrays are ready for the volume and no superblock stands on a drive that is no member of an
-  -- array, where its slice would be.
+  -- The run is one on that pool, where all its arrays are ready for the volume and on its disks no superblock of an array stood where a drive that is
+  -- no member of it would have its slice.
   pub run_on :
       (f : Found) → HoldSound (seen bay) f → IsUnfaulted (seen bay) (seen opened) → f.state.joined ≡ f.state.made
-      → ((i : Image) → IsPickOff from.slices (seen opened) i → AreAlone f i) → IsRunOn f ground from (seen opened)
+      → AreAlone f f.contents → IsRunOn f ground from (seen opened)
   -- the task, from the volume that the disks meant, where the names of the bay are told
   pub outcome :
       (a : FlatArray)

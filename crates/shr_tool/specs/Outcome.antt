@@ -158,9 +158,9 @@ pub record Lasts (Told Traced : Type 0) (x y : Seen) (g : Ground) (from : Moment
   -- (`AreLone`).
   pub safe_by :
       Told → IsServed g final events → NoneRose last.faults final.faults
-      → (f : Found) → IsRunOn f g from x → AreOnly f → AreUngiven f last.book.state.serial → HaveOwnAreas f → (any_takes events ≡ true → AreSerial f.state)
+      → (f : Found) → IsRunOn f g from x → AreOnly f → HaveOwnAreas f → (any_takes events ≡ true → AreSerial f.state)
       → AreFit f from events last (steps_of (Traced × Told) y.stops g from a events last timeline)
-      → (out : List (List ℕ))
+      → (out : List (List ℕ)) → AreUngiven f (record { bound = last.book.state.serial; out = out }) from.names
       → AreLone f (record { bound = last.book.state.serial; out = out }) from events last (steps_of (Traced × Told) y.stops g from a events last timeline)
       → IsWholeRaid f.state.made final.book → ((n : ℕ) → n < f.state.made → is_over final.book n ≡ false)
       → (i j : Image) → IsPick y y y.held i
@@ -169,7 +169,7 @@ pub record Lasts (Told Traced : Type 0) (x y : Seen) (g : Ground) (from : Moment
       → HoldAbsent (pool_by f from events last (steps_of (Traced × Told) y.stops g from a events last timeline)) final.slices final.book.state j
   -- Then no other disk has the id of a drive that a line took in, while that comes to be one of the pool.
   pub others :
-      Told → Traced → IsServed g final events → (f : Found) → IsRunOn f g from x → AreOnly f → AreUngiven f last.book.state.serial → (any_takes events ≡ true → AreSerial f.state)
+      Told → Traced → IsServed g final events → (f : Found) → IsRunOn f g from x → AreOnly f → AreUngiven f (none_out last.book.state.serial) from.names → (any_takes events ≡ true → AreSerial f.state)
       → AreFit f from events last (steps_of (Traced × Told) y.stops g from a events last timeline)
       → AreLone f (none_out last.book.state.serial) from events last (steps_of (Traced × Told) y.stops g from a events last timeline)
       → HaveOthers y.stops f from events last (steps_of (Traced × Told) y.stops g from a events last timeline)

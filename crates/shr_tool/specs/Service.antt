@@ -1,5 +1,5 @@
 -- The pool by which a run goes as lines take drives in, and what is to be known of the images that they name, by what these held before.
-use Rattle.std.specs.Prelude.{◌≡◌, ◌≢◌, ◌⊎◌, ℕ, ◌+◌, ◌<◌, false, true, if◌then◌else◌, List, [], ◌∷◌, length, slice_get, Option, Some, None, Ok, unwrap_or}
+use Rattle.std.specs.Prelude.{◌≡◌, ◌≢◌, ◌⊎◌, ℕ, ◌+◌, ◌<◌, false, true, if◌then◌else◌, List, [], ◌∷◌, length, slice_get, Option, Some, Ok, unwrap_or}
 use Rattle.std.specs.Option.{option_map_or}
 use Rattle.rack.specs.Seen.{Seen}
 use Rattle.rack.specs.Values.{MayLeave, Values}
@@ -12,7 +12,6 @@ use Rattle.pool_state.specs.declared.contents.State.{State}
 use Rattle.pool_state.specs.Sector.{decoded}
 use Rattle.array_image.specs.Places.{state_sector, super_sector}
 use Rattle.array_image.specs.States.{id_of, is_current}
-use Rattle.array_image.specs.Supers.{super_of}
 use Rattle.lvm_group.specs.Runs.{sectors_in}
 use Rattle.raid_rack.specs.Enlisting.{enlisted}
 use Rattle.pool_image.specs.Disks.{Disks, Identity, identities_of}
@@ -20,6 +19,7 @@ use Rattle.pool_image.specs.Drives.{Found, first_of}
 use Rattle.pool_image.specs.Meaning.{is_member}
 use Rattle.pool_model.specs.Alone.{HoldAlone, IsStranger, IsUngiven}
 use Rattle.pool_model.specs.InService.{InService}
+use Rattle.pool_model.specs.Left.{HasNoSuper}
 use Rattle.pool_model.specs.Stopped.{HoldTables}
 use Rattle.pool_model.specs.Taken.{AreDistinct, AreSerial, LacksDrive, attached, taken}
 use Rattle.pool.specs.declared.replacing.GrowFault.{GrowFault}
@@ -70,12 +70,11 @@ pool_by f p (event ∷ events) q steps = pool_by (pool_after f p steps.0 event) 
 
 -- ---- the disks that lines name
 
--- No superblock stands on an image where the slices of arrays would begin that a place is no member of, and none of these sectors is one of the
--- second copy of its partition table.
+-- No superblock of an array stands on an image where the slice of one would begin that a place is no member of.
 abbrev pub IsAlone : Found → (place sectors : ℕ) → (ℕ → Values) → Type 0
 IsAlone f place sectors held =
     (n first : ℕ) → n < f.state.made → is_member f n place ≡ false → first_of f n ≡ Some first → first + super_sector < sectors
-    → (first + super_sector + 33 < sectors) × ((v : List ℕ) → MayLeave (held (first + super_sector)) v → super_of v ≡ None)
+    → (v : List ℕ) → MayLeave (held (first + super_sector)) v → HasNoSuper f.state.pool.0 n v
 
 -- An image that is taken in, by what it holds before: no superblock stands on it where the place is no member. The ids of the serials differ that the
 -- pool has given, and the next one's.
@@ -151,10 +150,12 @@ abbrev pub AreLone : Found → Lone → (p : Moment) → (events : List Event) �
 AreLone f l p [] q steps = Unit {0}
 AreLone f l p (event ∷ events) q steps = IsLoneFor f l p steps.0 event × AreLone (pool_after f p steps.0 event) l steps.0 events q steps.1
 
--- The ids differ that a pool gives before its serial is `bound`, and disks that are no drives of it have none that it gives later.
-pub record AreUngiven (f : Found) (bound : ℕ) : Type 0 where
-  pub distinct : AreDistinct f.state.pool.0 bound
-  pub others : (d : ℕ) → ((p : ℕ) → f.seats p ≡ Some d → ⊥) → d < f.disks.count → IsUngiven f.state bound (f.identities d)
+-- The ids differ that a pool gives before its serial is the bound, and disks that are no drives of it, and aren't left out by their names, have none that it
+-- gives later.
+pub record AreUngiven (f : Found) (l : Lone) (names : List (List ℕ)) : Type 0 where
+  pub distinct : AreDistinct f.state.pool.0 l.bound
+  pub others :
+      (d : ℕ) → ((p : ℕ) → f.seats p ≡ Some d → ⊥) → (IsOut l names d → ⊥) → d < f.disks.count → IsUngiven f.state l.bound (f.identities d)
 
 -- ---- how a run goes by a pool
 

@@ -57,7 +57,8 @@ returns-in-Ok-clause-outcome g c =
       stops = opens.stops;
       run_on = λ f sound quiet joined alone.
           runs_on _ _ _ _ f sound (opened_as pool (λ r. seen r.now) (λ r. shelf r.now) _ opens.meant opens.marks f sound quiet)
-          _ (opens.meant f sound quiet).meant (opens.meant f sound quiet).one_pool (opens.truths f sound quiet) (stays_then opens.drives.early.only.stays opens.drives.late.stays) joined (slices_in (arrays_of pool)).orderly alone;
+          _ (opens.meant f sound quiet).meant (opens.meant f sound quiet).one_pool (opens.truths f sound quiet) (stays_then opens.drives.early.only.stays opens.drives.late.stays) joined (slices_in (arrays_of pool)).orderly
+          ((opens.meant f sound quiet).alone alone);
       outcome = λ a.
           task_for c.args.task c.do_on-status.result _ _ _ _ _ _ _ _ a _ _ _ _
           (λ meant. held_by_meant pool (λ r. seen r.now) (λ r. shelf r.now) _ a opens.meant
