@@ -281,13 +281,14 @@ runs_moves p a b x y fit after inside moves truths =
 
 -- a call counts a refusal of its own array alone, and only of a spent sector
 pub served_call : (v w : Raid) (f g : ℕ → ℕ) (disk sector : ℕ) → sector < array_sectors (v.arrays disk)
-    → ((n : ℕ) → array_sectors (w.arrays n) ≡ array_sectors (v.arrays n)) → ((n y : ℕ) → live_of w n y → live_of v n y) → KeepsArrays v w
+    → ((n : ℕ) → array_sectors (w.arrays n) ≡ array_sectors (v.arrays n)) → ((n y : ℕ) → live_of w n y → live_of v n y) → KeepsArrays v w → w.state.plan ≡ v.state.plan
     → ((n : ℕ) → (n ≡ disk → spent_of w disk sector ≡ false) → g n ≡ f n) → Serves v w f g
-served_call v w f g disk sector inside sectors spent arrays uncounted =
+served_call v w f g disk sector inside sectors spent arrays plan uncounted =
     record {
       sectors = sectors;
       spent = spent;
       arrays = arrays;
+      plan = plan;
       refused = λ n alive.
           uncounted n (λ same.
           subst (λ k. live_of w k sector) same

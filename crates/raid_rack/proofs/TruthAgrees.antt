@@ -113,7 +113,8 @@ module _ (v : Raid) (x : Seen) (n : ℕ) (set : IsSet v x) (heeded : IsHeeded v)
       of_shape None none is = absurd (let bad : None ≡ Some (shape_of (v.arrays n)) = sym (ap (option_map (shape_by v.state r n)) none) ∙ is in cc)
       of_shape (Some t) some is = (t, some)
 
-  supers_agree : SupersAgree v.state r n
+  -- they agree
+  pub supers_agree : SupersAgree v.state r n
   supers_agree =
       let t = truth_there.0 in
       let same = truth_fields t truth_there.1 in

@@ -16,16 +16,17 @@ use Rattle.raid_rack.specs.RaidRack.{SliceRuns, raid_in, refused_in, slices_in, 
 use Rattle.raid_rack.specs.Runs.{RaidRuns, raid_runs_same, raid_runs_then}
 
 -- No spent sector comes back, and an array of which no sector is spent in the end has refused nothing meanwhile. Nothing of an array
--- changes but whom it lost. `before` and `now` are the spent answers of each array.
+-- changes but whom it lost, and a plan stays. `before` and `now` are the spent answers of each array.
 pub record Serves (v w : Raid) (before now : ℕ → ℕ) : Type 0 where
   pub sectors : (n : ℕ) → sectors_of (w.arrays n) ≡ sectors_of (v.arrays n)
   pub spent : (n y : ℕ) → live_of w n y → live_of v n y
   pub arrays : KeepsArrays v w
+  pub plan : w.state.plan ≡ v.state.plan
   pub refused : (n : ℕ) → ((y : ℕ) → y < sectors_of (w.arrays n) → live_of w n y) → now n ≡ before n
 
 -- no call serves
 pub serves_same : (v : Raid) (counts : ℕ → ℕ) → Serves v v counts counts
-serves_same v counts = record { sectors = λ n. refl; spent = λ n y alive. alive; arrays = arrays_same v; refused = λ n alive. refl }
+serves_same v counts = record { sectors = λ n. refl; spent = λ n y alive. alive; arrays = arrays_same v; plan = refl; refused = λ n alive. refl }
 
 -- calls in a row do
 pub serves_then : (v w z : Raid) (f g h : ℕ → ℕ) → w.state.made ≡ v.state.made → Serves v w f g → Serves w z g h → Serves v z f h
@@ -33,6 +34,7 @@ serves_then v w z f g h made one two = record {
   sectors = λ n. two.sectors n ∙ one.sectors n;
   spent = λ n y alive. one.spent n y (two.spent n y alive);
   arrays = arrays_then v w z made one.arrays two.arrays;
+  plan = two.plan ∙ one.plan;
   refused = λ n alive.
       two.refused n alive
       ∙ one.refused n (λ y inside. two.spent n y (alive y (subst (λ k. y < k) (sym (two.sectors n)) inside)));

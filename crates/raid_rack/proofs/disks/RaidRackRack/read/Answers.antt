@@ -33,7 +33,7 @@ returns-clause-runs g c =
       c.read_array.ensures.runs,
       runs_moves (written_in c.args.self.now) c.args.self.now.arrays c.read_array.new.self _ _ c.requires.fit fit inside c.read_array.ensures.reads.moves c.read_array.ensures.truths,
       served_call v w (refused_in c.args.self.now) (refused_in c.answer.new.self) c.args.disk c.args.sector c.requires.sector
-          reads.stays.sectors reads.stays.spent c.read_array.ensures.reads.moves.arrays c.answer.ensures.uncounted,
+          reads.stays.sectors reads.stays.spent c.read_array.ensures.reads.moves.arrays c.read_array.ensures.reads.moves.plan c.answer.ensures.uncounted,
       c.read_array.ensures.spares (written_in c.args.self.now),
     )
 

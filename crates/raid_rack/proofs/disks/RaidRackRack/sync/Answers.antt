@@ -19,7 +19,7 @@ returns-clause-runs g c =
       runs_moves (written_in c.args.self.now) c.args.self.now.arrays c.sync_array.new.self _ _ c.requires.fit
           (record { running = c.sync_array.ensures.running; heeded = c.sync_array.ensures.syncs.heeded })
           (stops_inside (tables c.sync_array.new.rack) (g.R.Rack.seen (below_of c.sync_array.new.rack))) c.sync_array.ensures.syncs.moves c.sync_array.ensures.truths,
-      record { sectors = syncs.stays.sectors; spent = syncs.stays.spent; arrays = c.sync_array.ensures.syncs.moves.arrays; refused = λ n alive. refl },
+      record { sectors = syncs.stays.sectors; spent = syncs.stays.spent; arrays = c.sync_array.ensures.syncs.moves.arrays; plan = c.sync_array.ensures.syncs.moves.plan; refused = λ n alive. refl },
       c.sync_array.ensures.spares (written_in c.args.self.now),
     )
 

@@ -41,7 +41,7 @@ returns-clause-runs g c =
           (flags_kept (written_in c.args.self.now) flags c.args.disk c.args.sector c.args.from.now c.note_written.ensures.noted c.note_written.ensures.others) c.requires.fit
           fit inside c.write_array.ensures.writes.brings c.write_array.ensures.writes.caused c.write_array.ensures.truths,
       served_call v w (refused_in c.args.self.now) (refused_in c.answer.new.self) c.args.disk c.args.sector c.requires.sector
-          writes.stays.sectors writes.stays.spent c.write_array.ensures.writes.arrays c.answer.ensures.uncounted,
+          writes.stays.sectors writes.stays.spent c.write_array.ensures.writes.arrays c.write_array.ensures.writes.plan c.answer.ensures.uncounted,
       c.write_array.ensures.spares flags c.note_written.ensures.noted,
     )
 
