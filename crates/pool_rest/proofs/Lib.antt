@@ -18,7 +18,7 @@ pub mod SaidLogs
 mod SameMeaning
 mod Settled
 mod Sliced
-mod Payloads
+pub mod Payloads
 mod Refusals
 mod Quiet
 mod Joined

@@ -162,7 +162,7 @@ standing_sized disks c x stands sized =
     (pending_sized (current_places by.0) (logs_of disks (seat_of by.0 disks ids) c)
     (logs_sized disks (seat_of by.0 disks ids) c (λ p d seat. seat_inside by.0 disks ids p d seat) sized))
 
-written_sized : (disks : Disks) (c : Image) (x : Standing) → standing disks c ≡ Some x
+pub written_sized : (disks : Disks) (c : Image) (x : Standing) → standing disks c ≡ Some x
     → ((d t : ℕ) → d < disks.count → t < disks.sectors d → IsSector (c d t))
     → (d t : ℕ) → d < disks.count → t < disks.sectors d → IsSector (written disks x c d t)
 written_sized disks c x stands sized d t disk sector =
