@@ -1,22 +1,21 @@
 -- Any one drive of a whole pool may be absent: the disks without its disk mean what all of them mean.
-use Rattle.std.proofs.Common.{◌≡◌, ◌≢◌, ℕ, zero, suc, ◌+◌, ◌<◌, ◌≤◌, ◌*◌, ◌-◌, ◌==◌, ◌&&◌, ◌||◌, not, Bool, true, false, bytes_eq, if◌then◌else◌, is_none, is_some, List, [], ◌∷◌, find, filter, length, Option, Some, None, option_map, refl, sym, ap, ap₂, subst, ◌∙◌, inl, inr, arith}
+use Rattle.std.proofs.Common.{◌≡◌, ◌≢◌, ℕ, zero, suc, ◌+◌, ◌<◌, ◌≤◌, ◌*◌, ◌-◌, ◌==◌, ◌&&◌, ◌||◌, not, Bool, true, false, if◌then◌else◌, is_none, is_some, List, [], ◌∷◌, find, filter, length, Option, Some, None, option_map, refl, sym, ap, ap₂, subst, ◌∙◌, inl, inr, arith}
 use Rattle.std.specs.Option.{option_and_then, option_map_or}
 use Rattle.std.specs.List.{range_with_len}
 use Rattle.std.proofs.Math.Nat.{mul-le-mul_right}
 use Rattle.std.proofs.lemmas.Bool.{and_parts, both_ways, cases_eq}
 use Rattle.std.proofs.lemmas.List.Sums.{length-filter}
 use Rattle.rack.specs.Seen.{Image}
-use Rattle.gpt_table.specs.declared.Table.{Table}
 use Rattle.pool_state.specs.declared.contents.State.{State}
 use Rattle.array_image.specs.Arrays.{Shape, first_layout, sectors_by, shape_by, value_by}
 use Rattle.array_image.specs.Record.{GateAt, gate_of, gate_sector, is_bad_gate, is_there, record_in}
-use Rattle.array_image.specs.States.{current_places, is_current, id_of}
+use Rattle.array_image.specs.States.{current_places, is_current}
 use Rattle.array_image.specs.Stripes.{Layout, capacity, mirror, parity, width}
 use Rattle.array_model.proofs.Noting.{first_is}
 use Rattle.pool_image.specs.Alike.{drive_gate}
 use Rattle.pool_image.specs.Disks.{Disks, identities_of, newest}
-use Rattle.pool_image.specs.Drives.{Found, extent_of, slices_of}
-use Rattle.pool_image.specs.Meaning.{Refusal, absent_count, array_sectors, damage_of, damage_on, has_log, has_slice, has_slice_of, has_supers, has_table, is_dirty_degraded, is_member, is_table, is_too_few, joined_arrays, kind_of, meaning, no_pool, refusal_of, refused_at, refused_by, shape_of, super_at, two_pools, volumes_of}
+use Rattle.pool_image.specs.Drives.{Found, slices_of}
+use Rattle.pool_image.specs.Meaning.{Refusal, absent_count, array_sectors, damage_of, damage_on, has_log, has_supers, has_table, is_dirty_degraded, is_member, is_table, is_too_few, joined_arrays, meaning, no_pool, refusal_of, refused_at, refused_by, shape_of, super_at, two_pools, volumes_of}
 use Rattle.pool_image.specs.Sound.{AreSame, IsSafeInAbsence, disks_without, image_without}
 use Rattle.pool_image.specs.Volumes.{first_bad}
 use Rattle.pool_image.proofs.Groups.{AreWholeArrays}
@@ -30,7 +29,7 @@ use Rattle.pool_model.proofs.Spare.{is_array, whole_view}
 use Rattle.pool_model.proofs.Skipped.{back}
 use Rattle.pool_model.proofs.Standing.{closed_at, pool_at}
 use Rattle.pool_model.proofs.Away.{disk_back, drive_now, idle_now, is_found, logs_now, none_now, seat_there, seats_now}
-use Rattle.pool_model.proofs.Undamaged.{all_below}
+use Rattle.pool_model.proofs.Undamaged.{all_below, members_alike}
 use Rattle.pool_model.proofs.Unrefused.{IsUndamaged, found_now, means_of, no_damage, no_damages, not_refused, one_pool, parts_of, stands_now, unrefused}
 use Rattle.pool_model.proofs.Without.{enough, in_sync, lies_now, member_now, sectors_now, super_now, value_now}
 use Rattle.pool_scan.proofs.Valid.{valid_arrays}
@@ -151,30 +150,12 @@ module _ (disks : Disks) (c : Image) (s : State) (newest_is : newest disks (iden
       parts : IsUndamaged f q e
       parts = parts_of disks c s newest_is w q e counts at
 
-      slice_same : (table : Table) (k n : ℕ) → n < s.made → has_slice_of g k table (n + 1) ≡ has_slice_of f k table (n + 1)
-      slice_same table k n low =
-          let next : n + 1 ≡ suc n = omega arith in
-          ap (λ o. option_map_or (has_slice k table (n + 1 + 1) (kind_of (n + 1))) o false)
-          (ap (extent_of g) next ∙ lies_now disks c s newest_is w chunks extent_is p d seat n low ∙ sym (ap (extent_of f) next))
-
-      table_same : (table : Table) (k : ℕ) → is_table g q k table ≡ is_table f q k table
-      unfolding extent_of
-      table_same table k =
-          ap (λ b. option_map_or (bytes_eq table.disk_id.0) (id_of s q) false && (has_slice_of f k table 0 && b))
-          (all_below (λ n. not (is_member g n q) || has_slice_of g k table (n + 1)) (λ n. not (is_member f n q) || has_slice_of f k table (n + 1)) 0 s.made
-          (λ n low.
-          let less : n < s.made = omega (arith, low) in
-          ap₂ (λ a b. not a || b) (member_now disks c s newest_is w chunks extent_is p d seat n less q) (slice_same table k n less)))
-
       table_now : has_table g q (back d e) ≡ true
       table_now =
           ap (λ k. option_map_or (is_table g q (disks.sectors k)) (f.identities k).table false) (disk_back disks c s newest_is w p d seat q e other at)
-          ∙ of (f.identities e).table
+          ∙ members_alike f g q (disks.sectors e) refl refl (λ n low. member_now disks c s newest_is w chunks extent_is p d seat n low q)
+          (lies_now disks c s newest_is w chunks extent_is p d seat) (f.identities e).table
           ∙ parts.table
-        where
-          of : (o : Option Table) → option_map_or (is_table g q (disks.sectors e)) o false ≡ option_map_or (is_table f q (disks.sectors e)) o false
-          of None = refl
-          of (Some table) = table_same table (disks.sectors e)
 
       supers_now : has_supers g q ≡ true
       supers_now =

@@ -21,6 +21,7 @@ use Rattle.pool_model.specs.InService.{IsOutset}
 use Rattle.pool_model.specs.Pools.{IsSoundPool}
 use Rattle.pool_model.specs.Left.{AreAlone, AreAloneBy, HoldAgain, HoldRest, IsLeftBy, IsPickOff, IsServed, AreElsewhere}
 use Rattle.pool_model.proofs.Copies.{IsKnown, known_of, c, quiet, seat_there, seats_now, state_is}
+use Rattle.pool_model.proofs.Extents.{sectors_now}
 use Rattle.pool_model.proofs.Found.{found_is}
 use Rattle.pool_model.proofs.Outset.{outset_of}
 use Rattle.pool_model.proofs.Known.{says_pool}
@@ -47,6 +48,7 @@ module _ (f : Found) (t : Slices) (v : Raid) (y : Seen) (i : Image) (known : IsK
       slices = slices_now f t v.state i (stood f t v y i known) (says_pool f t v y i known);
       joined = known.served.after.same.joined ∙ known.served.joined ∙ sym known.served.after.same.made;
       alone = alone_now f t v.state i (stood f t v y i known) (says_pool f t v y i known) i known.left.alone;
+      sectors = sectors_now f t v.state i (stood f t v y i known) (says_pool f t v y i known);
       values = value_known;
     };
     present = λ p counts. let one = seat_there f t v y i known p counts in (one.0, seats_now f t v y i known p counts ∙ one.1);

@@ -1,5 +1,5 @@
 -- Pools whose arrays have the same truths where they begin at the same sectors: their slices lie alike, with the same members.
-use Rattle.std.proofs.Common.{◌≡◌, ℕ, zero, suc, ◌+◌, ◌<◌, ◌≤◌, ◌&&◌, false, nat_lt, Option, Some, option_map, refl, sym, ap, ap₂, ◌∙◌, inl, inr, le-ltb, arith}
+use Rattle.std.proofs.Common.{◌≡◌, ℕ, zero, suc, ◌+◌, ◌<◌, ◌≤◌, ◌&&◌, false, nat_lt, if◌then◌else◌, [], Option, Some, option_map, refl, sym, ap, ap₂, ◌∙◌, inl, inr, le-ltb, arith}
 use Rattle.std.specs.Option.{option_and_then, option_map_or}
 use Rattle.std.proofs.lemmas.Bool.{cases_lt}
 use Rattle.rack.specs.Seen.{Image, Seen}
@@ -8,17 +8,25 @@ use Rattle.md_super.specs.declared.superblock.Super.{Super}
 use Rattle.pool_state.specs.declared.contents.Copied.{Copied}
 use Rattle.pool_state.specs.declared.contents.State.{State}
 use Rattle.commit_log.specs.Kept.{IsNoLater}
-use Rattle.array_image.specs.Places.{data_sector}
+use Rattle.array_image.specs.Arrays.{first_layout, sectors_by, shape_by, shape_in}
+use Rattle.array_image.specs.Places.{data_sector, slice_of}
+use Rattle.array_image.specs.Stripes.{capacity}
 use Rattle.array_image.specs.Supers.{is_named}
 use Rattle.pool_image.specs.Disks.{Identities}
-use Rattle.pool_image.specs.Drives.{Found, end_of, extent_from, extent_of, first_of, truth_from}
-use Rattle.pool_image.specs.Meaning.{is_member, truth_of}
+use Rattle.pool_image.specs.Drives.{Found, end_of, extent_from, extent_of, first_of, slices_from, slices_of, truth_from}
+use Rattle.pool_image.specs.Meaning.{array_sectors, is_member, truth_of}
+use Rattle.pool_image.specs.Replay.{Extent}
 use Rattle.pool_image.proofs.Truths.{extent_found, truth_found}
 use Rattle.raid_rack.specs.Raid.{Raid}
 use Rattle.pool_model.specs.InService.{HasSeat, IsArranged, IsOutset}
 use Rattle.pool_model.specs.Left.{AreAloneBy, IsServed}
 use Rattle.pool_model.specs.Pools.{AreSlicesOf}
 use Rattle.pool_model.proofs.Layers.{IsLaid, laid}
+
+-- how many sectors an array has goes by its truth alone
+pub sectors_of_truth : (f : Found) (n : ℕ) (t : Super) → truth_of f n ≡ Some t → array_sectors f n ≡ capacity (first_layout t) t.size
+unfolding shape_by
+sectors_of_truth f n t is = ap (λ (o : Option Super). option_map_or sectors_by (option_map (shape_by f.state (slices_of f) n) o) 0) is
 
 -- an array's truth stands where it stood
 abbrev pub HasTruths : Found → Found → Type 0
@@ -62,6 +70,9 @@ module _ (f g : Found) (few : f.state.made ≤ 16) (has : (n : ℕ) → n < f.st
     pub member_same : (p : ℕ) → is_member g n p ≡ is_member f n p
     member_same p = ap (λ (o : Option Super). option_map_or (λ u. is_named u p) o false) truth_same
 
+    pub sectors_same : array_sectors g n ≡ array_sectors f n
+    sectors_same = let one = has n low in sectors_of_truth g n one.0 (truth_same ∙ one.1) ∙ sym (sectors_of_truth f n one.0 one.1)
+
   pub slices_like : (t : Slices) → ((p : ℕ) → g.seats p ≡ f.seats p) → g.state.made ≡ f.state.made → AreSlicesOf f t → AreSlicesOf g t
   unfolding extent_of
   slices_like t seats made slices = record {
@@ -78,6 +89,25 @@ module _ (f g : Found) (few : f.state.made ≤ 16) (has : (n : ℕ) → n < f.st
   }
 
 -- ---- a pool whose disks say otherwise
+
+first_said : (f : Found) (e : Identities) (n : ℕ) → first_of (record f { identities = e }) n ≡ first_of f n
+unfolding first_of
+first_said f e zero = refl
+first_said f e (suc n) = ap (option_and_then (λ first. option_map end_of (extent_from f n first))) (first_said f e n)
+
+extent_said : (f : Found) (e : Identities) (k : ℕ) → extent_of (record f { identities = e }) k ≡ extent_of f k
+unfolding extent_of
+extent_said f e zero = refl
+extent_said f e (suc n) = ap (option_and_then (extent_from f n)) (first_said f e n)
+
+-- its slices hold the same
+held_said : (f : Found) (e : Identities) → slices_of (record f { identities = e }) ≡ slices_of f
+unfolding slices_of
+held_said f e =
+    λ i k s. option_map_or (λ (x : Extent). if nat_lt s x.sectors then slices_from f x.first k s else []) (extent_said f e (slice_of k) i) []
+
+pub sectors_said : (f : Found) (e : Identities) (n : ℕ) → array_sectors (record f { identities = e }) n ≡ array_sectors f n
+sectors_said f e n = ap (λ (c : Image). option_map_or sectors_by (shape_in f.state c n) 0) (held_said f e)
 
 module _ (f : Found) (e : Identities) (few : f.state.made ≤ 16) (has : (n : ℕ) → n < f.state.made → (u : Super) × (truth_of f n ≡ Some u)) where
   abbrev pub said : Found

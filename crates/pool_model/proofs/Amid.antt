@@ -30,7 +30,7 @@ use Rattle.raid_rack.specs.Frames.{HasFrame, frame_of}
 use Rattle.raid_rack.specs.Logs.{LogsBetween}
 use Rattle.raid_rack.specs.Raid.{IsTold, Raid, is_over}
 use Rattle.raid_rack.specs.Runs.{IsBetween, KeepsMoments}
-use Rattle.raid_rack.specs.Since.{AreSince}
+use Rattle.raid_rack.specs.Since.{AreSince, KeepsSince}
 use Rattle.raid_rack.proofs.Noted.{current_few}
 use Rattle.raid_rack.proofs.Over.{number_room, someone_left}
 use Rattle.raid_rack.proofs.Since.{kept_since}
@@ -80,7 +80,7 @@ pub tables_calls : (f : Found) (t : Slices) (s r : State) (x y : Seen) → x.las
 tables_calls f t s r x y lasting only after tables i off p d now = tables i (off_later t x y i lasting only off) p d (after.current p now)
 
 -- outside the slices a stop inside calls that write these alone leaves what the disks held
-off_amid : (t : Slices) (x y : Seen) → x.lasting → WritesOnly x y (IsSliced t) → x.traced → (k : ℕ) (i : Image) → x.clock < k → k ≤ y.clock → y.stops k i → IsPickOff t x i
+pub off_amid : (t : Slices) (x y : Seen) → x.lasting → WritesOnly x y (IsSliced t) → x.traced → (k : ℕ) (i : Image) → x.clock < k → k ≤ y.clock → y.stops k i → IsPickOff t x i
 off_amid t x y lasting only traced k i late early stop d u live never =
     elim ((only.stops traced).new k i late early stop d u (live_on lasting only.stays live)) [ inl may ↦ may | inr slice ↦ absurd (never (i d u) slice) ]
 
@@ -89,6 +89,10 @@ pub tables_amid : (f : Found) (t : Slices) (s : State) (x y : Seen) → x.lastin
 tables_amid f t s x y lasting only tables traced =
     let stops = only.stops traced in
     record { later = stops.later; kept = stops.kept; past = stops.past; new = λ k i late early stop. tables i (off_amid t x y lasting only traced k i late early stop) }
+
+-- slices have nothing past their ends
+pub nothing_past : (t : Slices) (i : Image) → HasNothing (sectors_of t) (sliced t i)
+nothing_past t i d u past = ap (λ (b : Bool). if b then i (disk_of t d) (slice_first t d + u) else []) (le-ltb u (sectors_of t d) past)
 
 -- outside the slices of fewer places
 pub off_more : (t u : Slices) (x : Seen) → ((d s : ℕ) (w : List ℕ) → IsSliced u d s w → IsSliced t d s w) → (i : Image) → IsPickOff u x i → IsPickOff t x i
@@ -139,7 +143,7 @@ module _ (f : Found) (t : Slices) (v w : Raid) (x y : Seen) (is : IsCalled f t v
     shown = (i, stop, λ d s. refl)
 
     nothing : HasNothing (sectors_of t) c
-    nothing d u past = ap (λ (b : Bool). if b then i (disk_of t d) (slice_first t d + u) else []) (le-ltb u (sectors_of t d) past)
+    nothing = nothing_past t i
 
     since : AreSince v.state (sectors_of t) c
     since = (tells traced).since.new k c late early shown nothing
@@ -181,6 +185,11 @@ module _ (f : Found) (t : Slices) (v w : Raid) (x y : Seen) (is : IsCalled f t v
 
 -- ---- calls of a rack of arrays
 
+-- copies stay such as calls leave that began with the book
+pub moments_since : (v w : Raid) (a b : Seen) → KeepsMoments v w a b → IsTold v a 0 → is_over w 0 ≡ false → KeepsSince v.state a b
+moments_since v w a b keeps told lasts =
+    keeps.since 0 v.state told lasts (after_same v.state) (kept_since v.state v.number a (told.stood (keeps.still 0 lasts)).log)
+
 -- Where the arrays are told when calls begin, and none is over when they end, the calls tell of their stops; each place that is current has its log slice, so it
 -- has a drive.
 module _ (f : Found) (t : Slices) (v w : Raid) (x y : Seen) (is : IsCalled f t v x) (keeps : KeepsMoments v w (slices_of t x) (slices_of t y))
@@ -190,13 +199,11 @@ module _ (f : Found) (t : Slices) (v w : Raid) (x y : Seen) (is : IsCalled f t v
 
   calls_tell : x.traced → TellsStops f.state.made v w (slices_of t x) (slices_of t y)
   calls_tell traced =
-      let stood = (told 0 first).stood (keeps.still 0 (lasts 0 first)) in
-      let kept = keeps.since 0 v.state (told 0 first) (lasts 0 first) (after_same v.state) (kept_since v.state v.number (slices_of t x) stood.log) in
       record {
         logs =
             leaves_weaker (LogsBetween v.state w.state (sectors_of t)) (λ c. HasNothing (sectors_of t) c → LogsBetween v.state w.state (sectors_of t) c)
             (λ c says none. says) (keeps.logs 0 (told 0 first) (lasts 0 first) traced);
-        since = kept.leaves traced;
+        since = (moments_since v w (slices_of t x) (slices_of t y) keeps (told 0 first) (lasts 0 first)).leaves traced;
         arrays = λ n low.
             leaves_weaker (λ c. IsBetween v.state w.state n (replayed (sectors_of t) c)) (λ c. HasNothing (sectors_of t) c → IsBetween v.state w.state n (replayed (sectors_of t) c))
             (λ c says none. says) (keeps.images n (told n low) (lasts n low) traced);

@@ -271,3 +271,12 @@ module _ (f : Found) (t : Slices) (v : Raid) (y : Seen) (i : Image) (known : IsK
   -- a place that isn't current has none
   pub none_former : (p : ℕ) → is_current s p ≡ false → seat_of s f.disks ids p ≡ None
   none_former p former = nowhere s f.disks ids p former
+
+  -- a drive's copy is of the book's pool
+  pub copy_pool : (p d : ℕ) (copy : Copied) → seat_of s f.disks ids p ≡ Some d → (ids d).copied ≡ Some copy → copy.state.pool ≡ s.pool
+  copy_pool p d copy seat here = elim (cases_Bool (is_current s p)) [
+    | inr former ↦ absurd (none-some d (sym (none_former p former) ∙ seat))
+    | inl now ↦
+        let was : f.seats p ≡ Some d = sym (seats_now p now) ∙ seat in
+        ap (λ (o : Option Copied). option_map_or (λ z. z.state.pool) o s.pool) (sym here ∙ copied_now p d was now)
+  ]

@@ -1,5 +1,5 @@
 -- Contents that a pool leaves that has ended whole: any one of its drives may be absent.
-use Rattle.std.proofs.Common.{◌≡◌, ℕ, zero, suc, ◌+◌, ◌-◌, ◌*◌, ◌/◌, ◌<◌, ◌^◌, Bool, true, false, ◌==◌, ◌&&◌, ◌||◌, not, is_some, count_by, nat_lt, if◌then◌else◌, map, length, slice_get, Option, Some, None, option_map, unwrap_or, refl, sym, ap, ap₂, ◌∙◌, inl, inr, eqb-true, le-ltb, arith}
+use Rattle.std.proofs.Common.{◌≡◌, ℕ, zero, suc, ◌+◌, ◌-◌, ◌*◌, ◌/◌, ◌<◌, ◌^◌, Bool, true, false, ◌==◌, ◌&&◌, not, count_by, nat_lt, if◌then◌else◌, map, length, slice_get, Option, Some, None, option_map, unwrap_or, refl, sym, ap, ap₂, ◌∙◌, inl, inr, eqb-true, le-ltb, arith}
 use Rattle.std.specs.Option.{option_map_or}
 use Rattle.std.specs.List.{range_with_len}
 use Rattle.std.proofs.lemmas.Bool.{both_ways, cases_Bool}
@@ -10,16 +10,15 @@ use Rattle.rack.specs.Seen.{Image, Seen}
 use Rattle.slice_rack.specs.Slices.{Slices}
 use Rattle.md_super.specs.declared.superblock.Super.{Super}
 use Rattle.pool_state.specs.declared.contents.State.{State}
-use Rattle.pool_state.specs.Valid.{is_valid}
 use Rattle.array_image.specs.Arrays.{Member, Shape, member_by, member_in, place_with, shape_by}
-use Rattle.array_image.specs.Places.{log_slice, super_sector}
+use Rattle.array_image.specs.Places.{log_slice}
 use Rattle.array_image.specs.Record.{gate_of, gate_sector}
 use Rattle.array_image.specs.SoundArray.{array_fields, first_unsynced}
 use Rattle.array_image.specs.States.{is_current}
 use Rattle.array_image.specs.Supers.{is_named, is_rebuilding, is_unclean, named_places, super_in, truth_in}
-use Rattle.array_core.proofs.Opened.{current_below, current_is, super_truth, truth_leads}
+use Rattle.array_core.proofs.Opened.{current_below}
 use Rattle.array_core.proofs.Rules.{get_map, get_range, placed}
-use Rattle.array_core.proofs.Truths.{Truth, truth_facts}
+use Rattle.array_core.proofs.Truths.{Truth}
 use Rattle.array_model.specs.declared.Seat.{Seat}
 use Rattle.array_model.specs.View.{View, is_whole_seat, member_on, rows_of as rows_in, shape_of}
 use Rattle.commit_log.specs.View.{names}
@@ -27,21 +26,20 @@ use Rattle.raid_rack.specs.Raid.{Raid}
 use Rattle.pool_image.specs.Book.{array_now, is_rebuilding_at, rebuilding_in, rows_to_rebuild, unsynced}
 use Rattle.pool_image.specs.Disks.{stands_for}
 use Rattle.pool_image.specs.Drives.{Found, slices_of}
-use Rattle.pool_image.specs.Meaning.{is_dirty_degraded, is_member, is_too_few, lacking_of, shape_of as shape_found, super_at}
+use Rattle.pool_image.specs.Meaning.{is_dirty_degraded, is_too_few, lacking_of, shape_of as shape_found, super_at}
 use Rattle.pool_image.specs.Replay.{Standing}
 use Rattle.pool_model.specs.Absent.{AreClosed, AreLevel, AreOnly, EndsWhole}
 use Rattle.pool_model.proofs.Copies.{ahead_of, c, IsKnown, kept, log_many, low_place, none_former, other_same, s, seat_there, seated_or, seats_now, stands_now}
 use Rattle.pool_model.proofs.Away.{all_there, none_found}
 use Rattle.pool_model.proofs.Current.{shape_current}
-use Rattle.pool_model.proofs.Extents.{is, is_is, lies_in, made_same, reads_nothing, room, size_same, truth_is}
+use Rattle.pool_model.proofs.Extents.{is, is_is, made_same, truth_is}
 use Rattle.pool_model.proofs.Known.{earlier, left, says, says_pool}
-use Rattle.pool_model.proofs.Layers.{nothing_super}
 use Rattle.pool_model.proofs.Named.{same_length, stands_same}
 use Rattle.pool_model.proofs.Rested.{log_same, now, stood}
 use Rattle.pool_model.proofs.Said.{SaysPool}
 use Rattle.pool_model.proofs.Roles.{named_position}
+use Rattle.pool_model.proofs.Sizes.{facts_known}
 use Rattle.pool_model.proofs.Still.{same}
-use Rattle.pool_check.proofs.Valid.{valid_fit}
 
 abbrev one_unless : Bool → ℕ
 one_unless b = if not b then 1 else 0
@@ -133,42 +131,21 @@ module _ (f : Found) (t : Slices) (v : Raid) (y : Seen) (i : Image) (known : IsK
 
   -- ---- one array
 
-  module _ (small : (d : ℕ) → d < f.disks.count → f.disks.sectors d < 2 ^ 48) (good : (own : ℕ) × (is_valid book own ≡ true)) (n : ℕ) (low : n < f.state.made) where
-    abbrev pub its : View
+  module _ (small : (d : ℕ) → d < f.disks.count → f.disks.sectors d < 2 ^ 48) (n : ℕ) (low : n < f.state.made) where
+    abbrev its : View
     its = v.arrays n
 
     abbrev pub w : Super
     w = u n low
 
-    pub w_is : truth_in book held n ≡ Some w
+    w_is : truth_in book held n ≡ Some w
     w_is = is_is f t v.state i rest said n low
 
-    pub size_small : w.size < 2 ^ 48
-    size_small =
-        let leads = truth_leads book held n w w_is in
-        let at = current_is book held n leads.at w leads.here in
-        let one = seat_there f t v y i known leads.at at.0 in
-        elim (cases_Bool (is_member f n leads.at)) [
-          | inl member ↦
-              let fits = room f t v.state i rest said n low leads.at one.0 one.1 at.0 member in
-              let lies = (lies_in f t v.state i rest said n low leads.at one.0 one.1 at.0 member).1 in
-              let size = size_same f t v.state i rest said n low in
-              let most = small one.0 (ahead_of f t v y i known leads.at one.0 one.1).low in
-              omega (arith, fits, lies, size, most)
-          | inr none ↦
-              absurd (none-some w
-              (sym (nothing_super book held n leads.at (reads_nothing f t v.state i rest said n low leads.at none super_sector)) ∙ at.1))
-        ]
-
-    pub facts : Truth w
-    facts =
-        let leads = truth_leads book held n w w_is in
-        let at = current_is book held n leads.at w leads.here in
-        let fit = valid_fit book good.0 good.1 in
-        truth_facts w (super_truth book held n leads.at fit.chunks w at.1 fit.extent fit.few size_small)
+    abbrev fact : Truth w
+    fact = facts_known f t v y i known small n low
 
     -- its members are those of the book's array
-    pub shape_here : shape_by book held n w ≡ shape_of its
+    shape_here : shape_by book held n w ≡ shape_of its
     shape_here =
         some_same (shape_by book held n w) (shape_of its)
         (sym (ap (option_map (shape_by book held n)) w_is) ∙ (says f t v y i known n low).shape_is)
@@ -213,7 +190,7 @@ module _ (f : Found) (t : Slices) (v : Raid) (y : Seen) (i : Image) (known : IsK
         by true current (Some own) has is = of own current has (is_rebuilding own) refl is
 
     had_named : (q : ℕ) → is_named w q ≡ true → IsHad q
-    had_named q named = let one = named_position w q 16 facts.positions (λ k less. let one = placed w k facts.positions less in (one.0, one.1)) facts.few named in had one.0 q one.1 one.2
+    had_named q named = let one = named_position w q 16 fact.positions (λ k less. let one = placed w k fact.positions less in (one.0, one.1)) fact.few named in had one.0 q one.1 one.2
 
     -- ---- nothing is left to do
 
@@ -223,7 +200,7 @@ module _ (f : Found) (t : Slices) (v : Raid) (y : Seen) (i : Image) (known : IsK
         (ends.agree n held low (left f t v y i known)).left w w_is (ends.book.old n low)
         ∙ ap (λ (b : Bool). if b then (if is_unclean its.truth then its.truth.resync_offset else 2 ^ 64 - 1) else if nat_lt its.resync (rows_in its) then its.resync * 128 else 2 ^ 64 - 1) (ends.book.old n low)
         ∙ ap (λ (b : Bool). if b then its.resync * 128 else 2 ^ 64 - 1) (le-ltb its.resync (rows_in its) (let same = ends.book.synced n low in omega (arith, same))) in
-        le-ltb w.resync_offset w.size (let less = size_small in omega (arith, offset, less))
+        le-ltb w.resync_offset w.size (let less = fact.small in omega (arith, offset, less))
 
     nothing_unsynced : unsynced w ≡ 0
     nothing_unsynced =
@@ -253,20 +230,6 @@ module _ (f : Found) (t : Slices) (v : Raid) (y : Seen) (i : Image) (known : IsK
         either false j k one two = two
 
     -- ---- nothing is refused
-
-    pub super_there : (p : ℕ) → (not (is_member g n p) || is_some (super_at g n p)) ≡ true
-    super_there p = elim (cases_Bool (is_named w p)) [
-      | inl named ↦
-          let one = had_named p named in
-          ap (λ o. not (is_member g n p) || is_some o) (same f t v.state i rest said n low p one.current ∙ one.has) ∙ or_true (not (is_member g n p))
-      | inr none ↦
-          ap (λ b. not b || is_some (super_at g n p))
-          (ap (λ (o : Option Super). option_map_or (λ z. is_named z p) o false) (truth_is f t v.state i rest said n low) ∙ none)
-    ]
-      where
-        or_true : (b : Bool) → (b || true) ≡ true
-        or_true true = refl
-        or_true false = refl
 
     pub enough : is_too_few g n ≡ false
     unfolding shape_of

@@ -10,12 +10,14 @@ use Rattle.md_super.specs.declared.superblock.Super.{Super}
 use Rattle.pool_state.specs.declared.contents.State.{State}
 use Rattle.array_image.specs.Places.{data_sector, member_slice, place_of, super_sector}
 use Rattle.array_image.specs.States.{is_current}
+use Rattle.array_image.specs.Stripes.{capacity}
 use Rattle.array_image.specs.Supers.{is_named, super_in, truth_in}
 use Rattle.array_image.proofs.Frames.{super_of_sector}
 use Rattle.pool_image.specs.Drives.{Found, drive_sector, end_of, extent_from, extent_of, first_of, slices_from, truth_from}
-use Rattle.pool_image.specs.Meaning.{is_member, truth_of}
+use Rattle.pool_image.specs.Meaning.{array_sectors, is_member, truth_of}
 use Rattle.pool_image.specs.Replay.{Extent, Standing}
 use Rattle.pool_image.proofs.Truths.{extent_found, truth_found}
+use Rattle.pool_model.proofs.Alike.{sectors_of_truth}
 use Rattle.pool_model.proofs.Current.{truth_current}
 use Rattle.pool_model.specs.Left.{HasNoSuper}
 use Rattle.pool_model.proofs.Layers.{IsLaid, laid, none_there, nothing_super}
@@ -185,3 +187,10 @@ module _ (f : Found) (t : Slices) (book : State) (i : Image) (before : Standing)
         ap (λ (o : Option Super). option_map_or (λ u. is_named u p) o false) truth_is
         ∙ named_same n low p
         ∙ sym (ap (λ (o : Option Super). option_map_or (λ u. is_named u p) o false) (was_is n low))
+
+  -- each array has the sectors that it had
+  pub sectors_now : (n : ℕ) → n < f.state.made → array_sectors g n ≡ array_sectors f n
+  sectors_now n low =
+      sectors_of_truth g n (is n low) (truth_is n low)
+      ∙ ap₂ capacity ((said.arrays n low).layout (was n low) (was_is n low)) (size_same n low)
+      ∙ sym (sectors_of_truth f n (was n low) (was_is n low))

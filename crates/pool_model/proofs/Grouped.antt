@@ -1,5 +1,5 @@
 -- The volume group on arrays: it goes by the sectors before their first extents. Arrays whose members are all whole have each sector.
-use Rattle.std.proofs.Common.{◌≡◌, ℕ, zero, suc, ◌+◌, ◌/◌, ◌<◌, ◌≤◌, Bool, false, nat_lt, if◌then◌else◌, List, map, slice_get, Some, None, refl, is_ok, ap, ◌∙◌, lt-ltb, ltb-true, arith}
+use Rattle.std.proofs.Common.{◌≡◌, ℕ, zero, suc, ◌+◌, ◌/◌, ◌<◌, ◌≤◌, Bool, false, nat_lt, if◌then◌else◌, List, map, slice_get, Some, refl, is_ok, ap, ◌∙◌, lt-ltb, ltb-true, arith}
 use Rattle.std.proofs.lemmas.Bool.{and_parts}
 use Rattle.std.specs.Option.{option_map_or}
 use Rattle.std.specs.List.{range_with_len}
@@ -18,11 +18,13 @@ use Rattle.array_model.specs.declared.Seat.TheVariants.{Whole}
 use Rattle.array_model.specs.View.{View, IsArray, member_on, seat_reach, sectors_of, shape_of, spent_in}
 use Rattle.array_model.proofs.Layouts.{sector_inside}
 use Rattle.array_model.proofs.Views.{shape_members}
-use Rattle.lvm_group.specs.Group.{first_bad}
-use Rattle.lvm_group.specs.Images.{HasOwnArea}
-use Rattle.lvm_group.specs.Runs.{data_start}
-use Rattle.lvm_group.proofs.SameParts.{part_below}
+use Rattle.lvm_group.specs.Group.{highest}
+use Rattle.lvm_group.specs.Images.{HasOwnArea, MeansVolume}
+use Rattle.lvm_group.specs.Parts.{part_of}
+use Rattle.lvm_group.specs.Runs.{Linear, data_start}
+use Rattle.lvm_group.proofs.SameParts.{area_below, part_below}
 use Rattle.raid_rack.specs.Raid.{Raid, held_in}
+use Rattle.pool_image.proofs.Groups.{map_below}
 use Rattle.pool_image.proofs.Joined.{bad_by_parts}
 use Rattle.pool_model.specs.Grouped.{HoldGroup}
 
@@ -53,16 +55,43 @@ whole_unspent v x is_array seats inside =
     let reach : (member_on v k).reach ≡ v.truth.size = ap (λ o. option_map_or (seat_reach v.truth.size) o 0) (seats k (omega (arith, less))) in
     omega (arith, low, reach)))
 
--- Arrays that before their first extents hold just what these contents have, of which none is bad.
-pub group_left : (v : Raid) (x : Seen) (after : Image)
+-- Contents that before the first extents of the arrays agree with some that mean a volume mean it too.
+pub means_below : (pool : List ℕ) (joined : ℕ) (sectors : ℕ → ℕ) (l : Linear) (seqno : ℕ) (m c : Image)
+    → ((n : ℕ) → n < joined → HasOwnArea (m n)) → MeansVolume pool joined sectors l seqno m
+    → ((n s : ℕ) → n < joined → s < data_start → c n s ≡ m n s) → MeansVolume pool joined sectors l seqno c
+means_below pool joined sectors l seqno m c areas means same = record {
+  group = means.group;
+  found =
+      ap (λ parts. highest (map (λ part. part.group) parts))
+      (map_below (λ n. part_of (c n) (sectors n)) (λ n. part_of (m n) (sectors n)) 0 joined (λ n low. parts n (omega (arith, low))))
+      ∙ means.found;
+  own = means.own;
+  sound = bad_by_parts pool l.extent joined sectors sectors (λ n low. refl) c m parts ∙ means.sound;
+  volume = means.volume;
+  numbered = means.numbered;
+}
+  where
+    parts : (n : ℕ) → n < joined → part_of (c n) (sectors n) ≡ part_of (m n) (sectors n)
+    parts n low = part_below (m n) (c n) (sectors n) (areas n low) (λ s first. same n s low first)
+
+-- Arrays that before their first extents hold just what contents have there which mean a volume.
+pub group_left : (v : Raid) (x : Seen) (l : Linear) (seqno : ℕ) (after : Image)
     → ((n : ℕ) → n < v.state.joined → data_start ≤ sectors_of (v.arrays n))
     → ((n : ℕ) → n < v.state.joined → HasOwnArea (after n))
     → ((n s : ℕ) (u : List ℕ) → n < v.state.joined → s < data_start → MayLeave (held_in v x n s) u → u ≡ after n s)
-    → first_bad v.state.pool.0 v.state.extent (λ n. sectors_of (v.arrays n)) v.state.joined after ≡ None
-    → HoldGroup v x
-group_left v x after room own only sound c picks past =
-    bad_by_parts v.state.pool.0 v.state.extent v.state.joined (λ n. sectors_of (v.arrays n)) (λ n. sectors_of (v.arrays n)) (λ n low. refl) c after
-    (λ n low.
-    part_below (after n) (c n) (sectors_of (v.arrays n)) (own n low)
-    (λ s first. only n s (c n s) low first (picks n s low (let enough = room n low in omega (arith, enough, first)) first)))
-    ∙ sound
+    → l.extent ≡ v.state.extent → l.arrays ≡ v.state.joined
+    → MeansVolume v.state.pool.0 v.state.joined (λ n. sectors_of (v.arrays n)) l seqno after
+    → HoldGroup v l x
+group_left v x l seqno after room own only extent arrays means = record {
+  extent = extent;
+  arrays = arrays;
+  says = λ c picks past.
+      let same : (n s : ℕ) → n < v.state.joined → s < data_start → c n s ≡ after n s =
+      λ n s low first. only n s (c n s) low first (picks n s low (let enough = room n low in omega (arith, enough, first)) first) in (
+        seqno,
+        record {
+          areas = λ n low. area_below (after n) (c n) (sectors_of (v.arrays n)) (own n low) (λ s first. same n s low first);
+          means = means_below v.state.pool.0 v.state.joined (λ n. sectors_of (v.arrays n)) l seqno after c own means same;
+        },
+      );
+}

@@ -3,7 +3,8 @@
 -- `InService f t v x` holds from the opening of the pool f to its end: `in_service` at the opening, `service_calls` after calls that write slices
 -- alone, `service_attached` after a drive was declined, `service_taken` after one was taken in. From then on f is `taken f ..`: its disks are those
 -- of the bay, the place has the new disk, its state is the one that has the drive, and all else is as it was. At the end `service_again` says that
--- whatever the disks may be left with holds that pool again, `vacant_again` says it where a place whose drive is missing gave its disk up.
+-- whatever the disks may be left with holds that pool again, `vacant_again` says it where a place whose drive is missing gave its disk up. They go by what
+-- is known then of the pool with what its disks say (`service_known`, `vacant_known`).
 --
 -- What a run has to tell of a drive that was taken in, from the book v, the tables t and the disks x before to w, u and z after it:
 -- - `SeatsNew`, of the place: it is in the list, no other place's drive is missing that had a disk, and the disk is none of theirs; `seats`
@@ -42,8 +43,8 @@ use Rattle.pool_model.specs.Pools.{AreSlicesOf, IsSoundPool}
 use Rattle.pool_model.specs.Stopped.{HoldLanding, HoldTables}
 use Rattle.pool_model.specs.Taken.{JoinsBook, KeepsOthers, KeepsRest, LacksDrive, SeatsNew, attached, taken}
 use Rattle.pool_model.proofs.Again.{known_again, left_by, left_known_by, off_later, pick_in}
-use Rattle.pool_model.proofs.Alike.{alone_said, has_truths, served_said, slices_like, slices_said, truth_same}
-use Rattle.pool_model.proofs.Copies.{IsServedNow}
+use Rattle.pool_model.proofs.Alike.{alone_said, has_truths, sectors_said, served_said, slices_like, slices_said, truth_same}
+use Rattle.pool_model.proofs.Copies.{IsKnown, IsServedNow}
 use Rattle.pool_model.proofs.Declined.{arranged_attached, held_attached, truths_attached}
 use Rattle.pool_model.proofs.Found.{found_is}
 use Rattle.pool_model.proofs.Landing.{landing_again}
@@ -160,6 +161,7 @@ still_said f e t s i is = record {
   slices = is.slices;
   joined = is.joined;
   alone = is.alone;
+  sectors = λ n low. is.sectors n low ∙ sectors_said f e n;
   values = is.values;
 }
 
@@ -167,26 +169,26 @@ unfoldable pub again_said : (f : Found) (e : Identities) (t : Slices) (s : State
 unfolding still_said
 again_said f e t s i is = record { still = still_said f e t s i is.still; present = is.present; idle = is.idle }
 
--- Where its arrays are told and none is over, whatever the disks may be left with holds it again.
-pub service_again : (f : Found) (t : Slices) (v : Raid) (x : Seen) → InService f t v x → IsInside t x
+-- Where its arrays are told and none is over, all is known of it and of what the disks may be left with, by what these say of it.
+pub service_known : (f : Found) (t : Slices) (v : Raid) (x : Seen) → InService f t v x → IsInside t x
     → ((n : ℕ) → n < f.state.made → IsTold v (slices_of t x) n) → ((n : ℕ) → n < f.state.made → is_over v n ≡ false)
-    → (i : Image) → IsPick x x x.held i → HoldAgain f t v.state i
-service_again f t v x is inside told lasts i pick =
+    → (i : Image) → IsPick x x x.held i → (e : Identities) × IsKnown (record f { identities = e }) t v (slices_of t x) i
+service_known f t v x is inside told lasts i pick =
     let said = is.held.said i (λ d s live never. pick d s live) in
     let e = said.identities in
     let served : IsServed f t v (slices_of t x) =
     record { slices = is.slices; after = is.after; joined = is.joined; told = told; lasts = lasts; geometry = is.geometry } in
-    let here = served_said f e is.arranged.made.1 is.arranged.truths t v (slices_of t x) served in
-    again_said f e t v.state i
-    (known_again (record f { identities = e }) t v (slices_of t x) i
-    (left_known_by (record f { identities = e }) t x v here inside i said.outset is.disks said.elsewhere
-    (alone_said f e is.arranged.made.1 is.arranged.truths v.state i (is.held.alone i (λ d s live never. pick d s live))) (pick_in t x i pick)))
+    let here = served_said f e is.arranged.made.1 is.arranged.truths t v (slices_of t x) served in (
+      e,
+      left_known_by (record f { identities = e }) t x v here inside i said.outset is.disks said.elsewhere
+          (alone_said f e is.arranged.made.1 is.arranged.truths v.state i (is.held.alone i (λ d s live never. pick d s live))) (pick_in t x i pick),
+    )
 
 -- So it is where a place whose drive is missing has no disk any more.
-pub vacant_again : (f : Found) (t u : Slices) (v : Raid) (x : Seen) (place : ℕ) → InService f t v x → LacksDrive f t u v place x → IsInside u x
+pub vacant_known : (f : Found) (t u : Slices) (v : Raid) (x : Seen) (place : ℕ) → InService f t v x → LacksDrive f t u v place x → IsInside u x
     → ((n : ℕ) → n < f.state.made → IsTold v (slices_of u x) n) → ((n : ℕ) → n < f.state.made → is_over v n ≡ false)
-    → (i : Image) → IsPick x x x.held i → HoldAgain f u v.state i
-vacant_again f t u v x place is lacks inside told lasts i pick =
+    → (i : Image) → IsPick x x x.held i → (e : Identities) × IsKnown (record f { identities = e }) u v (slices_of u x) i
+vacant_known f t u v x place is lacks inside told lasts i pick =
     let said = is.held.said i (λ d s live never. pick d s live) in
     let e = said.identities in
     let few = is.arranged.made.1 in
@@ -206,8 +208,23 @@ vacant_again f t u v x place is lacks inside told lasts i pick =
     let left =
     left_by u x inside (on_disks t u place lacks.vacated g slices) g v.state i is.disks said.elsewhere (alone_said f e few has v.state i (is.held.alone i (λ d s live never. pick d s live)))
     (pick_in u x i pick) in
-    again_said f e u v.state i
-    (known_again g u v (slices_of u x) i (known_vacant g t u v x place i said.outset is.disks slices still served left (λ d s live never. pick d s live)))
+    (e, known_vacant g t u v x place i said.outset is.disks slices still served left (λ d s live never. pick d s live))
+
+-- what is known of it by what disks say holds it again
+known_said : (f : Found) (t : Slices) (v : Raid) (y : Seen) (i : Image) → (e : Identities) × IsKnown (record f { identities = e }) t v y i → HoldAgain f t v.state i
+known_said f t v y i one = again_said f one.0 t v.state i (known_again (record f { identities = one.0 }) t v y i one.1)
+
+-- So whatever the disks may be left with holds it again.
+pub service_again : (f : Found) (t : Slices) (v : Raid) (x : Seen) → InService f t v x → IsInside t x
+    → ((n : ℕ) → n < f.state.made → IsTold v (slices_of t x) n) → ((n : ℕ) → n < f.state.made → is_over v n ≡ false)
+    → (i : Image) → IsPick x x x.held i → HoldAgain f t v.state i
+service_again f t v x is inside told lasts i pick = known_said f t v (slices_of t x) i (service_known f t v x is inside told lasts i pick)
+
+pub vacant_again : (f : Found) (t u : Slices) (v : Raid) (x : Seen) (place : ℕ) → InService f t v x → LacksDrive f t u v place x → IsInside u x
+    → ((n : ℕ) → n < f.state.made → IsTold v (slices_of u x) n) → ((n : ℕ) → n < f.state.made → is_over v n ≡ false)
+    → (i : Image) → IsPick x x x.held i → HoldAgain f u v.state i
+vacant_again f t u v x place is lacks inside told lasts i pick =
+    known_said f u v (slices_of u x) i (vacant_known f t u v x place is lacks inside told lasts i pick)
 
 -- ---- where the drives' tables have the members' slices
 

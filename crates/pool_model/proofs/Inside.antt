@@ -36,6 +36,7 @@ use Rattle.pool_model.specs.Pools.{extent_in}
 use Rattle.pool_model.specs.Stopped.{SaysArray, SaysStopped, StandFor}
 use Rattle.pool_model.proofs.Brought.{apart, e, e_is, e_none, lands_as, replays, ys, zs}
 use Rattle.pool_model.proofs.Current.{SameCurrent, SameMembers, array_current, sound_current, truth_current}
+use Rattle.pool_model.proofs.Extents.{sectors_now}
 use Rattle.pool_model.proofs.Found.{newest_latest}
 use Rattle.pool_model.proofs.Layers.{IsLaid, laid}
 use Rattle.pool_model.proofs.Logs.{log_lies}
@@ -219,6 +220,7 @@ module _ (f : Found) (t : Slices) (base s : State) (i : Image) (stop : SaysStopp
           is_truth = truth_current s (sliced t after) written_as n same_current ∙ was.is_truth;
           sound = sound_current s (sliced t after) written_as n same_current same_members was.truth was.sound;
           size = was.size;
+          layout = was.layout;
           named = was.named;
         }
 
@@ -376,5 +378,6 @@ module _ (f : Found) (t : Slices) (base s : State) (i : Image) (stop : SaysStopp
     slices = slices_now f t s after (standing_by f.disks i st.stood) says_pool;
     joined = (later_base f t base s i stop).same.joined ∙ stop.joined ∙ sym (later_base f t base s i stop).same.made;
     alone = alone_now f t s after (standing_by f.disks i st.stood) says_pool after alone_now_written;
+    sectors = sectors_now f t s after (standing_by f.disks i st.stood) says_pool;
     values = λ n x low. value_now f t s after (standing_by f.disks i st.stood) says_pool n low x ∙ value_same n low x;
   }

@@ -7,8 +7,11 @@ use Rattle.array_image.specs.Left.{IsLeft}
 use Rattle.array_image.specs.Supers.{is_named, truth_in}
 use Rattle.array_model.specs.Says.{IsEarlier, Says}
 use Rattle.array_model.specs.View.{shape_of}
+use Rattle.raid_rack.specs.Frames.{Frame, frame_of}
 use Rattle.raid_rack.specs.Raid.{Raid, held_in, spent_of}
+use Rattle.raid_rack.proofs.Frames.{earlier_frame, geometry_frame}
 use Rattle.pool_image.specs.Drives.{Found}
+use Rattle.pool_image.specs.Meaning.{truth_of}
 use Rattle.pool_model.specs.Stopped.{SaysArray}
 use Rattle.pool_model.proofs.Copies.{IsKnown, c, copied_now, copy_now, kept, newest_now, no_later, seats_now, stands, stood}
 use Rattle.pool_model.proofs.Current.{shape_truth}
@@ -37,11 +40,14 @@ module _ (f : Found) (t : Slices) (v : Raid) (y : Seen) (i : Image) (known : IsK
     says_array =
         let one = shape_truth v.state held n (truth_in v.state held n) (shape_of (v.arrays n)) says.shape_is in
         let fields = (earlier one.0 one.1).fields in
+        let framed : (u : Super) → truth_of f n ≡ Some u → frame_of one.0 ≡ frame_of u =
+        λ u at. earlier_frame one.0 (v.arrays n).truth (earlier one.0 one.1) ∙ geometry_frame u (v.arrays n).truth (known.served.geometry n u low at) in
         record {
           truth = one.0;
           is_truth = one.1;
           sound = says.is_sound one.0 one.1;
-          size = λ u at. ap (λ (z : Super). z.size) fields ∙ (known.served.geometry n u low at).size;
+          size = λ u at. ap (λ (g : Frame). g.size) (framed u at);
+          layout = λ u at. ap (λ (g : Frame). g.layout) (framed u at);
           named = λ u p at. ap (λ roles. is_named (record one.0 { roles = roles }) p) (ap (λ (z : Super). z.roles) fields ∙ (known.served.geometry n u low at).roles);
         }
 

@@ -39,9 +39,9 @@ pub mod Members
 pub mod Without
 pub mod Absent
 pub mod Grouped
+pub mod Sizes
 pub mod Ended
 pub mod EndedWhole
-pub mod Heads
 mod AbsentExamples
 pub mod Declined
 pub mod Vacant
@@ -83,3 +83,6 @@ pub mod Rereading
 pub mod Agreeing
 pub mod GatesSame
 pub mod Likewise
+pub mod Sectors
+pub mod Reopening
+pub mod ReopeningAmid

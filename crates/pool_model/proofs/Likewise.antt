@@ -1,4 +1,4 @@
--- What contents hold of a pool goes by its disks, its seats and the number of its arrays, and by bounds of the state.
+-- What contents hold of a pool goes by its disks, its seats, and the number and the sectors of its arrays, and by bounds of the state.
 use Rattle.std.proofs.Common.{◌≡◌, ℕ, ◌<◌, Option, sym, ap, subst, ◌∙◌}
 use Rattle.rack.specs.Seen.{Image}
 use Rattle.slice_rack.specs.Slices.{Slices}
@@ -6,14 +6,15 @@ use Rattle.pool_state.specs.declared.contents.State.{State}
 use Rattle.raid_rack.specs.Book.{IsAfter, after_then}
 use Rattle.pool_image.specs.Disks.{Disks}
 use Rattle.pool_image.specs.Drives.{Found, found}
+use Rattle.pool_image.specs.Meaning.{array_sectors}
 use Rattle.pool_rest.specs.Moments.{TakesLowerIn}
 use Rattle.pool_rest.specs.SoundLogs.{HasSoundLogs}
 use Rattle.pool_model.specs.Stopped.{HoldAmid}
 
 -- They hold another one that has the same ones, by a state between wider bounds.
 pub amid_likewise : (f g : Found) (t : Slices) (s u r w : State) (i : Image) → g.disks ≡ f.disks → g.seats ≡ f.seats → g.state.made ≡ f.state.made
-    → IsAfter r s → IsAfter u w → HoldAmid f t s u i → HoldAmid g t r w i
-amid_likewise f g t s u r w i disks seats made from until amid = record {
+    → ((n : ℕ) → n < f.state.made → array_sectors g n ≡ array_sectors f n) → IsAfter r s → IsAfter u w → HoldAmid f t s u i → HoldAmid g t r w i
+amid_likewise f g t s u r w i disks seats made sectors from until amid = record {
   between = record {
     state = amid.between.state;
     later = after_then r s amid.between.state from amid.between.later;
@@ -28,6 +29,7 @@ amid_likewise f g t s u r w i disks seats made from until amid = record {
       slices = amid.between.still.slices;
       joined = amid.between.still.joined;
       alone = amid.between.still.alone;
+      sectors = λ n low. let less = subst (λ k. n < k) made low in amid.between.still.sectors n less ∙ sym (sectors n less);
       values = λ n x low. amid.between.still.values n x (subst (λ k. n < k) made low);
     };
     apart = amid.between.apart;

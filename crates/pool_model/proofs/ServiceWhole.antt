@@ -7,6 +7,7 @@ use Rattle.slice_rack.specs.Slices.{Slices}
 use Rattle.slice_rack.specs.Sliced.{IsInside, slices_of}
 use Rattle.array_image.specs.Left.{IsLeft}
 use Rattle.array_model.specs.View.{sectors_of}
+use Rattle.lvm_group.specs.Runs.{Linear}
 use Rattle.commit_log.proofs.Counting.{is_listed}
 use Rattle.pool_image.specs.Disks.{Identities}
 use Rattle.pool_image.specs.Drives.{Found}
@@ -34,13 +35,13 @@ absent_said f e t v i is = record {
   safe = is.safe;
 }
 
--- Where its arrays are told and none is over, its book is whole, its superblocks agree, its arrays hold its group and it stands alone on its disks, what
+-- Where its arrays are told and none is over, its book is whole, its superblocks agree, its arrays hold a volume's group and it stands alone on its disks, what
 -- these may be left with, without disks that are left out, holds it again, and means without any one drive what it means with it.
-pub service_absent : (f : Found) (bound : ℕ) (Out : ℕ → Type 0) (t : Slices) (v : Raid) (x : Seen) → InService f t v x → HoldAlone f bound Out v.state t x → IsInside t x
+pub service_absent : {l : Linear} (f : Found) (bound : ℕ) (Out : ℕ → Type 0) (t : Slices) (v : Raid) (x : Seen) → InService f t v x → HoldAlone f bound Out v.state t x → IsInside t x
     → ((n : ℕ) → n < f.state.made → IsTold v (slices_of t x) n) → ((n : ℕ) → n < f.state.made → is_over v n ≡ false)
     → IsWholeRaid f.state.made v
     → ((n : ℕ) (r : Image) → n < f.state.made → IsLeft (slices_of t x) r → AgreeLeaving (v.arrays n) v.state r n)
-    → HoldGroup v (slices_of t x)
+    → HoldGroup v l (slices_of t x)
     → ((n k : ℕ) → n < f.state.made → k < sectors_of (v.arrays n) → spent_of v n k ≡ false)
     → (i j : Image) → IsPick x x x.held i → LeaveOut f Out i j
     → ((d k : ℕ) → d < f.disks.count → k < f.disks.sectors d → length (j d k) ≡ 512)

@@ -1,5 +1,5 @@
 -- Contents of a pool at rest that differ in sectors of partition tables alone, where each disk has the table that it had, hold the same pool.
-use Rattle.std.proofs.Common.{◌≡◌, ℕ, zero, suc, ◌+◌, ◌<◌, ◌≤◌, Bool, true, false, nat_lt, if◌then◌else◌, List, [], Option, Some, None, option_map, refl, sym, ap, ap₂, subst, ◌∙◌, inl, inr, ltb-true, arith}
+use Rattle.std.proofs.Common.{◌≡◌, ℕ, suc, ◌+◌, ◌<◌, ◌≤◌, Bool, true, false, nat_lt, if◌then◌else◌, List, [], Option, Some, None, option_map, refl, sym, ap, ap₂, subst, ◌∙◌, inl, inr, ltb-true, arith}
 use Rattle.std.specs.Option.{option_and_then, option_map_or}
 use Rattle.std.specs.Result.{result_ok}
 use Rattle.std.proofs.lemmas.Bool.{both_ways, cases_Bool}
@@ -16,24 +16,25 @@ use Rattle.array_image.specs.Foremost.{foremost}
 use Rattle.array_image.specs.Places.{arrays_first, data_sector, log_slice, member_slice, place_of, state_sector, super_sector}
 use Rattle.array_image.specs.Record.{damaged_log, pending}
 use Rattle.array_image.specs.States.{current_places, is_current}
-use Rattle.array_image.specs.Supers.{is_named, super_in}
+use Rattle.array_image.specs.Supers.{super_in}
 use Rattle.array_image.proofs.Frames.{super_of_sector}
 use Rattle.raid_rack.specs.Book.{after_same}
 use Rattle.commit_log.proofs.Places.{joins_none}
 use Rattle.pool_image.specs.Disks.{Disks, Identity, identities_of, newest, seat_of}
-use Rattle.pool_image.specs.Drives.{Found, drive_sector, end_of, extent_from, extent_of, first_of, found, found_by, slices_from, slices_of, truth_from}
+use Rattle.pool_image.specs.Drives.{Found, drive_sector, extent_of, found, found_by, slices_from, slices_of, truth_from}
 use Rattle.pool_image.specs.Meaning.{array_sectors, arrays_held, is_member, truth_of}
 use Rattle.pool_image.specs.Replay.{Extent, Standing, extent_by, logs_of, standing, standing_by, written}
 use Rattle.pool_image.proofs.Founds.{first_behind}
 use Rattle.pool_image.proofs.Identities.{newest_same, seat_inside, seat_same}
 use Rattle.pool_image.proofs.Rested.{stood_by, written_none}
-use Rattle.pool_image.proofs.Truths.{extent_found, slice_of_member, slice_sector, truth_found}
+use Rattle.pool_image.proofs.Truths.{extent_found, slice_of_member, slice_sector}
 use Rattle.pool_rest.specs.Resting.{seated_state}
 use Rattle.pool_rest.specs.SoundLogs.{HasSoundLogs, IsSoundLog}
 use Rattle.pool_model.specs.Left.{AreAlone, HasNoSuper}
 use Rattle.pool_model.specs.Openings.{HaveGoodTables, HoldOpened, IsButTables, IsIdleIn}
 use Rattle.pool_model.specs.Pools.{IsSoundPool}
 use Rattle.pool_model.specs.Stopped.{LieApart}
+use Rattle.pool_model.proofs.Alike.{HasTruths, extent_same, first_same, member_same, truth_same}
 use Rattle.pool_model.proofs.Current.{SameCurrent, SameMembers, array_current, shape_current, sound_current, truth_current}
 use Rattle.pool_model.proofs.Found.{found_is, some_made}
 use Rattle.pool_model.proofs.Layers.{IsLaid, laid, none_there}
@@ -239,28 +240,22 @@ module _ (disks : Disks) (c i : Image) (s : State) (newest_is : newest disks (id
       | inr none ↦ none_after p none ∙ sym (none_before p none)
     ]
 
-    truth_there : truth_from g n first ≡ Some truth
-    truth_there = truth_current s (slices_from g first) (slices_from f first) n super_from ∙ lie.is
+    truth_there : truth_from g n first ≡ truth_from f n first
+    truth_there = truth_current s (slices_from g first) (slices_from f first) n super_from
 
-  begins_kept : (n : ℕ) → n ≤ f.state.made → first_of g n ≡ first_of f n
-  unfolding first_of
-  begins_kept zero low = refl
-  begins_kept (suc n) low =
-      let less : n < f.state.made = omega (arith, low) in
-      let l = lie n less in
-      ap (option_and_then (λ first. option_map end_of (extent_from g n first))) (begins_kept n (omega (arith, less)) ∙ l.begins)
-      ∙ ap (λ (o : Option Super). option_map end_of (option_map (λ u. record { first = l.first; sectors = data_sector + u.size }) o)) (truth_there n less ∙ sym l.is)
-      ∙ sym (ap (option_and_then (λ first. option_map end_of (extent_from f n first))) l.begins)
+  has : (n : ℕ) → n < f.state.made → (u : Super) × (truth_of f n ≡ Some u)
+  has n low = (truth n low, truth_before n low)
+
+  has_truths : HasTruths f g
+  has_truths n first u low begins is =
+      subst (λ k. truth_from g n k ≡ truth_from f n k) (some_same (lie n low).first first (sym (lie n low).begins ∙ begins)) (truth_there n low) ∙ is
 
   module _ (n : ℕ) (low : n < f.state.made) where
-    begins_now : first_of g n ≡ Some (lie n low).first
-    begins_now = begins_kept n (omega (arith, low)) ∙ (lie n low).begins
-
     truth_now : truth_of g n ≡ Some (truth n low)
-    truth_now = truth_found g n (lie n low).first (truth n low) (small n low) begins_now (truth_there n low)
+    truth_now = truth_same f g few has has_truths n low ∙ truth_before n low
 
     extent_now : extent_of g (suc n) ≡ Some (record { first = (lie n low).first; sectors = data_sector + (truth n low).size })
-    extent_now = extent_found g n (lie n low).first (truth n low) begins_now (truth_there n low)
+    extent_now = extent_same f g few has has_truths n low ∙ extent_before n low
 
     -- a member's slice
     slice_kept : (p u : ℕ) → is_member f n p ≡ true → slices_of g (member_slice p n) u ≡ slices_of f (member_slice p n) u
@@ -318,7 +313,7 @@ module _ (disks : Disks) (c i : Image) (s : State) (newest_is : newest disks (id
   }
 
   member_kept : (n p : ℕ) → n < f.state.made → is_member g n p ≡ is_member f n p
-  member_kept n p low = ap (λ (o : Option Super). option_map_or (λ u. is_named u p) o false) (truth_now n low ∙ sym (truth_before n low))
+  member_kept n p low = member_same f g few has has_truths n low p
 
   apart_kept : LieApart g
   apart_kept m n p d a b less low seat none member lies there =
@@ -329,7 +324,7 @@ module _ (disks : Disks) (c i : Image) (s : State) (newest_is : newest disks (id
 
   alone_kept : AreAlone g i
   alone_kept n p d first low seat none begins within =
-      alone_now n p d first low (sym (seats_kept p) ∙ seat) (sym (member_kept n p low) ∙ none) (sym (begins_kept n (omega (arith, low))) ∙ begins) within
+      alone_now n p d first low (sym (seats_kept p) ∙ seat) (sym (member_kept n p low) ∙ none) (sym (first_same f g few has has_truths n (omega (arith, low))) ∙ begins) within
 
   pub tables_hold : HoldOpened f 0 i
   tables_hold = record {

@@ -69,15 +69,18 @@ module _ (f : Found) (t : Slices) (v w : Raid) (i : Image) (is : IsCalledBy f t 
       let state : between.state ≡ s = some_same between.state s (sym between.is_state ∙ shows.logs.says.is_state) in
       let one = shape_truth between.state r n (truth_in between.state r n) between.shape between.shape_is in
       let truth : truth_in s r n ≡ Some one.0 = subst (λ (z : State). truth_in z r n ≡ Some one.0) state one.1 in
-      let frame : frame_of one.0 ≡ frame_of (v.arrays n).truth = shows.frames n low s one.0 shows.logs.says.is_state truth in
+      let framed : (u : Super) → truth_of said n ≡ Some u → frame_of one.0 ≡ frame_of u =
+      λ u at.
+      shows.frames n low s one.0 shows.logs.says.is_state truth
+      ∙ geometry_frame u (v.arrays n).truth (is.geometry n u low (sym (truth_said n low) ∙ at)) in
       record {
         truth = one.0;
         is_truth = truth;
         sound = subst (λ (z : State). IsSoundArray z r n one.0) state (between.is_sound one.0 one.1);
-        size = λ u at. ap (λ (g : Frame). g.size) frame ∙ (is.geometry n u low (sym (truth_said n low) ∙ at)).size;
+        size = λ u at. ap (λ (g : Frame). g.size) (framed u at);
+        layout = λ u at. ap (λ (g : Frame). g.layout) (framed u at);
         named = λ u p at.
-            named_same one.0 u (truth_placed s r n one.0 places truth) (truth_placed f.state (found_slices said) n u is.arranged.places at)
-            (frame ∙ geometry_frame u (v.arrays n).truth (is.geometry n u low (sym (truth_said n low) ∙ at))) p;
+            named_same one.0 u (truth_placed s r n one.0 places truth) (truth_placed f.state (found_slices said) n u is.arranged.places at) (framed u at) p;
       }
 
   pub says_stopped : SaysStopped said t v.state s i

@@ -1,8 +1,8 @@
 -- The tables of a pool's drives have the members' slices where they lie: so they stay where drives leave it and come to it.
 --
--- They have by the slices of the other places where one gave its disk up (`tables_vacant`), where a drive was declined (`tables_attached`), and where one
+-- They have by the slices of the other places where one gave its disk up (`tables_vacant`), where a drive was declined (`tables_attached`, `tabled_declined`), and where one
 -- was taken in whose table has them (`tables_taken`). Calls that write slices alone are in proofs/Amid.antt.
-use Rattle.std.proofs.Common.{◌≡◌, ◌≢◌, ℕ, ◌<◌, if◌then◌else◌, Bool, true, false, List, Some, None, sym, ap, ap₂, subst, ◌∙◌, inl, inr, eq-eqb, ne_eqb, arith}
+use Rattle.std.proofs.Common.{◌≡◌, ◌≢◌, ℕ, ◌<◌, if◌then◌else◌, Bool, true, false, List, Some, None, refl, sym, ap, ap₂, subst, ◌∙◌, inl, inr, eq-eqb, ne_eqb, arith}
 use Rattle.std.proofs.lemmas.Bool.{both_ways, cases_eq}
 use Rattle.rack.specs.Seen.{Image, Seen}
 use Rattle.slice_rack.specs.Changes.{Seats}
@@ -19,13 +19,16 @@ use Rattle.raid_rack.specs.Raid.{Raid}
 use Rattle.pool_image.specs.Disks.{disks_of}
 use Rattle.pool_image.specs.Drives.{Found}
 use Rattle.pool_image.specs.Replay.{Extent}
+use Rattle.pool_model.specs.Alone.{HoldTabled, IsTabled}
 use Rattle.pool_model.specs.InService.{InService, IsArranged}
 use Rattle.pool_model.specs.Left.{IsPickOff}
 use Rattle.pool_model.specs.Pools.{AreSlicesOf, extent_in}
 use Rattle.pool_model.specs.Stopped.{HoldTables, LieOn}
 use Rattle.pool_model.specs.Taken.{KeepsOthers, KeepsRest, SeatsNew, attached, taken}
+use Rattle.pool_model.proofs.Alone.{tabled_same}
 use Rattle.pool_model.proofs.Amid.{off_more}
 use Rattle.pool_model.proofs.Before.{off_before, was as image_before, was_other as image_other}
+use Rattle.pool_model.proofs.Declined.{truths_attached}
 use Rattle.pool_model.proofs.Joined.{current_other}
 use Rattle.pool_model.proofs.Staying.{sliced_before as sliced_taken}
 use Rattle.pool_model.proofs.Taken.{IsKnownBefore}
@@ -72,6 +75,22 @@ tables_attached f t s disk x z arranged slices keeps own tables i off p d now se
           (subst (λ k. LieOn t p k (was d)) (sym (keeps.sectors d (arranged.seated p d at).1))
           (tables was (off_before t t disk x z keeps.outside fewer i off) p d now seat))
     ]
+
+-- So have the drives of current places their tables, where that disk has the one of its place.
+pub tabled_declined : (f : Found) (t : Slices) (s : State) (disk : ℕ) (x z : Seen) → IsArranged f → KeepsOthers f t s disk x z
+    → ((i : Image) → IsPickOff t z i → (p : ℕ) → is_current s p ≡ true → f.seats p ≡ Some disk → IsTabled f p (z.sectors disk) (i disk))
+    → HoldTabled f s t x → HoldTabled (attached f (disks_of z)) s t z
+tabled_declined f t s disk x z arranged keeps own tabled i off p d seat why =
+    tabled_same f (attached f (disks_of z)) arranged.made.1 arranged.truths (truths_attached f (disks_of z) arranged keeps.disks keeps.sectors) refl p refl (z.sectors d) (i d)
+    (elim (cases_eq d disk) [
+      | inl same ↦ subst (λ k. IsTabled f p (z.sectors k) (i k)) (sym same) (own i off p (elim why [ inl now ↦ now | inr never ↦ absurd (never tt) ]) (seat ∙ ap Some same))
+      | inr other ↦
+          let fewer : (e k : ℕ) (w : List ℕ) → e ≢ disk → IsSliced t e k w → IsSliced t e k w = λ e k w apart is. is in
+          let was = image_before t t disk x z keeps.outside fewer i off in
+          subst (IsTabled f p (z.sectors d)) (image_other t t disk x z keeps.outside fewer i off d other)
+          (subst (λ k. IsTabled f p k (was d)) (sym (keeps.sectors d (arranged.seated p d seat).1))
+          (tabled was (off_before t t disk x z keeps.outside fewer i off) p d seat why))
+    ])
 
 -- ---- a drive that was taken in
 

@@ -19,7 +19,7 @@ use Rattle.array_core.specs.Seats.{seat_of as seat_in}
 use Rattle.array_model.specs.View.{HasGeometry, View}
 use Rattle.pool_image.specs.Disks.{Disks}
 use Rattle.pool_image.specs.Drives.{Found, drive_sector, first_of, slices_from, truth_from}
-use Rattle.pool_image.specs.Meaning.{is_member, truth_of}
+use Rattle.pool_image.specs.Meaning.{array_sectors, is_member, truth_of}
 use Rattle.pool_image.proofs.Truths.{truth_found}
 use Rattle.raid_rack.specs.Book.{IsAfter}
 use Rattle.raid_rack.specs.Enlisting.{enlisted}
@@ -27,7 +27,7 @@ use Rattle.raid_rack.specs.NewDrive.{first_in, joins, slice_length}
 use Rattle.raid_rack.specs.Raid.{Raid}
 use Rattle.pool_model.specs.InService.{IsArranged}
 use Rattle.pool_model.specs.Taken.{SeatsNew, taken, views_of}
-use Rattle.pool_model.proofs.Alike.{HasTruths, truth_same}
+use Rattle.pool_model.proofs.Alike.{HasTruths, sectors_same, truth_same}
 use Rattle.pool_model.proofs.Beginnings.{first_is, view_at}
 use Rattle.pool_model.proofs.Joined.{current_here, current_other, few_same}
 use Rattle.pool_model.proofs.Layers.{none_there}
@@ -234,6 +234,10 @@ module _ (f : Found) (t u : Slices) (v : Raid) (disks : Disks) (place disk units
   has_truths n first y low begins is = truth_still n first low begins y is
 
   -- ---- the pool with the drive
+
+  -- its arrays have the sectors that they had
+  pub sectors_taken : (n : ℕ) → n < f.state.made → array_sectors g n ≡ array_sectors f n
+  sectors_taken n low = sectors_same f g known.outset.made.1 known.outset.truths has_truths n low
 
   truth_is : (n : ℕ) → n < f.state.made → truth_of g n ≡ truth_of f n
   truth_is n low = truth_same f g known.outset.made.1 known.outset.truths has_truths n low

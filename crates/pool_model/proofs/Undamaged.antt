@@ -11,7 +11,7 @@ use Rattle.gpt_table.specs.declared.Table.{Table}
 use Rattle.pool_state.specs.declared.contents.State.{State}
 use Rattle.array_image.specs.Places.{log_slice}
 use Rattle.array_image.specs.Record.{gate_of, gate_sector, is_bad_gate, is_bad_log, is_there}
-use Rattle.array_image.specs.States.{current_places, is_current}
+use Rattle.array_image.specs.States.{current_places, id_of, is_current}
 use Rattle.commit_log.specs.View.{names}
 use Rattle.raid_rack.proofs.Added.{names_current}
 use Rattle.raid_rack.specs.Raid.{Raid}
@@ -20,7 +20,7 @@ use Rattle.pool_image.specs.Drives.{Found, extent_of, slices_of}
 use Rattle.pool_image.specs.Meaning.{absent_count, has_log, has_slice, has_slice_of, has_table, is_member, is_table, kind_of}
 use Rattle.pool_image.proofs.Rested.{gate_block}
 use Rattle.pool_image.specs.Replay.{Standing}
-use Rattle.pool_model.specs.Left.{HasSoundParts}
+use Rattle.pool_model.specs.Left.{HasSoundParts, HavePlaces}
 use Rattle.pool_model.proofs.Copies.{c, copied_now, IsKnown, log_reads, log_room, s, seat_there, seats_now}
 use Rattle.pool_model.proofs.Extents.{lies_now, made_same, member_same}
 use Rattle.pool_model.proofs.Known.{says_pool}
@@ -59,7 +59,42 @@ pub or_left : (a b : Bool) → (a || b) ≡ false → a ≡ false
 or_left true b is = absurd (both_ways true is refl)
 or_left false b is = refl
 
--- ---- the pool
+-- ---- a pool
+
+-- where each current place has a drive none is absent
+pub none_absent : (g : Found) → HavePlaces g.state g → absent_count g ≡ 0
+unfolding current_places
+none_absent g present =
+    sym (length-filter (λ p. is_none (g.seats p)) (current_places g.state))
+    ∙ ap length (none_kept (λ p. is_none (g.seats p)) (is_current g.state) (range_with_len 0 (length g.state.drives.items)) (λ p here. ap is_none (present p here).1))
+
+-- an array whose slices lie alike has the same slice in a table
+pub slice_alike : (f g : Found) (table : Table) (k n : ℕ) → extent_of g (suc n) ≡ extent_of f (suc n) → has_slice_of g k table (n + 1) ≡ has_slice_of f k table (n + 1)
+slice_alike f g table k n same =
+    let next : n + 1 ≡ suc n = omega arith in
+    ap (λ o. option_map_or (has_slice k table (n + 1 + 1) (kind_of (n + 1))) o false) (ap (extent_of g) next ∙ same ∙ sym (ap (extent_of f) next))
+
+-- pools that want the same slices in the tables of a place's drive, which has the same id, want the same table
+pub table_alike : (f g : Found) (p k : ℕ) → id_of g.state p ≡ id_of f.state p → g.state.made ≡ f.state.made
+    → ((table : Table) (n : ℕ) → n < f.state.made → (not (is_member g n p) || has_slice_of g k table (n + 1)) ≡ (not (is_member f n p) || has_slice_of f k table (n + 1)))
+    → (o : Option Table) → option_map_or (is_table g p k) o false ≡ option_map_or (is_table f p k) o false
+unfolding extent_of
+table_alike f g p k id made each None = refl
+table_alike f g p k id made each (Some table) =
+    ap₂ (λ a b. a && (has_slice_of f k table 0 && b))
+    (ap (λ o. option_map_or (bytes_eq table.disk_id.0) o false) id)
+    (ap (λ m. list_all (λ n. not (is_member g n p) || has_slice_of g k table (n + 1)) (range_with_len 0 m)) made
+    ∙ all_below (λ n. not (is_member g n p) || has_slice_of g k table (n + 1)) (λ n. not (is_member f n p) || has_slice_of f k table (n + 1)) 0 f.state.made
+    (λ n low. each table n (omega (arith, low))))
+
+-- so do those with the same members of arrays whose slices lie alike
+pub members_alike : (f g : Found) (p k : ℕ) → id_of g.state p ≡ id_of f.state p → g.state.made ≡ f.state.made
+    → ((n : ℕ) → n < f.state.made → is_member g n p ≡ is_member f n p) → ((n : ℕ) → n < f.state.made → extent_of g (suc n) ≡ extent_of f (suc n))
+    → (o : Option Table) → option_map_or (is_table g p k) o false ≡ option_map_or (is_table f p k) o false
+members_alike f g p k id made members lie =
+    table_alike f g p k id made (λ table n low. ap₂ (λ a b. not a || b) (members n low) (slice_alike f g table k n (lie n low)))
+
+-- ---- the pool of contents between calls
 
 module _ (f : Found) (t : Slices) (v : Raid) (y : Seen) (i : Image) (known : IsKnown f t v y i) where
   abbrev book : State
@@ -79,41 +114,16 @@ module _ (f : Found) (t : Slices) (v : Raid) (y : Seen) (i : Image) (known : IsK
 
   -- each current place has its drive
   pub present_now : absent_count g ≡ 0
-  unfolding current_places
-  present_now =
-      sym (length-filter (λ p. is_none (g.seats p)) (current_places book))
-      ∙ ap length (none_kept (λ p. is_none (g.seats p)) (is_current book) (range_with_len 0 (length book.drives.items))
-      (λ p here. let one = seat_there f t v y i known p here in ap is_none (seats_now f t v y i known p here ∙ one.1)))
+  present_now = none_absent g (λ p here. let one = seat_there f t v y i known p here in (one.0, seats_now f t v y i known p here ∙ one.1))
 
   module _ (p d : ℕ) (here : is_current book p ≡ true) (seat : f.seats p ≡ Some d) where
     -- ---- its table
 
-    slice_same : (table : Table) (k n : ℕ) → n < f.state.made → has_slice_of g k table (n + 1) ≡ has_slice_of f k table (n + 1)
-    slice_same table k n low =
-        let next : n + 1 ≡ suc n = omega arith in
-        ap (λ o. option_map_or (has_slice k table (n + 1 + 1) (kind_of (n + 1))) o false)
-        (ap (extent_of g) next ∙ lies_now f t v.state i rest said n low ∙ sym (ap (extent_of f) next))
-
-    members_same : (table : Table) (k : ℕ)
-        → list_all (λ n. not (is_member g n p) || has_slice_of g k table (n + 1)) (range_with_len 0 book.made)
-        ≡ list_all (λ n. not (is_member f n p) || has_slice_of f k table (n + 1)) (range_with_len 0 f.state.made)
-    members_same table k =
-        ap (λ m. list_all (λ n. not (is_member g n p) || has_slice_of g k table (n + 1)) (range_with_len 0 m)) (made_same f t v.state i rest said)
-        ∙ all_below (λ n. not (is_member g n p) || has_slice_of g k table (n + 1)) (λ n. not (is_member f n p) || has_slice_of f k table (n + 1)) 0 f.state.made
-        (λ n low. let less : n < f.state.made = omega (arith, low) in ap₂ (λ a b. not a || b) (member_same f t v.state i rest said n less p) (slice_same table k n less))
-
-    is_table_same : (table : Table) (k : ℕ) → is_table g p k table ≡ is_table f p k table
-    unfolding extent_of
-    is_table_same table k =
-        ap₂ (λ a b. a && (has_slice_of f k table 0 && b))
-        (ap (λ o. option_map_or (bytes_eq table.disk_id.0) o false) (id_same f.state book known.served.after.same p)) (members_same table k)
-
     table_now : has_table g p d ≡ has_table f p d
-    table_now = ap (λ o. option_map_or (is_table g p (f.disks.sectors d)) o false) (known.left.elsewhere.tables p d seat) ∙ of (f.identities d).table
-      where
-        of : (o : Option Table) → option_map_or (is_table g p (f.disks.sectors d)) o false ≡ option_map_or (is_table f p (f.disks.sectors d)) o false
-        of None = refl
-        of (Some table) = is_table_same table (f.disks.sectors d)
+    table_now =
+        ap (λ o. option_map_or (is_table g p (f.disks.sectors d)) o false) (known.left.elsewhere.tables p d seat)
+        ∙ members_alike f g p (f.disks.sectors d) (id_same f.state book known.served.after.same p) (made_same f t v.state i rest said)
+        (λ n low. member_same f t v.state i rest said n low p) (lies_now f t v.state i rest said) (f.identities d).table
 
     -- ---- its log
 

@@ -1,16 +1,20 @@
--- What it says of contents that they aren't refused; and the disks of a whole pool without one are found by the same state.
-use Rattle.std.proofs.Common.{◌≡◌, ℕ, zero, suc, ◌+◌, ◌<◌, ◌≤◌, ◌||◌, Bool, true, false, not, bytes_eq, nat_lt, if◌then◌else◌, is_none, is_some, find, Option, Some, None, option_map, refl, sym, ap, ap₂, ◌∙◌, inl, inr, le-ltb, arith}
+-- What it says of contents that they aren't refused, and for what those are whose pool has its drives; and the disks of a whole pool without one are found by the same state.
+use Rattle.std.proofs.Common.{◌≡◌, ◌⊎◌, ℕ, zero, suc, ◌+◌, ◌<◌, ◌≤◌, ◌||◌, Bool, true, false, not, bytes_eq, nat_lt, if◌then◌else◌, is_none, is_some, find, Option, Some, None, option_map, refl, sym, ap, ap₂, subst, ◌∙◌, inl, inr, le-ltb, arith}
 use Rattle.std.specs.Option.{option_and_then, option_map_or, option_or}
 use Rattle.std.specs.List.{list_any, range_with_len}
 use Rattle.std.proofs.lemmas.Bool.{both_ways, cases_lt}
 use Rattle.std.proofs.lemmas.Option.{none-some}
+use Rattle.std.proofs.lemmas.Slice.Eq.{bytes_eq-Decides}
 use Rattle.rack.specs.Seen.{Image}
+use Rattle.shr_base.specs.declared.Id.{Id}
 use Rattle.pool_state.specs.declared.contents.Copied.{Copied}
 use Rattle.pool_state.specs.declared.contents.State.{State}
 use Rattle.array_image.specs.States.{current_places, is_current}
 use Rattle.commit_log.specs.Kept.{IsNoLater}
+use Rattle.commit_log.proofs.LeftPlaces.{any_found}
+use Rattle.commit_log.proofs.Naming.{range_below}
 use Rattle.raid_rack.proofs.Added.{names_current}
-use Rattle.pool_image.specs.Disks.{Disks, identities_of, newest}
+use Rattle.pool_image.specs.Disks.{Disks, all_disks, identities_of, newest}
 use Rattle.pool_image.specs.Drives.{Found, found}
 use Rattle.pool_image.specs.Replay.{Standing, standing, standing_by}
 use Rattle.pool_image.specs.Meaning.{Part, Refusal, absent, absent_count, arrays_of, bad_volume, damage_of, damage_on, damaged, dirty_degraded, first_damaged, has_log, has_other_pool, has_supers, has_table, in_log, in_state, in_superblock, in_table, is_dirty_degraded, is_too_few, joined_arrays, no_pool, refusal_of, refused_at, refused_by, too_few, two_pools}
@@ -18,12 +22,16 @@ use Rattle.pool_image.specs.Sound.{skip}
 use Rattle.pool_image.specs.Volumes.{first_bad}
 use Rattle.pool_image.proofs.Identities.{seat_inside}
 use Rattle.pool_model.specs.Absent.{IsWholePool}
+use Rattle.pool_model.specs.Reopening.{HasOtherPool, IsExcused}
 use Rattle.pool_model.proofs.Found.{found_is, latest, newest_latest}
 use Rattle.pool_model.proofs.Named.{seat_ahead}
 use Rattle.pool_model.proofs.Skipped.{back, back_inside, skip_inside}
 use Rattle.pool_model.proofs.Standing.{found_at, pool_at}
 use Rattle.pool_model.proofs.Undamaged.{find_false}
 use Rattle.pool_model.proofs.Away.{beside, disk_back, fewer, find_passes, idle_now, inside, is_found, none_found, other_disk, rest, seat_there}
+
+some_same : {X : Type 0} (a b : X) → Some a ≡ Some b → a ≡ b
+some_same a b same = cc
 
 -- ---- a place without a damage
 
@@ -59,12 +67,19 @@ some_copied : (o : Option Copied) → is_some o ≡ true → is_none o ≡ false
 some_copied None is = absurd (both_ways false refl is)
 some_copied (Some copy) is = refl
 
-pub no_damage : (f : Found) (p d : ℕ) → f.seats p ≡ Some d → IsUndamaged f p d → damage_of f p ≡ None
+-- a drive with its table, a copy and a sound log wants a superblock alone
+pub superblocks_alone : (f : Found) (p d : ℕ) → f.seats p ≡ Some d → has_table f p d ≡ true → is_none (f.identities d).copied ≡ false → has_log f p ≡ true
+    → damage_of f p ≡ (if not (has_supers f p) then Some in_superblock else None)
 unfolding damage_of
-no_damage f p d seat fine =
+superblocks_alone f p d seat table copy log =
     ap (option_and_then (damage_on f p)) seat
-    ∙ ap₂ (λ a b. part_by a b (has_log f p) (has_supers f p)) fine.table (some_copied (f.identities d).copied fine.copy)
-    ∙ ap₂ (λ l s. part_by true false l s) fine.log fine.supers
+    ∙ ap₂ (λ a b. part_by a b (has_log f p) (has_supers f p)) table copy
+    ∙ ap (λ l. part_by true false l (has_supers f p)) log
+
+pub no_damage : (f : Found) (p d : ℕ) → f.seats p ≡ Some d → IsUndamaged f p d → damage_of f p ≡ None
+no_damage f p d seat fine =
+    superblocks_alone f p d seat fine.table (some_copied (f.identities d).copied fine.copy) fine.log
+    ∙ ap (λ s. if not s then Some in_superblock else None) fine.supers
 
 -- no place is damaged, or the first one is
 damage_none : (o : Option Part) → is_some o ≡ false → o ≡ None
@@ -131,6 +146,63 @@ unrefused_by disks c f is none = of (standing disks c) none
     of : (o : Option Standing) → option_map_or (refused_at disks c) o (Some no_pool) ≡ None → refused_by f ≡ None
     of None at = absurd (none-some no_pool (sym at))
     of (Some x) at = by (has_other_pool disks x) at
+
+-- ---- a reason
+
+-- A disk of another pool is none of the drives, where the copies of these are of the pool.
+pub other_pool : (g : Found) → g.state.pool ≡ g.before.state.pool
+    → ((p d : ℕ) (copy : Copied) → g.seats p ≡ Some d → (g.before.identities d).copied ≡ Some copy → copy.state.pool ≡ g.state.pool)
+    → has_other_pool g.disks g.before ≡ true → HasOtherPool g
+other_pool g same own other = of (find is_other (all_disks g.disks)) refl (any_found is_other (all_disks g.disks) ∙ other)
+  where
+    is_other : ℕ → Bool
+    is_other d = option_map_or (λ copy. not (bytes_eq copy.state.pool.0 g.before.state.pool.0)) (g.before.identities d).copied false
+
+    by : (d : ℕ) → d < g.disks.count → (o : Option Copied) → (g.before.identities d).copied ≡ o
+        → option_map_or (λ copy. not (bytes_eq copy.state.pool.0 g.before.state.pool.0)) o false ≡ true → HasOtherPool g
+    by d low None here is = absurd (both_ways false refl is)
+    by d low (Some copy) here is =
+        let apart : copy.state.pool ≡ g.state.pool → ⊥ =
+        λ alike. both_ways (not (bytes_eq copy.state.pool.0 g.before.state.pool.0)) (ap not ((bytes_eq-Decides copy.state.pool.0 g.before.state.pool.0).1 (ap (λ (k : Id). k.0) (alike ∙ same)))) is in
+        record { disk = d; low = low; unseated = λ p seat. apart (own p d copy seat here); copy = copy; says = here; other = apart }
+
+    of : (o : Option ℕ) → find is_other (all_disks g.disks) ≡ o → is_some o ≡ true → HasOtherPool g
+    of None none some = absurd (both_ways false refl some)
+    of (Some d) lowest some =
+        let at = find_passes is_other (all_disks g.disks) d lowest in
+        let low = range_below 0 g.disks.count d at.1 in
+        by d (omega (arith, low)) (g.before.identities d).copied refl at.0
+
+-- a pool whose drives are there and which has no bad array is refused for an excused reason or for a damage
+refused_or : (g : Found) (why : Refusal) → absent_count g ≡ 0 → first_bad (joined_arrays g) ≡ None → refused_by g ≡ Some why → IsExcused g why ⊎ (first_damaged g ≡ Some why)
+unfolding refused_by
+refused_or g why present good is =
+    of (first_damaged g) (find (is_too_few g) (arrays_of g)) (find (is_dirty_degraded g) (arrays_of g)) refl refl refl
+    (sym (ap₂ (λ k o. if nat_lt 1 k then Some (absent k) else option_or (first_damaged g) (option_or (option_map too_few (find (is_too_few g) (arrays_of g)))
+    (option_or (option_map dirty_degraded (find (is_dirty_degraded g) (arrays_of g))) (option_map bad_volume o)))) present good)
+    ∙ is)
+  where
+    of : (x : Option Refusal) (a b : Option ℕ) → first_damaged g ≡ x → find (is_too_few g) (arrays_of g) ≡ a → find (is_dirty_degraded g) (arrays_of g) ≡ b
+        → option_or x (option_or (option_map too_few a) (option_or (option_map dirty_degraded b) None)) ≡ Some why → IsExcused g why ⊎ (first_damaged g ≡ Some why)
+    of (Some r) a b wants one two at = inr (wants ∙ at)
+    of None (Some n) b wants one two at = inl (subst (IsExcused g) (some_same (too_few n) why at) (find_passes (is_too_few g) (arrays_of g) n one).0)
+    of None None (Some n) wants one two at = inl (subst (IsExcused g) (some_same (dirty_degraded n) why at) (find_passes (is_dirty_degraded g) (arrays_of g) n two).0)
+    of None None None wants one two at = absurd (none-some why at)
+
+-- So are contents that have such a pool, where the copies of its drives are of it.
+pub refused_so : (c : Image) (g : Found) → standing g.disks c ≡ Some g.before → found g.disks c ≡ Some g → g.state.pool ≡ g.before.state.pool
+    → ((p d : ℕ) (copy : Copied) → g.seats p ≡ Some d → (g.before.identities d).copied ≡ Some copy → copy.state.pool ≡ g.state.pool)
+    → absent_count g ≡ 0 → first_bad (joined_arrays g) ≡ None → (why : Refusal) → refusal_of g.disks c ≡ Some why → IsExcused g why ⊎ (first_damaged g ≡ Some why)
+unfolding refusal_of
+refused_so c g stands found_at same own present good why is =
+    of (has_other_pool g.disks g.before) refl (sym (ap (λ o. option_map_or (refused_at g.disks c) o (Some no_pool)) stands) ∙ is)
+  where
+    of : (b : Bool) → has_other_pool g.disks g.before ≡ b → (if b then Some two_pools else option_map_or refused_by (found g.disks c) (Some no_pool)) ≡ Some why
+        → IsExcused g why ⊎ (first_damaged g ≡ Some why)
+    of true other at = inl (subst (IsExcused g) (some_same two_pools why at) (other_pool g same own other))
+    of false none at = refused_or g why present good (sym (ap (λ o. option_map_or refused_by o (Some no_pool)) found_at) ∙ at)
+
+-- ---- tables
 
 -- Each drive of a pool that isn't refused has its table.
 pub tables_meant : (disks : Disks) (c : Image) (f : Found) → found disks c ≡ Some f → refusal_of disks c ≡ None → (p d : ℕ) → f.seats p ≡ Some d → has_table f p d ≡ true

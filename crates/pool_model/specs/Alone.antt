@@ -27,10 +27,18 @@ pub record IsStranger (f : Found) (bound : ℕ) (z : Identity) : Type 0 where
   pub apart : IsApart f z
   pub ungiven : IsUngiven f.state bound z
 
+-- Contents of a pool's disks have the table of each drive, by the state s. But nothing is said of disks of `Out`, unless they are drives of current places.
+abbrev pub AreTabled : Found → (Out : ℕ → Type 0) → State → Image → Type 0
+AreTabled f Out s i = (p d : ℕ) → f.seats p ≡ Some d → (is_current s p ≡ true) ⊎ (Out d → ⊥) → IsTabled f p (f.disks.sectors d) (i d)
+
+-- so have the drives of current places, whatever the disks may be left with outside the slices
+abbrev pub HoldTabled : Found → State → Slices → Seen → Type 0
+HoldTabled f s t x = (i : Image) → IsPickOff t x i → AreTabled f (λ d. Unit {0}) s i
+
 -- Contents of the disks of a pool, by the state s: each of its drives has its table, and all other disks are strangers to it. But nothing is said of disks of
 -- `Out`, unless they are drives of current places.
 pub record SaysAlone (f : Found) (bound : ℕ) (Out : ℕ → Type 0) (s : State) (i : Image) : Type 0 where
-  pub tables : (p d : ℕ) → f.seats p ≡ Some d → (is_current s p ≡ true) ⊎ (Out d → ⊥) → IsTabled f p (f.disks.sectors d) (i d)
+  pub tables : AreTabled f Out s i
   pub others : (d : ℕ) → ((p : ℕ) → f.seats p ≡ Some d → ⊥) → (Out d → ⊥) → d < f.disks.count → IsStranger f bound (identities_of f.disks i d)
 
 -- so it is whatever the disks may be left with outside the slices

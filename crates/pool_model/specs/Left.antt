@@ -88,7 +88,7 @@ abbrev pub HavePlaces : State → Found → Type 0
 HavePlaces s g = (p : ℕ) → is_current s p ≡ true → (d : ℕ) × (g.seats p ≡ Some d)
 
 -- Contents of disks hold a sound pool, by the state s, whatever stop left them: each of its places has the drive that it had in f. No log is damaged,
--- what is pending brings just this state, its slices are those of t, and its arrays hold what these give once that is written.
+-- what is pending brings just this state, its slices are those of t, and its arrays have the sectors that they had and hold what these give once that is written.
 pub record HoldStill (f : Found) (t : Slices) (s : State) (i : Image) : Type 0 where
   pub now : Found
   pub found_is : found f.disks i ≡ Some now
@@ -99,6 +99,7 @@ pub record HoldStill (f : Found) (t : Slices) (s : State) (i : Image) : Type 0 w
   pub slices : HaveSlices now t
   pub joined : now.state.joined ≡ now.state.made
   pub alone : AreAlone now now.contents
+  pub sectors : (n : ℕ) → n < f.state.made → array_sectors now n ≡ array_sectors f n
   pub values : (n x : ℕ) → n < f.state.made → arrays_held now n x ≡ arrays_in (replayed (sectors_of t) (sliced t i)) n x
 
 -- They hold it so, nothing is pending, and each current place has its drive.

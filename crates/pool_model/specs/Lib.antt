@@ -6,5 +6,6 @@ pub mod Alone
 pub mod Taken
 pub mod InService
 pub mod Grouped
+pub mod Reopening
 pub mod Openings
 pub mod Laid

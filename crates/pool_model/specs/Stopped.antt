@@ -9,7 +9,7 @@ use Rattle.gpt_table.specs.Disk.{Contents}
 use Rattle.md_super.specs.declared.superblock.Super.{Super}
 use Rattle.pool_state.specs.declared.contents.Copied.{Copied}
 use Rattle.pool_state.specs.declared.contents.State.{State}
-use Rattle.array_image.specs.Arrays.{replayed}
+use Rattle.array_image.specs.Arrays.{first_layout, replayed}
 use Rattle.array_image.specs.Left.{IsInside as HasNothing}
 use Rattle.array_image.specs.Places.{arrays_first, log_slice, member_slice, place_of}
 use Rattle.array_image.specs.Record.{pending}
@@ -46,12 +46,13 @@ pub record AreSlicesNow (f : Found) (t : Slices) (s : State) : Type 0 where
   pub others : (n p : ℕ) → n < 16 → (nat_lt n f.state.made && is_member f n p) ≡ false → sectors_of t (member_slice p n) ≡ 0
   pub unseated : (k : ℕ) → is_current s (place_of k) ≡ true → f.seats (place_of k) ≡ None → sectors_of t k ≡ 0
 
--- contents of slices say an array soundly: its truth has the size and names the places that the pool's has
+-- contents of slices say an array soundly: its truth has the size and the layout that the pool's has, and names the same places
 pub record SaysArray (f : Found) (s : State) (c : Image) (n : ℕ) : Type 0 where
   pub truth : Super
   pub is_truth : truth_in s c n ≡ Some truth
   pub sound : IsSoundArray s c n truth
   pub size : (u : Super) → truth_of f n ≡ Some u → truth.size ≡ u.size
+  pub layout : (u : Super) → truth_of f n ≡ Some u → first_layout truth ≡ first_layout u
   pub named : (u : Super) (p : ℕ) → truth_of f n ≡ Some u → is_named truth p ≡ is_named u p
 
 -- the table of a disk of so many sectors has a place's members' slices where they lie

@@ -1,0 +1,339 @@
+-- A later opening of what a stop leaves means the run's volume, or refuses it for what superblocks say of an array or another pool's disk says.
+use Rattle.std.proofs.Common.{◌≡◌, ℕ, zero, suc, ◌+◌, ◌<◌, ◌≤◌, ◌^◌, Bool, true, false, ◌||◌, not, is_some, nat_lt, if◌then◌else◌, [], ◌∷◌, length, Option, Some, None, option_map, refl, sym, ap, ap₂, subst, ◌∙◌, inl, inr, le-ltb, lt-ltb, arith}
+use Rattle.std.specs.List.{list_all, range_with_len}
+use Rattle.std.specs.Option.{option_map_or}
+use Rattle.std.proofs.lemmas.Bool.{and_from, cases_Bool}
+use Rattle.std.proofs.lemmas.Option.{none-some}
+use Rattle.rack.specs.Seen.{Image, IsPick, Seen}
+use Rattle.rack.specs.Values.{MayLeave}
+use Rattle.shr_base.specs.declared.Id.{Id}
+use Rattle.slice_rack.specs.Slices.{Slices, sectors_of}
+use Rattle.slice_rack.specs.Sliced.{IsInside, sliced, slices_of as slices_shown}
+use Rattle.md_super.specs.declared.superblock.Super.{Super}
+use Rattle.pool_state.specs.declared.contents.State.{State}
+use Rattle.array_image.specs.Arrays.{Shape, arrays_in, place_with, replayed, value_by}
+use Rattle.array_image.specs.Left.{IsLeft}
+use Rattle.array_image.specs.States.{is_current}
+use Rattle.array_image.specs.Supers.{is_named, super_in}
+use Rattle.array_core.proofs.Rules.{placed}
+use Rattle.array_model.specs.View.{sectors_of as sectors_in}
+use Rattle.lvm_text.specs.declared.group.Group.{Group}
+use Rattle.lvm_group.specs.Group.{first_bad as bad_in, linear_in}
+use Rattle.lvm_group.specs.Images.{IsVolume}
+use Rattle.lvm_group.specs.Runs.{Linear, data_start, sectors_in as sectors_along}
+use Rattle.lvm_group.specs.Shown.{contents_of}
+use Rattle.lvm_group.proofs.SameParts.{area_below}
+use Rattle.pool_image.specs.Disks.{Disks, Identities}
+use Rattle.pool_image.specs.Drives.{Found, slices_of}
+use Rattle.pool_image.specs.Meaning.{Refusal, array_sectors, arrays_held, damage_of, has_table, is_member, joined_arrays, meaning, refusal_of, super_at, volume_by, volumes_of}
+use Rattle.pool_image.specs.Replay.{Standing}
+use Rattle.pool_image.specs.Sound.{AreSame}
+use Rattle.pool_image.specs.Volumes.{Arrays, first_bad, linear_of}
+use Rattle.pool_image.specs.Volumes as meant
+use Rattle.pool_image.proofs.Groups.{AreWholeArrays, bad_alike, group_alike}
+use Rattle.pool_image.proofs.Joined.{AreAlike, bad_kept, group_kept, volumes_kept}
+use Rattle.pool_image.proofs.Parts.{held_in}
+use Rattle.pool_scan.proofs.Valid.{valid_arrays}
+use Rattle.raid_rack.specs.Agreeing.{SupersAgree}
+use Rattle.raid_rack.specs.Book.{IsAfter, after_same}
+use Rattle.raid_rack.specs.Raid.{IsTold, Raid, held_in as raid_held, is_over, spent_of}
+use Rattle.pool_model.specs.Absent.{volume_arrays}
+use Rattle.pool_model.specs.Alone.{AreTabled, HoldTabled}
+use Rattle.pool_model.specs.Grouped.{AreHeadsLive, HoldGroup, IsVolumeOf}
+use Rattle.pool_model.specs.InService.{InService, IsArranged}
+use Rattle.pool_model.specs.Left.{HoldStill}
+use Rattle.pool_model.specs.Reopening.{AreWholeSectors, HoldVolume, IsExcused, Reopens}
+use Rattle.pool_model.specs.Taken.{LacksDrive}
+use Rattle.pool_model.proofs.Again.{known_again, value_known}
+use Rattle.pool_model.proofs.Alone.{tabled_says}
+use Rattle.pool_model.proofs.Copies.{c, copy_pool, IsKnown, s, seat_there, seats_now}
+use Rattle.pool_model.proofs.Current.{array_current}
+use Rattle.pool_model.proofs.Extents.{is, is_is, made_same, truth_is}
+use Rattle.pool_model.proofs.Found.{found_is, valid}
+use Rattle.pool_model.proofs.InService.{service_known, vacant_known}
+use Rattle.pool_model.proofs.Known.{left, says, says_pool}
+use Rattle.pool_model.proofs.Rested.{found_now, now, stands_so, stood}
+use Rattle.pool_model.proofs.Roles.{named_position}
+use Rattle.pool_model.proofs.Said.{AreInside, SaysPool}
+use Rattle.pool_model.proofs.Sectors.{still_sized}
+use Rattle.pool_model.proofs.Sizes.{facts_known, reaches, sectors_known}
+use Rattle.pool_model.proofs.Still.{members, same}
+use Rattle.pool_model.proofs.Undamaged.{present_now, sound_parts}
+use Rattle.pool_model.proofs.Unrefused.{no_damage, no_damages, refused_so}
+
+some_same : {X : Type 0} (a b : X) → Some a ≡ Some b → a ≡ b
+some_same a b same = cc
+
+-- ---- the volume
+
+-- Contents that hold a pool whose slices hold the group of a volume mean it, where they aren't refused.
+module _ (f : Found) (t : Slices) (s : State) (i : Image) (still : HoldStill f t s i) (inside : AreInside f t)
+    (small : (d : ℕ) → d < f.disks.count → f.disks.sectors d < 2 ^ 48) (whole : AreWholeSectors f.disks i) (few : s.joined ≤ f.state.made)
+    (l : Linear) (extent : l.extent ≡ s.extent) (arrays : l.arrays ≡ s.joined) (sectors : ℕ → ℕ) (sized : (n : ℕ) → n < s.joined → sectors n ≡ array_sectors f n)
+    (lies : (seqno : ℕ) × IsVolume s.pool.0 s.joined l seqno sectors (λ n x. if nat_lt x (sectors n) then arrays_in (replayed (sectors_of t) (sliced t i)) n x else [])) where
+  abbrev h : Found
+  h = still.now
+
+  abbrev a : Arrays
+  a = joined_arrays h
+
+  -- the arrays as the slices hold them
+  abbrev b : Arrays
+  b = record { pool = s.pool.0; extent = s.extent; joined = s.joined; sectors = sectors; contents = arrays_in (replayed (sectors_of t) (sliced t i)) }
+
+  joined_is : h.state.joined ≡ s.joined
+  joined_is = ap (λ (z : State). z.joined) still.state
+
+  some : 0 < s.joined
+  some =
+      let good = valid h (found_is f.disks i h still.found_is).0 in
+      let one = (valid_arrays h.state good.0 good.1).2 in
+      let same = joined_is in
+      omega (arith, one, same)
+
+  made : (n : ℕ) → n < s.joined → n < f.state.made
+  made n low = omega (arith, low, few)
+
+  made_now : (n : ℕ) → n < s.joined → n < h.state.made
+  made_now n low = (let all = still.joined in let same = joined_is in omega (arith, low, all, same))
+
+  sectors_same : (n : ℕ) → n < s.joined → array_sectors h n ≡ sectors n
+  sectors_same n low = still.sectors n (made n low) ∙ sym (sized n low)
+
+  room : (n : ℕ) → n < s.joined → data_start ≤ sectors n
+  room n low =
+      let less = made_now n low in
+      let one = still.sound.rules.arrays n less in
+      let reach = reaches f i h t still.found_is still.sound still.slices inside small n less one.0 one.1 in
+      let same = sectors_same n low in
+      omega (arith, reach, same)
+
+  are : AreWholeArrays b
+  are = record {
+    whole = λ n low x within. ap length (sym (still.values n x (made n low))) ∙ still_sized f t s i still inside whole n (made_now n low) x;
+    room = λ n low. let enough = room n low in omega (arith, enough);
+  }
+
+  alike : AreAlike a b
+  alike = record {
+    pool = ap (λ (z : State). z.pool.0) still.state;
+    extent = ap (λ (z : State). z.extent) still.state;
+    joined = joined_is;
+    sectors = sectors_same;
+    contents = λ n x low within. still.values n x (made n low);
+  }
+
+  abbrev group : Group
+  group = lies.1.means.group
+
+  group_there : meant.group_in b ≡ Some group
+  group_there = sym (group_alike b are) ∙ lies.1.means.found
+
+  bad_there : meant.first_bad b ≡ None
+  bad_there = sym (bad_alike b are) ∙ ap (λ k. bad_in s.pool.0 k sectors s.joined (held_in b)) (sym extent) ∙ lies.1.means.sound
+
+  linear_there : l ≡ linear_of b group
+  linear_there = ap (λ k. record { extent = l.extent; arrays = k; runs = l.runs }) arrays ∙ lies.1.means.volume
+
+  volume_is : IsVolumeOf h l
+  volume_is = record {
+    group = group;
+    group_is = group_kept a b alike are ∙ group_there;
+    sound = bad_kept a b alike are ∙ bad_there;
+    linear = linear_there ∙ ap (λ k. linear_in k group) (sym joined_is);
+  }
+
+  volumes_now : volumes_of h ≡ volume_by l (arrays_held h) ∷ []
+  volumes_now =
+      ap (λ o. option_map_or (λ k. volume_by (linear_of a k) (arrays_held h) ∷ []) o []) volume_is.group_is
+      ∙ ap (λ k. volume_by k (arrays_held h) ∷ []) (sym volume_is.linear)
+
+  -- each of its sectors is on an array that is ready for it
+  values_now : (x : ℕ) → x < sectors_along l → contents_of l (arrays_held h) 0 x ≡ contents_of l b.contents 0 x
+  values_now x within =
+      let volumes_there : option_map_or (λ k. volume_by (linear_of b k) b.contents ∷ []) (meant.group_in b) [] ≡ volume_by l b.contents ∷ [] =
+      ap (λ o. option_map_or (λ k. volume_by (linear_of b k) b.contents ∷ []) o []) group_there ∙ ap (λ k. volume_by k b.contents ∷ []) (sym linear_there) in
+      let both : AreSame (volume_by l b.contents ∷ []) (volume_by l (arrays_held h) ∷ []) =
+      subst (AreSame (volume_by l b.contents ∷ [])) volumes_now
+      (subst (λ k. AreSame k (volumes_of h)) volumes_there (volumes_kept a b alike are some bad_there)) in
+      sym (both.0.1 x within)
+
+  meaning_now : refusal_of f.disks i ≡ None → meaning f.disks i ≡ Some (volume_by l (arrays_held h) ∷ [])
+  unfolding meaning
+  meaning_now none =
+      ap₂ (λ (why : Option Refusal) o. option_map_or (λ r. None) why (option_map volumes_of o)) none still.found_is ∙ ap Some volumes_now
+
+  pub still_volume : HoldVolume f t l i
+  still_volume = record {
+    now = h;
+    found_is = still.found_is;
+    lies = volume_is;
+    areas = λ n low.
+        let less : n < s.joined = (let same = joined_is in omega (arith, low, same)) in
+        area_below (held_in b n) (arrays_held h n) (sectors n) (lies.1.areas n less)
+        (λ x first.
+        let enough = room n less in
+        still.values n x (made n less) ∙ sym (ap (λ (k : Bool). if k then b.contents n x else []) (lt-ltb x (sectors n) (omega (arith, first, enough)))));
+    means = λ none. (volume_by l (arrays_held h), meaning_now none, refl, values_now);
+  }
+
+-- So they do where a run's book from before their state holds the group, and what they have before the first extents may be left by it.
+pub amid_volume : (f : Found) (t : Slices) (s : State) (i : Image) → HoldStill f t s i → AreInside f t
+    → ((d : ℕ) → d < f.disks.count → f.disks.sectors d < 2 ^ 48) → AreWholeSectors f.disks i
+    → (v : Raid) (y : Seen) (l : Linear) → IsAfter v.state s → v.state.joined ≤ f.state.made → HoldGroup v l y
+    → ((n : ℕ) → n < v.state.joined → sectors_in (v.arrays n) ≡ array_sectors f n)
+    → ((n x : ℕ) → n < v.state.joined → x < sectors_in (v.arrays n) → x < data_start → MayLeave (raid_held v y n x) (arrays_in (replayed (sectors_of t) (sliced t i)) n x))
+    → HoldVolume f t l i
+amid_volume f t s i still inside small whole v y l after few group sized may =
+    let same = after.same in
+    let joined = same.joined in
+    still_volume f t s i still inside small whole (omega (arith, joined, few)) l (group.extent ∙ sym same.extent) (group.arrays ∙ sym joined) (λ n. sectors_in (v.arrays n))
+    (λ n low. sized n (omega (arith, joined, low)))
+    (subst (λ k. (seqno : ℕ) × IsVolume s.pool.0 k l seqno (λ n. sectors_in (v.arrays n)) (volume_arrays t v i)) (sym joined)
+    (subst (λ (k : Id). (seqno : ℕ) × IsVolume k.0 v.state.joined l seqno (λ n. sectors_in (v.arrays n)) (volume_arrays t v i)) (sym same.pool)
+    (group.says (volume_arrays t v i)
+    (λ n x low within first.
+    subst (MayLeave (raid_held v y n x))
+    (sym (ap (λ (b : Bool). if b then arrays_in (replayed (sectors_of t) (sliced t i)) n x else []) (lt-ltb x (sectors_in (v.arrays n)) within)))
+    (may n x low within first))
+    (λ n x low past. ap (λ (b : Bool). if b then arrays_in (replayed (sectors_of t) (sliced t i)) n x else []) (le-ltb x (sectors_in (v.arrays n)) past)))))
+
+-- ---- why it is refused
+
+all_hold : (test : ℕ → Bool) (a m : ℕ) → ((n : ℕ) → n < a + m → test n ≡ true) → list_all test (range_with_len a m) ≡ true
+all_hold test a zero each = refl
+all_hold test a (suc m) each = and_from (test a) (list_all test (range_with_len (a + 1) m)) (each a (omega arith)) (all_hold test (a + 1) m (λ n low. each n (omega (arith, low))))
+
+module _ (f : Found) (t : Slices) (v : Raid) (y : Seen) (i : Image) (known : IsKnown f t v y i) (small : (d : ℕ) → d < f.disks.count → f.disks.sectors d < 2 ^ 48) where
+  abbrev book : State
+  book = s f t v y i known
+
+  abbrev held : Image
+  held = c f t v y i known
+
+  abbrev g : Found
+  g = now f t v y i known
+
+  abbrev rest : Standing
+  rest = stood f t v y i known
+
+  abbrev said : SaysPool f t v.state i
+  said = says_pool f t v y i known
+
+  -- ---- its arrays
+
+  -- a sector that isn't spent has a value that may be left
+  value_left : (n : ℕ) → n < f.state.made → (x : ℕ) → spent_of v n x ≡ false → MayLeave (raid_held v y n x) (arrays_in (replayed (sectors_of t) held) n x)
+  value_left n low x live =
+      subst (MayLeave (raid_held v y n x))
+      (sym (sym (value_known f t v y i known n x low)
+      ∙ array_current book (slices_of g) held n (same f t v.state i rest said n low) (members f t v.state i rest said n low) x
+      ∙ ap (λ (o : Option Shape). option_map_or (λ shape. value_by shape held n x) o []) (says f t v y i known n low).shape_is))
+      ((says f t v y i known n low).value x live)
+
+  before_made : (n : ℕ) → n < book.joined → n < f.state.made
+  before_made n low = (let joined = known.served.after.same.joined in let all = known.served.joined in omega (arith, low, joined, all))
+
+  -- they mean the volume whose group they hold
+  pub volume_known : (l : Linear) → HoldGroup v l y → AreHeadsLive v → AreWholeSectors f.disks i → HoldVolume f t l i
+  volume_known l holds heads whole =
+      amid_volume f t v.state i (known_again f t v y i known).still known.left.inside small whole v y l (after_same v.state)
+      (let joined = known.served.after.same.joined in let all = known.served.joined in omega (arith, joined, all)) holds
+      (λ n low. sectors_known f t v y i known small n (before_made n low)) (λ n x low within first. value_left n (before_made n low) x (heads n x low within first))
+
+  -- none of its arrays is bad
+  pub sound_known : (l : Linear) → HoldGroup v l y → AreHeadsLive v → AreWholeSectors f.disks i → first_bad (joined_arrays g) ≡ None
+  unfolding known_again volume_known amid_volume still_volume
+  sound_known l holds heads whole = (volume_known l holds heads whole).lies.sound
+
+  -- ---- its drives
+
+  module _ (agree : (n : ℕ) (r : Image) → n < f.state.made → IsLeft y r → SupersAgree v.state r n)
+      (tables : (p d : ℕ) → is_current v.state p ≡ true → f.seats p ≡ Some d → has_table f p d ≡ true) where
+    super_there : (p n : ℕ) → is_current book p ≡ true → n < f.state.made → (not (is_member g n p) || is_some (super_at g n p)) ≡ true
+    super_there p n counts low = elim (cases_Bool (is_named truth p)) [
+      | inl named ↦
+          let fact = facts_known f t v y i known small n low in
+          let one = named_position truth p 16 fact.positions (λ k less. let one = placed truth k fact.positions less in (one.0, one.1)) fact.few named in
+          or_true (not (is_member g n p)) (is_some (super_at g n p))
+          (ap is_some (same f t v.state i rest said n low p counts) ∙ there one.0 p one.1 one.2 counts)
+      | inr none ↦
+          ap (λ b. not b || is_some (super_at g n p))
+          (ap (λ (o : Option Super). option_map_or (λ z. is_named z p) o false) (truth_is f t v.state i rest said n low) ∙ none)
+    ]
+      where
+        truth : Super
+        truth = is f t v.state i rest said n low
+
+        or_true : (a b : Bool) → b ≡ true → (a || b) ≡ true
+        or_true true b there = refl
+        or_true false b there = there
+
+        there : (k q : ℕ) → k < truth.raid_disks → place_with truth.roles.items k ≡ Some q → is_current book q ≡ true → is_some (super_in book held n q) ≡ true
+        there =
+            let all = agree n held low (left f t v y i known) in
+            subst (λ (z : Super). (k q : ℕ) → k < z.raid_disks → place_with z.roles.items k ≡ Some q → is_current book q ≡ true → is_some (super_in book held n q) ≡ true)
+            (some_same all.truth truth (sym all.leads ∙ is_is f t v.state i rest said n low)) all.there
+
+    pub undamaged_known : (p : ℕ) → is_current book p ≡ true → damage_of g p ≡ None
+    undamaged_known p counts =
+        let one = seat_there f t v y i known p counts in
+        let parts = sound_parts f t v y i known p one.0 counts one.1 in
+        no_damage g p one.0 (seats_now f t v y i known p counts ∙ one.1)
+        (record {
+          table = parts.table ∙ tables p one.0 counts one.1;
+          copy = parts.copy;
+          log = parts.log;
+          supers =
+              all_hold (λ n. not (is_member g n p) || is_some (super_at g n p)) 0 book.made
+              (λ n low. super_there p n counts (let made = made_same f t v.state i rest said in omega (arith, low, made)));
+        })
+
+    excused_known : first_bad (joined_arrays g) ≡ None → (why : Refusal) → refusal_of f.disks i ≡ Some why → IsExcused g why
+    excused_known good why is =
+        elim (refused_so i g (stands_so f t v y i known) (found_now f t v y i known) refl (copy_pool f t v y i known) (present_now f t v y i known) good why is) [
+          | inl excused ↦ excused
+          | inr wants ↦ absurd (none-some why (sym (no_damages g undamaged_known) ∙ wants))
+        ]
+
+    pub known_reopens : (l : Linear) → HoldGroup v l y → AreHeadsLive v → AreWholeSectors f.disks i → Reopens f t l i
+    unfolding known_again volume_known amid_volume still_volume
+    known_reopens l holds heads whole = record {
+      volume = volume_known l holds heads whole;
+      excused = λ why is. excused_known (sound_known l holds heads whole) why is;
+    }
+
+-- ---- a pool in service
+
+-- what disks say is no part of it
+reopens_said : (f : Found) (e : Identities) (t : Slices) (l : Linear) (i : Image) → Reopens (record f { identities = e }) t l i → Reopens f t l i
+reopens_said f e t l i is = record {
+  volume = record { now = is.volume.now; found_is = is.volume.found_is; lies = is.volume.lies; areas = is.volume.areas; means = is.volume.means };
+  excused = is.excused;
+}
+
+said_reopens : (f : Found) (t : Slices) (v : Raid) (l : Linear) (y : Seen) (i : Image) → IsArranged f → ((e : Identities) × IsKnown (record f { identities = e }) t v y i)
+    → ((d : ℕ) → d < f.disks.count → f.disks.sectors d < 2 ^ 48) → AreTabled f (λ d. Unit {0}) v.state i
+    → ((n : ℕ) (r : Image) → n < f.state.made → IsLeft y r → SupersAgree v.state r n) → HoldGroup v l y → AreHeadsLive v → AreWholeSectors f.disks i → Reopens f t l i
+said_reopens f t v l y i arranged one small tabled agree group heads whole =
+    let e = one.0 in
+    reopens_said f e t l i
+    (known_reopens (record f { identities = e }) t v y i one.1 small agree (tabled_says f v.state e i arranged tabled one.1.left.elsewhere.tables) l group heads whole)
+
+-- Where its arrays are told and none is over, its drives have their tables, its superblocks agree and its arrays hold a volume's group, so it is with whatever the disks may be left with.
+pub service_reopens : (f : Found) (t : Slices) (v : Raid) (l : Linear) (x : Seen) → InService f t v x → IsInside t x
+    → ((n : ℕ) → n < f.state.made → IsTold v (slices_shown t x) n) → ((n : ℕ) → n < f.state.made → is_over v n ≡ false) → HoldTabled f v.state t x
+    → ((n : ℕ) (r : Image) → n < f.state.made → IsLeft (slices_shown t x) r → SupersAgree v.state r n) → HoldGroup v l (slices_shown t x) → AreHeadsLive v
+    → (i : Image) → IsPick x x x.held i → AreWholeSectors f.disks i → Reopens f t l i
+service_reopens f t v l x is inside told lasts tabled agree group heads i pick whole =
+    said_reopens f t v l (slices_shown t x) i is.arranged (service_known f t v x is inside told lasts i pick)
+    (subst (λ (k : Disks). (d : ℕ) → d < k.count → k.sectors d < 2 ^ 48) (sym is.disks) inside.small) (tabled i (λ d s live never. pick d s live)) agree group heads whole
+
+-- also where a place whose drive is missing has no disk any more
+pub vacant_reopens : (f : Found) (t u : Slices) (v : Raid) (l : Linear) (x : Seen) (place : ℕ) → InService f t v x → LacksDrive f t u v place x → IsInside u x
+    → ((n : ℕ) → n < f.state.made → IsTold v (slices_shown u x) n) → ((n : ℕ) → n < f.state.made → is_over v n ≡ false) → HoldTabled f v.state t x
+    → ((n : ℕ) (r : Image) → n < f.state.made → IsLeft (slices_shown u x) r → SupersAgree v.state r n) → HoldGroup v l (slices_shown u x) → AreHeadsLive v
+    → (i : Image) → IsPick x x x.held i → AreWholeSectors f.disks i → Reopens f u l i
+vacant_reopens f t u v l x place is lacks inside told lasts tabled agree group heads i pick whole =
+    said_reopens f u v l (slices_shown u x) i is.arranged (vacant_known f t u v x place is lacks inside told lasts i pick)
+    (subst (λ (k : Disks). (d : ℕ) → d < k.count → k.sectors d < 2 ^ 48) (sym is.disks) inside.small) (tabled i (λ d s live never. pick d s live)) agree group heads whole

@@ -1,0 +1,304 @@
+-- What a stop inside calls of a pool in service leaves is refused for an excused reason alone, or since a superblock wants on a drive.
+--
+-- `calls_reopen` says it of calls that write slices alone. It asks for the pool's slices and its drives' tables (`HoldTabled`) by the slices of the calls: for a pool in
+-- service these are there (`slices_by`), and `vacant_lies` gives them where a place whose drive is missing has no disk any more.
+use Rattle.std.proofs.Common.{◌≡◌, ◌⊎◌, ℕ, suc, ◌+◌, ◌<◌, ◌≤◌, ◌&&◌, ◌||◌, not, Bool, true, false, find, nat_lt, if◌then◌else◌, is_none, is_some, List, [], Option, Some, None, option_map, unwrap_or, refl, sym, ap, ap₂, subst, ◌∙◌, inl, inr, lt-ltb, arith}
+use Rattle.std.specs.Option.{option_and_then, option_map_or}
+use Rattle.std.specs.Result.{result_ok}
+use Rattle.std.proofs.lemmas.Bool.{cases_Bool}
+use Rattle.std.proofs.lemmas.Option.{none-some}
+use Rattle.rack.specs.Seen.{Image, Seen}
+use Rattle.rack.specs.Sequences.{WritesOnly}
+use Rattle.rack.specs.Targets.{look}
+use Rattle.slice_rack.specs.Runs.{IsSliced}
+use Rattle.slice_rack.specs.Slices.{Slices, seat_of as slice_seat, sectors_of}
+use Rattle.slice_rack.specs.Sliced.{sliced, slices_of as slices_shown}
+use Rattle.gpt_table.specs.declared.Table.{Table}
+use Rattle.gpt_table.specs.Changes.{the_table}
+use Rattle.md_super.specs.declared.superblock.Super.{Super}
+use Rattle.pool_state.specs.declared.contents.Copied.{Copied}
+use Rattle.pool_state.specs.declared.contents.State.{State}
+use Rattle.array_image.specs.Places.{arrays_first, data_sector, log_slice, member_slice, state_sector}
+use Rattle.array_image.specs.Record.{is_bad_gate}
+use Rattle.array_image.specs.States.{current_places, is_current}
+use Rattle.commit_log.proofs.Kept.{put_none}
+use Rattle.lvm_group.specs.Runs.{Linear}
+use Rattle.pool_image.specs.Alike.{drive_gate, is_bad_block}
+use Rattle.pool_image.specs.Disks.{Identities, identities_of, newest}
+use Rattle.pool_image.specs.Drives.{Found, extent_from, extent_of, first_of, found, slices_of, truth_from}
+use Rattle.pool_image.specs.Meaning.{Refusal, damage_of, damaged, first_damaged, has_log, has_slice_of, has_supers, has_table, in_superblock, is_member, is_table, joined_arrays, refusal_of}
+use Rattle.pool_image.specs.Replay.{Extent, Standing, standing, standing_by, written}
+use Rattle.pool_image.specs.Volumes.{first_bad}
+use Rattle.pool_image.proofs.Identities.{seat_inside}
+use Rattle.pool_image.proofs.Rested.{gate_block, stood_by}
+use Rattle.pool_rest.specs.Moments.{StandsReplaying, landed_on}
+use Rattle.pool_rest.specs.Resting.{seated_state}
+use Rattle.pool_rest.specs.SoundLogs.{IsSoundLog}
+use Rattle.pool_rest.proofs.Midway.{still_stands}
+use Rattle.pool_rest.proofs.MidwayDisks.{copied_or, seats_written, tables_now, written_gate}
+use Rattle.pool_rest.proofs.MidwayPool.{found_was, gates_early, was, whole_early}
+use Rattle.raid_rack.specs.Book.{IsAfter, after_then}
+use Rattle.raid_rack.specs.Raid.{IsTold, Raid, is_over}
+use Rattle.raid_rack.specs.Runs.{KeepsMoments}
+use Rattle.raid_rack.specs.Since.{AreSince, HasOwnSince}
+use Rattle.raid_rack.proofs.Added.{names_current}
+use Rattle.pool_model.specs.Alone.{AreTabled, HoldTabled}
+use Rattle.pool_model.specs.InService.{InService}
+use Rattle.pool_model.specs.Left.{HavePlaces, HaveSlices}
+use Rattle.pool_model.specs.Pools.{extent_in}
+use Rattle.pool_model.specs.Reopening.{HoldVolume, IsExcused, ReopensAmid}
+use Rattle.pool_model.specs.Stopped.{AreSlicesNow, HoldAmid}
+use Rattle.pool_model.specs.Taken.{LacksDrive}
+use Rattle.pool_model.proofs.Amid.{moments_since, nothing_past, off_amid, off_more}
+use Rattle.pool_model.proofs.Away.{find_passes}
+use Rattle.pool_model.proofs.Found.{IsFound, few_places, found_is, some_made}
+use Rattle.pool_model.proofs.Logs.{copied_in, room_in, there_in}
+use Rattle.pool_model.proofs.Named.{id_same}
+use Rattle.pool_model.proofs.Said.{AreInside}
+use Rattle.pool_model.proofs.Seats.{nowhere}
+use Rattle.pool_model.proofs.Undamaged.{none_absent, slice_alike, table_alike}
+use Rattle.pool_model.proofs.Unrefused.{refused_so, superblocks_alone}
+use Rattle.pool_model.proofs.Vacant.{slices_now, sliced_before}
+
+some_same : {X : Type 0} (a b : X) → Some a ≡ Some b → a ≡ b
+some_same a b same = cc
+
+-- ---- why a pool is refused
+
+-- it is so, or since a superblock wants on the drive of a current place
+abbrev IsExcusedAmid : Found → Refusal → Type 0
+IsExcusedAmid g why = IsExcused g why ⊎ ((place : ℕ) × (is_current g.state place ≡ true) × (why ≡ damaged place in_superblock))
+
+-- where drives want a superblock alone, the lowest one that wants something does
+first_wants : (g : Found) → ((p : ℕ) → is_current g.state p ≡ true → damage_of g p ≡ (if not (has_supers g p) then Some in_superblock else None))
+    → (why : Refusal) → first_damaged g ≡ Some why → (place : ℕ) × (is_current g.state place ≡ true) × (why ≡ damaged place in_superblock)
+first_wants g each why is = of (find (λ place. is_some (damage_of g place)) (current_places g.state)) refl is
+  where
+    by : (p : ℕ) (b : Bool) → option_map (damaged p) (if not b then Some in_superblock else None) ≡ Some why → why ≡ damaged p in_superblock
+    by p true at = absurd (none-some why at)
+    by p false at = sym (some_same (damaged p in_superblock) why at)
+
+    of : (o : Option ℕ) → find (λ place. is_some (damage_of g place)) (current_places g.state) ≡ o
+        → option_and_then (λ place. option_map (damaged place) (damage_of g place)) o ≡ Some why
+        → (place : ℕ) × (is_current g.state place ≡ true) × (why ≡ damaged place in_superblock)
+    of None lowest at = absurd (none-some why at)
+    of (Some p) lowest at =
+        let now = sym (names_current g.state p) ∙ (find_passes (λ place. is_some (damage_of g place)) (current_places g.state) p lowest).1 in
+        (p, now, by p (has_supers g p) (sym (ap (option_map (damaged p)) (each p now)) ∙ at))
+
+-- ---- what is known of the pool
+
+-- The pool that contents have: its state came of another, and each of its current places has the drive that it had, by slices.
+record IsNow (f : Found) (t : Slices) (v : State) (g : Found) : Type 0 where
+  after : IsAfter v g.state
+  seats : (p : ℕ) → is_current g.state p ≡ true → g.seats p ≡ f.seats p
+  slices : HaveSlices g t
+  present : HavePlaces g.state g
+
+-- a slice of an array that is there has sectors
+some_sectors : (g : Found) (n : ℕ) (e : Extent) → extent_of g (suc n) ≡ Some e → 0 < e.sectors
+unfolding extent_of
+some_sectors g n e is = of (first_of g n) is
+  where
+    by : (first : ℕ) (o : Option Super) → option_map (λ (u : Super). record { first = first; sectors = data_sector + u.size }) o ≡ Some e → 0 < e.sectors
+    by first None at = absurd (none-some e at)
+    by first (Some u) at =
+        let same : data_sector + u.size ≡ e.sectors = ap (λ (k : Extent). k.sectors) (some_same (record { first = first; sectors = data_sector + u.size }) e at) in
+        omega (arith, same)
+
+    of : (o : Option ℕ) → option_and_then (extent_from g n) o ≡ Some e → 0 < e.sectors
+    of None at = absurd (none-some e at)
+    of (Some first) at = by first (truth_from g n first) at
+
+module _ (f : Found) (t : Slices) (v : State) (i : Image) (begun : IsAfter f.state v) (had : AreSlicesNow f t v) (inside : AreInside f t)
+    (tabled : AreTabled f (λ d. Unit {0}) v i) (since : AreSince v (sectors_of t) (sliced t i))
+    (s0 : State) (stands : standing f.disks i ≡ Some (standing_by f.disks i s0)) (newest_is : newest f.disks (identities_of f.disks i) ≡ Some s0)
+    (log : IsSoundLog f.disks i (standing_by f.disks i s0) (seated_state (standing_by f.disks i s0).targets s0)) where
+  abbrev before : Standing
+  before = standing_by f.disks i s0
+
+  abbrev s : State
+  s = seated_state (standing_by f.disks i s0).targets s0
+
+  abbrev ids : Identities
+  ids = identities_of f.disks i
+
+  -- the disks with the record written
+  abbrev w : Image
+  w = written f.disks (standing_by f.disks i s0) i
+
+  mid : StandsReplaying f.disks s0 (seated_state (standing_by f.disks i s0).targets s0) (standing_by f.disks i s0).targets i i
+  mid = still_stands f.disks s0 s before.targets i i (λ d k there within. refl)
+
+  abbrev g : Found
+  g = was f.disks i i s0 newest_is log mid
+
+  found_now : found f.disks i ≡ Some g
+  found_now = found_was f.disks i i s0 newest_is log mid stands
+
+  is_found : IsFound g
+  is_found = (found_is f.disks i g found_now).0
+
+  -- a sector that no target lands on stays, and a copy of the state stays or is the one that lands there
+  others : (d k : ℕ) → look (landed_on f.disks s before.targets i) d k ≡ None → w d k ≡ i d k
+  others d k none = put_none f.disks.sectors (landed_on f.disks s before.targets i) i d k none
+
+  copies : (d : ℕ) → state_sector < f.disks.sectors d
+      → (w d state_sector ≡ i d state_sector) ⊎ (look (landed_on f.disks s before.targets i) d state_sector ≡ Some (w d state_sector))
+  copies d within = of (look (landed_on f.disks s before.targets i) d state_sector) refl
+    where
+      of : (o : Option (List ℕ)) → look (landed_on f.disks s before.targets i) d state_sector ≡ o
+          → (w d state_sector ≡ i d state_sector) ⊎ (look (landed_on f.disks s before.targets i) d state_sector ≡ Some (w d state_sector))
+      of None none = inl (others d state_sector none)
+      of (Some u) is =
+          inr (is ∙ ap Some (sym (
+          ap (λ b. if b then unwrap_or (look (landed_on f.disks s before.targets i) d state_sector) (i d state_sector) else i d state_sector) (lt-ltb state_sector (f.disks.sectors d) within)
+          ∙ ap (λ (o : Option (List ℕ)). unwrap_or o (i d state_sector)) is)))
+
+  module _ (is : IsNow f t v g) where
+    -- ---- a drive of a current place
+
+    module _ (p d : ℕ) (now : is_current g.state p ≡ true) (seat : g.seats p ≡ Some d) where
+      before_call : is_current v p ≡ true
+      before_call = is.after.current p now
+
+      seat_before : f.seats p ≡ Some d
+      seat_before = sym (is.seats p now) ∙ seat
+
+      there : d < f.disks.count
+      there = seat_inside s f.disks g.identities p d seat
+
+      on_place : slice_seat t p ≡ Some d
+      on_place = is.slices.seats p d seat
+
+      -- it has all of its log slice
+      room : arrays_first ≤ f.disks.sectors d
+      room = room_in g t i inside p d on_place (is.slices.logs p d seat)
+
+      -- it says a state since the call began
+      own : HasOwnSince v p (sliced t i (log_slice p) 0)
+      own = (since p (few_places g is_found p now) (there_in g t i inside p d on_place (is.slices.logs p d seat))).own before_call
+
+      own_copied : (ids d).copied ≡ Some own.copy
+      own_copied = copied_in g t i inside p d on_place (is.slices.logs p d seat) ∙ ap result_ok own.is
+
+      copied_now : is_none (g.identities d).copied ≡ false
+      copied_now = elim (copied_or f.disks i w s0 newest_is log (λ e k below within which none. others e k none) (λ e below within. copies e within) d there) [
+        | inl same ↦ ap is_none (same ∙ own_copied)
+        | inr new ↦ ap is_none new.1.1
+      ]
+
+      -- ---- its table
+
+      few : (n : ℕ) → n < g.state.made → n < 16
+      few n low = (let most = (some_made g is_found).1 in omega (arith, low, most))
+
+      made_same : g.state.made ≡ f.state.made
+      made_same = is.after.same.made ∙ begun.same.made
+
+      wants_same : (table : Table) (k n : ℕ) → n < f.state.made
+          → (not (is_member g n p) || has_slice_of g k table (n + 1)) ≡ (not (is_member f n p) || has_slice_of f k table (n + 1))
+      wants_same table k n low = of (is_member g n p) (is_member f n p) refl refl
+        where
+          low_now : n < g.state.made
+          low_now = (let made = made_same in omega (arith, low, made))
+
+          of : (a b : Bool) → is_member g n p ≡ a → is_member f n p ≡ b
+              → (not (is_member g n p) || has_slice_of g k table (n + 1)) ≡ (not (is_member f n p) || has_slice_of f k table (n + 1))
+          of false false none past = ap (λ a. not a || has_slice_of g k table (n + 1)) none ∙ sym (ap (λ a. not a || has_slice_of f k table (n + 1)) past)
+          of true true member was =
+              ap₂ (λ a b. not a || b) (member ∙ sym was) (slice_alike f g table k n (is.slices.members n p d low_now seat member ∙ sym (had.members n p d low before_call seat_before was)))
+          of true false member past =
+              (let size = had.others n p (few n low_now) (ap₂ (λ a b. a && b) (lt-ltb n f.state.made low) past) in
+              let some = some_sectors g n (extent_in t (member_slice p n)) (is.slices.members n p d low_now seat member) in absurd (omega (arith, size, some)))
+          of false true none was =
+              (let size = is.slices.others n p low_now none in
+              let some = some_sectors f n (extent_in t (member_slice p n)) (had.members n p d low before_call seat_before was) in absurd (omega (arith, size, some)))
+
+      table_now : has_table g p d ≡ true
+      table_now =
+          ap (λ o. option_map_or (is_table g p (f.disks.sectors d)) o false)
+          (tables_now f.disks i w s0 newest_is log (λ e k below within which none. others e k none) (λ e below within. copies e within) d there)
+          ∙ table_alike f g p (f.disks.sectors d) (id_same f.state g.state (after_then f.state v g.state begun is.after).same p) made_same
+          (λ table. wants_same table (f.disks.sectors d)) (the_table (f.disks.sectors d) (i d))
+          ∙ tabled p d seat_before (inl before_call)
+
+      -- ---- its log
+
+      gate_good : is_bad_gate (slices_of g) p ≡ false
+      gate_good =
+          ap is_bad_block (gate_block g p
+          ∙ ap (λ o. option_map_or (λ e. if nat_lt drive_gate (f.disks.sectors e) then w e drive_gate else []) o []) seat
+          ∙ ap (λ (b : Bool). if b then w d drive_gate else []) (lt-ltb drive_gate (f.disks.sectors d) within)
+          ∙ written_gate f.disks i i s0 newest_is log d within)
+          ∙ gates_early f.disks i i s0 newest_is log mid (λ e below within. refl) (λ e below within. refl) p d (sym (seats_written f.disks i i s0 newest_is log p) ∙ seat) room
+        where
+          within : drive_gate < f.disks.sectors d
+          within = (let long = room in omega (arith, long))
+
+      log_now : has_log g p ≡ true
+      log_now = ap₂ (λ a b. not a && not b) gate_good (whole_early f.disks i i s0 newest_is log mid (λ e below within. refl) (λ e below within. refl) p)
+
+    wants_now : (p : ℕ) → is_current g.state p ≡ true → damage_of g p ≡ (if not (has_supers g p) then Some in_superblock else None)
+    wants_now p now =
+        let drive = is.present p now in
+        superblocks_alone g p drive.0 drive.1 (table_now p drive.0 now drive.1) (copied_now p drive.0 now drive.1) (log_now p drive.0 now drive.1)
+
+    -- a drive's copy is of the pool
+    own_pool : (p d : ℕ) (copy : Copied) → g.seats p ≡ Some d → (ids d).copied ≡ Some copy → copy.state.pool ≡ g.state.pool
+    own_pool p d copy seat here = elim (cases_Bool (is_current g.state p)) [
+      | inr past ↦ absurd (none-some d (sym (nowhere s f.disks g.identities p past) ∙ seat))
+      | inl now ↦
+          ap (λ (z : Copied). z.state.pool) (some_same copy (own p d now seat).copy (sym here ∙ own_copied p d now seat))
+          ∙ (own p d now seat).after.same.pool ∙ sym is.after.same.pool
+    ]
+
+    excused_now : first_bad (joined_arrays g) ≡ None → (why : Refusal) → refusal_of f.disks i ≡ Some why → IsExcusedAmid g why
+    excused_now good why at = elim (refused_so i g stands found_now log.pool own_pool (none_absent g is.present) good why at) [
+      | inl excused ↦ inl excused
+      | inr wants ↦ inr (first_wants g wants_now why wants)
+    ]
+
+-- ---- a stop inside calls
+
+-- Contents that hold the pool still and mean a volume where they aren't refused, with copies since the calls began and the tables of current places' drives.
+pub amid_reopens : (f : Found) (t : Slices) (v w : State) (l : Linear) (i : Image) → IsAfter f.state v → AreSlicesNow f t v → AreInside f t
+    → AreTabled f (λ d. Unit {0}) v i → AreSince v (sectors_of t) (sliced t i) → HoldAmid f t v w i → HoldVolume f t l i → ReopensAmid f t l i
+amid_reopens f t v w l i begun had inside tabled since amid volume =
+    let still = amid.between.still in
+    let by = stood_by f.disks i still.logs.before still.logs.stands in
+    let stands : standing f.disks i ≡ Some (standing_by f.disks i by.0) = still.logs.stands ∙ ap Some by.2 in
+    let log : IsSoundLog f.disks i (standing_by f.disks i by.0) (seated_state (standing_by f.disks i by.0).targets by.0) =
+    subst (λ (x : Standing). IsSoundLog f.disks i x (seated_state x.targets x.state)) by.2 still.logs.log in
+    let g : Found = was f.disks i i by.0 by.1 log (mid f t v i begun had inside tabled since by.0 stands by.1 log) in
+    let found_g : found f.disks i ≡ Some g = found_now f t v i begun had inside tabled since by.0 stands by.1 log in
+    let is : IsNow f t v still.now = record {
+      after = subst (IsAfter v) (sym still.state) amid.between.later;
+      seats = λ p now. still.seats p (subst (λ (z : State). is_current z p ≡ true) still.state now);
+      slices = still.slices;
+      present = λ p now. amid.present p (subst (λ (z : State). is_current z p ≡ true) still.state now);
+    } in
+    let same : g ≡ volume.now = some_same g volume.now (sym found_g ∙ volume.found_is) in
+    record {
+      volume = volume;
+      excused =
+          subst (λ (k : Found). (why : Refusal) → refusal_of f.disks i ≡ Some why → IsExcusedAmid k why) same
+          (excused_now f t v i begun had inside tabled since by.0 stands by.1 log (subst (IsNow f t v) (some_same still.now g (sym still.found_is ∙ found_g)) is)
+          (subst (λ (k : Found). first_bad (joined_arrays k) ≡ None) (sym same) volume.lies.sound));
+    }
+
+-- So it is with stops inside calls that write slices alone, of a pool by slices that lie as those of its current places.
+pub calls_reopen : (f : Found) (t : Slices) (v w : Raid) (x y : Seen) (l : Linear) → IsAfter f.state v.state → AreSlicesNow f t v.state → AreInside f t
+    → HoldTabled f v.state t x → x.lasting → WritesOnly x y (IsSliced t) → KeepsMoments v w (slices_shown t x) (slices_shown t y) → IsTold v (slices_shown t x) 0 → is_over w 0 ≡ false
+    → x.traced → (k : ℕ) (i : Image) → x.clock < k → k ≤ y.clock → y.stops k i → HoldAmid f t v.state w.state i → HoldVolume f t l i → ReopensAmid f t l i
+calls_reopen f t v w x y l begun had inside tabled lasting only keeps told lasts traced k i late early stop =
+    amid_reopens f t v.state w.state l i begun had inside (tabled i (off_amid t x y lasting only traced k i late early stop))
+    (((moments_since v w (slices_shown t x) (slices_shown t y) keeps told lasts).leaves traced).new k (sliced t i) late early (i, stop, λ d s. refl) (nothing_past t i))
+
+-- its slices and tables, where a place whose drive is missing has no disk any more
+pub vacant_lies : (f : Found) (t u : Slices) (v : Raid) (x : Seen) (place : ℕ) → InService f t v x → LacksDrive f t u v place x → HoldTabled f v.state t x
+    → AreSlicesNow f u v.state × HoldTabled f v.state u x
+vacant_lies f t u v x place is lacks tabled = (
+  slices_now t u place lacks.vacated f is.slices v.state lacks.missing is.arranged.made.1,
+  λ i off. tabled i (off_more t u x (sliced_before t u place lacks.vacated) i off),
+)
