@@ -27,9 +27,9 @@ use Rattle.pool_rest.specs.Standing.{FindsAll, IsLasting, IsNewest, since}
 use Rattle.pool_model.specs.Pools.{IsSoundPool}
 use Rattle.pool_model.proofs.Found.{found_is}
 use Rattle.pool_model.proofs.Refused.{IsOnlyPool}
+use Rattle.pool_model.specs.Grouped.{IsVolumeOf}
 use Rattle.assembler.specs.Holding.{IsFoundOn}
 use Rattle.assembler.specs.Sound.{HoldSound}
-use Rattle.assembler.specs.Volume.{IsVolumeOf}
 use Rattle.assembler.proofs.Agreeing.{none_passes}
 use Rattle.assembler.proofs.Finding.{same as found_same, some_same}
 use Rattle.assembler.proofs.Meaning.{refusal_is}

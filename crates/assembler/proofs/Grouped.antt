@@ -1,29 +1,26 @@
 -- Arrays on which a volume was opened hold its group, whatever they may be left with: their texts were brought up to it.
-use Rattle.std.proofs.Common.{◌≡◌, ℕ, ◌<◌, ◌≤◌, Bool, if◌then◌else◌, List, [], map, None, Some, refl, sym, ap, subst, ◌∙◌, lt-ltb, arith}
+use Rattle.std.proofs.Common.{◌≡◌, ℕ, ◌<◌, ◌≤◌, Bool, if◌then◌else◌, List, [], Some, sym, ap, subst, ◌∙◌, lt-ltb, arith}
 use Rattle.rack.specs.Values.{MayLeave}
 use Rattle.rack.specs.Joins.{leaves_then, leaves_weaker}
 use Rattle.rack.specs.Moments.{Leaves}
 use Rattle.rack.specs.Seen.{Image, IsLive, IsPick, Seen}
 use Rattle.lvm_group.specs.Brought.{IsEven}
-use Rattle.lvm_group.specs.Group.{first_bad, group_in, highest}
-use Rattle.lvm_group.specs.Images.{HasOwnArea, HoldOnly, IsSettled, MeansVolume, over}
+use Rattle.lvm_group.specs.Group.{group_in}
+use Rattle.lvm_group.specs.Images.{HoldOnly, IsSettled, MeansVolume, over}
 use Rattle.lvm_group.specs.Opening.{AreNow, AreServed, Means, within_sectors}
-use Rattle.lvm_group.specs.Parts.{part_of}
 use Rattle.lvm_group.specs.Runs.{Linear, data_start}
 use Rattle.lvm_group.proofs.OwnGroup.{own_sized}
-use Rattle.lvm_group.proofs.SameParts.{area_below, part_below}
+use Rattle.lvm_group.proofs.SameParts.{area_below}
 use Rattle.array_model.specs.View.{sectors_of}
 use Rattle.shr_base.specs.declared.Id.{Id}
 use Rattle.pool_image.specs.Drives.{Found}
 use Rattle.pool_image.specs.Meaning.{arrays_held}
-use Rattle.pool_image.proofs.Groups.{map_below}
-use Rattle.pool_image.proofs.Joined.{bad_by_parts, bad_same}
 use Rattle.raid_rack.specs.declared.arrays.RaidRack.{RaidRack}
 use Rattle.raid_rack.specs.AllRuns.{AreCalls}
 use Rattle.raid_rack.specs.Raid.{Raid, held_in}
 use Rattle.raid_rack.specs.RaidRack.{raid_in, raid_seen, refused_in, slices_seen}
 use Rattle.pool_model.specs.Grouped.{HaveOwnAreas, HoldGroup}
-use Rattle.pool_model.proofs.Grouped.{group_left}
+use Rattle.pool_model.proofs.Grouped.{group_left, means_below}
 use Rattle.assembler.specs.Holding.{HoldsArrays}
 use Rattle.assembler.specs.Volume.{AllLive, OpensVolume}
 use Rattle.assembler.proofs.Volumes.{live_before, now as now_held, served as served_by}
@@ -85,15 +82,19 @@ module _ {R : Type 0} (seen : R → Seen) (runs : R → R → Type 0) (f : Found
   now : AreNow p joined (arrays_held f)
   now n low = now_held seen runs f a x holds fresh n (low_of n low)
 
+  extent_is : u.state.extent ≡ l.extent
+  extent_is =
+      let is = opens.opens.means (arrays_held f) served now in
+      sym (ap (λ (k : Linear). k.extent) is.volume ∙ own_sized u.state.pool.0 u.state.extent joined p.sectors is.group is.own)
+
+  arrays_are : l.arrays ≡ joined
+  arrays_are = ap (λ (k : Linear). k.arrays) (opens.opens.means (arrays_held f) served now).volume
+
   means : MeansVolume u.state.pool.0 joined p.sectors l seqno before
   means =
-      let is = opens.opens.means (arrays_held f) served now in
-      let size : u.state.extent ≡ l.extent =
-      sym (ap (λ (k : Linear). k.extent) is.volume ∙ own_sized u.state.pool.0 u.state.extent joined p.sectors is.group is.own) in
-      let arrays : l.arrays ≡ joined = ap (λ (k : Linear). k.arrays) is.volume in
-      let same : l ≡ over joined l = ap (λ (k : ℕ). record { extent = l.extent; arrays = k; runs = l.runs }) arrays in
+      let same : l ≡ over joined l = ap (λ (k : ℕ). record { extent = l.extent; arrays = k; runs = l.runs }) arrays_are in
       subst (λ (k : Linear). Means u.state.pool.0 l.extent joined p.sectors k seqno before) same
-      (subst (λ k. Means u.state.pool.0 k joined p.sectors l seqno before) size is)
+      (subst (λ k. Means u.state.pool.0 k joined p.sectors l seqno before) extent_is (opens.opens.means (arrays_held f) served now))
 
   settled : IsSettled u.state.pool.0 joined l seqno p q before
   settled = record {
@@ -130,46 +131,24 @@ module _ {R : Type 0} (seen : R → Seen) (runs : R → R → Type 0) (f : Found
       } in
       brought.1 n s v less first ((opens.agrees.values.keeps.held n s live).within v left)
 
-  sound : first_bad (raid_in y).state.pool.0 (raid_in y).state.extent (λ n. sectors_of ((raid_in y).arrays n)) (raid_in y).state.joined brought.0 ≡ None
-  sound =
+  -- they mean the volume by the book that is left
+  after_means : MeansVolume (raid_in y).state.pool.0 (raid_in y).state.joined (λ n. sectors_of ((raid_in y).arrays n)) l seqno brought.0
+  after_means =
       let same = kept.1.book.same in
-      let even = brought.2.means in
-      let is = opens.opens.means (arrays_held f) served now in
-      let size : (raid_in y).state.extent ≡ l.extent =
-      same.extent ∙ sym (ap (λ (k : Linear). k.extent) is.volume ∙ own_sized u.state.pool.0 u.state.extent joined p.sectors is.group is.own) in
-      bad_same (raid_in y).state.pool.0 (raid_in y).state.extent (raid_in y).state.joined (λ n. sectors_of ((raid_in y).arrays n)) p.sectors (λ n low. kept.2.sectors n)
-      brought.0 brought.0 (λ n low. refl)
-      ∙ ap (λ (k : Id). first_bad k.0 (raid_in y).state.extent p.sectors (raid_in y).state.joined brought.0) same.pool
-      ∙ ap (λ k. first_bad u.state.pool.0 k p.sectors (raid_in y).state.joined brought.0) size
-      ∙ ap (λ k. first_bad u.state.pool.0 l.extent p.sectors k brought.0) same.joined
-      ∙ even.sound
+      subst (λ (id : Id). MeansVolume id.0 (raid_in y).state.joined (λ n. sectors_of ((raid_in y).arrays n)) l seqno brought.0) (sym same.pool)
+      (subst (λ k. MeansVolume u.state.pool.0 k (λ n. sectors_of ((raid_in y).arrays n)) l seqno brought.0) (sym same.joined)
+      (subst (λ (k : ℕ → ℕ). MeansVolume u.state.pool.0 joined k l seqno brought.0) (λ j n. sym (kept.2.sectors n) j) brought.2.means))
 
-  pub group_opened : HoldGroup (raid_in y) (slices_seen seen y)
-  group_opened = group_left (raid_in y) (slices_seen seen y) brought.0 room_now (λ n low. brought.2.areas n (low_now n low)) held_now sound
+  pub group_opened : HoldGroup (raid_in y) l (slices_seen seen y)
+  group_opened =
+      group_left (raid_in y) (slices_seen seen y) l seqno brought.0 room_now (λ n low. brought.2.areas n (low_now n low)) held_now
+      (sym extent_is ∙ sym kept.1.book.same.extent) (arrays_are ∙ sym kept.1.book.same.joined) after_means
 
   -- ---- at each moment
 
-  -- contents that agree with these before the first extents mean the volume, by the arrays' sizes
-  means_below : (m c : Image) → ((n : ℕ) → n < joined → HasOwnArea (m n)) → MeansVolume u.state.pool.0 joined p.sectors l seqno m
-      → ((n s : ℕ) → n < joined → s < data_start → c n s ≡ m n s) → MeansVolume u.state.pool.0 joined p.sectors l seqno c
-  means_below m c areas is same =
-      let parts : (n : ℕ) → n < joined → part_of (c n) (p.sectors n) ≡ part_of (m n) (p.sectors n) =
-      λ n low. part_below (m n) (c n) (p.sectors n) (areas n low) (λ s first. same n s low first) in
-      record {
-        group = is.group;
-        found =
-            ap (λ parts. highest (map (λ part. part.group) parts))
-            (map_below (λ n. part_of (c n) (p.sectors n)) (λ n. part_of (m n) (p.sectors n)) 0 joined (λ n low. parts n (omega (arith, low))))
-            ∙ is.found;
-        own = is.own;
-        sound = bad_by_parts u.state.pool.0 l.extent joined p.sectors p.sectors (λ n low. refl) c m parts ∙ is.sound;
-        volume = is.volume;
-        numbered = is.numbered;
-      }
-
-  -- so do those that have the pool's own sectors there
+  -- contents that have the pool's own sectors before the first extents mean the volume, by the arrays' sizes
   pub given_means : (c : Image) → ((n s : ℕ) → n < joined → s < data_start → c n s ≡ arrays_held f n s) → MeansVolume u.state.pool.0 joined p.sectors l seqno c
-  given_means c same = means_below before c settled.areas means (λ n s low first. same n s low first ∙ sym (reads n s low first))
+  given_means c same = means_below u.state.pool.0 joined p.sectors l seqno before c settled.areas means (λ n s low first. same n s low first ∙ sym (reads n s low first))
 
   -- texts are brought up to date
   mid_means : p.traced → Leaves p q (MeansVolume u.state.pool.0 joined p.sectors l seqno)
@@ -184,7 +163,7 @@ module _ {R : Type 0} (seen : R → Seen) (runs : R → R → Type 0) (f : Found
   last_means traced =
       leaves_weaker (IsPick q (raid_seen seen y) q.held) (MeansVolume u.state.pool.0 joined p.sectors l seqno)
       (λ c pick.
-      means_below brought.0 c brought.2.areas brought.2.means
+      means_below u.state.pool.0 joined p.sectors l seqno brought.0 c brought.2.areas brought.2.means
       (λ n s low first.
       let enough = room n low in
       let size = kept.2.sectors n in

@@ -293,14 +293,15 @@ module _ (f : Found) (t : Slices) (x : Seen) (checked : Checked) (absent : List 
       → (b.held (member_slice place n) s).current ≡ ((slices_seen t x).held (member_slice place n) s).current)
       → ((n : ℕ) → n < f.state.joined → (w : State) (spent : ℕ → Bool) → IsAfter f.state w → x.traced
       → Leaves (slices_seen t x) b (λ c. IsInside (sectors_of t) c → SaysBetween f.state w n (pool_values f n) spent (replayed (sectors_of t) c)))
-      → (w : Raid) (c : Seen) → IsAfter f.state w.state → ((n : ℕ) → array_sectors_of (w.arrays n) ≡ array_sectors_of (arrays n))
+      → (w : Raid) (c : Seen) → IsAfter f.state w.state → w.state.plan ≡ f.state.plan → ((n : ℕ) → array_sectors_of (w.arrays n) ≡ array_sectors_of (arrays n))
       → OpenedRaid v w b c
       → ((n : ℕ) → n < f.state.joined → is_over w n ≡ false → (r : Image) → IsLeft c r → SupersAgree w.state r n × LeavesClean f w.state n r)
       → ((n : ℕ) → n < f.state.joined → is_over w n ≡ false → HoldTruth (w.arrays n) c)
       → ((n : ℕ) (z : Super) → n < f.state.joined → truth_of f n ≡ Some z → IsArrayOf f n z (w.arrays n))
       → HoldsArrays f w (slices_seen t x) c
-  holds_marked b opens stays kept closing w c after sizes marks agree truths founds = record {
+  holds_marked b opens stays kept closing w c after plan sizes marks agree truths founds = record {
     after = after;
+    plan = plan;
     arrays = founds;
     agree = λ n less goes r left. (agree n less goes r left).0;
     clean = λ n less goes r left. (agree n less goes r left).1;
@@ -416,7 +417,7 @@ module _ (f : Found) (s : State) (t : Slices) (x : Seen) (checked : Checked) (ab
       holds_marked f t x checked absent orderly m holds.steady pool found holds.sound rules v.arrays v.number now
       (slices_seen t x) opens (stays_same (slices_seen t x) m.fit) (λ n place k low live. refl)
       (λ n less k spent after traced. leaves_same (slices_seen t x) (λ i. IsInside (sectors_of t) i → SaysBetween f.state k n (pool_values f n) spent (replayed (sectors_of t) i)))
-      w c (subst (λ k. IsAfter k w.state) (state ∙ same) mends.moves.book) mends.moves.sectors marks
+      w c (subst (λ k. IsAfter k w.state) (state ∙ same) mends.moves.book) (mends.moves.plan ∙ ap (λ (k : State). k.plan) (state ∙ same)) mends.moves.sectors marks
       (λ n less goes r left.
       marked_clean none w mends.moves.arrays c n less (marks.told n less) goes r left
       (marks.agree (subst (λ k. MakesAgree k w (slices_seen t x) c) before_is agree) quiet n less goes r left))
@@ -442,7 +443,7 @@ module _ (f : Found) (s : State) (t : Slices) (x : Seen) (checked : Checked) (ab
       holds_marked f t x checked absent orderly m holds.steady pool found holds.sound rules v.arrays v.number now
       b opens replay.stays kept
       (says_closing f t x checked absent orderly m holds.steady pool found holds.sound rules v.arrays v.number now l log none number b call)
-      w c (subst (λ k. IsAfter k w.state) (state ∙ same) mends.moves.book) mends.moves.sectors marks
+      w c (subst (λ k. IsAfter k w.state) (state ∙ same) mends.moves.book) (mends.moves.plan ∙ ap (λ (k : State). k.plan) (state ∙ same)) mends.moves.sectors marks
       (elim either [
         | inl made ↦ λ n less goes r left.
             marked_clean (nobody ∙ sym none) w mends.moves.arrays c n less (marks.told n less) goes r left

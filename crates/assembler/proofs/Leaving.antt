@@ -26,11 +26,12 @@ use Rattle.pool_check.specs.Refusing.{is_well}
 use Rattle.raid_rack.specs.declared.arrays.RaidRack.{RaidRack}
 use Rattle.raid_rack.specs.Raid.{Raid}
 use Rattle.raid_rack.specs.RaidRack.{raid_in, raid_seen, slices_in, slices_seen as slices_shown}
+use Rattle.pool_model.specs.Grouped.{IsVolumeOf}
 use Rattle.assembler.specs.Members.{AreMembers}
 use Rattle.pool_model.specs.Pools.{IsSoundPool}
 use Rattle.assembler.specs.Holding.{AreSteady, HoldsArrays, IsIdle, IsPoolOn}
 use Rattle.assembler.specs.Moments.{GivesPool, HoldsAt}
-use Rattle.assembler.specs.Volume.{AllLive, IsVolumeOf, OpensVolume}
+use Rattle.assembler.specs.Volume.{AllLive, OpensVolume}
 use Rattle.assembler.proofs.Volumes.{opened_writes}
 use Rattle.assembler.proofs.Moments.{GivesArrays, alike_values, brought_leave, e, gives_volume, made_leave, read_leave}
 

@@ -21,10 +21,10 @@ use Rattle.pool_check.specs.declared.Extent.{Extent}
 use Rattle.pool_check.specs.Layers.{AreOpened}
 use Rattle.pool_check.proofs.Shown.{member_lies}
 use Rattle.lvm_group.specs.Runs.{Linear}
+use Rattle.pool_model.specs.Grouped.{IsVolumeOf}
 use Rattle.assembler.specs.Holding.{AreSteady, IsPoolOn}
 use Rattle.assembler.specs.Members.{AreMembers}
 use Rattle.pool_model.specs.Pools.{AreSlicesOf, extent_in}
-use Rattle.assembler.specs.Volume.{IsVolumeOf}
 use Rattle.assembler.proofs.Shows.{few_made, few_place, members, no_slice, slots}
 
 module _ (f : Found) (t : Slices) (x : Seen) (checked : Checked) (absent : List ℕ) (orderly : IsOrderly t)

@@ -44,11 +44,12 @@ use Rattle.raid_rack.specs.declared.arrays.RaidRack.{RaidRack}
 use Rattle.raid_rack.specs.Raid.{Raid, is_over, spent_of}
 use Rattle.raid_rack.specs.RaidRack.{raid_in, raid_seen, slices_in, slices_seen as slices_shown}
 use Rattle.raid_rack.proofs.Founding.{position_named}
+use Rattle.pool_model.specs.Grouped.{IsVolumeOf}
 use Rattle.assembler.specs.Members.{AreMembers}
 use Rattle.pool_model.specs.Pools.{IsSoundPool}
 use Rattle.assembler.specs.Holding.{AreSteady, HoldsArrays, IsIdle, IsPoolOn, pool_values}
 use Rattle.assembler.specs.Moments.{HoldsAt}
-use Rattle.assembler.specs.Volume.{AllLive, IsVolumeOf}
+use Rattle.assembler.specs.Volume.{AllLive}
 use Rattle.assembler.proofs.Arrays.{among_made}
 use Rattle.assembler.proofs.Rest.{opened_now}
 use Rattle.assembler.proofs.Shows.{few_made, few_place, got, now, reads_member}

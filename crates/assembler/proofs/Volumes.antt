@@ -28,11 +28,12 @@ use Rattle.raid_rack.specs.Book.{IsSameBook}
 use Rattle.raid_rack.specs.Raid.{held_in, is_used_up}
 use Rattle.raid_rack.proofs.Live.{runs_live, runs_unused}
 use Rattle.raid_rack.specs.RaidRack.{IsFit, arrays_in, raid_in, raid_seen, refused_in, slices_in, slices_seen, written_in}
+use Rattle.pool_model.specs.Grouped.{IsVolumeOf}
 use Rattle.assembler.specs.declared.refusal.Refusal.{Refusal}
 use Rattle.assembler.specs.declared.refusal.Refusal.TheVariants.{BadVolume, Memory}
 use Rattle.assembler.specs.Holding.{HoldsArrays}
 use Rattle.assembler.specs.Refusing.{by_volume}
-use Rattle.assembler.specs.Volume.{AreStill, IsShort, AllLive, HasBadVolume, HoldsVolume, IsVolumeOf, OpensVolume}
+use Rattle.assembler.specs.Volume.{AreStill, IsShort, AllLive, HasBadVolume, HoldsVolume, OpensVolume}
 
 -- ---- the volume of the meaning
 

@@ -102,6 +102,7 @@ pub record IsArrayOf (f : Found) (n : ℕ) (t : Super) (v : View) : Type 0 where
 -- contents say so, by a state between the two. Afterwards the superblocks of each array agree.
 pub record HoldsArrays (f : Found) (v : Raid) (a b : Seen) : Type 0 where
   pub after : IsAfter f.state v.state
+  pub plan : v.state.plan ≡ f.state.plan
   pub told : (n : ℕ) → n < f.state.joined → IsTold v b n
   pub arrays : (n : ℕ) (t : Super) → n < f.state.joined → truth_of f n ≡ Some t → IsArrayOf f n t (v.arrays n)
   pub sectors : (n : ℕ) → n < f.state.joined → sectors_in (v.arrays n) ≡ array_sectors f n

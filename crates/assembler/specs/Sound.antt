@@ -27,7 +27,7 @@ use Rattle.raid_rack.specs.Book.{IsAfter}
 use Rattle.raid_rack.specs.Raid.{IsTold, Raid}
 use Rattle.raid_rack.specs.RaidRack.{raid_in, raid_seen, slices_in, slices_seen}
 use Rattle.assembler.specs.declared.refusal.Refusal.{Refusal}
-use Rattle.pool_model.specs.Grouped.{HaveOwnAreas, HoldGroup}
+use Rattle.pool_model.specs.Grouped.{HaveOwnAreas, HoldGroup, IsVolumeOf}
 pub use Rattle.pool_model.specs.Left.{AreAlone}
 use Rattle.pool_model.specs.Left.{AreElsewhere, HoldSame, IsPickOff}
 use Rattle.pool_model.specs.Openings.{HoldOpened, MayReplay}
@@ -37,7 +37,7 @@ use Rattle.pool_model.specs.Stopped.{HaveTables}
 use Rattle.assembler.specs.Holding.{AreSteady, IsArrayOf}
 use Rattle.assembler.specs.Refusing.{meant_by}
 use Rattle.assembler.specs.Moments.{GivesPool, HoldsAt, SaysVolume}
-use Rattle.assembler.specs.Volume.{AllLive, HoldsVolume, IsVolumeOf}
+use Rattle.assembler.specs.Volume.{AllLive, HoldsVolume}
 
 -- Disks that hold a sound pool: they are told, each sector of them has one value, and by these the pool's logs, states and
 -- superblocks agree. A drive may be absent, and parts of it damaged.
@@ -82,12 +82,14 @@ pub record IsMeantBy {R : Type 0} (seen : R → Seen) (x : Seen) (f : Found) (ra
   pub lies : IsVolumeOf f l
   pub slices : AreSlicesOf f (tables (slices_in rack))
   pub after : IsAfter f.state (raid_in rack).state
+  -- its plan goes on
+  pub plan : (raid_in rack).state.plan ≡ f.state.plan
   pub told : (n : ℕ) → n < f.state.joined → IsTold (raid_in rack) (slices_seen seen rack) n
   pub arrays : (n : ℕ) (t : Super) → n < f.state.joined → truth_of f n ≡ Some t → IsArrayOf f n t ((raid_in rack).arrays n)
   pub live : AllLive (raid_in rack)
   pub one_pool : HaveOnePool f
   -- where all arrays are ready for the volume, and have the pool's metadata areas, they hold its group, whatever they may be left with
-  pub group : f.state.joined ≡ f.state.made → HaveOwnAreas f → HoldGroup (raid_in rack) (slices_seen seen rack)
+  pub group : f.state.joined ≡ f.state.made → HaveOwnAreas f → HoldGroup (raid_in rack) l (slices_seen seen rack)
   -- where targets land in the pool's slices a replay finds these by the drives' tables
   pub landing : TargetsLand f → HaveTables f
   -- outside the slices the disks have each drive's table, and other disks say what they said

@@ -1,18 +1,15 @@
 -- The volume that is opened on the arrays of a pool.
-use Rattle.std.specs.Prelude.{◌≡◌, ◌⊎◌, ◌&&◌, ℕ, ◌<◌, true, false, not, List, None, Some}
+use Rattle.std.specs.Prelude.{◌≡◌, ◌⊎◌, ◌&&◌, ℕ, ◌<◌, true, false, not, List}
 use Rattle.rack.specs.Values.{MayLeave}
 use Rattle.rack.specs.Seen.{Seen}
 use Rattle.rack.specs.Sequences.{OnlyReads}
 use Rattle.pool_state.specs.declared.contents.State.{State}
 use Rattle.array_image.specs.States.{is_current}
 use Rattle.commit_log.specs.View.{names}
-use Rattle.lvm_text.specs.declared.group.Group.{Group}
 use Rattle.lvm_group.specs.Brought.{BringsUp}
 use Rattle.lvm_group.specs.Opening.{IsBadVolume, Opens}
 use Rattle.lvm_group.specs.Runs.{Linear}
-use Rattle.pool_image.specs.Drives.{Found}
-use Rattle.pool_image.specs.Meaning.{Volume, group_of, joined_arrays}
-use Rattle.pool_image.specs.Volumes.{first_bad, linear_of}
+use Rattle.pool_image.specs.Meaning.{Volume}
 use Rattle.raid_rack.specs.declared.arrays.RaidRack.{RaidRack}
 use Rattle.array_model.specs.View.{sectors_of}
 use Rattle.raid_rack.specs.Raid.{Raid, is_used_up, live_of}
@@ -66,13 +63,6 @@ pub record RefusesVolume {R : Type 0} (seen : R → Seen) (runs : R → R → Ty
   pub back : below_of (slices_in last) ≡ rack
   pub cause : ((why ≡ Memory) × IsShort seen x last) ⊎ ((array : ℕ) × (why ≡ BadVolume array) × HasBadVolume seen x last array)
   pub kept : AreCalls seen runs x last
-
--- The volume of the meaning: that of the pool's group, which has no bad array.
-pub record IsVolumeOf (f : Found) (l : Linear) : Type 0 where
-  pub group : Group
-  pub group_is : group_of f ≡ Some group
-  pub sound : first_bad (joined_arrays f) ≡ None
-  pub linear : l ≡ linear_of (joined_arrays f) group
 
 -- A rack's one disk is a volume: of its size, and each sector that isn't spent holds what the volume does and nothing else.
 pub record HoldsVolume (x : Seen) (v : Volume) : Type 0 where

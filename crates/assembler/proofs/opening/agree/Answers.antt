@@ -13,7 +13,7 @@ returns-then-has_written g c =
         kept = (
           said.runs,
           said.book,
-          record { sectors = said.keeps.stays.sectors; spent = said.keeps.stays.spent; arrays = said.mends.moves.arrays; refused = λ n alive. said.refused n },
+          record { sectors = said.keeps.stays.sectors; spent = said.keeps.stays.spent; arrays = said.mends.moves.arrays; plan = said.mends.moves.plan; refused = λ n alive. said.refused n },
         );
         values = said.keeps;
         supers = inr said.supers;

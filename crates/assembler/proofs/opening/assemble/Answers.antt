@@ -117,6 +117,7 @@ returns-in-Ok-open_volume-clause-meant g c e sound quiet =
           (subst (AreSlicesOf pool) (sym (opens.kept.0.tables ∙ c.make_rack.ensures.tables)) (lie g k before e sound));
       after = after_then e.state (raid_in raid).state (raid_in (rack_in volume)).state
           (subst (λ (s : State). IsAfter s (raid_in raid).state) same_pool.state held_arrays.after) opens.kept.1.book;
+      plan = opens.kept.2.plan ∙ held_arrays.plan ∙ ap (λ (s : State). s.plan) same_pool.state;
       told = λ n low. opens.kept.1.moments.told n (held_arrays.told n (small n low));
       arrays = λ n z low truth.
           let less = small n low in
