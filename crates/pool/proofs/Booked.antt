@@ -162,13 +162,10 @@ gone_only u places is_array = record {
       ];
 }
 
-pub book_noted : (v w : Raid) (x y : Seen) (places : List ℕ) → IsSet v x → IsSet w y → IsHeeded w → w.state.made ≡ v.state.made
-    → KeepsArrays (noted_at places v) w → KeepsBook v w
-book_noted v w x y places before set heeded made keeps =
-    book_lost v w y set heeded made
-    (λ n low.
+pub arrays_noted : (v w : Raid) (x : Seen) (places : List ℕ) → IsSet v x → KeepsArrays (noted_at places v) w → KeepsArrays v w
+arrays_noted v w x places before keeps n low =
     only_then (v.arrays n) (gone places (v.arrays n)) (w.arrays n) (gone_only (v.arrays n) places (before.arrays n low).is_array)
-    (subst (λ (u : ArrayView). LosesOnly u (w.arrays n)) (ap (λ b. if b then gone places (v.arrays n) else v.arrays n) (lt-ltb n v.state.made low)) (keeps n low)))
+    (subst (λ (u : ArrayView). LosesOnly u (w.arrays n)) (ap (λ b. if b then gone places (v.arrays n) else v.arrays n) (lt-ltb n v.state.made low)) (keeps n low))
 
 -- a step of array m
 book_stepped : (v w : Raid) (y : Seen) (m : ℕ) (next : ArrayView) (is_done : Bool) → IsSet w y → IsHeeded w → w.state.made ≡ v.state.made

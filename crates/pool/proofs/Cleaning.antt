@@ -88,6 +88,7 @@ clean_done seen shelf runs laws names p raid fit cleaned =
     let ends : Ends x y = record {
       passes = call.passes;
       raises = call.raises;
+      works = record { arrays = moves.arrays; plan = moves.plan };
       marks = call.marks;
       does = does_flush x y call.passes call.sound (reached_keeps seen shelf p raid fit cleaned.keeps)
           (λ s v live left.

@@ -31,11 +31,11 @@ use Rattle.pool.specs.View.{View, arrays_of, bay_in, book, slices_shown, view, v
 use Rattle.pool.specs.Keeping.{most_raised}
 use Rattle.pool.specs.Calls.{LosesDrive, MarksBut}
 use Rattle.raid_rack.proofs.Raises.{raises_more}
-use Rattle.pool.proofs.Booked.{book_noted}
+use Rattle.pool.proofs.Booked.{arrays_noted, book_lost}
 use Rattle.pool.proofs.Keeping.{marks_same, not_left, passes_of, went}
 use Rattle.pool.proofs.Doing.{does_kept, does_none}
 use Rattle.pool.proofs.Reached.{reached_keeps, reached_stays, with_arrays}
-use Rattle.pool.proofs.Serving.{IsCall, KeepNames, Laws, sound_in}
+use Rattle.pool.proofs.Serving.{IsServing, KeepNames, Laws, sound_in}
 
 -- ---- its note in the arrays
 
@@ -131,13 +131,14 @@ lose_done seen shelf runs laws names p raid place fit current lost =
     let x = view seen shelf p in
     let y = view seen shelf (with_arrays p raid) in
     let stays = reached_stays seen shelf p raid fit lost.keeps in
-    let keeps = book_noted (book x) (book y) (slices_shown x) (slices_shown y) (place ∷ []) fit.0.running.set stays.fit.0.running.set
-    stays.fit.0.heeded lost.mends.moves.book.same.made lost.mends.moves.arrays in
+    let arrays = arrays_noted (book x) (book y) (slices_shown x) (place ∷ []) fit.0.running.set lost.mends.moves.arrays in
+    let keeps = book_lost (book x) (book y) (slices_shown y) stays.fit.0.running.set stays.fit.0.heeded lost.mends.moves.book.same.made arrays in
     let passes = passes_of x y fit stays refl lost.ran lost.mends.moves.book keeps lost.truths lost.moments lost.mends.moves.unwritten
     (only_quiet (IsShown x.linear) lost.keeps.stays lost.keeps.keeps) (names (bay_in p) (below_of (slices_in raid)) lost.ran.below) in
     record {
       passes = passes;
       raises = raises_more 17 most_raised (book x) (book y) (omega arith) lost.raises;
+      works = record { arrays = arrays; plan = lost.mends.moves.plan };
       marks = marks_lost x y place fit lost.ran.tables current lost.mends;
       missing = (λ same. absurd (never_fault NoSuchDrive same), λ none. absurd (both_ways (is_current (book x).state place) none current));
       last = (λ same. absurd (never_fault LastDrive same), λ none. absurd (both_ways (has_other (book x).state place) none.1 lost.other));
@@ -145,22 +146,24 @@ lose_done seen shelf runs laws names p raid place fit current lost =
       does = does_kept x y passes (sound_in seen shelf laws (with_arrays p raid) stays.fit) (reached_keeps seen shelf p raid fit lost.keeps);
     }
 
-pub lose_missing : (x : View) (place : ℕ) → IsCall 1 x x → is_current (book x).state place ≡ false → LosesDrive x x place {X = Unit {0}} (Err NoSuchDrive)
-lose_missing x place call none = record {
-  passes = call.passes;
-  raises = call.raises;
+pub lose_missing : (x : View) (place : ℕ) → IsServing x x → is_current (book x).state place ≡ false → LosesDrive x x place {X = Unit {0}} (Err NoSuchDrive)
+lose_missing x place serving none = record {
+  passes = serving.call.passes;
+  raises = serving.call.raises;
+  works = serving.works;
   marks = marks_same x (λ p. p ≡ place);
   missing = (λ same. none, λ is. refl);
   last = (λ same. absurd (missing_last (same_fault NoSuchDrive LastDrive same)), λ at. absurd (both_ways (is_current (book x).state place) none at.0));
   lost = tt;
-  does = does_none x call.passes call.sound;
+  does = does_none x serving.call.passes serving.call.sound;
 }
 
-pub lose_last : (x : View) (place : ℕ) → IsCall 1 x x → is_current (book x).state place ≡ true → has_other (book x).state place ≡ false
+pub lose_last : (x : View) (place : ℕ) → IsServing x x → is_current (book x).state place ≡ true → has_other (book x).state place ≡ false
     → LosesDrive x x place {X = Unit {0}} (Err LastDrive)
-lose_last x place call current alone = record {
-  passes = call.passes;
-  raises = call.raises;
+lose_last x place serving current alone = record {
+  passes = serving.call.passes;
+  raises = serving.call.raises;
+  works = serving.works;
   marks = marks_same x (λ p. p ≡ place);
   missing = (
     λ same. absurd (missing_last (sym (same_fault LastDrive NoSuchDrive same))),
@@ -168,5 +171,5 @@ lose_last x place call current alone = record {
   );
   last = (λ same. (current, alone), λ at. refl);
   lost = tt;
-  does = does_none x call.passes call.sound;
+  does = does_none x serving.call.passes serving.call.sound;
 }

@@ -16,6 +16,7 @@ use Rattle.lvm_group.specs.Volume.{linear}
 use Rattle.rack.specs.Several.{Several}
 use Rattle.raid_rack.specs.AllRuns.{AreRuns, IsOneCall}
 use Rattle.raid_rack.specs.Laws.{raid_sound, stops_inside}
+use Rattle.raid_rack.specs.Losing.{arrays_same}
 use Rattle.raid_rack.specs.Moves.{AreCaused, KeepsMarked}
 use Rattle.raid_rack.specs.Book.{IsAfter}
 use Rattle.raid_rack.specs.Runs.{KeepsMoments}
@@ -24,9 +25,9 @@ use Rattle.raid_rack.specs.RaidRack.{SliceRuns, raid_in, raid_seen, slices_in, s
 use Rattle.pool.specs.declared.Pool.{Pool}
 use Rattle.pool.specs.declared.calls.SectorFault.{SectorFault}
 use Rattle.pool.specs.declared.calls.SectorFault.TheVariants.{Range, Spent}
-use Rattle.pool.specs.View.{View, arrays_of, bay_in, view, volume}
+use Rattle.pool.specs.View.{View, arrays_of, bay_in, book, view, volume}
 use Rattle.pool.specs.Volume.{is_spent, size_of}
-use Rattle.pool.specs.Keeping.{KeepsBook, Raises, most_raised}
+use Rattle.pool.specs.Keeping.{KeepsBook, KeepsWorks, Raises, most_raised}
 use Rattle.pool.specs.Calls.{Flushes, HasFault, Marks, Passes, ReadsSector, WritesSector}
 use Rattle.raid_rack.proofs.Raises.{raises_more, raises_none}
 use Rattle.pool.proofs.Booked.{book_lost, several_raise}
@@ -82,30 +83,41 @@ is_call seen shelf runs laws names calls p q fit stays same ran marks caused kee
   sound = sound_in seen shelf laws q stays.fit;
 }
 
+-- such a call that keeps works too
+pub record IsServing (x y : View) : Type 0 where
+  pub call : IsCall 1 x y
+  pub works : KeepsWorks (book x) (book y)
+
 -- a call of the volume
 pub volume_call : {R : Type 0} (seen : R → Seen) (shelf : R → Shelf) (runs : R → R → Type 0) (laws : Laws seen) (names : KeepNames shelf runs) (p q : Pool R)
     → (volume (view seen shelf p)).fit
     → Stays (volume (view seen shelf p)) (volume (view seen shelf q)) → Frames (raid_seen seen) p.volume q.volume → AreRuns seen runs (arrays_of p) (arrays_of q)
     → Several (λ a b. IsOneCall (raid_in a) (raid_in b)) (1 + (linear p.volume).arrays) (arrays_of p) (arrays_of q)
-    → IsCall 1 (view seen shelf p) (view seen shelf q)
+    → IsServing (view seen shelf p) (view seen shelf q)
 volume_call seen shelf runs laws names p q fit stays frames ran several =
     let v = raid_in (arrays_of p) in
     let w = raid_in (arrays_of q) in
     let running = stays.fit.0 in
     let disks = fit.1.arrays in
     let most = fit.0.running.set.most in
-    is_call seen shelf runs laws names 1 p q fit stays frames.volume ran.0 ran.1.book ran.1.caused
-    (book_lost v w (slices_seen seen (arrays_of q)) running.running.set running.heeded ran.1.book.same.made ran.2.arrays)
-    ran.1.truths ran.1.moments ran.1.unwritten (frames.writes fit.0)
-    (several_raise (1 + (linear p.volume).arrays) most_raised (arrays_of p) (arrays_of q) (omega (arith, disks, most)) several)
+    record {
+      call = is_call seen shelf runs laws names 1 p q fit stays frames.volume ran.0 ran.1.book ran.1.caused
+          (book_lost v w (slices_seen seen (arrays_of q)) running.running.set running.heeded ran.1.book.same.made ran.2.arrays)
+          ran.1.truths ran.1.moments ran.1.unwritten (frames.writes fit.0)
+          (several_raise (1 + (linear p.volume).arrays) most_raised (arrays_of p) (arrays_of q) (omega (arith, disks, most)) several);
+      works = record { arrays = ran.2.arrays; plan = ran.2.plan };
+    }
 
 -- no call
-pub no_call : {R : Type 0} (seen : R → Seen) (shelf : R → Shelf) (laws : Laws seen) (p : Pool R) → (volume (view seen shelf p)).fit → IsCall 1 (view seen shelf p) (view seen shelf p)
+pub no_call : {R : Type 0} (seen : R → Seen) (shelf : R → Shelf) (laws : Laws seen) (p : Pool R) → (volume (view seen shelf p)).fit → IsServing (view seen shelf p) (view seen shelf p)
 no_call seen shelf laws p fit = record {
-  passes = passes_same (view seen shelf p) fit;
-  raises = raises_more 0 most_raised (raid_in (arrays_of p)) (raid_in (arrays_of p)) (omega arith) (raises_none (raid_in (arrays_of p)));
-  marks = marks_same (view seen shelf p) (λ place. ⊥);
-  sound = sound_in seen shelf laws p fit;
+  call = record {
+    passes = passes_same (view seen shelf p) fit;
+    raises = raises_more 0 most_raised (raid_in (arrays_of p)) (raid_in (arrays_of p)) (omega arith) (raises_none (raid_in (arrays_of p)));
+    marks = marks_same (view seen shelf p) (λ place. ⊥);
+    sound = sound_in seen shelf laws p fit;
+  };
+  works = record { arrays = arrays_same (raid_in (arrays_of p)); plan = refl };
 }
 
 -- ---- faults of a sector
@@ -142,86 +154,93 @@ fault_spent x y sector low spent = record {
 
 -- ---- a read
 
-pub read_past : (x : View) (sector : ℕ) (into : List ℕ) → IsCall 1 x x → size_of x ≤ sector → ReadsSector x x sector into {X = Unit {0}} (Err Range)
-read_past x sector into call past = record {
-  passes = call.passes;
-  raises = call.raises;
-  marks = call.marks;
+pub read_past : (x : View) (sector : ℕ) (into : List ℕ) → IsServing x x → size_of x ≤ sector → ReadsSector x x sector into {X = Unit {0}} (Err Range)
+read_past x sector into serving past = record {
+  passes = serving.call.passes;
+  raises = serving.call.raises;
+  works = serving.works;
+  marks = serving.call.marks;
   fault = fault_range x sector past;
   value = tt;
-  does = does_none x call.passes call.sound;
+  does = does_none x serving.call.passes serving.call.sound;
 }
 
-pub read_done : (x y : View) (sector : ℕ) (into : List ℕ) → IsCall 1 x y → sector < size_of x
+pub read_done : (x y : View) (sector : ℕ) (into : List ℕ) → IsServing x y → sector < size_of x
     → Reads (volume x) (volume y) 0 sector into {X = Unit {0}} (Ok tt) → ReadsSector x y sector into {X = Unit {0}} (Ok tt)
-read_done x y sector into call low reads = record {
-  passes = call.passes;
-  raises = call.raises;
-  marks = call.marks;
+read_done x y sector into serving low reads = record {
+  passes = serving.call.passes;
+  raises = serving.call.raises;
+  works = serving.works;
+  marks = serving.call.marks;
   fault = fault_none x y sector low reads.cause.served;
   value = λ a holds.
       reads.value (holds.told sector (subst (λ n. sector < n) (sym holds.size) low) (reads.stays.spent 0 sector reads.cause.served))
       ∙ (holds.values sector (subst (λ n. sector < n) (sym holds.size) low) (reads.stays.spent 0 sector reads.cause.served)).current;
-  does = does_kept x y call.passes call.sound reads.keeps;
+  does = does_kept x y serving.call.passes serving.call.sound reads.keeps;
 }
 
-pub read_spent : (x y : View) (sector : ℕ) (into : List ℕ) (gone : Gone) → IsCall 1 x y → sector < size_of x
+pub read_spent : (x y : View) (sector : ℕ) (into : List ℕ) (gone : Gone) → IsServing x y → sector < size_of x
     → Reads (volume x) (volume y) 0 sector into {X = Unit {0}} (Err gone) → ReadsSector x y sector into {X = Unit {0}} (Err Spent)
-read_spent x y sector into gone call low reads = record {
-  passes = call.passes;
-  raises = call.raises;
-  marks = call.marks;
+read_spent x y sector into gone serving low reads = record {
+  passes = serving.call.passes;
+  raises = serving.call.raises;
+  works = serving.works;
+  marks = serving.call.marks;
   fault = fault_spent x y sector low (reads.cause.spent tt);
   value = tt;
-  does = does_kept x y call.passes call.sound reads.keeps;
+  does = does_kept x y serving.call.passes serving.call.sound reads.keeps;
 }
 
 -- ---- a write
 
-pub write_past : (x : View) (sector : ℕ) (from : List ℕ) → IsCall 1 x x → size_of x ≤ sector → WritesSector x x sector from {X = Unit {0}} (Err Range)
-write_past x sector from call past = record {
-  passes = call.passes;
-  raises = call.raises;
-  marks = call.marks;
+pub write_past : (x : View) (sector : ℕ) (from : List ℕ) → IsServing x x → size_of x ≤ sector → WritesSector x x sector from {X = Unit {0}} (Err Range)
+write_past x sector from serving past = record {
+  passes = serving.call.passes;
+  raises = serving.call.raises;
+  works = serving.works;
+  marks = serving.call.marks;
   fault = fault_range x sector past;
   written = tt;
-  kept = does_none x call.passes call.sound;
+  kept = does_none x serving.call.passes serving.call.sound;
 }
 
-pub write_done : (x y : View) (sector : ℕ) (from : List ℕ) → IsCall 1 x y → sector < size_of x
+pub write_done : (x y : View) (sector : ℕ) (from : List ℕ) → IsServing x y → sector < size_of x
     → Writes (volume x) (volume y) 0 sector from {X = Unit {0}} (Ok tt) → WritesSector x y sector from {X = Unit {0}} (Ok tt)
-write_done x y sector from call low writes = record {
-  passes = call.passes;
-  raises = call.raises;
-  marks = call.marks;
+write_done x y sector from serving low writes = record {
+  passes = serving.call.passes;
+  raises = serving.call.raises;
+  works = serving.works;
+  marks = serving.call.marks;
   fault = fault_none x y sector low writes.cause.served;
-  written = does_write x y sector from call.passes call.sound writes.stops writes.done;
+  written = does_write x y sector from serving.call.passes serving.call.sound writes.stops writes.done;
   kept = tt;
 }
 
-pub write_spent : (x y : View) (sector : ℕ) (from : List ℕ) (gone : Gone) → IsCall 1 x y → sector < size_of x
+pub write_spent : (x y : View) (sector : ℕ) (from : List ℕ) (gone : Gone) → IsServing x y → sector < size_of x
     → Writes (volume x) (volume y) 0 sector from {X = Unit {0}} (Err gone) → WritesSector x y sector from {X = Unit {0}} (Err Spent)
-write_spent x y sector from gone call low writes =
+write_spent x y sector from gone serving low writes =
     let spent = writes.cause.spent tt in
     record {
-      passes = call.passes;
-      raises = call.raises;
-      marks = call.marks;
+      passes = serving.call.passes;
+      raises = serving.call.raises;
+      works = serving.works;
+      marks = serving.call.marks;
       fault = fault_spent x y sector low spent;
       written = tt;
-      kept = does_refused x y sector from call.passes call.sound spent writes.stops writes.failed;
+      kept = does_refused x y sector from serving.call.passes serving.call.sound spent writes.stops writes.failed;
     }
 
 -- ---- a flush
 
-pub sync_done : (x y : View) (result : Result (Unit {0}) Gone) → IsCall 1 x y → Syncs (volume x) (volume y) 0 result → Flushes x y
-sync_done x y (Ok u) call syncs = record {
-  passes = call.passes;
-  raises = call.raises;
-  marks = call.marks;
-  does = does_flush x y call.passes call.sound syncs.keeps (λ s v live left. syncs.done s v live left);
+pub sync_done : (x y : View) (result : Result (Unit {0}) Gone) → IsServing x y → Syncs (volume x) (volume y) 0 result → Flushes x y
+sync_done x y (Ok u) serving syncs = record {
+  passes = serving.call.passes;
+  raises = serving.call.raises;
+  works = serving.works;
+  marks = serving.call.marks;
+  does = does_flush x y serving.call.passes serving.call.sound syncs.keeps (λ s v live left. syncs.done s v live left);
 }
-sync_done x y (Err gone) call syncs = absurd (never (syncs.steady tt))
+sync_done x y (Err gone) serving syncs = absurd (never (syncs.steady tt))
   where
     never : ◌≡◌ {A = Bool} false true → ⊥
     never same = both_ways false refl same

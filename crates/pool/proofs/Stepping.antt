@@ -1,26 +1,20 @@
 -- What a work says of what is left, and works in a row.
 use Rattle.std.specs.Prelude.{IfErr, OnOk, Result, is_ok}
-use Rattle.std.proofs.Common.{◌≡◌, ℕ, ◌+◌, ◌/◌, ◌<◌, nat_lt, Bool, true, false, if◌then◌else◌, not, List, [], ◌∷◌, length, slice_get, ◌==◌, ◌&&◌, Some, None, Ok, Err, refl, sym, ap, subst, ◌∙◌, inl, inr, arith, ltb-true}
-use Rattle.std.proofs.lemmas.Bool.{and_parts, both_ways, cases_Bool}
+use Rattle.std.proofs.Common.{◌≡◌, ℕ, ◌+◌, ◌<◌, nat_lt, Bool, true, false, if◌then◌else◌, not, List, [], ◌∷◌, length, slice_get, Some, None, Ok, Err, refl, sym, ap, subst, ◌∙◌, inl, inr, arith, ltb-true}
+use Rattle.std.proofs.lemmas.Bool.{both_ways, cases_Bool}
 use Rattle.rack.specs.Joins.{rose_before, rose_since}
 use Rattle.rack.specs.Seen.{Seen}
 use Rattle.rack.specs.Shelf.{Shelf}
 use Rattle.array_image.specs.States.{is_current}
-use Rattle.array_model.specs.View.{View as ArrayView, rows_of}
-use Rattle.std.specs.Option.{option_map_or}
-use Rattle.array_core.specs.Seats.{seat_of}
-use Rattle.array_sync.specs.Steps.{rebuilt, resynced}
 use Rattle.growth_plan.specs.Works.{works_left}
 use Rattle.lvm_group.proofs.Extended.{small_extents}
 use Rattle.lvm_group.specs.Runs.{Linear}
 use Rattle.lvm_group.specs.Volume.{linear}
 use Rattle.pool_state.specs.declared.contents.Work.{Work}
 use Rattle.pool_state.specs.declared.contents.Work.TheVariants.{Resync, Rebuild, TakeOver, Begin, Reshape, Finish, Make, Zero, Ready, Extend, Close}
-use Rattle.raid_rack.specs.Moves.{IsSet, LosesOnly}
-use Rattle.raid_rack.proofs.Rebuilt.{row_left}
 use Rattle.raid_rack.specs.Raid.{Raid}
 use Rattle.raid_rack.specs.RaidRack.{IsFit, arrays_in, raid_in, raid_seen, slices_seen}
-use Rattle.raid_rack.specs.Works.{Does, array_of, is_due, is_rebuilding_seat, is_stuck, is_whole_row, next_row, stepped}
+use Rattle.raid_rack.specs.Works.{Does, array_of, is_due, is_stuck}
 use Rattle.raid_rack.specs.declared.arrays.RaidRack.{RaidRack}
 use Rattle.raid_rack.specs.declared.works.Stuck.{Stuck}
 use Rattle.pool.specs.declared.Pool.{Pool}
@@ -70,52 +64,23 @@ some_drive l v work first =
           absurd (cc no)
     ]
 
--- a step changes no size
-size_if : (next u : ArrayView) (t : Bool) → next.truth.size ≡ u.truth.size → (if t then next else u).truth.size ≡ u.truth.size
-size_if next u true same = same
-size_if next u false same = refl
-
-rows_still : (v : Raid) (m : ℕ) (next w : ArrayView) (d : Bool) → next.truth.size ≡ (v.arrays m).truth.size → LosesOnly (stepped v m next d m) w → rows_of w ≡ rows_of (v.arrays m)
-rows_still v m next w d same only = ap (λ n. n / 128) (only.same.geometry.size ∙ size_if next (v.arrays m) ((m == m) && d) same)
-
 -- a row that was refused can't be had
-lacks_row : (v w : Raid) (a b : Seen) (work : Work) → IsSet v a → is_due v work ≡ true → Does work v w a b false → LacksRow w work
-lacks_row v w a b (Resync m) set due does =
-    let u = v.arrays m in
-    let parts = and_parts (nat_lt m v.state.made) (nat_lt u.resync (rows_of u)) due in
-    let only = does.steps.arrays m (ltb-true m v.state.made parts.0) in (
-      u.resync,
-      subst (λ n. u.resync < n) (sym (rows_still v m (resynced u) (w.arrays m) does.steps.is_done refl only)) (ltb-true u.resync (rows_of u) parts.1),
-      not_false (is_stuck w m u.resync) does.answer,
-    )
+lacks_row : (v w : Raid) (a b : Seen) (work : Work) → Does work v w a b false → LacksRow v w work
+lacks_row v w a b (Resync m) does = not_false (is_stuck w m (v.arrays m).resync) does.answer
   where
     not_false : (t : Bool) → false ≡ not t → t ≡ true
     not_false true is = refl
     not_false false is = is
-lacks_row v w a b (Rebuild m place) set due does =
-    let u = v.arrays m in
-    let rebuilds = option_map_or is_rebuilding_seat (seat_of u place) false in
-    let parts = and_parts (nat_lt m v.state.made) (rebuilds && is_whole_row u.truth.resync_offset) due in
-    let low = ltb-true m v.state.made parts.0 in
-    let seated = set.arrays m low in
-    let left = row_left v.state m u a place seated (and_parts rebuilds (is_whole_row u.truth.resync_offset) parts.1).0 in
-    let below = left.left in
-    let whole = left.whole in
-    let size = seated.is_array.whole_rows in
-    let inside : next_row u place < rows_of u = omega (arith, below, whole, size) in (
-      next_row u place,
-      subst (λ n. next_row u place < n) (sym (rows_still v m (rebuilt u place) (w.arrays m) does.steps.is_done refl (does.steps.arrays m low))) inside,
-      does.refused refl,
-    )
-lacks_row v w a b (TakeOver m) set due does = absurd does
-lacks_row v w a b (Begin m place) set due does = absurd does
-lacks_row v w a b (Reshape m) set due does = absurd does
-lacks_row v w a b (Finish m) set due does = absurd does
-lacks_row v w a b (Make m height) set due does = absurd does
-lacks_row v w a b (Zero m) set due does = absurd does
-lacks_row v w a b (Ready m) set due does = absurd does
-lacks_row v w a b Extend set due does = absurd does
-lacks_row v w a b Close set due does = absurd (both_ways true (sym does.0) refl)
+lacks_row v w a b (Rebuild m place) does = does.refused refl
+lacks_row v w a b (TakeOver m) does = absurd does
+lacks_row v w a b (Begin m place) does = absurd does
+lacks_row v w a b (Reshape m) does = absurd does
+lacks_row v w a b (Finish m) does = absurd does
+lacks_row v w a b (Make m height) does = absurd does
+lacks_row v w a b (Zero m) does = absurd does
+lacks_row v w a b (Ready m) does = absurd does
+lacks_row v w a b Extend does = absurd does
+lacks_row v w a b Close does = absurd (both_ways true (sym does.0) refl)
 
 -- what the arrays say of it
 pub record SaysOf {R : Type 0} (seen : R → Seen) (work : Work) (r : Result (Unit {0}) Stuck) (old new : RaidRack R) : Type 0 where
@@ -157,25 +122,20 @@ module _ {R : Type 0} (seen : R → Seen) (shelf : R → Shelf) (runs : R → R 
       ]
 
   -- or the array can't do it
-  pub is_stuck_at : (r : Result (Unit {0}) Stuck) → SaysOf seen work r (arrays_of p) new → IfErr r (λ e. IsStuck (linear p.volume) (raid_in new) e.array)
+  pub is_stuck_at : (r : Result (Unit {0}) Stuck) → SaysOf seen work r (arrays_of p) new
+      → IfErr r (λ e. IsStuck (linear p.volume) (raid_in (arrays_of p)) (raid_in new) e.array)
   is_stuck_at (Ok u) says = tt
   is_stuck_at (Err e) says =
       let v = raid_in (arrays_of p) in
-      elim (cases_Bool (is_due v work)) [
-        | inl due ↦ record {
-          work = work;
-          named = says.named;
-          why = inr (lacks_row v (raid_in new) (slices_seen seen (arrays_of p)) (slices_seen seen new) work fit.0.running.set due (says.does due));
-        }
-        | inr idle ↦ record {
-          work = work;
-          named = says.named;
-          why =
-              inl
-              (subst (λ (k : RaidRack R). (is_due (raid_in k) work ≡ false) × (slice_get (works_by (linear p.volume) (raid_in k)) 0 ≡ Some work))
-              (sym (says.idle idle).1) (idle, first));
-        }
-      ]
+      record {
+        work = work;
+        first = first;
+        named = says.named;
+        why = elim (cases_Bool (is_due v work)) [
+          | inl due ↦ inr (lacks_row v (raid_in new) (slices_seen seen (arrays_of p)) (slices_seen seen new) work (says.does due))
+          | inr idle ↦ inl idle
+        ];
+      }
 
 -- ---- works in a row
 

@@ -27,8 +27,8 @@ use Rattle.pool.specs.declared.calls.SectorFault.{SectorFault}
 use Rattle.pool.specs.declared.calls.SectorFault.TheVariants.{Range, Spent}
 use Rattle.pool.specs.View.{View, arrays_shown, book, slices_shown, volume}
 use Rattle.raid_rack.specs.declared.works.Stuck.{Stuck}
-use Rattle.pool.specs.Keeping.{KeepsBook, Raises}
-use Rattle.pool.specs.Works.{HasRowsAlone, IsStuck, left_of}
+use Rattle.pool.specs.Keeping.{KeepsBook, KeepsWorks, Raises}
+use Rattle.pool.specs.Works.{HasRowsAlone, StopsStuck, left_of}
 use Rattle.pool.specs.Volume.{Does, Holds, is_spent, size_of, unchanged}
 
 -- What each call keeps: the volume stays where it is, marks alone come to the state, or the end of its plan, arrays lose whom these marks
@@ -71,6 +71,7 @@ pub record HasFault (x y : View) (sector : ℕ) {X : Type 0} (result : Result X 
 pub record ReadsSector (x y : View) (sector : ℕ) (into : List ℕ) {X : Type 0} (result : Result X SectorFault) : Type 0 where
   pub passes : Passes x y
   pub raises : Raises 1 x y
+  pub works : KeepsWorks (book x) (book y)
   pub marks : Marks x y
   pub fault : HasFault x y sector result
   pub value : OnOk result ((a : FlatArray) → Holds x a → into ≡ (a.values sector).current)
@@ -80,6 +81,7 @@ pub record ReadsSector (x y : View) (sector : ℕ) (into : List ℕ) {X : Type 0
 pub record WritesSector (x y : View) (sector : ℕ) (from : List ℕ) {X : Type 0} (result : Result X SectorFault) : Type 0 where
   pub passes : Passes x y
   pub raises : Raises 1 x y
+  pub works : KeepsWorks (book x) (book y)
   pub marks : Marks x y
   pub fault : HasFault x y sector result
   pub written : OnOk result (Does x y (λ a. written a sector from) (λ a. written a sector from))
@@ -89,6 +91,7 @@ pub record WritesSector (x y : View) (sector : ℕ) (from : List ℕ) {X : Type 
 pub record Flushes (x y : View) : Type 0 where
   pub passes : Passes x y
   pub raises : Raises 1 x y
+  pub works : KeepsWorks (book x) (book y)
   pub marks : Marks x y
   pub does : Does x y unchanged flushed
 
@@ -96,6 +99,7 @@ pub record Flushes (x y : View) : Type 0 where
 pub record LosesDrive (x y : View) (place : ℕ) {X : Type 0} (result : Result X LoseFault) : Type 0 where
   pub passes : Passes x y
   pub raises : Raises 1 x y
+  pub works : KeepsWorks (book x) (book y)
   pub marks : MarksBut (λ p. p ≡ place) x y
   pub missing : (result ≡ Err NoSuchDrive) ↔ (is_current (book x).state place ≡ false)
   pub last : (result ≡ Err LastDrive) ↔ ((is_current (book x).state place ≡ true) × (has_other (book x).state place ≡ false))
@@ -122,6 +126,7 @@ AgreesInEnd x y =
 pub record Ends (x y : View) : Type 0 where
   pub passes : Passes x y
   pub raises : Raises 1 x y
+  pub works : KeepsWorks (book x) (book y)
   pub marks : Marks x y
   pub does : Does x y unchanged flushed
   pub rows : LeavesItsRows x y
@@ -146,4 +151,4 @@ pub record Steps (x y : View) (count : ℕ) (result : Result ℕ Stuck) : Type 0
   pub left : IfOk result (λ left. left ≡ left_of y)
   pub progress :
       OnOk result (IsQuiet x y → HasRowsAlone (book x) → HasRowsAlone (book y) × (left_of y + min count (left_of x) ≡ left_of x))
-  pub stuck : IfErr result (λ e. IsStuck y.linear (book y) e.array)
+  pub stuck : IfErr result (λ e. StopsStuck y.linear (book x) (book y) e.array)

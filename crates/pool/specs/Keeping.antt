@@ -3,7 +3,7 @@ use Rattle.std.specs.Prelude.{◌≡◌, ◌≢◌, ℕ, ◌*◌, ◌<◌, ◌�
 use Rattle.pool_state.specs.declared.contents.State.{State}
 use Rattle.array_image.specs.States.{is_current}
 use Rattle.array_model.specs.View.{View as ArrayView, HasGeometry, is_missing_seat, member_on, place_at}
-use Rattle.raid_rack.specs.Moves.{RaisesBy}
+use Rattle.raid_rack.specs.Moves.{KeepsArrays, RaisesBy}
 use Rattle.raid_rack.specs.Raid.{Raid}
 use Rattle.pool.specs.View.{View, book}
 
@@ -19,6 +19,11 @@ pub record KeepsArray (s : State) (u w : ArrayView) : Type 0 where
 -- came to their end.
 abbrev pub KeepsBook : Raid → Raid → Type 0
 KeepsBook v w = (n : ℕ) → n < v.state.made → KeepsArray w.state (v.arrays n) (w.arrays n)
+
+-- Works are left as they were but for losses: nothing of an array changes but whom it lost, and the plan stays.
+pub record KeepsWorks (v w : Raid) : Type 0 where
+  pub arrays : KeepsArrays v w
+  pub plan : w.state.plan ≡ v.state.plan
 
 -- The same of an array of which the member of one place is a new one: that is to be rebuilt from its start.
 pub record KeepsArrayBut (place : ℕ) (s : State) (u w : ArrayView) : Type 0 where

@@ -20,7 +20,8 @@ use Rattle.raid_rack.specs.Moves.{RaisesBy}
 use Rattle.raid_rack.specs.Raid.{Raid, is_over}
 use Rattle.raid_rack.specs.RaidRack.{KeepsRack, SliceRuns, raid_in, raid_seen, slices_in, slices_seen, written_in}
 use Rattle.raid_rack.specs.Runs.{RaidRuns}
-use Rattle.raid_rack.specs.Works.{array_of, is_due, is_rebuilding_seat, is_stuck}
+use Rattle.raid_rack.specs.Book.{IsAfter}
+use Rattle.raid_rack.specs.Works.{array_of, is_due, is_rebuilding_seat, is_stuck, next_row}
 use Rattle.pool.specs.declared.Pool.{Pool}
 use Rattle.pool.specs.Keeping.{KeepsBook, most_raised}
 use Rattle.pool.specs.View.{View, arrays_of, book}
@@ -98,25 +99,36 @@ pub record HasRowsAlone (v : Raid) : Type 0 where
 
 -- ---- works that can't be done
 
--- a row of a work can't be had by a book: that of a resync, or what the others give of a member that is rebuilt
-abbrev pub LacksRow : Raid → Work → Type 0
-LacksRow v (Resync n) = (row : ℕ) × (row < rows_of (v.arrays n)) × (is_stuck v n row ≡ true)
-LacksRow v (Rebuild n place) = (row : ℕ) × (row < rows_of (v.arrays n)) × ((is_over v n || not (others_give (v.arrays n) place row)) ≡ true)
-LacksRow v (TakeOver n) = ⊥
-LacksRow v (Begin n place) = ⊥
-LacksRow v (Reshape n) = ⊥
-LacksRow v (Finish n) = ⊥
-LacksRow v (Make n height) = ⊥
-LacksRow v (Zero n) = ⊥
-LacksRow v (Ready n) = ⊥
-LacksRow v Extend = ⊥
-LacksRow v Close = ⊥
+-- The next row of a work of the book v can't be had by the book w: that of a resync, or what the others give of the member that is rebuilt.
+abbrev pub LacksRow : (v w : Raid) → Work → Type 0
+LacksRow v w (Resync n) = is_stuck w n (v.arrays n).resync ≡ true
+LacksRow v w (Rebuild n place) = (is_over w n || not (others_give (w.arrays n) place (next_row (v.arrays n) place))) ≡ true
+LacksRow v w (TakeOver n) = ⊥
+LacksRow v w (Begin n place) = ⊥
+LacksRow v w (Reshape n) = ⊥
+LacksRow v w (Finish n) = ⊥
+LacksRow v w (Make n height) = ⊥
+LacksRow v w (Zero n) = ⊥
+LacksRow v w (Ready n) = ⊥
+LacksRow v w Extend = ⊥
+LacksRow v w Close = ⊥
 
--- An array can't do a work of its own: it is the next one and isn't due, or a row of it can't be had.
-pub record IsStuck (l : Linear) (v : Raid) (array : ℕ) : Type 0 where
+-- The first of the works that the book v has left can't be done, which is one of this array: it isn't due, or its next row can't be had by the book w, where losses that
+-- were found meanwhile are marked.
+pub record IsStuck (l : Linear) (v w : Raid) (array : ℕ) : Type 0 where
   pub work : Work
+  pub first : slice_get (works_by l v) 0 ≡ Some work
   pub named : array ≡ array_of work
-  pub why : ((is_due v work ≡ false) × (slice_get (works_by l v) 0 ≡ Some work)) ⊎ LacksRow v work
+  pub why : (is_due v work ≡ false) ⊎ LacksRow v w work
+
+-- So it is by a book between two: from the first one on works alone were done, and then losses alone came to the last one.
+pub record StopsStuck (l : Linear) (v w : Raid) (array : ℕ) : Type 0 where
+  pub mid : Raid
+  pub marks : IsAfter v.state mid.state
+  pub done : KeepsBook v mid
+  pub losses : IsAfter mid.state w.state
+  pub left : KeepsBook mid w
+  pub stuck : IsStuck l mid w array
 
 -- ---- works that are done
 

@@ -72,7 +72,8 @@ impl<R: Bay> Pool<R> {
         requires { (volume (view R.seen R.shelf self.old)).fit }
         ensures worked { IsWorked R.seen R.runs 1 self.old self.new }
         ensures counted { OnOk result (IsOneFewer (view R.seen R.shelf self.old) (view R.seen R.shelf self.new)) }
-        ensures stuck { IfErr result (λ e. IsStuck (view R.seen R.shelf self.new).linear (book (view R.seen R.shelf self.new)) e.array) }
+        ensures stuck { IfErr result
+            (λ e. IsStuck (view R.seen R.shelf self.new).linear (book (view R.seen R.shelf self.old)) (book (view R.seen R.shelf self.new)) e.array) }
     {
         match self.next_work() {
             Some(work) => self.volume.inner().work(&work),

@@ -57,7 +57,15 @@ returns-in_err-advance g c =
         does = worked_does seen shelf g.R.Rack.runs g.met.R.Rack.sound g.met.R.Bay.runs_shelf (turn + 1) p q c.requires all;
         left = rw error.1 tt;
         progress = rw error.1 tt;
-        stuck = rw error.1 (subst (λ (e : Stuck). IsStuck (view seen shelf q).linear (book (view seen shelf q)) e.array) (sym error.2) c.in_err-advance.ensures.stuck);
+        stuck = rw error.1
+            (record {
+              mid = book (view seen shelf c.loop-turn.self);
+              marks = c.loop-turn.invariant.worked.book.book;
+              done = c.loop-turn.invariant.worked.arrays;
+              losses = c.advance.ensures.worked.book.book;
+              left = c.advance.ensures.worked.arrays;
+              stuck = subst (λ (e : Stuck). IsStuck (view seen shelf q).linear (book (view seen shelf c.loop-turn.self)) (book (view seen shelf q)) e.array) (sym error.2) c.in_err-advance.ensures.stuck;
+            });
       };
       runs = all.ran.below;
     }
