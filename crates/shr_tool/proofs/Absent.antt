@@ -86,10 +86,10 @@ module _ (x y : View) (f : Found) (passes : Passes x y) (on : IsRunOn f (ground_
         not_shown : (s extent rest : ℕ) → s < data_start → s ≡ data_start + extent + rest → ⊥
         not_shown s extent rest first is = absurd (omega (arith, first, is))
 
-    group_last : HoldGroup (book x) (slices_shown x) → HoldGroup (book y) (slices_shown y)
+    group_last : HoldGroup (book x) x.linear (slices_shown x) → HoldGroup (book y) x.linear (slices_shown y)
     group_last =
         let same = passes.marks.same in
-        group_kept (book x) (book y) (slices_shown x) (slices_shown y) same.pool same.extent same.joined (λ n. passes.arrays.stays.sectors n) kept
+        group_kept (book x) (book y) x.linear (slices_shown x) (slices_shown y) same.pool same.extent same.joined (λ n. passes.arrays.stays.sectors n) kept
 
     -- the disks are those that the run began on, and outside the slices as the pool has them
     disks_last : disks_of x.bay ≡ disks_of y.bay
@@ -104,7 +104,7 @@ module _ (x y : View) (f : Found) (passes : Passes x y) (on : IsRunOn f (ground_
         })
 
     -- Where superblocks agree in whatever a stop leaves, what the disks may be left with means the same without any one drive.
-    absent_at : AreOnly f → HoldGroup (book x) (slices_shown x)
+    absent_at : AreOnly f → HoldGroup (book x) x.linear (slices_shown x)
         → ((n : ℕ) (r : Image) → n < f.state.made → IsLeft (slices_shown y) r → AgreeLeaving ((book y).arrays n) (book y).state r n)
         → (i : Image) → IsPick y.bay y.bay y.bay.held i → HasWholeSectors y.bay i → HoldAbsent f y.slices (book y).state i
     absent_at only group agree i pick sized =

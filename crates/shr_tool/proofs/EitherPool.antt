@@ -9,6 +9,7 @@ use Rattle.pool_state.specs.declared.contents.State.{State}
 use Rattle.raid_rack.specs.Book.{IsAfter, after_same, after_then}
 use Rattle.raid_rack.specs.Enlisting.{enlisted}
 use Rattle.raid_rack.specs.Logs.{LogsBetween}
+use Rattle.pool_image.specs.Meaning.{array_sectors}
 use Rattle.pool_image.specs.Disks.{Disks, disks_of}
 use Rattle.pool_image.specs.Drives.{Found}
 use Rattle.pool_model.specs.Laid.{HaveOtherIds}
@@ -39,7 +40,7 @@ module _ (f : Found) (x y : View) (place : ℕ) (name : List ℕ) (disk units : 
 
   -- from then on, while no state has the drive
   pub without_now : (t : Slices) → AreWithout (moment_of x) (moment_of y) place t → (i : Image) → HoldAmid h t s s i → HoldsEither f (moment_of x) (moment_of y) place name i
-  without_now t are i amid = without_then t are i (amid_likewise h h t s s (book x).state s i refl refl refl marks (after_same s) amid)
+  without_now t are i amid = without_then t are i (amid_likewise h h t s s (book x).state s i refl refl refl (λ n low. refl) marks (after_same s) amid)
 
   -- the state that has it comes after the one by which the line says it
   came : IsAfter (coming (moment_of x) place) next
@@ -56,12 +57,14 @@ module _ (f : Found) (x y : View) (place : ℕ) (name : List ℕ) (disk units : 
   seats_with d p = if p == place then Some d else f.seats p
 
   -- once the log slices say one that has it
-  pub with_now : (i : Image) → LogsBetween next (book y).state (sectors_of y.slices) (sliced y.slices i)
+  pub with_now :
+      ((n : ℕ) → n < s.made → array_sectors (pool_after f (moment_of x) (moment_of y) (replaced place name)) n ≡ array_sectors (taken h disks place disk next) n)
+      → (i : Image) → LogsBetween next (book y).state (sectors_of y.slices) (sliced y.slices i)
       → (HaveOtherIds h s place disk i → HoldAmid (taken h disks place disk next) y.slices next (book y).state i) → HoldsEither f (moment_of x) (moment_of y) place name i
-  with_now i logs holds =
+  with_now sized i logs holds =
       inr (
         record { state = logs.state; later = after_then (coming (moment_of x) place) next logs.state came logs.later; sooner = logs.sooner; says = logs.says },
         λ ids.
             amid_likewise (taken h disks place disk next) (pool_after f (moment_of x) (moment_of y) (replaced place name)) y.slices next (book y).state (coming (moment_of x) place) (book y).state i
-            (sym same) (ap seats_with disk_is) (sym marks.same.made) came (after_same (book y).state) (holds (other_ids i ids)),
+            (sym same) (ap seats_with disk_is) (sym marks.same.made) sized came (after_same (book y).state) (holds (other_ids i ids)),
       )

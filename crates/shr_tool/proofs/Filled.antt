@@ -11,9 +11,10 @@ use Rattle.flat_array.specs.Array.{FlatArray, filled, written}
 use Rattle.flat_array.proofs.Filling.{filled_none, filled_next}
 use Rattle.pool.specs.declared.calls.SectorFault.{SectorFault}
 use Rattle.pool.specs.declared.calls.SectorFault.TheVariants.{Spent}
-use Rattle.pool.specs.View.{View, contents_in, volume}
+use Rattle.raid_rack.specs.Losing.{arrays_same, arrays_then}
+use Rattle.pool.specs.View.{View, book, contents_in, volume}
 use Rattle.pool.specs.Volume.{Holds, Means, is_spent, unchanged}
-use Rattle.pool.specs.Keeping.{Raises}
+use Rattle.pool.specs.Keeping.{KeepsWorks, Raises}
 use Rattle.pool.specs.Calls.{Marks, Passes, WritesSector}
 use Rattle.shr_tool.specs.Filling.{Fills, FillsSome}
 use Rattle.pool.proofs.Booked.{raises_fewer, raises_still}
@@ -21,10 +22,23 @@ use Rattle.pool.proofs.Doing.{does_none}
 use Rattle.pool.proofs.Keeping.{marks_same, marks_then, passes_same, passes_then, raises_next}
 use Rattle.shr_tool.proofs.Meanings.{does_then}
 
+-- ---- works
+
+-- no call leaves them as they were
+pub works_same : (x : View) → KeepsWorks (book x) (book x)
+works_same x = record { arrays = arrays_same (book x); plan = refl }
+
+-- calls in a row do, each of which does
+works_then : (x y z : View) → Passes x y → KeepsWorks (book x) (book y) → KeepsWorks (book y) (book z) → KeepsWorks (book x) (book z)
+works_then x y z passes one two = record { arrays = arrays_then (book x) (book y) (book z) passes.marks.same.made one.arrays two.arrays; plan = two.plan ∙ one.plan }
+
+-- ---- sectors
+
 -- The sectors up to one have been filled, and the last one of them isn't spent.
 pub record IsFilled (x y : View) (sector at : ℕ) (bytes : List ℕ) : Type 0 where
   pub passes : Passes x y
   pub raises : Raises (at - sector) x y
+  pub works : KeepsWorks (book x) (book y)
   pub marks : Marks x y
   pub some : FillsSome x y sector (at - sector) bytes
   pub last : (s : ℕ) → s + 1 ≡ at → sector ≤ s → is_spent y s ≡ false
@@ -39,6 +53,7 @@ filled_start x sector bytes fit sound =
     record {
       passes = passes_same x fit;
       raises = raises_still (sector - sector) x;
+      works = works_same x;
       marks = marks_same x (λ place. ⊥);
       some = record {
         does = record {
@@ -99,6 +114,7 @@ filled_step x y z sector at bytes r done from before writes_r =
     record {
       passes = passes_then x y z before.passes writes.passes;
       raises = raises_fewer (at - sector + 1) (at + 1 - sector) x z (omega (arith, from)) (raises_next (at - sector) x y z before.passes before.raises writes.raises);
+      works = works_then x y z before.passes before.works writes.works;
       marks = marks_then x y z before.passes writes.passes before.marks writes.marks;
       some = record {
         does =
@@ -129,6 +145,7 @@ filled_all x y sector at count bytes all done =
     record {
       passes = done.passes;
       raises = subst (λ n. Raises n x y) many done.raises;
+      works = done.works;
       marks = done.marks;
       done = (subst (λ n. FillsSome x y sector n bytes) many done.some, λ s next low. done.last s (next ∙ sym all) low);
       refused = tt;
@@ -148,6 +165,7 @@ filled_spent x y z sector at count bytes r refused from inside before writes_r =
     record {
       passes = passes_then x y z before.passes writes.passes;
       raises = raises_fewer (at - sector + 1) count x z (omega (arith, from, inside)) (raises_next (at - sector) x y z before.passes before.raises writes.raises);
+      works = works_then x y z before.passes before.works writes.works;
       marks = marks_then x y z before.passes writes.passes before.marks writes.marks;
       done = tt;
       refused = (

@@ -11,8 +11,9 @@ use Rattle.flat_array.specs.Array.{FlatArray, flushed}
 use Rattle.lvm_group.specs.Runs.{Linear}
 use Rattle.pool_model.specs.Absent.{HoldAbsent}
 use Rattle.pool_model.specs.Alone.{LeaveOut}
+use Rattle.pool_model.specs.Grouped.{HaveOwnAreas}
 use Rattle.pool.specs.Continuing.{Continues, KeepsOutside}
-use Rattle.pool.specs.View.{View, book, spent_by}
+use Rattle.pool.specs.View.{View, book, slices_shown, spent_by}
 use Rattle.pool.specs.Volume.{Holds}
 use Rattle.pool.specs.Calls.{Ends, Passes}
 use Rattle.shr_tool.specs.declared.perform.Answer.{Answer}
@@ -26,11 +27,12 @@ use Rattle.pool.specs.Moment.{moment_of}
 use Rattle.shr_tool.specs.Timeline.{Steps, Timeline, ground_of, steps_of}
 use Rattle.shr_tool.specs.Serving.{HasStopCause, IsServing, Ran, Serves, StopsAtEnd}
 use Rattle.shr_tool.specs.Between.{HaveOthers, HoldsEach, HoldsInside, HoldsNext}
-use Rattle.shr_tool.specs.Service.{AreFit, AreLone, IsOut, IsServed, Lone, none_out, pool_by}
+use Rattle.shr_tool.specs.Service.{AreFit, AreLone, BeginsOn, IsOut, IsServed, Lone, none_out, pool_by}
 use Rattle.shr_tool.specs.Outcome.{DoneOutcome, EndsAt, HasStatusCause, IsRunOn, Lasts, LeavesItsRows, Outcome, status_by}
-use Rattle.shr_tool.proofs.Between.{holds_inside, told_after}
+use Rattle.shr_tool.proofs.Between.{holds_inside, next_now, told_after}
 use Rattle.shr_tool.proofs.History.{IsLawful, IsUnspent, each_before, others_before, ran_before, slices_kept, standing, steps_before}
-use Rattle.shr_tool.proofs.Serviced.{goes_again, goes_calls, goes_lone, goes_run}
+use Rattle.shr_tool.proofs.Heads.{heads_passes, heads_then}
+use Rattle.shr_tool.proofs.Serviced.{goes_calls, goes_lone, goes_run}
 use Rattle.shr_tool.proofs.Joined.{means_at}
 use Rattle.shr_tool.proofs.Missing.{vacant_kept}
 use Rattle.shr_tool.proofs.Told.{outside_told, steps_for, timeline_for}
@@ -84,6 +86,7 @@ ends_at x m y a events ran ends laws =
       cause =
           λ place was now. elim (ends.marks place was now) [ inl rose ↦ rose | inr never ↦ absurd never ];
       stands = standing m y KeepsBook 1 ends.passes.stays.fit ends.passes.book ends.raises;
+      works = ends.works;
       held = λ serving d s low within unsliced.
           (outside_of m y (λ d. ⊥) ends.passes laws.0).held d s
           (record { disk = low; sector = within; is_told = (ran.holds a serving.0).disks d low; unnamed = λ never. never; unsliced = unsliced });
@@ -131,6 +134,14 @@ steps_told x m y a events ran continues =
     (λ is. (is.0, is.1.0)) (ran_before x m y events a ran continues)
     ∙ steps_before x m y events a ran continues
 
+-- a run on a pool begins on its arrays
+begins_on : (x : View) (f : Found) → IsRunOn f (ground_of x) (moment_of x) x.bay → BeginsOn (HaveOwnAreas f) x
+begins_on x f on = record {
+  joined = on.after.same.joined ∙ on.joined ∙ sym on.after.same.made;
+  truths = λ n low. on.truths n (let made = on.after.same.made in omega (arith, low, made));
+  group = on.group;
+}
+
 -- and what the disks may be left with holds a sound pool again
 again_at :
     (x m y : View) (a : FlatArray) (events : List Event) → IsUnspent y → (ran : Ran x m events) (ends : Ends m y)
@@ -141,7 +152,8 @@ again_at :
     → (any_takes events ≡ true → AreSerial f.state)
     → AreFit f (moment_of x) events (moment_of m) ran.steps
     → ((n : ℕ) → n < f.state.made → is_over (book y) n ≡ false)
-    → (i : Image) → IsPick y.bay y.bay y.bay.held i → HoldsNext (TargetsLand f) (pool_by f (moment_of x) events (moment_of m) ran.steps) y.slices (book y).state i
+    → (i : Image) → IsPick y.bay y.bay y.bay.held i
+    → HoldsNext (TargetsLand f) (HaveOwnAreas f) (pool_by f (moment_of x) events (moment_of m) ran.steps) y.slices x.linear (book y) i
 again_at x m y a events unspent ran ends serving served f on serials fit lasts i pick =
     let h = pool_by f (moment_of x) events (moment_of m) ran.steps in
     let at_end = (ran.service a serving.0 (served_before x m y events ran.continues ends.passes served) f (goes_run x f on) serials fit).goes in
@@ -149,8 +161,9 @@ again_at x m y a events unspent ran ends serving served f on serials fit lasts i
     let made = goes.arrays in
     let linear = ap (λ (l : Linear). l.arrays) (ends.passes.linear ∙ ran.continues.linear) in
     let arrays = on.arrays ∙ on.joined in
-    goes_again y h ends.passes.stays.fit.0.running.set.fit.1 goes
-    (λ n low. told_at x m y a events ran ends serving served n (omega (arith, low, made, linear)))
+    next_now x y a (flushed (array_by a events)) events h (continues_then x m y ran.continues (continues_of m y ends.passes)) (λ none. passes_then x m y (ran.passes none) ends.passes)
+    (heads_then (book x) (book m) (book y) (slices_shown x) (slices_shown m) (slices_shown y) (ran.heads serving.0.shelf serving.0.disks) (heads_passes m y ends.passes))
+    serving (ends.does.becomes (array_by a events) (ran.holds a serving.0)) (begins_on x f on) served goes
     (λ n low. lasts n (omega (arith, low, made, linear, arrays)))
     i pick
 
@@ -163,10 +176,12 @@ closing_at :
     → (f : Found)
     → IsRunOn f (ground_of x) (moment_of x) x.bay
     → AreFit f (moment_of x) events (moment_of m) ran.steps
-    → HoldsInside y.bay.stops (ground_of x) (AreSerial f.state) (TargetsLand f) events (pool_by f (moment_of x) events (moment_of m) ran.steps) (moment_of m) (moment_of y)
+    → HoldsInside y.bay.stops (ground_of x) (AreSerial f.state) (TargetsLand f) (HaveOwnAreas f) events (pool_by f (moment_of x) events (moment_of m) ran.steps) (moment_of m)
+    (moment_of y)
 closing_at x m y a events ran ends serving traced f on fit =
-    holds_inside x m y a (array_by a events) events (AreSerial f.state) (pool_by f (moment_of x) events (moment_of m) ran.steps) ran.continues ran.passes serving
-    (ran.holds a serving.0) traced ends.passes (λ served serials. (ran.service a serving.0 served f (goes_run x f on) serials fit).goes)
+    holds_inside x m y a (array_by a events) events (AreSerial f.state) (pool_by f (moment_of x) events (moment_of m) ran.steps) ran.continues ran.passes
+    (ran.heads serving.0.shelf serving.0.disks) serving (ran.holds a serving.0) (begins_on x f on) traced ends.passes
+    (λ served serials. (ran.service a serving.0 served f (goes_run x f on) serials fit).goes)
 
 -- outside the slices those disks alone are written that a line named
 outside_at :
@@ -207,14 +222,14 @@ lasts_of x m y a events laws ran ends =
       told = told_at x m y a events ran ends;
       rows = rows_at x m y a events ran ends;
       between = λ serving traced f on.
-          subst (HoldsEach y.bay.stops (ground_of x) (AreSerial f.state) (TargetsLand f) [] f (moment_of x) events (moment_of m))
+          subst (HoldsEach y.bay.stops (ground_of x) (AreSerial f.state) (TargetsLand f) (HaveOwnAreas f) [] f (moment_of x) events (moment_of m))
           (sym (steps_told x m y a events ran (continues_of m y ends.passes)))
-          (each_before x m y events a f ran (continues_of m y ends.passes) serving traced (goes_run x f on));
+          (each_before x m y events a f ran (continues_of m y ends.passes) serving traced (begins_on x f on) (goes_run x f on));
       closing = λ serving traced f on fit.
           let same = steps_told x m y a events ran (continues_of m y ends.passes) in
           subst
           (λ (steps : Steps (moment_of x) events (moment_of m)).
-          HoldsInside y.bay.stops (ground_of x) (AreSerial f.state) (TargetsLand f) events (pool_by f (moment_of x) events (moment_of m) steps) (moment_of m) (moment_of y))
+          HoldsInside y.bay.stops (ground_of x) (AreSerial f.state) (TargetsLand f) (HaveOwnAreas f) events (pool_by f (moment_of x) events (moment_of m) steps) (moment_of m) (moment_of y))
           (sym same)
           (closing_at x m y a events ran ends serving traced f on (subst (AreFit f (moment_of x) events (moment_of m)) same fit));
       agreed = λ serving served quiet f on n low goes r left.
@@ -238,7 +253,7 @@ lasts_of x m y a events laws ran ends =
           serials (subst (AreFit f (moment_of x) events (moment_of m)) same fit) (subst (AreLone f l (moment_of x) events (moment_of m)) same lone)));
       again = λ serving served f on known fit lasts i pick.
           let same = steps_told x m y a events ran (continues_of m y ends.passes) in
-          subst (λ (steps : Steps (moment_of x) events (moment_of m)). HoldsNext (TargetsLand f) (pool_by f (moment_of x) events (moment_of m) steps) y.slices (book y).state i) (sym same)
+          subst (λ (steps : Steps (moment_of x) events (moment_of m)). HoldsNext (TargetsLand f) (HaveOwnAreas f) (pool_by f (moment_of x) events (moment_of m) steps) y.slices x.linear (book y) i) (sym same)
           (again_at x m y a events laws.0 ran ends serving served f on (λ takes. (known takes).1) (subst (AreFit f (moment_of x) events (moment_of m)) same fit) lasts i pick);
     }
 

@@ -23,14 +23,14 @@ use Rattle.raid_rack.specs.NewDrive.{SeatsDrive, joins}
 use Rattle.raid_rack.specs.Raid.{is_over}
 use Rattle.pool_image.specs.Disks.{Disks, disks_of}
 use Rattle.pool_image.specs.Drives.{Found, first_of}
-use Rattle.pool_image.specs.Meaning.{is_member}
+use Rattle.pool_image.specs.Meaning.{array_sectors, is_member}
 use Rattle.pool_model.specs.Laid.{HaveOtherIds}
 use Rattle.pool_model.specs.Left.{HasNoSuper}
 use Rattle.pool_model.specs.Stopped.{HoldAmid}
 use Rattle.pool_model.specs.Taken.{AreDistinct, AreSerial, SeatsNew, attached, taken}
 use Rattle.pool_model.proofs.NewMembers.{joins_member, positions_of}
 use Rattle.pool_model.proofs.Serials.{serial_after, serial_fresh}
-use Rattle.pool_model.proofs.Taken.{IsKnownBefore}
+use Rattle.pool_model.proofs.Taken.{IsKnownBefore, sectors_taken}
 use Rattle.pool_model.proofs.Unsliced.{past_log}
 use Rattle.pool_model.proofs.Vacant.{seats_through}
 use Rattle.pool.specs.Entering.{EntersBy, EntersReady, IsVacating, meanwhile}
@@ -42,7 +42,7 @@ use Rattle.pool.proofs.Admitted.{reaches_each}
 use Rattle.pool.proofs.Readying.{many_same, units_same}
 use Rattle.shr_tool.specs.Between.{AreWithout, HoldsEither, LosesOwn}
 use Rattle.shr_tool.specs.Events.Event.{replaced}
-use Rattle.shr_tool.specs.Service.{GoesBy, IsFitDisk, IsFitDrive, disk_in, units_in}
+use Rattle.shr_tool.specs.Service.{GoesBy, IsFitDisk, IsFitDrive, disk_in, pool_after, units_in}
 use Rattle.shr_tool.specs.Timeline.{Performs}
 use Rattle.shr_tool.proofs.EitherPool.{with_now, without_now, without_then}
 use Rattle.shr_tool.proofs.Former.{array_low}
@@ -217,7 +217,15 @@ module _ {L : Type 0} (x y : View) (place : ℕ) (name text : List ℕ) (b : Fla
 
   with_it : (i : Image) → LogsBetween next (book y).state (sectors_of y.slices) (sliced y.slices i)
       → (HaveOtherIds h (book c).state place disk i → HoldAmid (taken h (disks_of c.bay) place disk next) y.slices next (book y).state i) → At i
-  with_it = with_now f x y place name disk enters.units (book c).state (disks_of c.bay) marks which listed disks_same units_are disk_is
+  with_it = with_now f x y place name disk enters.units (book c).state (disks_of c.bay) marks which listed disks_same units_are disk_is sized
+    where
+      sized : (n : ℕ) → n < (book c).state.made
+          → array_sectors (pool_after f (moment_of x) (moment_of y) (replaced place name)) n ≡ array_sectors (taken h (disks_of c.bay) place disk next) n
+      sized n low =
+          let less : n < f.state.made = (let made = is.service.after.same.made in omega (arith, low, made)) in
+          new.sectors_after x y place name text b unspent fit performs holds some f goes fitting serials (λ l none. absurd (none-some l none)) n less
+          ∙ sym (is.sectors n less)
+          ∙ sym (sectors_taken h x.slices y.slices (book c) (disks_of c.bay) place disk enters.units (Replacing place) sits known (λ d few. refl) n less)
 
   -- from the pool that was made ready, by which the place's drive is there
   still_amid : is_current (book c).state place ≡ true → (k : ℕ) (i : Image) → c.bay.clock < k → k ≤ y.bay.clock → y.bay.stops k i → At i

@@ -1,14 +1,20 @@
 -- Lines keep what the arrays hold before the volume's first extents, and so the pool's group.
-use Rattle.std.proofs.Common.{◌≡◌, ℕ, ◌+◌, ◌<◌, false, true, List, length, refl, sym, ◌∙◌, subst, inl, inr, arith}
+use Rattle.std.proofs.Common.{◌≡◌, ℕ, ◌+◌, ◌<◌, ◌≤◌, false, true, List, length, refl, sym, ◌∙◌, subst, inl, inr, arith}
 use Rattle.std.proofs.lemmas.Bool.{both_ways, cases_Bool, cases_lt}
 use Rattle.rack.specs.Joins.{keeps_same, keeps_then}
-use Rattle.rack.specs.Seen.{IsLive, Seen}
+use Rattle.rack.specs.Seen.{Image, IsLive, Seen}
+use Rattle.rack.specs.Sequences.{IsMix}
+use Rattle.rack.specs.Values.{MayLeave}
+use Rattle.slice_rack.specs.Slices.{Slices, sectors_of as sectors_in}
+use Rattle.slice_rack.specs.Sliced.{sliced}
+use Rattle.array_image.specs.Arrays.{arrays_in, replayed}
 use Rattle.pool_state.specs.declared.contents.State.{State}
 use Rattle.array_model.specs.View.{sectors_of}
-use Rattle.lvm_group.specs.Runs.{data_start}
-use Rattle.raid_rack.specs.Raid.{IsTold, Raid, live_of}
+use Rattle.lvm_group.specs.Framed.{IsShown}
+use Rattle.lvm_group.specs.Runs.{Linear, data_start}
+use Rattle.raid_rack.specs.Raid.{IsTold, Raid, held_in}
 use Rattle.raid_rack.proofs.Truths.{truths_then}
-use Rattle.pool_model.specs.Grouped.{HoldGroup}
+use Rattle.pool_model.specs.Grouped.{AreHeadsLive, HoldGroup}
 use Rattle.shr_tool.proofs.GroupKept.{group_kept}
 use Rattle.pool.specs.declared.replacing.GrowFault.TheVariants.{Attach, Memory, NoSuchDrive, Twice}
 use Rattle.pool.specs.Calls.{Passes}
@@ -53,6 +59,9 @@ heads_then u v w a b c one two = record {
     later : (n : ℕ) → n < u.state.made → n < v.state.made
     later n low = subst (λ k. n < k) (sym one.made) low
 
+not_shown : (s extent rest : ℕ) → s < data_start → s ≡ data_start + extent + rest → ⊥
+not_shown s extent rest first is = absurd (omega (arith, first, is))
+
 -- calls that take no disk
 pub heads_passes : (x y : View) → Passes x y → KeepsHeads (book x) (book y) (slices_shown x) (slices_shown y)
 heads_passes x y passes = record {
@@ -73,9 +82,6 @@ heads_passes x y passes = record {
       passes.arrays.others n s live (λ u shown. not_shown s _ _ first shown.3);
   truths = passes.truths;
 }
-  where
-    not_shown : (s extent rest : ℕ) → s < data_start → s ≡ data_start + extent + rest → ⊥
-    not_shown s extent rest first is = absurd (omega (arith, first, is))
 
 -- ---- a line that names a disk
 
@@ -142,12 +148,42 @@ heads_performed x y event text performs names all = elim (cases_Bool (takes_disk
 
 -- ---- the group
 
--- it stays where the arrays were told and their sectors can be had
-pub heads_group : (v w : Raid) (a b : Seen) → KeepsHeads v w a b → ((n : ℕ) → n < v.state.joined → n < v.state.made)
-    → ((n : ℕ) → n < v.state.joined → IsTold v a n) → ((n s : ℕ) → n < v.state.joined → s < sectors_of (w.arrays n) → live_of w n s)
-    → HoldGroup v a → HoldGroup w b
-heads_group v w a b heads made told alive =
-    group_kept v w a b heads.pool heads.extent heads.joined heads.sectors
+-- it stays where the arrays were told and before their first extents no sector is spent
+pub heads_group : (v w : Raid) (l : Linear) (a b : Seen) → KeepsHeads v w a b → ((n : ℕ) → n < v.state.joined → n < v.state.made)
+    → ((n : ℕ) → n < v.state.joined → IsTold v a n) → AreHeadsLive w → HoldGroup v l a → HoldGroup w l b
+heads_group v w l a b heads made told alive =
+    group_kept v w l a b heads.pool heads.extent heads.joined heads.sectors
     (λ n s u low inside first left.
     let less : n < v.state.joined = (let joined = heads.joined in omega (arith, low, joined)) in
-    (heads.keeps n s (made n less) (subst (λ k. s < k) (heads.sectors n) inside) first (alive n s less inside) (told n less)).within u left)
+    (heads.keeps n s (made n less) (subst (λ k. s < k) (heads.sectors n) inside) first (alive n s low inside first) (told n less)).within u left)
+
+-- a stop inside calls that take no disk leaves there what may be left before them
+pub heads_amid : (x y : View) → Passes x y → x.bay.traced → ((n : ℕ) → n < (book x).state.joined → n < (book x).state.made)
+    → ((n : ℕ) → n < (book x).state.joined → IsTold (book x) (slices_shown x) n) → AreHeadsLive (book y)
+    → (k : ℕ) (i : Image) → x.bay.clock < k → k ≤ y.bay.clock → y.bay.stops k i
+    → (n s : ℕ) → n < (book x).state.joined → s < sectors_of ((book x).arrays n) → s < data_start
+    → MayLeave (held_in (book x) (slices_shown x) n s) (arrays_in (replayed (sectors_in x.slices) (sliced x.slices i)) n s)
+heads_amid x y passes traced made told alive k i since until stopped n s low inside first =
+    elim (mix n s live) [ inl may ↦ may | inr is ↦ absurd (not_shown s _ _ first is.3) ]
+  where
+    by : Slices → Image
+    by t = arrays_in (replayed (sectors_in t) (sliced t i))
+
+    mix : IsMix (arrays_shown x) (arrays_shown y) (IsShown x.linear) (by x.slices)
+    mix =
+        subst (λ (t : Slices). IsMix (arrays_shown x) (arrays_shown y) (IsShown x.linear) (by t)) passes.slices
+        ((passes.arrays.stops traced).new k (by y.slices) since until (sliced y.slices i, (i, stopped, λ d u. refl), λ m u. refl))
+
+    joined : (book y).state.joined ≡ (book x).state.joined
+    joined = passes.marks.same.joined
+
+    within : s < sectors_of ((book y).arrays n)
+    within = subst (λ m. s < m) (sym (passes.arrays.stays.sectors n)) inside
+
+    live : IsLive (arrays_shown x) (arrays_shown y) n s
+    live = record {
+      disk = (let less = made n low in let same = passes.marks.same.made in omega (arith, less, same));
+      sector = within;
+      is_told = told n low;
+      unspent = alive n s (omega (arith, low, joined)) within first;
+    }

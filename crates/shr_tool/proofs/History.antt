@@ -1,5 +1,5 @@
 -- What a script's answering has done so far, and what one line more does.
-use Rattle.std.proofs.Common.{◌≡◌, ◌⊎◌, ℕ, ◌≤◌, true, false, List, [], ◌∷◌, ◌++◌, length, Option, Some, None, append_assoc, refl, sym, ◌∙◌, ap, subst, inl, inr, arith}
+use Rattle.std.proofs.Common.{◌≡◌, ◌⊎◌, ℕ, ◌<◌, ◌≤◌, true, false, List, [], ◌∷◌, ◌++◌, length, Option, Some, None, append_assoc, refl, sym, ◌∙◌, ap, subst, inl, inr, arith}
 use Rattle.std.proofs.lemmas.Bool.{cases_Bool}
 use Rattle.std.proofs.lemmas.List.{append-nil}
 use Rattle.std.proofs.lemmas.Option.{none-some}
@@ -20,9 +20,11 @@ use Rattle.shr_tool.specs.Events.{AnyTakes, Event, Takes, any_takes, array_by, b
 use Rattle.pool.specs.Moment.{moment_of}
 use Rattle.shr_tool.specs.Timeline.{KeepsBookIn, KeepsDisks, KeepsSlices, KeepsStanding, Happens, Performs, Timeline, ground_of, steps_of}
 use Rattle.shr_tool.specs.Between.{HaveOthers, HoldsEach}
-use Rattle.shr_tool.specs.Service.{AreFit, AreLone, GoesBy, GoesOn, IsFitFor, IsLoneFor, IsServed, Lone, none_out, pool_by}
+use Rattle.shr_tool.specs.Heads.{KeepsHeads}
+use Rattle.shr_tool.specs.Service.{AreFit, AreLone, BeginsOn, GoesBy, GoesOn, IsFitFor, IsLoneFor, IsServed, Lone, none_out, pool_by}
 use Rattle.assembler.specs.Sound.{TargetsLand}
 use Rattle.pool_image.specs.Drives.{Found}
+use Rattle.pool_model.specs.Grouped.{HaveOwnAreas}
 use Rattle.pool_model.specs.Taken.{AreSerial}
 use Rattle.shr_tool.proofs.Between.{each_kept, each_more, holds_then}
 use Rattle.shr_tool.proofs.Chains.{fit_parts, lone_parts, pool_by-snoc, steps_more}
@@ -101,6 +103,7 @@ performed x y z event text Traced a continues performs laws traced holds =
       slices = λ none. slices_kept y z (performs.passes none);
       marks = performs.marks;
       stands = standing y z (KeepsBookIn event) (calls_in (line_of event)) performs.continues.fit performs.keeps performs.raises;
+      works = performs.works;
       during =
           λ told k i since until stops.
           elim (performs.leaves (traced told) a (holds told) k i since until stops) [
@@ -143,16 +146,17 @@ pub each_before :
     → Continues y z
     → IsServing x a
     → x.bay.traced
+    → BeginsOn (HaveOwnAreas f) x
     → GoesBy (TargetsLand f) None f x
-    → HoldsEach z.bay.stops (ground_of x) (AreSerial f.state) (TargetsLand f) [] f (moment_of x) events (moment_of y) ran.steps
-each_before x y z events a f ran continues serving traced goes =
-    let each = HoldsEach y.bay.stops (ground_of x) (AreSerial f.state) (TargetsLand f) [] f (moment_of x) events (moment_of y) in
-    let later = HoldsEach z.bay.stops (ground_of x) (AreSerial f.state) (TargetsLand f) [] f (moment_of x) events (moment_of y) in
+    → HoldsEach z.bay.stops (ground_of x) (AreSerial f.state) (TargetsLand f) (HaveOwnAreas f) [] f (moment_of x) events (moment_of y) ran.steps
+each_before x y z events a f ran continues serving traced begins goes =
+    let each = HoldsEach y.bay.stops (ground_of x) (AreSerial f.state) (TargetsLand f) (HaveOwnAreas f) [] f (moment_of x) events (moment_of y) in
+    let later = HoldsEach z.bay.stops (ground_of x) (AreSerial f.state) (TargetsLand f) (HaveOwnAreas f) [] f (moment_of x) events (moment_of y) in
     subst later (ran.steps_are a)
-    (each_kept (x.bay.traced × Holds x a) y.bay.stops z.bay.stops (ground_of x) (AreSerial f.state) (TargetsLand f) y.bay.clock (traced, serving.0)
+    (each_kept (x.bay.traced × Holds x a) y.bay.stops z.bay.stops (ground_of x) (AreSerial f.state) (TargetsLand f) (HaveOwnAreas f) y.bay.clock (traced, serving.0)
     (continues.past (ran.continues.told serving.0.shelf) (ran.continues.traced serving.0.shelf traced))
     [] f (moment_of x) a events (moment_of y) (omega arith) (ran.timeline a)
-    (subst each (sym (ran.steps_are a)) (ran.between a serving traced f goes)))
+    (subst each (sym (ran.steps_are a)) (ran.between a serving traced f begins goes)))
 
 -- and that no other disk had the id of a drive that was taken in
 pub others_before :
@@ -184,8 +188,9 @@ ran_none x fit laws = record {
   lone = λ a holds served f l goes early serials fit lone. record { goes = goes; serials = λ serial. serial };
   others = λ a holds traced served f bound goes early serials fit lone. tt;
   heads = λ names all. heads_same (book x) (slices_shown x);
-  between = λ a serving traced f goes.
-      holds_then x x a a [] (AreSerial f.state) f (continues_same x fit) (λ none. passes_same x fit) serving serving.0 traced laws.1 (λ served serials. goes);
+  between = λ a serving traced f begins goes.
+      holds_then x x a a [] (AreSerial f.state) f (continues_same x fit) (λ none. passes_same x fit) (heads_same (book x) (slices_shown x)) serving serving.0 begins traced laws.1
+      (λ served serials. goes);
 }
 
 -- ---- one event more of a run
@@ -298,6 +303,13 @@ others_more x y z events event text a f bound unspent ran performs holds traced 
     (pool_by f (moment_of x) events (moment_of y) ran.steps) before.goes (λ takes. before.serials (serials (takes_last events event takes))) parts.1 early
     (ran.continues.traced holds.shelf traced))
 
+-- what the arrays hold before the volume's first extents stays
+heads_more : (x y z : View) (events : List Event) (event : Event) (text : List ℕ) → Ran x y events → Performs y z event text
+    → x.shelf.told → ((d : ℕ) → d < x.bay.disks → x.bay.told d) → KeepsHeads (book x) (book z) (slices_shown x) (slices_shown z)
+heads_more x y z events event text ran performs names all =
+    heads_then (book x) (book y) (book z) (slices_shown x) (slices_shown y) (slices_shown z) (ran.heads names all)
+    (heads_performed y z event text performs (ran.continues.told names) (ran.continues.known names all))
+
 -- what a stop inside the event and at its end leaves holds it
 between_more :
     (x y z : View) (events : List Event) (event : Event) (text : List ℕ) (a : FlatArray) (f : Found)
@@ -306,22 +318,24 @@ between_more :
     → Performs y z event text
     → IsServing x a
     → x.bay.traced
+    → BeginsOn (HaveOwnAreas f) x
     → GoesBy (TargetsLand f) None f x
-    → HoldsEach z.bay.stops (ground_of x) (AreSerial f.state) (TargetsLand f) [] f (moment_of x) (events ++ event ∷ []) (moment_of z)
+    → HoldsEach z.bay.stops (ground_of x) (AreSerial f.state) (TargetsLand f) (HaveOwnAreas f) [] f (moment_of x) (events ++ event ∷ []) (moment_of z)
     (steps_more (moment_of x) events (moment_of y) event (moment_of z) ran.steps)
-between_more x y z events event text a f laws ran performs serving traced goes =
+between_more x y z events event text a f laws ran performs serving traced begins goes =
     let all = events ++ event ∷ [] in
     let steps = steps_more (moment_of x) events (moment_of y) event (moment_of z) ran.steps in
-    each_more z.bay.stops (ground_of x) (AreSerial f.state) (TargetsLand f) [] f (moment_of x) events (moment_of y) event (moment_of z) ran.steps
-    (each_before x y z events a f ran performs.continues serving traced goes)
+    each_more z.bay.stops (ground_of x) (AreSerial f.state) (TargetsLand f) (HaveOwnAreas f) [] f (moment_of x) events (moment_of y) event (moment_of z) ran.steps
+    (each_before x y z events a f ran performs.continues serving traced begins goes)
     (λ fit.
-    holds_within x y z a (array_by a events) events text (AreSerial f.state) (pool_by f (moment_of x) events (moment_of y) ran.steps) ran.continues ran.passes serving
-    (ran.holds a serving.0) traced laws.0 (λ served serials. (ran.service a serving.0 served f goes serials fit).goes)
+    holds_within x y z a (array_by a events) events text (AreSerial f.state) (pool_by f (moment_of x) events (moment_of y) ran.steps) ran.continues ran.passes
+    (ran.heads serving.0.shelf serving.0.disks) serving (ran.holds a serving.0) begins traced laws.0 (λ served serials. (ran.service a serving.0 served f goes serials fit).goes)
     (λ served serial. (ran.service a serving.0 served f goes (λ takes. serial) fit).serials serial) event performs)
     (λ fit.
     holds_then x z a (array_by a all) all (AreSerial f.state) (pool_by f (moment_of x) all (moment_of z) steps)
-    (continues_then x y z ran.continues performs.continues) (passes_more x y z events event text ran performs) serving
-    (holds_more x y z events event text a ran performs serving.0) traced laws.1
+    (continues_then x y z ran.continues performs.continues) (passes_more x y z events event text ran performs)
+    (heads_more x y z events event text ran performs serving.0.shelf serving.0.disks) serving
+    (holds_more x y z events event text a ran performs serving.0) begins traced laws.1
     (λ served serials. (service_more x y z events event text a f laws.0 ran performs serving.0 served goes serials fit).goes))
 
 pub ran_more :
@@ -365,10 +379,8 @@ ran_more x y z events event text laws ran performs = record {
   lone = λ a holds served f l goes early serials fit lone. lone_more x y z events event text a f l laws.0 ran performs holds served goes early serials fit lone;
   others = λ a holds traced served f bound goes early serials fit lone.
       others_more x y z events event text a f bound laws.0 ran performs holds traced served goes early serials fit lone;
-  heads = λ names all.
-      heads_then (book x) (book y) (book z) (slices_shown x) (slices_shown y) (slices_shown z) (ran.heads names all)
-      (heads_performed y z event text performs (ran.continues.told names) (ran.continues.known names all));
-  between = λ a serving traced f goes. between_more x y z events event text a f laws ran performs serving traced goes;
+  heads = heads_more x y z events event text ran performs;
+  between = λ a serving traced f begins goes. between_more x y z events event text a f laws ran performs serving traced begins goes;
 }
 
 -- one line more is answered

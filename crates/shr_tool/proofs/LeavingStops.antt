@@ -1,5 +1,5 @@
 -- What a stop leaves inside a line that was to take a drive in, and didn't: the pool with the disk that was attached.
-use Rattle.std.proofs.Common.{◌≡◌, ℕ, ◌<◌, ◌≤◌, true, false, List, length, None, refl, sym, subst, inl, inr, arith}
+use Rattle.std.proofs.Common.{◌≡◌, ℕ, ◌<◌, ◌≤◌, true, false, List, length, None, refl, sym, ap, subst, inl, inr, arith}
 use Rattle.std.proofs.lemmas.Bool.{both_ways, cases_Bool, cases_lt}
 use Rattle.rack.specs.Seen.{Image}
 use Rattle.rack.specs.Sequences.{WritesOnly}
@@ -14,6 +14,7 @@ use Rattle.raid_rack.specs.Enlisting.{IsWrittenBy}
 use Rattle.raid_rack.specs.NewDrive.{IsOfDrive}
 use Rattle.raid_rack.specs.Raid.{Raid, is_over}
 use Rattle.raid_rack.specs.Runs.{KeepsMoments}
+use Rattle.pool_image.specs.Meaning.{array_sectors}
 use Rattle.pool_image.specs.Disks.{Disks, disks_of}
 use Rattle.pool_image.specs.Drives.{Found}
 use Rattle.pool_model.specs.Stopped.{HoldAmid}
@@ -154,7 +155,7 @@ module _ {L : Type 0} (x y : View) (place : ℕ) (name : List ℕ) (fault : Grow
 
         now : (t : Slices) (s u : State) → IsAfter (book x).state s → IsAfter u (book y).state → HoldAmid h t s u i
             → HoldAmid (attached f (disks_of y.bay)) t (book x).state (book y).state i
-        now t s u from to amid = amid_likewise h (attached f (disks_of y.bay)) t s u (book x).state (book y).state i disks refl refl from to amid
+        now t s u from to amid = amid_likewise h (attached f (disks_of y.bay)) t s u (book x).state (book y).state i disks refl refl (λ n low. ap (λ d. array_sectors (attached f d) n) disks) from to amid
 
         -- by the slices of before
         old : (s u : State) → IsAfter (book x).state s → IsAfter u (book y).state → HoldAmid h x.slices s u i → HoldsLeft f (moment_of x) (moment_of y) place i

@@ -24,6 +24,7 @@ mod Joined
 mod LayoutLemmas
 mod Limits
 mod Meanings
+mod Meanwhile
 mod Missing
 mod NamedDisk
 mod NewTable

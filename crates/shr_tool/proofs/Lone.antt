@@ -42,7 +42,7 @@ lone_absent :
     → ((n : ℕ) → n < h.state.made → IsTold (book y) (slices_shown y) n) → ((n : ℕ) → n < h.state.made → is_over (book y) n ≡ false)
     → IsWholeRaid h.state.made (book y)
     → ((n : ℕ) (r : Image) → n < h.state.made → IsLeft (slices_shown y) r → AgreeLeaving ((book y).arrays n) (book y).state r n)
-    → HoldGroup (book y) (slices_shown y)
+    → HoldGroup (book y) y.linear (slices_shown y)
     → ((n k : ℕ) → n < h.state.made → k < sectors_of ((book y).arrays n) → spent_of (book y) n k ≡ false)
     → (i j : Image) → IsPick y.bay y.bay y.bay.held i → LeaveOut h (IsOut l y.shelf.names) i j → HasWholeSectors y.bay j → HoldAbsent h y.slices (book y).state j
 lone_absent l y h goes inside told lasts whole agree group alive i j pick leave sized = elim goes.vacant [
@@ -110,10 +110,12 @@ module _ (x m y : View) (a : FlatArray) (events : List Event) (unspent : (d s : 
         synced = λ n low. whole.synced n (before n low);
       })
       (λ n r low left. agreed_at x m y f mid ends quiet on told n (before n low) (lasts n (before n low)) r left)
-      (heads_group (book x) (book y) (slices_shown x) (slices_shown y) heads
+      (subst (λ (k : Linear). HoldGroup (book y) k (slices_shown y)) (sym (ends.passes.linear ∙ ran.continues.linear))
+      (heads_group (book x) (book y) x.linear (slices_shown x) (slices_shown y) heads
       (λ n low. let joined = on.after.same.joined in let made = on.after.same.made in let all = on.joined in omega (arith, low, joined, made, all))
       (λ n low. serving.1 n (let joined = on.after.same.joined in let arrays = on.arrays in omega (arith, low, joined, arrays)))
-      (λ n s low within. alive n s (let joined = on.after.same.joined in let all = on.joined in omega (arith, low, joined, all)) within)
-      (on.group own))
+      (λ n s low within first.
+      alive n s (let joined = on.after.same.joined in let last = heads.joined in let all = on.joined in omega (arith, low, joined, last, all)) within)
+      (on.group own)))
       (λ n k low within. alive n k (before n low) within)
       i j pick leave sized

@@ -23,18 +23,19 @@ use Rattle.raid_rack.specs.Raid.{IsTold}
 use Rattle.raid_rack.proofs.Noted.{current_few}
 use Rattle.pool_image.specs.Disks.{Disks, disks_of, identities_of}
 use Rattle.pool_image.specs.Drives.{Found, drive_sector, first_of}
-use Rattle.pool_image.specs.Meaning.{is_member}
+use Rattle.pool_image.specs.Meaning.{array_sectors, is_member}
+use Rattle.pool_model.specs.Alone.{HoldTabled}
 use Rattle.pool_model.specs.InService.{InService}
 use Rattle.pool_model.specs.Left.{IsPickOff}
 use Rattle.pool_model.specs.Stopped.{HoldTables}
 use Rattle.pool_model.specs.Taken.{KeepsOff, KeepsOthers, LacksDrive, attached}
-use Rattle.pool_model.proofs.Alike.{HasTruths, first_same, member_same}
+use Rattle.pool_model.proofs.Alike.{HasTruths, first_same, member_same, sectors_same}
 use Rattle.pool_model.proofs.Declined.{sector_same, truths_attached}
 use Rattle.pool_model.proofs.Found.{seated_below}
 use Rattle.pool_model.proofs.InService.{one_seat, service_attached}
 use Rattle.pool_model.proofs.Lost.{lost_value}
 use Rattle.pool_model.proofs.Named.{same_length}
-use Rattle.pool_model.proofs.Tables.{tables_attached}
+use Rattle.pool_model.proofs.Tables.{tabled_declined, tables_attached}
 use Rattle.pool_model.proofs.Unsliced.{free_stranger}
 use Rattle.pool_model.proofs.Vacant.{lacks_value, vacant_free}
 use Rattle.pool.specs.Entering.{Vacates}
@@ -159,6 +160,9 @@ module _ {L : Type 0} {o : Option Lone} (x : View) (bay : x.bays.one) (name : Li
   pub first_named : (n : ℕ) → n < f.state.made → first_of h n ≡ first_of f n
   first_named n low = first_same f h few goes.service.arranged.truths same_truths n (omega (arith, low))
 
+  pub sectors_named : (n : ℕ) → n < f.state.made → array_sectors h n ≡ array_sectors f n
+  sectors_named n low = sectors_same f h few goes.service.arranged.truths same_truths n low
+
   pub service_named : InService h t (book x) m.bay
   service_named = service_attached f t (book x) (book x) disk x.bay m.bay goes.service keeps_others (after_same (book x).state) (arrays_same (book x))
 
@@ -166,6 +170,10 @@ module _ {L : Type 0} {o : Option Lone} (x : View) (bay : x.bays.one) (name : Li
   tables_named lands =
       tables_attached f t (book x).state disk x.bay m.bay goes.service.arranged goes.service.slices keeps_others
       (λ i off p current seat. absurd (not_current p current seat)) (goes.laid lands)
+
+  tabled_named : HoldTabled h (book x).state t m.bay
+  tabled_named =
+      tabled_declined f t (book x).state disk x.bay m.bay goes.service.arranged keeps_others (λ i off p current seat. absurd (not_current p current seat)) goes.tabled
 
   -- ---- how a run goes by it
 
@@ -204,6 +212,7 @@ module _ {L : Type 0} {o : Option Lone} (x : View) (bay : x.bays.one) (name : Li
     arrays = goes.arrays;
     orderly = goes.orderly;
     laid = tables_named;
+    tabled = tabled_named;
     alone = λ l none. absurd (none-some l none);
   }
 

@@ -21,10 +21,11 @@ use Rattle.pool.specs.declared.calls.SectorFault.{SectorFault}
 use Rattle.pool.specs.declared.calls.SectorFault.TheVariants.{Range, Spent}
 use Rattle.pool.specs.View.{View, book, spent_by, volume}
 use Rattle.pool.specs.Volume.{Does, Holds, Means, is_spent, size_of, unchanged}
-use Rattle.pool.specs.Keeping.{Raises}
+use Rattle.pool.specs.Keeping.{KeepsWorks, Raises}
 use Rattle.pool.specs.Calls.{Flushes, LosesDrive, Marks, Passes, ReadsSector, WritesSector}
+use Rattle.shr_tool.proofs.Filled.{works_same}
 use Rattle.shr_tool.specs.declared.perform.SpentAt.{SpentAt}
-use Rattle.shr_tool.specs.Events.{Event, IsOfArray, Touches, TouchesLast, becomes, calls_in, calls_none, line_of, takes_disk, text_of}
+use Rattle.shr_tool.specs.Events.{Event, IsOfArray, Touches, TouchesLast, becomes, calls_in, calls_none, line_of, takes_disk, text_of, works_on}
 use Rattle.shr_tool.specs.Events.Event.{answered, spent, lost, last, replaced, declined, stepped, stuck, shown}
 use Rattle.pool.specs.Moment.{moment_of}
 use Rattle.shr_tool.proofs.Renewed.{keeps_in}
@@ -70,6 +71,7 @@ pub performs_by :
     → (calls_none event ≡ true → moment_of y ≡ moment_of x)
     → Passes x y
     → Raises (calls_in (line_of event)) x y
+    → (works_on event ≡ false → KeepsWorks (book x) (book y))
     → Cause x y event
     → MarksFor (moment_of x) (moment_of y) event
     → ((a : FlatArray) → Holds x a → text ≡ text_of a event)
@@ -77,7 +79,7 @@ pub performs_by :
     → ((a : FlatArray) → Holds x a → (during a ≡ a) ⊎ (during a ≡ becomes a event))
     → Does x y during now
     → Performs x y event text
-performs_by x y event text during now none still passes raises cause marks text_is same one_of does = record {
+performs_by x y event text during now none still passes raises works cause marks text_is same one_of does = record {
   continues = continues_of x y passes;
   still = still;
   passes = λ _. passes;
@@ -85,6 +87,7 @@ performs_by x y event text during now none still passes raises cause marks text_
   changes = λ takes. absurd (both_ways (takes_disk event) none takes);
   raises = raises;
   keeps = keeps_in event (book x) (book y) passes.book;
+  works = works;
   cause = cause;
   marks = λ _. marks;
   text_is = text_is;
@@ -143,7 +146,7 @@ pub still_done :
     → ((a : FlatArray) → Holds x a → text ≡ reply a line)
     → Performs x x (answered line) text
 still_done x line text fit sound none never other apart same is =
-    performs_by x x (answered line) text unchanged unchanged refl (λ none. refl) (passes_same x fit) (raises_still (calls_in line) x) (touches_none x x line none never other apart)
+    performs_by x x (answered line) text unchanged unchanged refl (λ none. refl) (passes_same x fit) (raises_still (calls_in line) x) (λ none. works_same x) (touches_none x x line none never other apart)
     (marks_for x x (answered line) (passes_same x fit) (marks_same x (λ place. ⊥)))
     is same (λ a holds. inl refl) (does_none x (passes_same x fit) sound)
 
@@ -179,7 +182,7 @@ pub read_done :
 read_done x y sector into text r is_ok is reads_r =
     let reads : ReadsSector x y sector into {X = Unit {0}} (Ok tt) = subst (λ q. ReadsSector x y sector into q) is_ok reads_r in
     let served = reads.fault.served in
-    performs_by x y (answered (Ok (Read sector))) text unchanged unchanged refl (λ none. absurd (both_ways false refl none)) reads.passes reads.raises
+    performs_by x y (answered (Ok (Read sector))) text unchanged unchanged refl (λ none. absurd (both_ways false refl none)) reads.passes reads.raises (λ none. reads.works)
     (touches_one x y (Ok (Read sector)) sector reads.passes served.1 (λ s touches. touches.0) (λ s touches. touches.0) (λ place loses. cc) tt)
     (marks_for x y _ reads.passes reads.marks)
     (λ a holds. rw (inside_array x a sector holds served.0) (is ∙ ap data_line (reads.value a holds)))
@@ -195,7 +198,7 @@ pub read_outside :
     → Performs x y (answered (Ok (Read sector))) text
 read_outside x y sector into text r refused is reads =
     let past = reads.fault.range.0 refused in
-    performs_by x y (answered (Ok (Read sector))) text unchanged unchanged refl (λ none. absurd (both_ways false refl none)) reads.passes reads.raises
+    performs_by x y (answered (Ok (Read sector))) text unchanged unchanged refl (λ none. absurd (both_ways false refl none)) reads.passes reads.raises (λ none. reads.works)
     (touches_none x y (Ok (Read sector)) (λ s touches. let inside = touches.1 in omega arith)
     (λ s touches. let inside = touches.1 in omega arith) (λ place loses. cc) tt)
     (marks_for x y _ reads.passes reads.marks)
@@ -212,7 +215,7 @@ pub read_spent :
     → Performs x y (spent (Ok (Read sector)) sector) text
 read_spent x y sector into text r refused is reads =
     let gone = reads.fault.refused refused in
-    performs_by x y (spent (Ok (Read sector)) sector) text unchanged unchanged refl (λ none. absurd (both_ways false refl none)) reads.passes reads.raises (
+    performs_by x y (spent (Ok (Read sector)) sector) text unchanged unchanged refl (λ none. absurd (both_ways false refl none)) reads.passes reads.raises (λ none. reads.works) (
       (refl, gone.0),
       spent_at x y sector true reads.passes gone.1,
       λ s touches before. absurd (let same = touches.0 in omega arith),
@@ -236,7 +239,7 @@ write_done x y sector v text r is_ok is writes_r =
     let served = writes.fault.served in
     let same : (a : FlatArray) → Holds x a → written a sector v ≡ after a (Ok (Write sector v)) =
     λ a holds. rw (inside_array x a sector holds served.0) refl in
-    performs_by x y (answered (Ok (Write sector v))) text (λ a. written a sector v) (λ a. written a sector v) refl (λ none. absurd (both_ways false refl none)) writes.passes writes.raises
+    performs_by x y (answered (Ok (Write sector v))) text (λ a. written a sector v) (λ a. written a sector v) refl (λ none. absurd (both_ways false refl none)) writes.passes writes.raises (λ none. writes.works)
     (touches_one x y (Ok (Write sector v)) sector writes.passes served.1 (λ s touches. touches.0) (λ s touches. touches.0) (λ place loses. cc) tt)
     (marks_for x y _ writes.passes writes.marks)
     (λ a holds. rw (inside_array x a sector holds served.0) is)
@@ -253,7 +256,7 @@ pub write_outside :
 write_outside x y sector v text r refused is writes_r =
     let writes : WritesSector x y sector v {X = Unit {0}} (Err Range) = subst (λ q. WritesSector x y sector v q) refused writes_r in
     let past = writes.fault.range.0 refl in
-    performs_by x y (answered (Ok (Write sector v))) text unchanged unchanged refl (λ none. absurd (both_ways false refl none)) writes.passes writes.raises
+    performs_by x y (answered (Ok (Write sector v))) text unchanged unchanged refl (λ none. absurd (both_ways false refl none)) writes.passes writes.raises (λ none. writes.works)
     (touches_none x y (Ok (Write sector v)) (λ s touches. let inside = touches.1 in omega arith)
     (λ s touches. let inside = touches.1 in omega arith) (λ place loses. cc) tt)
     (marks_for x y _ writes.passes writes.marks)
@@ -271,7 +274,7 @@ pub write_spent :
 write_spent x y sector v text r refused is writes_r =
     let writes : WritesSector x y sector v {X = Unit {0}} (Err Spent) = subst (λ q. WritesSector x y sector v q) refused writes_r in
     let gone = writes.fault.refused refl in
-    performs_by x y (spent (Ok (Write sector v)) sector) text unchanged unchanged refl (λ none. absurd (both_ways false refl none)) writes.passes writes.raises (
+    performs_by x y (spent (Ok (Write sector v)) sector) text unchanged unchanged refl (λ none. absurd (both_ways false refl none)) writes.passes writes.raises (λ none. writes.works) (
       (refl, gone.0),
       spent_at x y sector true writes.passes gone.1,
       λ s touches before. absurd (let same = touches.0 in omega arith),
@@ -302,7 +305,7 @@ fill_done x y sector count byte text r inside is_ok is fills_r =
     λ a holds. rw (all_inside x a (sector + count) holds inside) refl in
     performs_by x y (answered (Ok (Fill sector count byte))) text (λ a. filled a sector count (uniform_sector byte))
     (λ a. filled a sector count (uniform_sector byte))
-    refl (λ none. absurd (both_ways false refl none)) fills.passes fills.raises (
+    refl (λ none. absurd (both_ways false refl none)) fills.passes fills.raises (λ none. fills.works) (
       λ s touches. fills.done.0.unspent s touches.0 touches.1,
       λ s touches. spent_at x y s false fills.passes (fills.done.1 s touches.0 touches.1),
       λ place loses. absurd (let other : ⊥ = cc in other),
@@ -330,7 +333,7 @@ fill_spent x y sector count byte text r at inside refused is fills_r =
     performs_by x y (spent (Ok (Fill sector count byte)) at.sector) text
     (λ a. filled a sector (at.sector - sector) (uniform_sector byte))
     (λ a. filled a sector (at.sector - sector) (uniform_sector byte))
-    refl (λ none. absurd (both_ways false refl none)) fills.passes fills.raises (
+    refl (λ none. absurd (both_ways false refl none)) fills.passes fills.raises (λ none. fills.works) (
       (from, before, inside),
       spent_at x y at.sector true fills.passes fills.refused.2,
       λ s touches early. some.unspent s touches.0 (omega arith),
@@ -363,7 +366,7 @@ fill_outside x sector count byte text fit sound past is =
 pub flush_done :
     (x y : View) (text : List ℕ) → text ≡ as_line (codes "ok") → Flushes x y → Performs x y (answered (Ok Flush)) text
 flush_done x y text is flushes =
-    performs_by x y (answered (Ok Flush)) text unchanged flushed refl (λ none. absurd (both_ways false refl none)) flushes.passes flushes.raises
+    performs_by x y (answered (Ok Flush)) text unchanged flushed refl (λ none. absurd (both_ways false refl none)) flushes.passes flushes.raises (λ none. flushes.works)
     (touches_none x y (Ok Flush) (λ s touches. touches) (λ s touches. touches) (λ place loses. cc) tt)
     (marks_for x y _ flushes.passes flushes.marks)
     (λ a holds. is)
@@ -423,7 +426,7 @@ lose_done x y at place text r fit cut is_ok is loses_r =
       | inr missing ↦ absurd (let other = loses.missing.1 missing in cc)
     ] in
     let same : at ≡ place = cut_current x at place fit cut current in
-    performs_by x y (lost place) text unchanged unchanged refl (λ none. absurd (both_ways false refl none)) loses.passes loses.raises (
+    performs_by x y (lost place) text unchanged unchanged refl (λ none. absurd (both_ways false refl none)) loses.passes loses.raises (λ none. loses.works) (
       subst (λ p. is_current (book x).state p ≡ true) same current,
       subst (λ p. is_current (book y).state p ≡ false) same loses.lost,
     )
@@ -461,7 +464,7 @@ pub lose_missing :
     → Performs x y (answered (Ok (Lose place))) text
 lose_missing x y at place text r fit cut refused same is loses =
     let missing = loses.missing.0 refused in
-    performs_by x y (answered (Ok (Lose place))) text unchanged unchanged refl (λ none. absurd (both_ways false refl none)) loses.passes loses.raises (
+    performs_by x y (answered (Ok (Lose place))) text unchanged unchanged refl (λ none. absurd (both_ways false refl none)) loses.passes loses.raises (λ none. loses.works) (
       λ s touches. absurd touches,
       λ s touches. absurd touches,
       λ p line.
@@ -487,7 +490,7 @@ pub lose_last :
 lose_last x y at place text r fit cut refused same is loses =
     let cause = loses.last.0 refused in
     let this : at ≡ place = cut_current x at place fit cut cause.0 in
-    performs_by x y (last place) text unchanged unchanged refl (λ none. absurd (both_ways false refl none)) loses.passes loses.raises (
+    performs_by x y (last place) text unchanged unchanged refl (λ none. absurd (both_ways false refl none)) loses.passes loses.raises (λ none. loses.works) (
       subst (λ p. is_current (book x).state p ≡ true) this cause.0,
       subst (λ p. has_other (book x).state p ≡ false) this cause.1,
     )

@@ -28,7 +28,7 @@ use Rattle.raid_rack.proofs.Noted.{current_few}
 use Rattle.raid_rack.proofs.Over.{number_room}
 use Rattle.pool_image.specs.Disks.{disks_of, identities_of}
 use Rattle.pool_image.specs.Drives.{Found, first_of}
-use Rattle.pool_image.specs.Meaning.{is_member}
+use Rattle.pool_image.specs.Meaning.{array_sectors, is_member}
 use Rattle.pool_model.specs.InService.{InService}
 use Rattle.pool_model.specs.Left.{HasNoSuper, IsPickOff}
 use Rattle.pool_model.specs.Stopped.{HoldAmid, HoldTables}
@@ -65,6 +65,7 @@ pub record IsReadied (x m c : View) (place disk : ℕ) (t : Slices) (f h : Found
   pub apart : (p : ℕ) → h.seats p ≡ Some disk → ⊥
   pub members : (n p : ℕ) → n < f.state.made → is_member h n p ≡ is_member f n p
   pub firsts : (n : ℕ) → n < f.state.made → first_of h n ≡ first_of f n
+  pub sectors : (n : ℕ) → n < f.state.made → array_sectors h n ≡ array_sectors f n
   pub service : InService h x.slices (book c) c.bay
   pub tables : HoldTables h x.slices (book c).state c.bay
   pub told : (n : ℕ) → n < h.state.made → IsTold (book c) (slices_of x.slices c.bay) n
@@ -313,11 +314,11 @@ module _ {L : Type 0} (x : View) (bay : x.bays.one) (name : List ℕ) (place dis
         leaves_then (HoldAmid h x.slices (book x).state (book c).state)
         (leaves_weaker (HoldAmid h x.slices (book x).state (book w).state) (HoldAmid h x.slices (book x).state (book c).state)
         (λ i amid.
-        amid_likewise h h x.slices (book x).state (book w).state (book x).state (book c).state i refl refl refl (after_same (book x).state) out.mends.moves.book amid)
+        amid_likewise h h x.slices (book x).state (book w).state (book x).state (book c).state i refl refl refl (λ n low. refl) (after_same (book x).state) out.mends.moves.book amid)
         (cleaning lose.bay lose.arrays lose.refused lose.cleaned going_lost))
         (leaves_weaker (HoldAmid h x.slices (book w).state (book c).state) (HoldAmid h x.slices (book x).state (book c).state)
         (λ i amid.
-        amid_likewise h h x.slices (book w).state (book c).state (book x).state (book c).state i refl refl refl lose.cleaned.ends.passes.marks (after_same (book c).state) amid)
+        amid_likewise h h x.slices (book w).state (book c).state (book x).state (book c).state i refl refl refl (λ n low. refl) lose.cleaned.ends.passes.marks (after_same (book c).state) amid)
         (replacing_not_whole h x.slices (book w) place disk w.bay service_own apart goes.orderly (inside_own lose) tables_own opened_own room_own lasting_own traced_own (table_on w place disk) refl (book c) c.bay out
         told_own lasts))
       where
@@ -458,6 +459,7 @@ module _ {L : Type 0} (x : View) (bay : x.bays.one) (name : List ℕ) (place dis
     apart = apart;
     members = λ n p low. one.member_named x bay name disk at unspent_named fit b holds f goes waits n p low;
     firsts = one.first_named x bay name disk at unspent_named fit b holds f goes waits;
+    sectors = one.sectors_named x bay name disk at unspent_named fit b holds f goes waits;
     service = service;
     tables = tables;
     told = told;

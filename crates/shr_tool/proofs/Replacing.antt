@@ -16,6 +16,7 @@ use Rattle.pool.specs.Volume.{PicksLive, unchanged}
 use Rattle.pool.proofs.Booked.{raises_still}
 use Rattle.pool.proofs.Doing.{does_none}
 use Rattle.pool.proofs.Keeping.{marks_same, passes_same}
+use Rattle.shr_tool.proofs.Filled.{works_same}
 use Rattle.shr_tool.specs.Events.{grow_word, looks_at}
 use Rattle.shr_tool.specs.Events.Event.{declined, replaced}
 use Rattle.shr_tool.specs.Timeline.{MeansFormer, Performs, ground_of}
@@ -71,6 +72,7 @@ replace_done x y at place name text r fit cut is_ok is done_r =
       changes = λ takes. (done.changes (subst (λ p. p < length (book x).state.drives.items) (cut_listed x at place fit cut low) low), done.table, done.steps.enters);
       raises = done.raises;
       keeps = done.keeps;
+      works = λ none. absurd (both_ways true none refl);
       cause = (done.cause, done.replaced);
       marks = λ none. absurd (both_ways true none refl);
       text_is = λ a holds. is;
@@ -117,7 +119,7 @@ unlisted_done x at place name text fit sound cut is done =
       | inl inside ↦ subst (λ p. length (book x).state.drives.items ≤ p) (cut.same inside) out
       | inr great ↦ omega (arith, few, great)
     ] in
-    performs_by x x event text unchanged unchanged refl (λ none. refl) (passes_same x fit) (raises_still 1 x) (
+    performs_by x x event text unchanged unchanged refl (λ none. refl) (passes_same x fit) (raises_still 1 x) (λ none. works_same x) (
       record {
         missing = (λ same. past, λ much. refl);
         attach = λ same. absurd (let wrong = same_fault NoSuchDrive Attach same in cc);
@@ -185,6 +187,7 @@ decline_done x y at place name text r fault fit sound cut refused is still done_
             changes = λ takes. (done.changes (subst (λ p. p < length (book x).state.drives.items) (cut_listed x at place fit cut low) low), done.steps.left);
             raises = done.raises;
             keeps = done.kept;
+            works = λ none. record { arrays = done.declined.arrays; plan = done.declined.plan };
             cause = (done.cause, done.declined);
             marks = λ none. absurd (both_ways (looks_at fault) none looks);
             text_is = λ a holds. is;

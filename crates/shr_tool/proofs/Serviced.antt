@@ -15,25 +15,33 @@ use Rattle.flat_array.specs.Array.{FlatArray}
 use Rattle.lvm_group.specs.Runs.{Linear, array_of}
 use Rattle.pool_state.specs.declared.contents.Copied.{Copied}
 use Rattle.pool_state.specs.Sector.{decoded}
+use Rattle.array_core.specs.TruthHeld.{HoldTruth}
+use Rattle.array_image.specs.Left.{IsLeft}
 use Rattle.array_image.specs.Places.{log_slice, state_sector}
 use Rattle.array_image.specs.States.{is_current}
 use Rattle.raid_rack.specs.Book.{after_same}
+use Rattle.raid_rack.specs.Agreeing.{SupersAgree}
+use Rattle.raid_rack.specs.Moves.{IsSet}
 use Rattle.raid_rack.specs.Raid.{IsTold, is_over}
 use Rattle.raid_rack.specs.Runs.{KeepsMoments}
+use Rattle.raid_rack.proofs.TruthAgrees.{supers_agree}
 use Rattle.assembler.specs.Sound.{TargetsLand}
 use Rattle.pool_image.specs.Disks.{Disks}
 use Rattle.pool_image.specs.Drives.{Found}
 use Rattle.pool_model.specs.Absent.{AreOnly}
 use Rattle.pool_model.specs.InService.{InService}
+use Rattle.pool_model.specs.Grouped.{AreHeadsLive, HoldGroup}
 use Rattle.pool_model.specs.Left.{HoldAgain}
-use Rattle.pool_model.specs.Stopped.{HoldAmid, HoldTables, LieByTables}
+use Rattle.pool_model.specs.Reopening.{AreWholeSectors, Reopens}
+use Rattle.pool_model.specs.Stopped.{HoldAmid, HoldLanding, HoldTables, LieByTables}
 use Rattle.pool_model.specs.Taken.{AreSerial, LacksDrive}
-use Rattle.pool_model.proofs.Alone.{alone_begins, alone_calls}
+use Rattle.pool_model.proofs.Alone.{alone_begins, alone_calls, tabled_begins, tabled_calls}
 use Rattle.pool_model.proofs.Amid.{service_amid, tables_amid, tables_begin, tables_calls, vacant_amid}
 use Rattle.pool_model.proofs.Tables.{tables_vacant}
 use Rattle.pool_model.proofs.InService.{in_service, service_again, service_calls, vacant_again}
 use Rattle.pool_model.proofs.Landing.{landing_again}
 use Rattle.pool_model.proofs.Named.{same_length}
+use Rattle.pool_model.proofs.Reopening.{service_reopens, vacant_reopens}
 use Rattle.pool_model.proofs.Vacant.{lacks_calls, sliced_before}
 use Rattle.pool.specs.Calls.{Passes}
 use Rattle.pool.specs.Moment.{moment_of}
@@ -70,6 +78,7 @@ goes_first x f on alone = record {
   arrays = on.arrays ∙ on.joined;
   orderly = on.orderly;
   laid = λ lands. tables_begin f x.slices (book x).state x.bay (on.landing lands) on.slices on.rest;
+  tabled = tabled_begins f (book x).state x.slices x.bay on.tables on.rest;
   alone = alone;
 }
 
@@ -214,6 +223,9 @@ goes_calls x y f b unspent fit holds passes goes = record {
   laid = λ lands.
       tables_calls f goes.tables (book x).state (book y).state x.bay y.bay goes.lasting
       (only_weaker (IsSliced x.slices) (IsSliced goes.tables) (sliced_was x f goes) passes.apart) passes.marks (goes.laid lands);
+  tabled =
+      tabled_calls f (book x).state (book y).state goes.tables x.bay y.bay passes.marks.current goes.lasting
+      (only_weaker (IsSliced x.slices) (IsSliced goes.tables) (sliced_was x f goes) passes.apart) goes.tabled;
   alone = λ l so.
       stands_calls x y f b unspent fit holds passes goes l so (only_weaker (IsSliced x.slices) (IsSliced goes.tables) (sliced_was x f goes) passes.apart);
 }
@@ -225,13 +237,20 @@ tables_now x f goes lands = elim goes.vacant [
   | inr one ↦ tables_vacant f goes.tables x.slices one.0 (book x).state x.bay one.2.vacated one.2.missing (goes.laid lands)
 ]
 
--- whatever the disks may be left with holds it again
+-- Whatever the disks may be left with holds it again. Where superblocks say their arrays' truths, and the arrays hold the group of a volume, it is opened as this volume.
 pub goes_again :
-    {L : Type 0} {o : Option Lone} (x : View) (f : Found) → IsInside x.slices x.bay → GoesBy L o f x
-    → ((n : ℕ) → n < f.state.made → IsTold (book x) (slices_of x.slices x.bay) n) → ((n : ℕ) → n < f.state.made → is_over (book x) n ≡ false)
-    → (i : Image) → IsPick x.bay x.bay x.bay.held i → HoldsNext L f x.slices (book x).state i
-goes_again {L} x f inside goes told lasts i pick = (again, λ lands. landing_again f x.slices (book x).state x.bay (tables_now x f goes lands) i pick again)
+    {L G : Type 0} {o : Option Lone} (x : View) (f : Found) (l : Linear) → (volume x).fit → GoesBy L o f x
+    → ((n : ℕ) → n < f.state.made → IsTold (book x) (slices_shown x) n) → ((n : ℕ) → n < f.state.made → is_over (book x) n ≡ false)
+    → ((n : ℕ) → n < f.state.made → HoldTruth ((book x).arrays n) (slices_shown x)) → (G → AreHeadsLive (book x) → HoldGroup (book x) l (slices_shown x))
+    → (i : Image) → IsPick x.bay x.bay x.bay.held i → HoldsNext L G f x.slices l (book x) i
+goes_again {L} {G} x f l fit goes told lasts truths group i pick = record { again = again; landing = landing; opens = opens }
   where
+    set : IsSet (book x) (slices_shown x)
+    set = fit.0.running.set
+
+    inside : IsInside x.slices x.bay
+    inside = set.fit.1
+
     again : HoldAgain f x.slices (book x).state i
     again = elim goes.vacant [
       | inl same ↦
@@ -239,6 +258,25 @@ goes_again {L} x f inside goes told lasts i pick = (again, λ lands. landing_aga
           (service_again f goes.tables (book x) x.bay goes.service (subst (λ (t : Slices). IsInside t x.bay) same inside)
           (λ n low. subst (λ (t : Slices). IsTold (book x) (slices_of t x.bay) n) same (told n low)) lasts i pick)
       | inr one ↦ vacant_again f goes.tables x.slices (book x) x.bay one.0 goes.service one.2 inside told lasts i pick
+    ]
+
+    landing : L → HoldLanding f x.slices (book x).state i
+    landing lands = landing_again f x.slices (book x).state x.bay (tables_now x f goes lands) i pick again
+
+    agree : (n : ℕ) (r : Image) → n < f.state.made → IsLeft (slices_shown x) r → SupersAgree (book x).state r n
+    agree n r low left =
+        let made = goes.service.after.same.made in
+        supers_agree (book x) (slices_shown x) n set fit.0.heeded (omega (arith, low, made)) (told n low) (lasts n low) (truths n low) r left
+
+    opens : G → AreHeadsLive (book x) → AreWholeSectors f.disks i → Reopens f x.slices l i
+    opens says heads whole = elim goes.vacant [
+      | inl same ↦
+          subst (λ (t : Slices). Reopens f t l i) (sym same)
+          (service_reopens f goes.tables (book x) l x.bay goes.service (subst (λ (t : Slices). IsInside t x.bay) same inside)
+          (λ n low. subst (λ (t : Slices). IsTold (book x) (slices_of t x.bay) n) same (told n low)) lasts goes.tabled
+          (λ n r low left. agree n r low (subst (λ (t : Slices). IsLeft (slices_of t x.bay) r) (sym same) left))
+          (subst (λ (t : Slices). HoldGroup (book x) l (slices_of t x.bay)) same (group says heads)) heads i pick whole)
+      | inr one ↦ vacant_reopens f goes.tables x.slices (book x) l x.bay one.0 goes.service one.2 inside told lasts goes.tabled agree (group says heads) heads i pick whole
     ]
 
 -- What a stop leaves inside calls that take no disk holds it too.

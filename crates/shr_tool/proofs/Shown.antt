@@ -9,6 +9,7 @@ use Rattle.pool.specs.Volume.{unchanged}
 use Rattle.pool.proofs.Booked.{raises_still}
 use Rattle.pool.proofs.Doing.{does_none}
 use Rattle.pool.proofs.Keeping.{marks_same, passes_same}
+use Rattle.shr_tool.proofs.Filled.{works_same}
 use Rattle.shr_tool.specs.Events.Event.{shown}
 use Rattle.shr_tool.specs.StatusText.{status_text}
 use Rattle.shr_tool.specs.Timeline.{Performs}
@@ -21,7 +22,7 @@ pub show_done :
     → text ≡ status_text x.linear (book x)
     → Performs x x (shown text) text
 show_done x text fit sound is =
-    performs_by x x (shown text) text unchanged unchanged refl (λ none. refl) (passes_same x fit) (raises_still 1 x) is
+    performs_by x x (shown text) text unchanged unchanged refl (λ none. refl) (passes_same x fit) (raises_still 1 x) (λ none. works_same x) is
     (marks_for x x (shown text) (passes_same x fit) (marks_same x (λ place. ⊥)))
     (λ a holds. refl)
     (λ a holds. refl)

@@ -26,13 +26,13 @@ use Rattle.raid_rack.specs.NewDrive.{SeatsDrive, is_reached, joins}
 use Rattle.raid_rack.proofs.Over.{number_room}
 use Rattle.pool_image.specs.Disks.{Disks, disks_of, identities_of}
 use Rattle.pool_image.specs.Drives.{Found, first_of as first_in}
-use Rattle.pool_image.specs.Meaning.{is_member, is_table}
+use Rattle.pool_image.specs.Meaning.{array_sectors, is_member, is_table}
 use Rattle.pool_model.specs.Alone.{IsStranger, IsTabled, TakesAlone}
 use Rattle.pool_model.specs.InService.{InService}
 use Rattle.pool_model.specs.Left.{HasNoSuper, IsPickOff}
 use Rattle.raid_rack.specs.Missing.{raised}
 use Rattle.pool_model.specs.Taken.{AreDistinct, AreSerial, KeepsOff, KeepsRest, SeatsNew, taken}
-use Rattle.pool_model.proofs.Alone.{alone_taken, says_own, stranger_former}
+use Rattle.pool_model.proofs.Alone.{alone_taken, says_own, stranger_former, tabled_taken}
 use Rattle.shr_tool.proofs.NewTabled.{tabled_new}
 use Rattle.pool_model.proofs.Before.{off_before, was as image_before, was_other as image_other}
 use Rattle.pool_model.proofs.InService.{service_taken}
@@ -41,7 +41,7 @@ use Rattle.pool_model.proofs.Lost.{epoch_room, log_lies}
 use Rattle.pool_model.proofs.NewMembers.{joins_member, positions_of}
 use Rattle.pool_model.proofs.Serials.{serial_after, serial_enlisted, serial_fresh}
 use Rattle.pool_model.proofs.Tables.{tables_taken}
-use Rattle.pool_model.proofs.Taken.{IsKnownBefore}
+use Rattle.pool_model.proofs.Taken.{IsKnownBefore, sectors_taken}
 use Rattle.pool_model.proofs.Unsliced.{free_super, laid_super, past_log}
 use Rattle.pool_model.proofs.Vacant.{lacks_still, seats_through, sliced_before}
 use Rattle.pool.specs.declared.replacing.GrowFault.{GrowFault}
@@ -413,15 +413,19 @@ module _ {L : Type 0} {o : Option Lone} (x y : View) (place : ℕ) (name text : 
         (subst (λ n. IsTabled f place n (was d)) (sym sectors) tabled))
         (λ copy here. (own_former i pick copy here).drive))
 
-  -- it has its table, and no other disk came
+  -- it has its table
+  tabled_own : (i : Image) → IsPickOff y.slices y.bay i → IsTabled h place (y.bay.sectors disk) (i disk)
+  tabled_own i pick =
+      ap (λ o. option_map_or (is_table h place (y.bay.sectors disk)) o false)
+      (table_taken x y place name text b unspent performs holds goes.orderly disk named i pick)
+      ∙ tabled_new f t y.slices (book x) (disks_of y.bay) place disk is.units (Replacing place) seats_new known
+      (sectors_kept x y place name unspent performs.continues (performs.outside refl) changes told f goes)
+      (reaches_each (views_of (book x)) place (y.bay.sectors disk) free.reaches).0
+
+  -- and no other disk came
   takes_alone : (l : Lone) → o ≡ Some l → TakesAlone f h l.bound (IsOut l y.shelf.names) y.slices place disk y.bay
   takes_alone l so = record {
-    own = λ i pick.
-        ap (λ o. option_map_or (is_table h place (y.bay.sectors disk)) o false)
-        (table_taken x y place name text b unspent performs holds goes.orderly disk named i pick)
-        ∙ tabled_new f t y.slices (book x) (disks_of y.bay) place disk is.units (Replacing place) seats_new known
-        (sectors_kept x y place name unspent performs.continues (performs.outside refl) changes told f goes)
-        (reaches_each (views_of (book x)) place (y.bay.sectors disk) free.reaches).0;
+    own = tabled_own;
     strangers = λ i pick d low other stays why. elim why [
       | inl past ↦
           (let same = count_is x y place name unspent performs.continues (performs.outside refl) changes told f goes in
@@ -461,6 +465,12 @@ module _ {L : Type 0} {o : Option Lone} (x y : View) (place : ℕ) (name text : 
   pool_is : pool_after f (moment_of x) (moment_of y) (replaced place name) ≡ h
   pool_is = ap₂ (λ (d n : ℕ). taken f (disks_of y.bay) place d (enlisted place n (Replacing place) (book x).state)) disk_is units_is
 
+  pub sectors_after : (n : ℕ) → n < f.state.made → array_sectors (pool_after f (moment_of x) (moment_of y) (replaced place name)) n ≡ array_sectors f n
+  sectors_after n low =
+      ap (λ (k : Found). array_sectors k n) pool_is
+      ∙ sectors_taken f t y.slices (book x) (disks_of y.bay) place disk is.units (Replacing place) seats_new known
+      (sectors_kept x y place name unspent performs.continues (performs.outside refl) changes told f goes) n low
+
   goes_replaced : GoesBy L o (pool_after f (moment_of x) (moment_of y) (replaced place name)) y
   goes_replaced = subst (λ k. GoesBy L o k y) (sym pool_is) (record {
     tables = y.slices;
@@ -472,6 +482,7 @@ module _ {L : Type 0} {o : Option Lone} (x y : View) (place : ℕ) (name text : 
     laid = λ lands.
         tables_taken f t y.slices (book x) (book y).state x.bay y.bay place disk is.units (Replacing place) goes.service seats_new keeps_rest is.marks
         (lies_taken x y place name text b unspent performs holds goes.orderly disk named) (goes.laid lands);
+    tabled = tabled_taken f t y.slices (book x) x.bay y.bay place disk is.units (Replacing place) goes.service seats_new keeps_rest (book y).state tabled_own goes.tabled;
     alone = stands_taken;
   })
 

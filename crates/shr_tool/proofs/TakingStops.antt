@@ -12,18 +12,19 @@ use Rattle.lvm_group.specs.Runs.{array_of, sector_of}
 use Rattle.pool_state.specs.declared.contents.Plan.TheVariants.{Replace as Replacing}
 use Rattle.array_image.specs.Places.{super_sector}
 use Rattle.raid_rack.specs.Book.{after_same}
-use Rattle.raid_rack.specs.Enlisting.{Enlists, IsOpenDisk}
+use Rattle.raid_rack.specs.Enlisting.{Enlists, IsOpenDisk, enlisted}
 use Rattle.raid_rack.specs.Laws.{live_parts}
 use Rattle.raid_rack.specs.Losses.{has_other}
 use Rattle.raid_rack.specs.NewDrive.{SeatsDrive, joins}
 use Rattle.raid_rack.specs.Raid.{IsTold, is_over}
 use Rattle.pool_image.specs.Disks.{disks_of}
 use Rattle.pool_image.specs.Drives.{Found, first_of}
-use Rattle.pool_image.specs.Meaning.{is_member}
+use Rattle.pool_image.specs.Meaning.{array_sectors, is_member}
+use Rattle.pool_model.proofs.Taken.{sectors_taken}
 use Rattle.pool_model.specs.InService.{InService}
 use Rattle.pool_model.specs.Left.{HasNoSuper}
 use Rattle.pool_model.specs.Stopped.{HoldAmid, HoldTables}
-use Rattle.pool_model.specs.Taken.{AreSerial, LacksDrive, SeatsNew, attached}
+use Rattle.pool_model.specs.Taken.{AreSerial, LacksDrive, SeatsNew, attached, taken}
 use Rattle.array_image.specs.States.{is_current}
 use Rattle.pool.specs.Entering.{EntersBy, Vacates}
 use Rattle.pool.specs.Moment.{IsNamed, moment_of, views_of}
@@ -32,7 +33,7 @@ use Rattle.pool.specs.View.{View, book, over, spent_by, volume}
 use Rattle.pool.specs.Volume.{Holds, is_spent, size_of}
 use Rattle.shr_tool.specs.Between.{AreWithout, HoldsEither}
 use Rattle.shr_tool.specs.Events.Event.{replaced}
-use Rattle.shr_tool.specs.Service.{GoesBy, IsFitDisk, IsFitDrive, disk_in, units_in}
+use Rattle.shr_tool.specs.Service.{GoesBy, IsFitDisk, IsFitDrive, disk_in, pool_after, units_in}
 use Rattle.shr_tool.specs.Timeline.{Performs}
 use Rattle.shr_tool.proofs.EitherPool.{with_now, without_now}
 use Rattle.shr_tool.proofs.Former.{array_low}
@@ -159,6 +160,17 @@ module _ {L : Type 0} (x y : View) (place : ℕ) (name text : List ℕ) (b : Fla
   disk_is : disk_in (moment_of y) place ≡ disk
   disk_is = new.disk_is x y place name text b unspent fit performs holds some f goes fitting serials (λ l none. absurd (none-some l none))
 
+  -- the arrays have the sectors that they had
+  sized : (n : ℕ) → n < (book x).state.made
+      → array_sectors (pool_after f (moment_of x) (moment_of y) (replaced place name)) n
+      ≡ array_sectors (taken h (disks_of m.bay) place disk (enlisted place enters.units (Replacing place) (book x).state)) n
+  sized n low =
+      let less : n < f.state.made = (let made = goes.service.after.same.made in omega (arith, low, made)) in
+      new.sectors_after x y place name text b unspent fit performs holds some f goes fitting serials (λ l none. absurd (none-some l none)) n less
+      ∙ sym (one.sectors_named x entered.bay name disk entered.attaches unspent_then fit b holds f goes waits n less)
+      ∙ sym (sectors_taken h goes.tables y.slices (book x) (disks_of m.bay) place disk enters.units (Replacing place) sits_then
+      (record { outset = service.arranged; after = service.after; geometry = service.geometry }) (λ d few. refl) n less)
+
   -- ---- the whole
 
   pub taking_amid : (k : ℕ) (i : Image) → x.bay.clock < k → k ≤ y.bay.clock → y.bay.stops k i → HoldsEither f (moment_of x) (moment_of y) place name i
@@ -170,7 +182,7 @@ module _ {L : Type 0} (x y : View) (place : ℕ) (name text : List ℕ) (b : Fla
           | inr joining ↦ without y.slices (inr (inl refl)) i joining
         ]
         | inr after ↦
-            with_now f x y place name disk enters.units (book x).state (disks_of m.bay) (after_same (book x).state) (inl refl) listed disks_same units_are disk_is i after.1
+            with_now f x y place name disk enters.units (book x).state (disks_of m.bay) (after_same (book x).state) (inl refl) listed disks_same units_are disk_is sized i after.1
             (λ ids.
             taking_last m y place disk enters h goes.tables service lacks sits_then opened tables told lasts other lasting traced_then orderly within bare k i after.0 until stopped ids
             after.1)

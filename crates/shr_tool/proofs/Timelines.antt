@@ -80,6 +80,7 @@ timeline_kept Traced old new g limit past p a (event ∷ events) q within line =
         slices = happens.slices;
         marks = happens.marks;
         stands = happens.stands;
+        works = happens.works;
         during =
             λ traced k i since until stops.
             happens.during traced k i since until (past traced k i (let rest = order traced in omega arith) stops);

@@ -17,6 +17,7 @@ use Rattle.pool.specs.Moment.{Moment}
 use Rattle.shr_tool.specs.Timeline.{Ground, Happens, Steps, Timeline, steps_of}
 use Rattle.shr_tool.specs.Service.{AreFit, AreLone, IsOut, none_out, pool_by}
 use Rattle.assembler.specs.Sound.{TargetsLand}
+use Rattle.pool_model.specs.Grouped.{HaveOwnAreas}
 use Rattle.pool_model.specs.Absent.{HoldAbsent}
 use Rattle.pool_model.specs.Alone.{LeaveOut}
 use Rattle.pool_model.specs.Taken.{AreSerial}
@@ -40,6 +41,7 @@ happens_for P Q stops g p q a event for happens = record {
   slices = happens.slices;
   marks = happens.marks;
   stands = happens.stands;
+  works = happens.works;
   during = λ traced. happens.during (for traced);
   ended = λ traced. happens.ended (for traced);
 }
@@ -72,6 +74,7 @@ ends_for T U S R y g p q a told traced ends = record {
   after = ends.after;
   cause = ends.cause;
   stands = ends.stands;
+  works = ends.works;
   held = λ is. ends.held (told is);
   missing = λ is. ends.missing (told is);
   during = λ is so. ends.during (told is) (traced so);
@@ -96,13 +99,13 @@ lasts_for T U S R x y g from a events told traced lasts = record {
   told = λ is. lasts.told (told is);
   rows = λ is. lasts.rows (told is);
   between = λ is so f on.
-      subst (HoldsEach y.stops g (AreSerial f.state) (TargetsLand f) [] f from events lasts.last)
+      subst (HoldsEach y.stops g (AreSerial f.state) (TargetsLand f) (HaveOwnAreas f) [] f from events lasts.last)
       (sym (steps_for (S × T) (R × U) y.stops g from a events lasts.last (λ is. (traced is.0, told is.1)) lasts.timeline))
       (lasts.between (told is) (traced so) f on);
   closing = λ is so f on fit.
       let same =
       steps_for (S × T) (R × U) y.stops g from a events lasts.last (λ is. (traced is.0, told is.1)) lasts.timeline in
-      subst (λ (steps : Steps from events lasts.last). HoldsInside y.stops g (AreSerial f.state) (TargetsLand f) events (pool_by f from events lasts.last steps) lasts.last lasts.final) (sym same)
+      subst (λ (steps : Steps from events lasts.last). HoldsInside y.stops g (AreSerial f.state) (TargetsLand f) (HaveOwnAreas f) events (pool_by f from events lasts.last steps) lasts.last lasts.final) (sym same)
       (lasts.closing (told is) (traced so) f on (subst (AreFit f from events lasts.last) same fit));
   agreed = λ is. lasts.agreed (told is);
   safe = λ is. lasts.safe (told is);
@@ -125,7 +128,7 @@ lasts_for T U S R x y g from a events told traced lasts = record {
   again = λ is served f on known fit goes i pick.
       let same =
       steps_for (S × T) (R × U) y.stops g from a events lasts.last (λ is. (traced is.0, told is.1)) lasts.timeline in
-      subst (λ (steps : Steps from events lasts.last). HoldsNext (TargetsLand f) (pool_by f from events lasts.last steps) lasts.final.slices lasts.final.book.state i) (sym same)
+      subst (λ (steps : Steps from events lasts.last). HoldsNext (TargetsLand f) (HaveOwnAreas f) (pool_by f from events lasts.last steps) lasts.final.slices g.linear lasts.final.book i) (sym same)
       (lasts.again (told is) served f on (λ takes. (traced (known takes).0, (known takes).1)) (subst (AreFit f from events lasts.last) same fit) goes i pick);
 }
 

@@ -28,7 +28,7 @@ use Rattle.pool_model.proofs.Found.{ok_of, seated_below}
 use Rattle.pool_model.proofs.InService.{one_seat, service_attached}
 use Rattle.pool_model.proofs.Lost.{lost_value}
 use Rattle.pool_model.proofs.Named.{same_length}
-use Rattle.pool_model.proofs.Tables.{tables_attached}
+use Rattle.pool_model.proofs.Tables.{tabled_declined, tables_attached}
 use Rattle.pool_model.proofs.Unsliced.{free_stranger, laid_state}
 use Rattle.pool_model.proofs.Vacant.{lacks_still, lacks_value, sliced_before, vacant_free}
 use Rattle.pool.specs.declared.replacing.GrowFault.{GrowFault}
@@ -475,5 +475,8 @@ module _ {L : Type 0} {o : Option Lone} (x y : View) (place : ℕ) (name : List 
     laid = λ lands i off p d now.
         tables_attached f t (book x).state disk x.bay y.bay goes.service.arranged goes.service.slices keeps_others
         (λ j left q current seat. absurd (not_current q current seat)) (goes.laid lands) i off p d (is.marks.current p now);
+    tabled = λ i off p d seat why.
+        tabled_declined f t (book x).state disk x.bay y.bay goes.service.arranged keeps_others (λ j left q current own. absurd (not_current q current own)) goes.tabled i off p d seat
+        (elim why [ inl now ↦ inl (is.marks.current p now) | inr never ↦ inr never ]);
     alone = alone;
   }

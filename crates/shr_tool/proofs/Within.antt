@@ -8,12 +8,13 @@ use Rattle.array_image.specs.States.{is_current}
 use Rattle.pool.specs.Calls.{Passes}
 use Rattle.pool.specs.Continuing.{Continues}
 use Rattle.pool.specs.Moment.{moment_of}
-use Rattle.pool.specs.View.{View, book, spent_by}
+use Rattle.pool.specs.View.{View, book, slices_shown, spent_by}
 use Rattle.pool.specs.Volume.{Holds, size_of}
 use Rattle.shr_tool.specs.Between.{HoldsWithin}
 use Rattle.shr_tool.specs.Events.{Event, any_takes, takes_disk}
 use Rattle.shr_tool.specs.Events.Event.{answered, spent, lost, last, replaced, declined, stepped, stuck, shown}
-use Rattle.shr_tool.specs.Service.{GoesBy, IsServed}
+use Rattle.shr_tool.specs.Heads.{KeepsHeads}
+use Rattle.shr_tool.specs.Service.{BeginsOn, GoesBy, IsServed}
 use Rattle.shr_tool.specs.Serving.{IsServing}
 use Rattle.shr_tool.specs.Timeline.{Performs, ground_of}
 use Rattle.shr_tool.proofs.Between.{holds_inside}
@@ -27,15 +28,16 @@ served_some : (y z : View) (event : Event) → takes_disk event ≡ true → IsS
 served_some y z event takes (inl none) = absurd (both_ways (takes_disk event) none takes)
 served_some y z event takes (inr some) = some
 
-module _ {L : Type 0} (x y z : View) (a b : FlatArray) (events : List Event) (text : List ℕ) (Serial : Type 0) (f : Found) (continues : Continues x y)
-    (passes : any_takes events ≡ false → Passes x y) (serving : IsServing x a) (holds : Holds y b) (traced : x.bay.traced) (unspent : (d s : ℕ) → z.bay.spent d s ≡ false)
+module _ {L G : Type 0} (x y z : View) (a b : FlatArray) (events : List Event) (text : List ℕ) (Serial : Type 0) (f : Found) (continues : Continues x y)
+    (passes : any_takes events ≡ false → Passes x y) (heads : KeepsHeads (book x) (book y) (slices_shown x) (slices_shown y)) (serving : IsServing x a) (holds : Holds y b) (begins : BeginsOn G x)
+    (traced : x.bay.traced) (unspent : (d s : ℕ) → z.bay.spent d s ≡ false)
     (goes : IsServed (ground_of x) (moment_of y) events → (any_takes events ≡ true → Serial) → GoesBy L None f y)
     (serials : IsServed (ground_of x) (moment_of y) events → Serial → AreSerial f.state) where
-  pub holds_within : (event : Event) → Performs y z event text → HoldsWithin z.bay.stops (ground_of x) Serial L events f (moment_of y) (moment_of z) event
-  holds_within (answered line) performs = holds_inside x y z a b events Serial f continues passes serving holds traced (performs.passes refl) goes
-  holds_within (spent line sector) performs = holds_inside x y z a b events Serial f continues passes serving holds traced (performs.passes refl) goes
-  holds_within (lost place) performs = holds_inside x y z a b events Serial f continues passes serving holds traced (performs.passes refl) goes
-  holds_within (last place) performs = holds_inside x y z a b events Serial f continues passes serving holds traced (performs.passes refl) goes
+  pub holds_within : (event : Event) → Performs y z event text → HoldsWithin z.bay.stops (ground_of x) Serial L G events f (moment_of y) (moment_of z) event
+  holds_within (answered line) performs = holds_inside x y z a b events Serial f continues passes heads serving holds begins traced (performs.passes refl) goes
+  holds_within (spent line sector) performs = holds_inside x y z a b events Serial f continues passes heads serving holds begins traced (performs.passes refl) goes
+  holds_within (lost place) performs = holds_inside x y z a b events Serial f continues passes heads serving holds begins traced (performs.passes refl) goes
+  holds_within (last place) performs = holds_inside x y z a b events Serial f continues passes heads serving holds begins traced (performs.passes refl) goes
   holds_within (replaced place name) performs = λ served serial lands fit waits lasts.
       let event = replaced place name in
       let before = served_first x y z events event text continues.linear performs served in
@@ -47,13 +49,13 @@ module _ {L : Type 0} (x y z : View) (a b : FlatArray) (events : List Event) (te
         | inr missing ↦ taking_amid y z place name text b unspent continues.fit performs holds some f going missing fit waits (serials before serial) lands lasts told
       ]
   holds_within (declined place name fault) performs = (
-    λ none. holds_inside x y z a b events Serial f continues passes serving holds traced (performs.passes none) goes,
+    λ none. holds_inside x y z a b events Serial f continues passes heads serving holds begins traced (performs.passes none) goes,
     λ looks served serial lands waits lasts.
         let event = declined place name fault in
         let before = served_first x y z events event text continues.linear performs served in
         declined_amid y z place name fault text b looks unspent continues.fit performs holds (served_some y z event looks (served_last x y z events event continues.linear served)) f
         (goes before (λ takes. serial)) waits lands lasts (continues.traced serving.0.shelf traced),
   )
-  holds_within (stepped count left) performs = holds_inside x y z a b events Serial f continues passes serving holds traced (performs.passes refl) goes
-  holds_within (stuck count array) performs = holds_inside x y z a b events Serial f continues passes serving holds traced (performs.passes refl) goes
-  holds_within (shown words) performs = holds_inside x y z a b events Serial f continues passes serving holds traced (performs.passes refl) goes
+  holds_within (stepped count left) performs = holds_inside x y z a b events Serial f continues passes heads serving holds begins traced (performs.passes refl) goes
+  holds_within (stuck count array) performs = holds_inside x y z a b events Serial f continues passes heads serving holds begins traced (performs.passes refl) goes
+  holds_within (shown words) performs = holds_inside x y z a b events Serial f continues passes heads serving holds begins traced (performs.passes refl) goes

@@ -187,6 +187,18 @@ takes_disk (stepped count left) = false
 takes_disk (stuck count array) = false
 takes_disk (shown text) = false
 
+-- works are done, or begun by a new drive
+abbrev pub works_on : Event → Bool
+works_on (answered line) = false
+works_on (spent line sector) = false
+works_on (lost place) = false
+works_on (last place) = false
+works_on (replaced place name) = true
+works_on (declined place name fault) = false
+works_on (stepped count left) = true
+works_on (stuck count array) = true
+works_on (shown text) = false
+
 abbrev pub any_takes : List Event → Bool
 any_takes [] = false
 any_takes (event ∷ events) = takes_disk event || any_takes events

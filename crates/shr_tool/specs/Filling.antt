@@ -2,8 +2,8 @@
 use Rattle.std.specs.Prelude.{◌≡◌, ℕ, ◌+◌, ◌-◌, ◌<◌, ◌≤◌, true, false, List, Result, OnOk, IfErr}
 use Rattle.flat_array.specs.Array.{filled}
 use Rattle.pool.specs.Calls.{Marks, Passes}
-use Rattle.pool.specs.Keeping.{Raises}
-use Rattle.pool.specs.View.{View}
+use Rattle.pool.specs.Keeping.{KeepsWorks, Raises}
+use Rattle.pool.specs.View.{View, book}
 use Rattle.pool.specs.Volume.{Does, is_spent}
 use Rattle.shr_tool.specs.declared.perform.SpentAt.{SpentAt}
 
@@ -16,6 +16,7 @@ pub record FillsSome (x y : View) (sector count : ℕ) (bytes : List ℕ) : Type
 pub record Fills (x y : View) (sector count : ℕ) (bytes : List ℕ) (result : Result (Unit {0}) SpentAt) : Type 0 where
   pub passes : Passes x y
   pub raises : Raises count x y
+  pub works : KeepsWorks (book x) (book y)
   pub marks : Marks x y
   pub done : OnOk result (FillsSome x y sector count bytes × ((s : ℕ) → s + 1 ≡ sector + count → sector ≤ s → is_spent y s ≡ false))
   pub refused :

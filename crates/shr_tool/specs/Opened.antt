@@ -23,13 +23,13 @@ use Rattle.assembler.specs.Causes.{HasRefusalCause}
 use Rattle.assembler.specs.Holding.{IsArrayOf}
 use Rattle.assembler.specs.Marking.{MarksDrives}
 use Rattle.assembler.specs.Refusing.{is_early}
-use Rattle.pool_model.specs.Grouped.{HaveOwnAreas, HoldGroup}
+use Rattle.pool_model.specs.Grouped.{HaveOwnAreas, HoldGroup, IsVolumeOf}
 use Rattle.pool_model.specs.Left.{AreAlone, AreElsewhere, IsPickOff}
 use Rattle.pool_model.specs.Pools.{AreSlicesOf}
 use Rattle.pool_model.specs.Stopped.{HaveTables}
 use Rattle.assembler.specs.Moments.{SaysVolume}
 use Rattle.assembler.specs.Sound.{HaveAgreed, HoldSound, IsMeantRefusal, KeepsPool, MayStop, SayTruths, StopsHold, TargetsLand}
-use Rattle.assembler.specs.Volume.{AllLive, IsVolumeOf}
+use Rattle.assembler.specs.Volume.{AllLive}
 use Rattle.assembler.specs.Wanting.{HasUsedUp, LeavesPool}
 use Rattle.assembler.specs.Writing.{WritesPool}
 use Rattle.pool.specs.Keeping.{HasMarkedSeats}
@@ -72,12 +72,14 @@ pub record IsOpenedAs (f : Found) (y : Seen) (g : Ground) (from : Moment) : Type
   pub lies : IsVolumeOf f g.linear
   pub slices : AreSlicesOf f from.slices
   pub after : IsAfter f.state from.book.state
+  -- a plan goes on that had begun
+  pub plan : from.book.state.plan ≡ f.state.plan
   pub told : (n : ℕ) → n < f.state.joined → IsTold from.book (slices_of from.slices y) n
   -- each is the array of the pool's superblocks, with the rows to resync that they leave
   pub arrays : (n : ℕ) (t : Super) → n < f.state.joined → truth_of f n ≡ Some t → IsArrayOf f n t (from.book.arrays n)
   pub live : AllLive from.book
   -- where all arrays are ready for the volume, and have the pool's metadata areas, they hold its group, whatever they may be left with
-  pub group : f.state.joined ≡ f.state.made → HaveOwnAreas f → HoldGroup from.book (slices_of from.slices y)
+  pub group : f.state.joined ≡ f.state.made → HaveOwnAreas f → HoldGroup from.book g.linear (slices_of from.slices y)
   -- outside the slices the disks have each drive's table, and other disks say what they said
   pub elsewhere : (i : Image) → IsPickOff from.slices y i → AreElsewhere f i
   -- where targets land in the pool's slices a replay finds these by the drives' tables

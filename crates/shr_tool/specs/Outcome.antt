@@ -37,7 +37,7 @@ use Rattle.shr_tool.specs.declared.serve.Stop.TheVariants.{Quit as AtQuit, Input
 use Rattle.shr_tool.specs.declared.perform.Answer.{Answer}
 use Rattle.shr_tool.specs.declared.perform.Answer.TheVariants.{Given, Spent as Refuses, Memory as Wants}
 use Rattle.shr_tool.specs.Events.{AnyTakes, Event, any_takes, array_by, lines_of, text_of, texts, worst_of}
-use Rattle.pool.specs.Keeping.{KeepsBook}
+use Rattle.pool.specs.Keeping.{KeepsBook, KeepsWorks}
 use Rattle.pool.specs.Moment.{Moment}
 use Rattle.pool.specs.Continuing.{KeepsOutside}
 use Rattle.rack.specs.Sequences.{WritesOnly}
@@ -64,7 +64,7 @@ LeavesItsRows y g p q =
 abbrev pub KeepsNames : Shelf → Shelf → Type 0
 KeepsNames s t = (d : ℕ) (name : List ℕ) → slice_get s.names d ≡ Some name → slice_get t.names d ≡ Some name
 
--- The end of a pool: no disk is attached, the slices of its drives stay where they lie, marks alone come to its book, each of a drive whose disk's faults rose, what
+-- The end of a pool: no disk is attached, the slices of its drives stay where they lie, marks alone come to its book, each of a drive whose disk's faults rose, and a plan goes on; what
 -- a stop inside it leaves means the array, and then its current values alone. Outside the slices disks hold what they held, and those of places whose drives
 -- were missing everywhere. The clock is told where stops are.
 pub record EndsAt (Told : Type 0) (Traced : Type 0) (y : Seen) (g : Ground) (p q : Moment) (a : FlatArray) : Type 0 where
@@ -75,6 +75,7 @@ pub record EndsAt (Told : Type 0) (Traced : Type 0) (y : Seen) (g : Ground) (p q
       (place : ℕ) → is_current p.book.state place ≡ true → is_current q.book.state place ≡ false
       → Rose (p.faults (disk_of p.slices (log_slice place))) (q.faults (disk_of p.slices (log_slice place)))
   pub stands : KeepsStanding KeepsBook 1 p q
+  pub works : KeepsWorks p.book q.book
   pub held : Told → (d s : ℕ) → d < p.disks → s < p.sectors d → ((v : List ℕ) → IsSliced p.slices d s v → ⊥) → Keeps (p.held d s) (q.held d s)
   pub missing : Told → KeepsMissing p q (λ d. ⊥)
   pub during : Told → Traced → (k : ℕ) (i : Image) → p.clock < k → k ≤ q.clock → y.stops k i → MeansAt g q a i
@@ -106,13 +107,13 @@ pub record IsRunOn (f : Found) (g : Ground) (from : Moment) (x : Seen) : Type 0 
   pub landing : TargetsLand f → HaveTables f
   pub one_pool : HaveOnePool f
   pub truths : (n : ℕ) → n < f.state.made → HoldTruth (from.book.arrays n) (slices_of from.slices x)
-  pub group : HaveOwnAreas f → HoldGroup from.book (slices_of from.slices x)
+  pub group : HaveOwnAreas f → HoldGroup from.book g.linear (slices_of from.slices x)
   pub rest : HoldRest f from.slices x
 
 -- Events of a script from a moment on, when the disks showed x, and the end of the pool: the disks show it afterwards, and where the pool
 -- told its volume to hold an array, each of the volume's arrays is told by the last book. Outside the slices of drives no disk is written
 -- but one that a line named to replace a drive. Where none did, sectors of slices alone are written. All that the disks may be left
--- with holds a sound pool again, by the last book's state and with the drives that were taken in, unless an array is over; and so does what a stop between
+-- with holds a sound pool again, by the last book's state and with the drives that were taken in, unless an array is over, and is opened as the run's volume; and so does what a stop between
 -- lines leaves, and inside the end or a line, once what is pending is written: inside a line that takes a drive in without it or with it. Where lines named images stops are to be told, the pool's drives to have ids of serials, and the images to be fit for it, by what they held before.
 pub record Lasts (Told Traced : Type 0) (x y : Seen) (g : Ground) (from : Moment) (a : FlatArray) (events : List Event) : Type 0 where
   pub last : Moment
@@ -132,12 +133,12 @@ pub record Lasts (Told Traced : Type 0) (x y : Seen) (g : Ground) (from : Moment
   -- holds it once what is pending is written, by a state between; where the line takes a drive in, the pool without the drive or with it.
   pub between :
       Told → Traced → (f : Found) → IsRunOn f g from x
-      → HoldsEach y.stops g (AreSerial f.state) (TargetsLand f) [] f from events last (steps_of (Traced × Told) y.stops g from a events last timeline)
+      → HoldsEach y.stops g (AreSerial f.state) (TargetsLand f) (HaveOwnAreas f) [] f from events last (steps_of (Traced × Told) y.stops g from a events last timeline)
   -- and so what one inside the end leaves
   pub closing :
       Told → Traced → (f : Found) → IsRunOn f g from x
       → AreFit f from events last (steps_of (Traced × Told) y.stops g from a events last timeline)
-      → HoldsInside y.stops g (AreSerial f.state) (TargetsLand f) events (pool_by f from events last (steps_of (Traced × Told) y.stops g from a events last timeline)) last final
+      → HoldsInside y.stops g (AreSerial f.state) (TargetsLand f) (HaveOwnAreas f) events (pool_by f from events last (steps_of (Traced × Told) y.stops g from a events last timeline)) last final
   -- Where no disk's faults rose in the end, the superblocks of each array that isn't over agree in whatever a stop leaves afterwards, and leave just the rows
   -- to resync that are left in the array, also where they said so before the end.
   pub agreed :
@@ -154,8 +155,8 @@ pub record Lasts (Told Traced : Type 0) (x y : Seen) (g : Ground) (from : Moment
       → IsWholeRaid f.state.made final.book → ((n : ℕ) → n < f.state.made → is_over final.book n ≡ false)
       → (i : Image) → IsPick y y y.held i → HasWholeSectors y i → HoldAbsent f final.slices final.book.state i
   -- So it is where lines replaced drives, by the pool with these drives, where ids differ and the outset's other disks have none that it gives to drives later
-  -- (`AreUngiven`); without disks that say nothing, as where their images are empty, which are to be those of all lines that were declined, unless one laid nothing
-  -- (`AreLone`).
+  -- (`AreUngiven`, which passes over images that are left out); without disks that say nothing, as where their images are empty, which are to be those of all lines that were declined, unless
+  -- one laid nothing (`AreLone`).
   pub safe_by :
       Told → IsServed g final events → NoneRose last.faults final.faults
       → (f : Found) → IsRunOn f g from x → AreOnly f → HaveOwnAreas f → (any_takes events ≡ true → AreSerial f.state)
@@ -178,7 +179,7 @@ pub record Lasts (Told Traced : Type 0) (x y : Seen) (g : Ground) (from : Moment
       → AreFit f from events last (steps_of (Traced × Told) y.stops g from a events last timeline)
       → ((n : ℕ) → n < f.state.made → is_over final.book n ≡ false)
       → (i : Image) → IsPick y y y.held i
-      → HoldsNext (TargetsLand f) (pool_by f from events last (steps_of (Traced × Told) y.stops g from a events last timeline)) final.slices final.book.state i
+      → HoldsNext (TargetsLand f) (HaveOwnAreas f) (pool_by f from events last (steps_of (Traced × Told) y.stops g from a events last timeline)) final.slices g.linear final.book i
 
 -- all lines of the text were answered, and the pool was ended; this is the worst of the answers
 pub record DoneOutcome (worst : Answer) (Told Traced : Type 0) (x y : Seen) (g : Ground) (from : Moment) (a : FlatArray) (text out out' : List ℕ) : Type 0 where

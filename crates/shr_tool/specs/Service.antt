@@ -12,12 +12,14 @@ use Rattle.pool_state.specs.declared.contents.State.{State}
 use Rattle.pool_state.specs.Sector.{decoded}
 use Rattle.array_image.specs.Places.{state_sector, super_sector}
 use Rattle.array_image.specs.States.{id_of, is_current}
+use Rattle.array_core.specs.TruthHeld.{HoldTruth}
 use Rattle.lvm_group.specs.Runs.{sectors_in}
 use Rattle.raid_rack.specs.Enlisting.{enlisted}
 use Rattle.pool_image.specs.Disks.{Disks, Identity, identities_of}
 use Rattle.pool_image.specs.Drives.{Found, first_of}
 use Rattle.pool_image.specs.Meaning.{is_member}
-use Rattle.pool_model.specs.Alone.{HoldAlone, IsStranger, IsUngiven}
+use Rattle.pool_model.specs.Alone.{HoldAlone, HoldTabled, IsStranger, IsUngiven}
+use Rattle.pool_model.specs.Grouped.{HoldGroup}
 use Rattle.pool_model.specs.InService.{InService}
 use Rattle.pool_model.specs.Left.{HasNoSuper}
 use Rattle.pool_model.specs.Stopped.{HoldTables}
@@ -26,7 +28,7 @@ use Rattle.pool.specs.declared.replacing.GrowFault.{GrowFault}
 use Rattle.pool.specs.declared.replacing.GrowFault.TheVariants.{Gone}
 use Rattle.pool.specs.Moment.{IsImage, IsNamed, Moment}
 use Rattle.pool.specs.Replaced.{HasMarked}
-use Rattle.pool.specs.View.{View, book, spent_by}
+use Rattle.pool.specs.View.{View, book, slices_shown, spent_by}
 use Rattle.pool.specs.Volume.{is_spent, size_of}
 use Rattle.shr_tool.specs.Events.{Event, any_takes, looks_at}
 use Rattle.shr_tool.specs.Events.Event.{answered, spent, lost, last, replaced, declined, stepped, stuck, shown}
@@ -178,6 +180,12 @@ pub record StandsLone (l : Lone) (f : Found) (t : Slices) (x : View) : Type 0 wh
   pub distinct : AreDistinct f.state.pool.0 l.bound
   pub own : (s : ℕ) → s < size_of x → is_spent x s ≡ false → HoldOwn f (IsOut l x.shelf.names) (book x).state x.bay
 
+-- A run begins on arrays that are all ready for the volume, and whose superblocks say their truths, durably. Where `Group` holds they hold the volume's group.
+pub record BeginsOn (Group : Type 0) (x : View) : Type 0 where
+  pub joined : (book x).state.joined ≡ (book x).state.made
+  pub truths : (n : ℕ) → n < (book x).state.made → HoldTruth ((book x).arrays n) (slices_shown x)
+  pub group : Group → HoldGroup (book x) x.linear (slices_shown x)
+
 -- A pool by which a run goes: its slices are those of the run, unless a place whose drive is missing has given its disk up since. The run's slices don't
 -- overlap. Where `Landing` holds the partition tables of the pool's drives have the members' slices, whatever the disks may be left with outside them, and
 -- where it is `lone` the pool stands alone on its disks.
@@ -190,6 +198,8 @@ pub record GoesBy (Landing : Type 0) (lone : Option Lone) (f : Found) (x : View)
   pub arrays : x.linear.arrays ≡ f.state.made
   pub orderly : IsOrderly x.slices
   pub laid : Landing → HoldTables f tables (book x).state x.bay
+  -- and each of its current drives has its table
+  pub tabled : HoldTabled f (book x).state tables x.bay
   pub alone : (l : Lone) → lone ≡ Some l → StandsLone l f tables x
 
 -- The run goes on by another pool, h in place of f, which has drives with ids of serials where f has.

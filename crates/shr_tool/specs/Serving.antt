@@ -18,10 +18,11 @@ use Rattle.shr_tool.specs.Events.{AnyTakes, Event, answer_of, any_takes, array_b
 use Rattle.pool.specs.Moment.{moment_of}
 use Rattle.shr_tool.specs.Timeline.{Timeline, Performs, Steps, ground_of, steps_of}
 use Rattle.shr_tool.specs.Heads.{KeepsHeads}
-use Rattle.shr_tool.specs.Service.{AreFit, AreLone, GoesBy, GoesOn, IsServed, Lone, none_out, pool_by}
+use Rattle.shr_tool.specs.Service.{AreFit, AreLone, BeginsOn, GoesBy, GoesOn, IsServed, Lone, none_out, pool_by}
 use Rattle.shr_tool.specs.Between.{HaveOthers, HoldsEach}
 use Rattle.assembler.specs.Sound.{TargetsLand}
 use Rattle.pool_image.specs.Drives.{Found}
+use Rattle.pool_model.specs.Grouped.{HaveOwnAreas}
 use Rattle.pool_model.specs.Taken.{AreSerial}
 
 -- the volume is told to hold an array, be there a sector that can be had or none
@@ -107,8 +108,8 @@ pub record Ran (x y : View) (events : List Event) : Type 0 where
   pub heads : x.shelf.told → ((d : ℕ) → d < x.bay.disks → x.bay.told d) → KeepsHeads (book x) (book y) (slices_shown x) (slices_shown y)
   -- what a stop between two of them or inside one leaves holds that pool again
   pub between :
-      (a : FlatArray) → IsServing x a → x.bay.traced → (f : Found) → GoesBy (TargetsLand f) None f x
-      → HoldsEach y.bay.stops (ground_of x) (AreSerial f.state) (TargetsLand f) [] f (moment_of x) events (moment_of y) steps
+      (a : FlatArray) → IsServing x a → x.bay.traced → (f : Found) → BeginsOn (HaveOwnAreas f) x → GoesBy (TargetsLand f) None f x
+      → HoldsEach y.bay.stops (ground_of x) (AreSerial f.state) (TargetsLand f) (HaveOwnAreas f) [] f (moment_of x) events (moment_of y) steps
 
 -- all these were done, and their replies put
 pub record Answered (x y : View) (events : List Event) (out out' : List ℕ) : Type 0 where

@@ -14,7 +14,7 @@ use Rattle.raid_rack.specs.Book.{IsAfter}
 use Rattle.raid_rack.specs.Moves.{RaisesBy}
 use Rattle.raid_rack.specs.Losses.{has_other}
 use Rattle.pool.specs.Calls.{Passes}
-use Rattle.pool.specs.Keeping.{HasMarkedSeats, KeepsBook, KeepsBookBut, Raises, most_raised}
+use Rattle.pool.specs.Keeping.{HasMarkedSeats, KeepsBook, KeepsBookBut, KeepsWorks, Raises, most_raised}
 use Rattle.raid_rack.specs.Raid.{Raid}
 use Rattle.pool.specs.Moment.{IsNamed, Moment, moment_of}
 use Rattle.pool.specs.Continuing.{Continues, KeepsOutside}
@@ -22,9 +22,9 @@ use Rattle.pool.specs.Entering.{StaysStill}
 use Rattle.pool.specs.Naming.{EntersNamed, LeavesNamed}
 use Rattle.pool.specs.Replaced.{ChangesDrive, DriveWentFrom, HasGrowCause, HasTable, IsDeclined, IsReplaced, LeavesNew, TakesImage, is_vacant}
 use Rattle.pool.specs.View.{View, book, contents_in, spent_by}
-use Rattle.pool.specs.Works.{HasRowsAlone, IsStuck, left_by}
+use Rattle.pool.specs.Works.{HasRowsAlone, StopsStuck, left_by}
 use Rattle.pool.specs.Volume.{Holds, Means, PicksLive}
-use Rattle.shr_tool.specs.Events.{Event, IsOfArray, Takes, Touches, TouchesLast, becomes, calls_in, calls_none, line_of, takes_disk, text_of}
+use Rattle.shr_tool.specs.Events.{Event, IsOfArray, Takes, Touches, TouchesLast, becomes, calls_in, calls_none, line_of, takes_disk, text_of, works_on}
 use Rattle.shr_tool.specs.StatusText.{status_text}
 use Rattle.shr_tool.specs.Events.Event.{answered, spent, lost, last, replaced, declined, stepped, stuck, shown}
 
@@ -66,7 +66,7 @@ HasCause g p q (replaced place name) =
     HasGrowCause g.linear p q place name (Ok tt) × ((d : ℕ) → IsNamed q name d → IsReplaced p q place d)
 HasCause g p q (declined place name fault) = HasGrowCause g.linear p q place name (Err fault) × IsDeclined p q place fault
 HasCause g p q (stepped count left) = HasSteps g p q count left
-HasCause g p q (stuck count array) = IsStuck g.linear q.book array
+HasCause g p q (stuck count array) = StopsStuck g.linear p.book q.book array
 HasCause g p q (shown text) = text ≡ status_text g.linear q.book
 
 -- Marks alone come to the pool's state, each of a drive whose disk's faults rose or that the script lost.
@@ -172,6 +172,8 @@ pub record Happens (Traced : Type 0) (stops : ℕ → Image → Type 0) (g : Gro
   pub slices : takes_disk event ≡ false → KeepsSlices p q
   pub marks : takes_disk event ≡ false → MarksFor p q event
   pub stands : KeepsStanding (KeepsBookIn event) (calls_in (line_of event)) p q
+  -- but for a step, and where a drive is replaced, works are left as they were, but for losses
+  pub works : works_on event ≡ false → KeepsWorks p.book q.book
   pub during :
       Traced → (k : ℕ) (i : Image) → p.clock < k → k ≤ q.clock → stops k i
       → MeansBefore g p q event a i ⊎ MeansAt g q (becomes a event) i
@@ -227,6 +229,7 @@ pub record Performs (x y : View) (event : Event) (text : List ℕ) : Type 0 wher
   pub changes : takes_disk event ≡ true → Changes x y event
   pub raises : Raises (calls_in (line_of event)) x y
   pub keeps : KeepsBookIn event (book x) (book y)
+  pub works : works_on event ≡ false → KeepsWorks (book x) (book y)
   pub cause : HasCause (ground_of x) (moment_of x) (moment_of y) event
   pub marks : takes_disk event ≡ false → MarksFor (moment_of x) (moment_of y) event
   pub text_is : (a : FlatArray) → Holds x a → text ≡ text_of a event
