@@ -118,12 +118,11 @@ moves_quiet v a b set reads =
       unwritten = λ d t live gone. reads.keeps.held d t live;
       kept = λ d t live apart other. reads.keeps.held d t live;
       parts = λ n vals spent joined made goes covers.
-          part_if v v.arrays v.number a b n vals vals spent reads.stays set.lasting leaves
+          part_if v v a b n vals vals spent reads.stays set.lasting leaves
           (λ amid. record {
-            before = amid.durable;
             after = amid.durable;
-            stood = amid.stood;
             marked = amid.marked;
+            noted = amid.noted;
             part = part_unread v.state amid.durable vals spent (gone_in v) (gone_in v) v v a b n set.lasting reads refl refl (λ p is. is) (someone_left v n goes);
           });
       rows = λ n vals spent joined made goes covers amid rows. rows_read v v a b n set.lasting reads (clear_same (v.arrays n) (v.arrays n) refl) rows;

@@ -1,5 +1,5 @@
 -- Calls of one array that write nothing, as parts of a call of all.
-use Rattle.std.proofs.Common.{◌≡◌, ℕ, ◌+◌, ◌-◌, ◌*◌, ◌/◌, ◌%◌, ◌^◌, ◌<◌, ◌≤◌, Bool, true, false, nat_lt, if◌then◌else◌, ◌⊎◌, refl, sym, ap, subst, ◌∙◌, inl, inr, ltb-true, lt-ltb, le-ltb, arith}
+use Rattle.std.proofs.Common.{◌≡◌, ℕ, ◌+◌, ◌-◌, ◌*◌, ◌/◌, ◌%◌, ◌^◌, ◌<◌, ◌≤◌, Bool, true, false, nat_lt, if◌then◌else◌, ◌⊎◌, refl, sym, ap, subst, ◌∙◌, inl, inr, eq-eqb, ltb-true, lt-ltb, le-ltb, arith}
 use Rattle.std.proofs.lemmas.Bool.{cases_eq, cases_lt, both_ways, ltb-false}
 use Rattle.rack.specs.Values.{Values}
 use Rattle.rack.specs.Seen.{Seen, IsPick}
@@ -8,22 +8,25 @@ use Rattle.rack.specs.Joins.{leaves_weaker}
 use Rattle.rack.specs.Sequences.{OnlyReads}
 use Rattle.pool_state.specs.declared.contents.State.{State}
 use Rattle.array_image.specs.Arrays.{Shape}
+use Rattle.array_image.specs.SoundArray.{first_unsynced}
 use Rattle.array_image.specs.Supers.{is_unclean}
-use Rattle.array_model.specs.View.{View, IsArray, rows_of}
+use Rattle.array_model.specs.View.{View, IsArray, rows_of, shape_of}
 use Rattle.array_model.specs.ArrayCalls.{Covers, Keeping}
 use Rattle.array_model.specs.Members.{Notes}
 use Rattle.array_core.specs.Superblocks.{settled, settled_truth, left_offset, raised}
 use Rattle.array_core.specs.Settling.{Settles}
+use Rattle.array_core.proofs.Marking.{restated_array}
 use Rattle.raid_rack.specs.Book.{after_same}
-use Rattle.raid_rack.specs.Raid.{Raid, gone_in, is_over, IsWritten}
+use Rattle.raid_rack.specs.Raid.{Raid, gone_in, is_left, is_over, IsWritten}
 use Rattle.raid_rack.specs.Moves.{IsOfPool, IsSet, PartOf, Moves}
 use Rattle.raid_rack.proofs.Changed.{LosesOne, ViewsOne, further, keeps_arrays, marked_before, more_gone, same_shape, left_before, caused, part_if, views_counted, views_sectors, views_set, views_spent}
 use Rattle.raid_rack.proofs.Views.{MayRestate, views_notes}
-use Rattle.raid_rack.proofs.Rows.{KeepsClear, clear_same, clear_seats, clear_settled, rows_read}
+use Rattle.raid_rack.proofs.Rows.{KeepsClear, clear_same, clear_seats, clear_settled, left_old, rows_read, settled_just}
 use Rattle.raid_rack.proofs.Over.{someone_left, over_still}
 use Rattle.raid_rack.proofs.Reading.{part_read, part_unread}
 use Rattle.raid_rack.proofs.Seated.{view_with}
-use Rattle.raid_rack.proofs.Noted.{with_arrays}
+use Rattle.raid_rack.proofs.Noted.{left_reach, with_arrays}
+use Rattle.raid_rack.specs.Reach.{reach_then}
 
 -- ---- a call of array m that writes nothing
 
@@ -46,11 +49,12 @@ module _ (v : Raid) (f : ℕ → View) (m : ℕ) (a b : Seen) (set : IsSet v a) 
   read_part n vals spent low goes covers =
       let someone = someone_left (with_arrays v f) n goes in
       let more = more_gone v f m a b set views in
-      part_if v f v.number a b n vals vals spent call.reads.stays set.lasting read_leaves
+      part_if v (with_arrays v f) a b n vals vals spent call.reads.stays set.lasting read_leaves
       (λ amid. record {
-        before = amid.durable;
         after = amid.durable;
-        stood = amid.stood;
+        noted =
+            reach_then (is_left v) (is_left (with_arrays v f)) amid.durable (shape_of (v.arrays n)) (shape_of (f n)) (left_before v f m a b set views) amid.noted
+            (left_reach (with_arrays v f) n (v.arrays n) b low ((views_set v f m a b set views v.number).arrays n low) (keeps_arrays v f m a b set views call.loses n low));
         marked = λ are. amid.marked (marked_before v f m a b set views are) ∙ same_shape v f m a b set views call.loses are n;
         part = elim (cases_eq n m) [
           | inl same ↦
@@ -99,7 +103,7 @@ reads_notes v f m a b set low reads others notes keeps =
     let u = v.arrays m in
     let pool = (set.arrays m low).is_of_pool in
     let both = views_notes v f m a b u.truth.events u.truth.resync_offset u.marked set low reads.stays others
-    (record { later = omega arith; some = pool.events; few = pool.events_end; whole = λ was. was; unsynced = pool.unsynced })
+    (record { later = omega arith; some = pool.events; few = pool.events_end; whole = λ was. was; unsynced = pool.unsynced; synced = λ young part rows. rows })
     (λ marked. inl marked) notes in
     record {
       views = both.views;
@@ -157,15 +161,20 @@ pub may_settle : (s : State) (z : View) → IsArray z → IsOfPool s z → MayRe
 unfolding offset_by
 may_settle s z is_array pool =
     let events = raised_low z.truth.events pool.events pool.events_end in
+    let less : first_unsynced (settled_truth z) ≤ z.resync =
+    offset_rows z.young (is_unclean z.truth) (nat_lt z.resync (rows_of z)) z.truth.resync_offset z.resync z.truth.size is_array.small
+    pool.unsynced
+    (λ none. ltb-false z.resync (rows_of z) none)
+    (λ unclean. ltb-true z.truth.resync_offset z.truth.size unclean) in
     record {
       later = events.0;
       some = let more = events.0 in let some = pool.events in omega (arith, more, some);
       few = events.1;
       whole = λ was. offset_whole z.young (is_unclean z.truth) (nat_lt z.resync (rows_of z)) z.truth.resync_offset z.resync was;
-      unsynced = offset_rows z.young (is_unclean z.truth) (nat_lt z.resync (rows_of z)) z.truth.resync_offset z.resync z.truth.size is_array.small
-          pool.unsynced
-          (λ none. ltb-false z.resync (rows_of z) none)
-          (λ unclean. ltb-true z.truth.resync_offset z.truth.size unclean);
+      unsynced = less;
+      synced = λ young part rows.
+          settled_just (settled z) (restated_array (raised z.truth.events) (left_offset z) false z is_array) young
+          (eq-eqb (left_offset z) (left_offset (settled z)) (left_old z young ∙ sym (left_old (settled z) young))) less;
     }
 
 -- places that went, where the array is settled as well

@@ -3,16 +3,14 @@ use Rattle.std.proofs.Common.{◌≡◌, ℕ, ◌-◌, ◌^◌, ◌<◌, Bool, t
 use Rattle.std.proofs.lemmas.Bool.{both_ways, and_from}
 use Rattle.rack.specs.Values.{Values}
 use Rattle.rack.specs.Seen.{Image, Seen}
-use Rattle.rack.specs.Joins.{leaves_weaker}
 use Rattle.rack.specs.Targets.{Target, put}
 use Rattle.array_image.specs.States.{is_current}
 use Rattle.md_super.specs.declared.superblock.Super.{Super}
 use Rattle.array_image.specs.Supers.{truth_in}
 use Rattle.array_image.proofs.Frames.{supers_same, truth_by_supers}
-use Rattle.array_image.specs.Arrays.{replayed}
 use Rattle.array_image.specs.Held.{IsSettled, current_in}
 use Rattle.array_image.specs.Marks.{lowered}
-use Rattle.array_image.specs.Left.{IsInside, IsLeft}
+use Rattle.array_image.specs.Left.{IsLeft}
 use Rattle.commit_log.specs.View.{LogView, names, next_number}
 use Rattle.commit_log.specs.Kept.{LogKept, AreLeft, Brings, gone_with}
 use Rattle.commit_log.proofs.KeptAfter.{on_left}
@@ -22,13 +20,14 @@ use Rattle.array_model.specs.ArrayCalls.{Covers}
 use Rattle.array_model.proofs.Losses.{IsLosing, data_of}
 use Rattle.array_model.proofs.Spared.{lost_value}
 use Rattle.array_model.proofs.Noting.{laid_out, unspent_then}
-use Rattle.raid_rack.specs.Raid.{Raid, gone_in, is_over, Stood}
+use Rattle.raid_rack.specs.Raid.{Raid, gone_in, is_left, is_over}
 use Rattle.raid_rack.specs.Losses.{AddsCopies}
 use Rattle.array_model.specs.Says.{HoldsShape}
 use Rattle.raid_rack.specs.Rows.{KeepsRows, LeavesRows}
 use Rattle.raid_rack.proofs.MarkedRows.{marks_rows}
 use Rattle.raid_rack.proofs.Rows.{clear_same}
-use Rattle.raid_rack.specs.Marking.{Restates, SaysBetween, Part}
+use Rattle.raid_rack.specs.Marking.{Restates, Part}
+use Rattle.raid_rack.specs.Reach.{reach_fewer}
 use Rattle.raid_rack.specs.Moves.{IsSeated, IsAmid, PartOf}
 use Rattle.raid_rack.specs.Settling.{state_after}
 use Rattle.raid_rack.specs.Agreeing.{SupersAgree}
@@ -39,10 +38,11 @@ use Rattle.raid_rack.proofs.Marking.{MarksCall, restated_after, NotesLost, marks
 use Rattle.raid_rack.proofs.Restated.{IsStaged, restates_staged}
 use Rattle.raid_rack.proofs.Staged.{none_gone, notes_lost, staged_array}
 use Rattle.raid_rack.proofs.Over.{someone_left, member_left, number_room}
-use Rattle.raid_rack.proofs.Noted.{live_later, noted_clear}
-use Rattle.raid_rack.proofs.Changed.{lowered_none}
+use Rattle.raid_rack.proofs.Losing.{only_gone}
+use Rattle.raid_rack.proofs.Noted.{left_reach, noted_clear}
+use Rattle.raid_rack.proofs.Changed.{PartAmid, lowered_none, part_if}
 use Rattle.raid_rack.proofs.Adding.{current_is, on_current, was_current, no_data, all_live, supers_calm, supers_inside}
-use Rattle.raid_rack.proofs.Committed.{IsCommit, raid_after, after_further, after_marked, after_gone, commit_losing, raised_more, raised_range, next_later}
+use Rattle.raid_rack.proofs.Committed.{IsCommit, raid_after, after_further, after_marked, after_gone, after_set, commit_losing, raised_more, raised_range, next_later}
 
 module _ (v : Raid) (lost on gone : List ℕ) (l : LogView) (xs : List Target) (f : ℕ → View) (b c : Seen) (commit : IsCommit v lost on gone l xs f b c)
     (n : ℕ) (vals : ℕ → Values) (spent : ℕ → Bool) (joined : n < v.state.joined) (low : n < v.state.made)
@@ -141,6 +141,7 @@ module _ (v : Raid) (lost on gone : List ℕ) (l : LogView) (xs : List Target) (
       let now = shape_after v.state (state_after v lost) (shape_of (v.arrays n)) (v.arrays n).resync false (may_vary (v.arrays n)) (v.arrays n) vals spent (gone_in v) l on gone b c n small marks_call restates settled (data_of holds) in
       marks_part v.state (state_after v lost) amid.durable (shape_of (v.arrays n)) (may_vary (v.arrays n)) false (v.arrays n) vals spent (gone_in v) v (raid_after v lost (next_number l.number) f) l on gone b c n
       small (after_marked lost v.state) commit.marking.number refl joined amid.stood.few marks_call restates settled holds notes refl fresh
+      (reach_fewer (is_left v) (is_current (state_after v lost)) amid.durable (shape_of (v.arrays n)) (λ p is. sym (current_is v lost on l xs b commit.marking p) ∙ is) amid.noted)
       (λ y alive.
       lost_value (names gone) (shape_of (v.arrays n)) n (v.arrays n).resync (current_in c.held) y (laid_out (v.arrays n) seated.is_array) now.even now.sized
       (unspent_then (v.arrays n) (f n) (names gone) losing y (covers y alive)))
@@ -167,25 +168,22 @@ module _ (v : Raid) (lost on gone : List ℕ) (l : LogView) (xs : List Target) (
       ap (λ (z : Super). z.resync_offset)
       (restates.truth at.0 at.1 u (sym (truth_by_supers (state_after v lost) r e n (supers_same (state_after v lost) r e n at.2)) ∙ truth))
 
-  pub commit_part : PartOf v (raid_after v lost (next_number l.number) f) b c n vals vals spent
-  commit_part =
-      record {
-        leaves = λ traced.
-            leaves_weaker
-            (λ i. IsInside b.sectors i → Stood v.state amid.durable vals spent (gone_in v) v b n → SaysBetween v.state (state_after v lost) n vals spent (replayed b.sectors i))
-            (λ i. IsInside b.sectors i → IsAmid v b n vals spent → SaysBetween v.state (state_after v lost) n vals spent (replayed b.sectors i))
-            (λ i says inside given. says inside amid.stood)
-            (part.leaves traced);
-        holds = λ given.
-            record {
-              durable = shape_of (v.arrays n);
-              stood = subst (λ g. Stood (state_after v lost) (shape_of (v.arrays n)) vals spent g (raid_after v lost (next_number l.number) f) c n)
-                  (λ i q. sym (after_gone v lost on gone l xs f b c commit n q low) i) (part.holds amid.stood);
-              slices = live_later v.state.made b c commit.call.stays commit.marking.set.lasting amid.slices;
-              marked = λ are.
-                  let same : names gone ≡ (λ q. false) = λ i q. none_gone v lost on gone l xs f b c commit n low are q i in
-                  sym (losing.shape ∙ ap (λ g. lowered g (shape_of (v.arrays n))) same ∙ lowered_none (shape_of (v.arrays n)));
-            };
-        logs = λ copies given. part.logs copies amid.stood;
-        frame = λ g before given. part.frame g before amid.stood;
-      }
+  commit_amid : PartAmid v (raid_after v lost (next_number l.number) f) b c n vals vals spent amid.durable
+  commit_amid = record {
+    after = shape_of (v.arrays n);
+    part = subst (λ g. Part v.state (state_after v lost) amid.durable (shape_of (v.arrays n)) vals vals spent (gone_in v) g v (raid_after v lost (next_number l.number) f) b c n)
+        (λ i q. sym (after_gone v lost on gone l xs f b c commit n q low) i) part;
+    marked = λ are.
+        let same : names gone ≡ (λ q. false) = λ i q. none_gone v lost on gone l xs f b c commit n low are q i in
+        sym (losing.shape ∙ ap (λ g. lowered g (shape_of (v.arrays n))) same ∙ lowered_none (shape_of (v.arrays n)));
+    noted =
+        left_reach (raid_after v lost (next_number l.number) f) n (v.arrays n) c low ((after_set v lost on gone l xs f b c commit).arrays n low)
+        (only_gone (v.arrays n) (f n) gone seated.is_array (commit.arrays n low));
+  }
+
+pub commit_part : (v : Raid) (lost on gone : List ℕ) (l : LogView) (xs : List Target) (f : ℕ → View) (b c : Seen) → IsCommit v lost on gone l xs f b c
+    → (n : ℕ) (vals : ℕ → Values) (spent : ℕ → Bool) → n < v.state.joined → n < v.state.made → is_over (raid_after v lost (next_number l.number) f) n ≡ false
+    → Covers (f n) spent → IsSettled (shape_of (v.arrays n)) n b.held → PartOf v (raid_after v lost (next_number l.number) f) b c n vals vals spent
+commit_part v lost on gone l xs f b c commit n vals spent joined low goes covers settled =
+    part_if v (raid_after v lost (next_number l.number) f) b c n vals vals spent commit.call.stays commit.marking.set.lasting commit.call.leaves
+    (λ amid. commit_amid v lost on gone l xs f b c commit n vals spent joined low goes covers amid settled)

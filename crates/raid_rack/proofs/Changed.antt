@@ -12,8 +12,9 @@ use Rattle.array_image.specs.Held.{Among}
 use Rattle.array_image.specs.Marks.{lower, lowered}
 use Rattle.array_model.specs.View.{View, HasFault, has_gone, is_whole_array, present, sectors_of, shape_of, spent_in}
 use Rattle.array_model.specs.Members.{slice_on}
-use Rattle.raid_rack.specs.Raid.{Raid, gone_in, is_left, IsWritten, Stood}
+use Rattle.raid_rack.specs.Raid.{Raid, AreLive, gone_in, is_left, IsWritten}
 use Rattle.raid_rack.specs.Marking.{Part}
+use Rattle.raid_rack.specs.Reach.{KeepsReachOn}
 use Rattle.raid_rack.specs.Moves.{IsAmid, IsSet, IsSeated, IsMarkedWhole, AreMarked, KeepsArrays, LosesOnly, PartOf}
 use Rattle.raid_rack.specs.Losing.{only_same}
 use Rattle.raid_rack.proofs.Over.{IsFurther, not_true}
@@ -77,39 +78,38 @@ pub record LosesOne (v : Raid) (f : ℕ → View) (m : ℕ) : Type 0 where
   pub counted : (k : Member) (sector : ℕ) → Among k (shape_of (f m)).members → sector < k.reach → Among k (shape_of (v.arrays m)).members
   pub shape : AreMarked (with_arrays v f) → shape_of (v.arrays m) ≡ shape_of (f m)
 
--- A part that an array is owed which stands: by the shape `before` before it and by `after` after it.
-pub record PartAmid (v : Raid) (f : ℕ → View) (number : ℕ) (a b : Seen) (n : ℕ) (vals now : ℕ → Values) (spent : ℕ → Bool) : Type 0 where
-  pub before : Shape
+-- A part that an array is owed which stands by this shape.
+pub record PartAmid (v w : Raid) (a b : Seen) (n : ℕ) (vals now : ℕ → Values) (spent : ℕ → Bool) (durable : Shape) : Type 0 where
   pub after : Shape
-  pub stood : Stood v.state before vals spent (gone_in v) v a n
-  pub part : Part v.state v.state before after vals now spent (gone_in v) (gone_in (called v f number)) v (called v f number) a b n
-  pub marked : AreMarked (called v f number) → after ≡ shape_of (f n)
+  pub part : Part v.state w.state durable after vals now spent (gone_in v) (gone_in w) v w a b n
+  pub marked : AreMarked w → after ≡ shape_of (w.arrays n)
+  pub noted : KeepsReachOn (is_left w) after (shape_of (w.arrays n))
 
 -- a part that an array which stands is owed: the array has then the shape by the marks that images go by
-pub part_if : (v : Raid) (f : ℕ → View) (number : ℕ) (a b : Seen) (n : ℕ) (vals now : ℕ → Values) (spent : ℕ → Bool)
+pub part_if : (v w : Raid) (a b : Seen) (n : ℕ) (vals now : ℕ → Values) (spent : ℕ → Bool)
     → Stays a b → a.lasting → (a.traced → Leaves a b (λ c. Unit {0}))
-    → (IsAmid v a n vals spent → PartAmid v f number a b n vals now spent)
-    → PartOf v (called v f number) a b n vals now spent
-part_if v f number a b n vals now spent stays lasting leaves part =
+    → ((amid : IsAmid v a n vals spent) → PartAmid v w a b n vals now spent amid.durable)
+    → PartOf v w a b n vals now spent
+part_if v w a b n vals now spent stays lasting leaves part =
     record {
+      holds = λ amid. record {
+        durable = (part amid).after;
+        stood = (part amid).part.holds amid.stood;
+        slices = subst (λ k. AreLive k b) (sym (part amid).part.book.same.made) (live_later v.state.made a b stays lasting amid.slices);
+        marked = (part amid).marked;
+        noted = (part amid).noted;
+      };
       leaves = λ traced.
           let all = leaves traced in
           record {
             later = all.later;
             kept = all.kept;
             past = all.past;
-            new = λ k c after until stopped inside amid. let at = part amid in (at.part.leaves traced).new k c after until stopped inside at.stood;
+            new = λ k c after until stopped inside amid. ((part amid).part.leaves traced).new k c after until stopped inside amid.stood;
           };
-      holds = λ amid.
-          let at = part amid in
-          record {
-            durable = at.after;
-            stood = at.part.holds at.stood;
-            slices = live_later v.state.made a b stays lasting amid.slices;
-            marked = at.marked;
-          };
-      logs = λ copies amid. let at = part amid in at.part.logs copies at.stood;
-      frame = λ g before amid. let at = part amid in at.part.frame g before at.stood;
+      reach = λ amid. (part amid).part.reach;
+      logs = λ copies amid. (part amid).part.logs copies amid.stood;
+      frame = λ g before amid. (part amid).part.frame g before amid.stood;
     }
 
 pub or_left : (b c : Bool) → b ≡ true → (b || c) ≡ true

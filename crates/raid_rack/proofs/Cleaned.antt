@@ -5,6 +5,7 @@ use Rattle.rack.specs.Values.{Values, MayLeave, Keeps}
 use Rattle.rack.specs.Seen.{Seen, IsLive, Stays}
 use Rattle.array_image.specs.Places.{member_slice, slice_of, super_sector}
 use Rattle.array_image.specs.Arrays.{Shape}
+use Rattle.array_image.specs.States.{is_current}
 use Rattle.array_image.specs.Held.{IsSettled}
 use Rattle.commit_log.specs.Kept.{LogKept}
 use Rattle.commit_log.specs.View.{names}
@@ -26,6 +27,8 @@ use Rattle.raid_rack.specs.Raid.{Raid, gone_in, is_over}
 use Rattle.raid_rack.specs.Moves.{AreMarked, IsAmid, IsHeeded, IsSet, Moves, PartOf}
 use Rattle.raid_rack.specs.Cleaning.{Ends, HasSupersOn, IsEnded, IsIdle, NoneFails, as_it_was, restated}
 use Rattle.raid_rack.proofs.Calls.{may_settle, settled_notes}
+use Rattle.raid_rack.specs.Reach.{reach_same}
+use Rattle.raid_rack.proofs.Noted.{left_reach}
 use Rattle.raid_rack.proofs.Changed.{LosesOne, ViewsOne, called, caused, further, keeps_arrays, left_before, new_gone, views_counted, views_sectors, views_set, views_spent}
 use Rattle.raid_rack.proofs.Parts.{acts_some}
 use Rattle.raid_rack.proofs.Views.{NotesOne, views_notes}
@@ -58,7 +61,7 @@ views_clean v f m a b set low stays others cleans =
     elim cleans.either [
       | inl done ↦
           views_notes v f m a b u.truth.events u.truth.resync_offset u.marked set low stays others
-          (record { later = omega arith; some = pool.events; few = pool.events_end; whole = λ was. was; unsynced = pool.unsynced })
+          (record { later = omega arith; some = pool.events; few = pool.events_end; whole = λ was. was; unsynced = pool.unsynced; synced = λ young part rows. rows })
           (λ marked. inl marked) (subst (λ (k : View). Notes u k a b) (sym done.same) cleans.notes)
       | inr now ↦
           views_notes v f m a b (raised u.truth.events) (left_offset u) false set low stays others
@@ -148,6 +151,8 @@ module _ (v : Raid) (f : ℕ → View) (m : ℕ) (a b : Seen) (set : IsSet v a) 
     heeded = call.heeded;
     views = views;
     shape = loses.shape;
+    grows = reach_same (is_current v.state) (shape_of (v.arrays m));
+    noted = left_reach (called v f v.number) m (v.arrays m) b call.low views.seated loses.only;
     frame = geometry_frame (v.arrays m).truth (f m).truth loses.only.same.geometry;
     goes = call.goes;
     later = omega arith;

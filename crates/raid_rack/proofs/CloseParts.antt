@@ -22,22 +22,23 @@ use Rattle.commit_log.specs.Standing.{IsAlike}
 use Rattle.commit_log.proofs.Kept.{before_inside, brings_to, brought_state, kept_decides, kept_ready, put_none, stands_of}
 use Rattle.commit_log.proofs.KeptAfter.{kept_after}
 use Rattle.array_model.specs.View.{View, may_vary, shape_of}
-use Rattle.array_model.specs.Says.{Holds, HoldsShape}
+use Rattle.array_model.specs.Says.{Holds, HoldsShape, Says}
 use Rattle.array_model.specs.ArrayCalls.{Covers}
 use Rattle.array_model.proofs.Keeping.{KeepsData, even_kept, held_kept, inside_before, logs_of, open_after, same_value, settled_kept}
 use Rattle.array_model.proofs.Losses.{IsLosing, losing_holds}
 use Rattle.array_model.proofs.Noting.{laid_out, unspent_then}
 use Rattle.array_model.proofs.Spared.{lost_value}
 use Rattle.array_core.specs.Superblocks.{is_settled}
-use Rattle.raid_rack.specs.Book.{after_same}
+use Rattle.raid_rack.specs.Book.{IsAfter, after_same}
 use Rattle.raid_rack.specs.Raid.{Raid, gone_in, is_over, IsWritten, Stood}
 use Rattle.raid_rack.specs.Frames.{Frame, HasFrame, frame_of}
 use Rattle.raid_rack.specs.Laws.{stood_left}
-use Rattle.raid_rack.specs.Marking.{SaysBetween}
-use Rattle.raid_rack.specs.Moves.{AreMarked, Brings, IsAmid, IsSeated, KeepsArrays, PartOf}
+use Rattle.raid_rack.specs.Marking.{Part, TiedBetween}
+use Rattle.raid_rack.specs.Reach.{reach_same}
+use Rattle.raid_rack.specs.Moves.{AreMarked, Brings, IsAmid, IsSeated, KeepsArrays}
 use Rattle.raid_rack.specs.Rows.{KeepsRows, LeavesFrom, LeavesRows}
 use Rattle.raid_rack.specs.Works.{closed}
-use Rattle.raid_rack.proofs.Changed.{lowered_none}
+use Rattle.raid_rack.proofs.Changed.{PartAmid, lowered_none, part_if}
 use Rattle.raid_rack.proofs.ClosedSays.{says_closed, truth_closed}
 use Rattle.raid_rack.proofs.Closing.{IsClosing, after_closed, closed_raid, closing_brings, closing_current, closing_data, closing_few, closing_further, closing_losing, closing_named, closing_none, closing_set, closing_target, closing_unwritten, closing_went}
 use Rattle.raid_rack.proofs.Brought.{copies_own}
@@ -47,7 +48,7 @@ use Rattle.raid_rack.proofs.Frames.{frame_same, known_frame, left_frame}
 use Rattle.raid_rack.proofs.Losing.{only_gone}
 use Rattle.raid_rack.proofs.Marking.{MarksCall, alike_agree, alike_state, closed_after, data_kept, logs_commit, still_after}
 use Rattle.raid_rack.proofs.Own.{look_nothing}
-use Rattle.raid_rack.proofs.Noted.{idle_now, live_later, losing_spent}
+use Rattle.raid_rack.proofs.Noted.{idle_now, left_reach, losing_spent}
 use Rattle.raid_rack.proofs.Over.{number_room, over_still, someone_left}
 use Rattle.raid_rack.proofs.Own.{says_same}
 use Rattle.raid_rack.proofs.Rows.{from_same}
@@ -192,7 +193,8 @@ module _ (v : Raid) (on gone : List ℕ) (l : LogView) (f : ℕ → View) (b c :
       ∙ brought_state v.state (closed v.state) (gone_in v) on l.added b before someone.0 kept.logs kept.copies brings (stands_of before picks)
       (kept.few someone.0 someone.1) (kept.there someone.0 someone.1 (none_gone someone.0 someone.1)) someone.1 (none_gone someone.0 someone.1) someone.1
 
-  moment : (i : Image) → IsInside b.sectors i → Commits l.added b i → SaysBetween v.state (closed v.state) n vals spent (replayed b.sectors i)
+  moment : (i : Image) → IsInside b.sectors i → Commits l.added b i
+      → TiedBetween v.state (closed v.state) (shape_of (v.arrays n)) (shape_of (v.arrays n)) n vals spent (replayed b.sectors i)
   moment i inside commits =
       let before = commits.before in
       let picks = before_inside l.added b i before inside commits.stands commits.either in
@@ -201,26 +203,22 @@ module _ (v : Raid) (on gone : List ℕ) (l : LogView) (f : ℕ → View) (b c :
       let left = stood_left v.state (shape_of (v.arrays n)) vals spent (gone_in v) v b n before stood picks in
       elim commits.either [
         | inl old ↦
-            record {
-              state = v.state;
-              is_state = alike_state r e old ∙ left.0;
-              later = after_same v.state;
-              sooner = after_closed v.state;
-              shape = shape_of (v.arrays n);
-              says = says_same v.state n (shape_of (v.arrays n)) vals spent r e (alike_agree n r e small old) left.1;
-            }
+            between v.state (alike_state r e old ∙ left.0) (after_same v.state) (after_closed v.state)
+            (says_same v.state n (shape_of (v.arrays n)) vals spent r e (alike_agree n r e small old) left.1)
         | inr new ↦
-            record {
-              state = closed v.state;
-              is_state = brought before r picks new;
-              later = after_closed v.state;
-              sooner = after_same (closed v.state);
-              shape = shape_of (v.arrays n);
-              says = says_same (closed v.state) n (shape_of (v.arrays n)) vals spent r e
-                  (put_agree before r picks (alike_agree n r (put b.sectors l.added before) small new))
-                  (says_closed v.state n (shape_of (v.arrays n)) vals spent e left.1);
-            }
+            between (closed v.state) (brought before r picks new) (after_closed v.state) (after_same (closed v.state))
+            (says_same (closed v.state) n (shape_of (v.arrays n)) vals spent r e (put_agree before r picks (alike_agree n r (put b.sectors l.added before) small new))
+            (says_closed v.state n (shape_of (v.arrays n)) vals spent e left.1))
       ]
+    where
+      between : (s : State) → state_in (replayed b.sectors i) ≡ Some s → IsAfter v.state s → IsAfter s (closed v.state)
+          → Says s n (shape_of (v.arrays n)) vals spent (replayed b.sectors i)
+          → TiedBetween v.state (closed v.state) (shape_of (v.arrays n)) (shape_of (v.arrays n)) n vals spent (replayed b.sectors i)
+      between s state later sooner says = record {
+        says = record { state = s; is_state = state; later = later; sooner = sooner; shape = shape_of (v.arrays n); says = says };
+        from = reach_same (is_current s) (shape_of (v.arrays n));
+        to = reach_same (is_current (closed v.state)) (shape_of (v.arrays n));
+      }
 
   -- superblocks stay, so the array has its frame at each moment
   frame_moment : (g : Frame) → frame_of (v.arrays n).truth ≡ g → (i : Image) → IsInside b.sectors i → Commits l.added b i → HasFrame g n (replayed b.sectors i)
@@ -343,21 +341,19 @@ module _ (v : Raid) (on gone : List ℕ) (l : LogView) (f : ℕ → View) (b c :
     holds = holds_after;
   }
 
-  pub close_part : PartOf v (closed_raid v (next_number l.number) f) b c n vals vals spent
-  close_part = record {
+  part : Part v.state (closed v.state) (shape_of (v.arrays n)) (shape_of (v.arrays n)) vals vals spent (gone_in v) (gone_in (closed_raid v (next_number l.number) f))
+      v (closed_raid v (next_number l.number) f) b c n
+  part = record {
+    stays = commit.call.stays;
+    book = after_closed v.state;
     leaves = λ traced.
         leaves_weaker (λ i. LogsInside b.sectors i → Commits l.added b i)
-        (λ i. IsInside b.sectors i → IsAmid v b n vals spent → SaysBetween v.state (closed v.state) n vals spent (replayed b.sectors i))
+        (λ i. IsInside b.sectors i → Stood v.state (shape_of (v.arrays n)) vals spent (gone_in v) v b n
+        → TiedBetween v.state (closed v.state) (shape_of (v.arrays n)) (shape_of (v.arrays n)) n vals spent (replayed b.sectors i))
         (λ i commits inside given. moment i inside (commits (λ place u out. inside (log_slice place) u out)))
         (commit.call.stops traced marks_call.ready marks_call.decides);
-    holds = λ given. record {
-      durable = shape_of (v.arrays n);
-      stood = stood_after;
-      slices = live_later v.state.made b c commit.call.stays commit.set.lasting amid.slices;
-      marked = λ are.
-          let same : names gone ≡ (λ q. false) = λ i q. nobody are q i in
-          sym (losing.shape ∙ ap (λ g. lowered g (shape_of (v.arrays n))) same ∙ lowered_none (shape_of (v.arrays n)));
-    };
+    reach = reach_same (is_current (closed v.state)) (shape_of (v.arrays n));
+    holds = λ given. stood_after;
     logs = λ copies given. logs_commit v.state (closed v.state) (gone_in v) l on gone b c marks_call (after_closed v.state) kept copies;
     frame = λ g before given. record {
       leaves = λ traced.
@@ -367,6 +363,21 @@ module _ (v : Raid) (on gone : List ℕ) (l : LogView) (f : ℕ → View) (b c :
           (commit.call.stops traced marks_call.ready marks_call.decides);
       after = ap frame_of losing.truth ∙ before;
     };
+  }
+
+  pub close_part : PartAmid v (closed_raid v (next_number l.number) f) b c n vals vals spent amid.durable
+  close_part = record {
+    after = shape_of (v.arrays n);
+    part = subst
+        (λ (first : Shape). Part v.state (closed v.state) first (shape_of (v.arrays n)) vals vals spent (gone_in v) (gone_in (closed_raid v (next_number l.number) f))
+        v (closed_raid v (next_number l.number) f) b c n)
+        (sym (amid.marked none_gone)) part;
+    marked = λ are.
+        let same : names gone ≡ (λ q. false) = λ i q. nobody are q i in
+        sym (losing.shape ∙ ap (λ g. lowered g (shape_of (v.arrays n))) same ∙ lowered_none (shape_of (v.arrays n)));
+    noted =
+        left_reach (closed_raid v (next_number l.number) f) n (v.arrays n) c low ((closing_set v on gone l f b c commit).arrays n low)
+        (only_gone (v.arrays n) (f n) gone seated.is_array (commit.arrays n low));
   }
     where
       nobody : AreMarked (closed_raid v (next_number l.number) f) → (q : ℕ) → names gone q ≡ false
@@ -437,31 +448,9 @@ close_brings v on gone l f b c commit =
       still = λ n low goes. over_still v w further n low goes;
       spent = λ n y low alive.
           losing_spent (v.arrays n) (f n) (names gone) (commit.set.arrays n low).is_array (closing_losing v on gone l f b c commit n low) y alive;
-      parts = λ n vals spent joined low goes covers. record {
-        leaves = λ traced.
-            let all = commit.call.leaves traced in
-            record {
-              later = all.later;
-              kept = all.kept;
-              past = all.past;
-              new = λ k i after until stopped inside amid.
-                  ((close_part v on gone l f b c commit n vals spent low goes covers amid).leaves traced).new k i after until stopped inside amid;
-            };
-        holds = λ amid. (close_part v on gone l f b c commit n vals spent low goes covers amid).holds amid;
-        logs = λ copies amid. (close_part v on gone l f b c commit n vals spent low goes covers amid).logs copies amid;
-        frame = λ g before amid. record {
-          leaves = λ traced.
-              let all = commit.call.leaves traced in
-              record {
-                later = all.later;
-                kept = all.kept;
-                past = all.past;
-                new = λ k i after until stopped inside.
-                    (((close_part v on gone l f b c commit n vals spent low goes covers amid).frame g before amid).leaves traced).new k i after until stopped inside;
-              };
-          after = ap (λ (u : View). frame_of u.truth) (commit.arrays n low) ∙ before;
-        };
-      };
+      parts = λ n vals spent joined low goes covers.
+          part_if v w b c n vals vals spent commit.call.stays commit.set.lasting commit.call.leaves
+          (λ amid. close_part v on gone l f b c commit n vals spent low goes covers amid);
       rows = λ n vals spent unwritten joined low goes covers amid rows. close_rows v on gone l f b c commit n vals spent low goes covers amid rows;
     }
 

@@ -33,8 +33,7 @@ use Rattle.raid_rack.proofs.Elements.{look_among, look_lacks}
 use Rattle.raid_rack.proofs.Noted.{bool_same, current_few, gone_from, gone_some}
 use Rattle.raid_rack.proofs.Over.{IsFurther}
 use Rattle.raid_rack.proofs.Own.{look_nothing}
-use Rattle.raid_rack.proofs.Seated.{gone_fewer, gone_losing, gone_seated, listed, listed_loses, names_joined}
-use Rattle.raid_rack.proofs.Views.{whole_then}
+use Rattle.raid_rack.proofs.Seated.{gone_fewer, gone_losing, gone_seated, listed, listed_loses, names_joined, whole_then}
 use Rattle.raid_rack.proofs.Whole.{heeded_left, heeded_whole}
 
 -- ---- the state without its plan
@@ -85,6 +84,7 @@ seated_closed s n u x seated =
         row = pool.row;
         roles = pool.roles;
         unsynced = pool.unsynced;
+        synced = pool.synced;
         zeroed = pool.zeroed;
         rows = pool.rows;
       };
@@ -97,7 +97,7 @@ unfolding listed
 whole_listed s n u gone x seated all =
     whole_then s n u (listed u gone) (names gone) x seated
     (record { number = refl; truth = refl; devices = refl; resync = refl; young = refl; marked = refl })
-    (listed_loses u gone seated.is_array) all
+    (listed_loses u gone seated.is_array).seats all
 
 -- ---- the commit
 
@@ -219,7 +219,7 @@ module _ (v : Raid) (on gone : List ℕ) (l : LogView) (f : ℕ → View) (b c :
     logs = λ p left. commit.call.stays.sectors (log_slice p) ∙ commit.set.logs p (closing_left p left);
     arrays = λ n low.
         subst (λ (u : View). IsSeated (closed v.state) n u c) (sym (commit.arrays n low))
-        (gone_seated (closed v.state) n (v.arrays n) gone c (stays_same c commit.call.stays.fit)
+        (gone_seated (closed v.state) n (v.arrays n) gone c (stays_same c commit.call.stays.fit) (λ p current. current_few v.state p commit.set.few current)
         (seated_closed v.state n (v.arrays n) c (seated_still v.state n (v.arrays n) b c commit.call.stays (commit.set.arrays n low))));
     marked = closing_whole;
   }

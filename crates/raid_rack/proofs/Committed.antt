@@ -21,7 +21,7 @@ use Rattle.array_core.specs.Seats.{gone as without}
 use Rattle.raid_rack.specs.Raid.{Raid, gone_in, is_left}
 use Rattle.raid_rack.specs.Book.{IsAfter, drive_of}
 use Rattle.raid_rack.specs.Missing.{marked, marked_from, raised}
-use Rattle.raid_rack.specs.Moves.{IsSet, IsSeated}
+use Rattle.raid_rack.specs.Moves.{IsSet, IsSeated, IsUnmarked}
 use Rattle.raid_rack.specs.Settling.{IsMarking, state_after}
 use Rattle.raid_rack.specs.Vacated.{vacated_state}
 use Rattle.raid_rack.proofs.Missing.{current_marked, length_marked}
@@ -106,8 +106,8 @@ after_marked lost s = record {
 
 -- an array of the pool is one by the marked state, where it has noted the lost places
 pub seated_marked : (s : State) (lost : List ℕ) (n : ℕ) (u : View) (x : Seen) → ((p : ℕ) → names lost p ≡ true → has_gone u p ≡ true)
-    → IsSeated s n u x → IsSeated (marked lost s) n u x
-seated_marked s lost n u x noted seated =
+    → IsUnmarked u → IsSeated s n u x → IsSeated (marked lost s) n u x
+seated_marked s lost n u x noted unmarked seated =
     let pool = seated.is_of_pool in
     record {
       is_array = seated.is_array;
@@ -125,6 +125,7 @@ seated_marked s lost n u x noted seated =
         row = pool.row;
         roles = ap (λ k. has_roles k u.truth) (length_marked lost 0 s.drives.items) ∙ pool.roles;
         unsynced = pool.unsynced;
+        synced = λ young part. inl (unmarked.rows young);
         zeroed = pool.zeroed;
         rows = pool.rows;
       };
@@ -294,10 +295,11 @@ module _ (v : Raid) (lost on : List ℕ) {by : List ℕ} (gone : List ℕ) (l : 
     arrays = λ n low.
         subst (λ (u : View). IsSeated (state_after v lost) n u c) (sym (commit.arrays n low))
         (gone_seated (state_after v lost) n (v.arrays n) gone c (stays_same c commit.call.stays.fit)
-        (seated_marked v.state lost n (v.arrays n) c (λ p is. commit.marking.noted n p low is)
+        (λ p current. current_few v.state p set_before.few (was_current v lost on l xs b commit.marking p current))
+        (seated_marked v.state lost n (v.arrays n) c (λ p is. commit.marking.noted n p low is) (commit.marking.staged.each n low).unmarked
         (seated_still v.state n (v.arrays n) b c commit.call.stays (set_before.arrays n low))));
     marked = λ n low is.
-        absurd (both_ways (v.arrays n).marked (commit.marking.staged.each n low).unmarked (ap (λ (u : View). u.marked) (sym (commit.arrays n low)) ∙ is));
+        absurd (both_ways (v.arrays n).marked (commit.marking.staged.each n low).unmarked.mark (ap (λ (u : View). u.marked) (sym (commit.arrays n low)) ∙ is));
   }
 
   pub after_losing : (n : ℕ) → n < v.state.made → ((without gone (v.arrays n)).went ≡ [] → (v.arrays n).went ≡ []) → IsLosing (v.arrays n) (f n) (names gone)

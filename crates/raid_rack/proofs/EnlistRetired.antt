@@ -10,7 +10,7 @@ use Rattle.array_core.specs.Seats.{gone, heeded, losing, seat_of}
 use Rattle.array_model.specs.View.{View, place_at, spent_in}
 use Rattle.raid_rack.specs.declared.arrays.Arrays.{Arrays}
 use Rattle.raid_rack.specs.Enlisting.{FindsEach, IsEnlisted, JoinsEach, with_drive}
-use Rattle.raid_rack.specs.Moves.{IsHeeded, IsSet, RaisesBy}
+use Rattle.raid_rack.specs.Moves.{IsHeeded, IsSet, IsUnmarked, RaisesBy}
 use Rattle.raid_rack.specs.NewDrive.{ReachesAll, joins}
 use Rattle.raid_rack.specs.Raid.{Raid}
 use Rattle.raid_rack.specs.RaidRack.{IsRunning, no_array, raid_by}
@@ -65,7 +65,7 @@ module _ (q d : Arrays) (place : ℕ) (x : Seen) (running : IsRunning q x) (heed
   }
 
   -- where the drive was missing nothing has changed
-  vacated_whole : (few : place < 16) → (unmarked : (n : ℕ) → n < q.state.made → ((raid_by q).arrays n).marked ≡ false) → is_current q.state place ≡ false
+  vacated_whole : (few : place < 16) → (unmarked : (n : ℕ) → n < q.state.made → IsUnmarked ((raid_by q).arrays n)) → is_current q.state place ≡ false
       → vacated place (raid_by q) ≡ raid_by q
   vacated_whole few unmarked missing = λ i. record { state = vacated_already place q.state missing i; arrays = λ n. at n i; number = q.log.number }
     where
@@ -75,7 +75,7 @@ module _ (q d : Arrays) (place : ℕ) (x : Seen) (running : IsRunning q x) (heed
         | inr past ↦ ap (losing (place ∷ [])) (get_past q.all.items n past) ∙ sym (get_past q.all.items n past)
       ]
 
-  module _ (few : place < 16) (unmarked : (n : ℕ) → n < q.state.made → ((raid_by q).arrays n).marked ≡ false) where
+  module _ (few : place < 16) (unmarked : (n : ℕ) → n < q.state.made → IsUnmarked ((raid_by q).arrays n)) where
     pub retired_set : IsSet (raid_by d) x
     retired_set = subst (λ (r : Raid). IsSet r x) (sym retired_raid) (vacated_set place (raid_by q) x few running.set heeded_now unmarked)
 

@@ -44,7 +44,7 @@ use Rattle.raid_rack.proofs.LayingDrive.{copy_agrees, in_disk, of_copy}
 use Rattle.raid_rack.proofs.Enlisted.{current_enlisted}
 use Rattle.raid_rack.proofs.EnlistReplaced.{found_frame, found_holds, found_leaves, found_rows, found_since}
 use Rattle.raid_rack.proofs.Leaving.{leaves_below, leaves_both, leaves_where, sliced_inside}
-use Rattle.raid_rack.proofs.Moving.{moves_then}
+use Rattle.raid_rack.proofs.Moving.{moves_then, part_says}
 use Rattle.raid_rack.proofs.NewSupers.{tells_now}
 use Rattle.raid_rack.proofs.Others.{some_other}
 use Rattle.raid_rack.proofs.Over.{number_room, or_from}
@@ -304,7 +304,7 @@ module _ (arrays : List View) (place disk units : ℕ) (plan : Plan) (joining : 
             ((logs.since v.state (after_same v.state) (kept_since v.state v.number (slices_of t a) log)).leaves traced)
             (leaves_both Framed (λ c. Logs c × (Said c × (clean → Rows c))) (early_frame.leaves traced)
             (leaves_both Logs (λ c. Said c × (clean → Rows c)) (logs.leaves traced)
-            (leaves_where Said Rows clean (part.leaves traced) (λ rows. (early_rows rows).leaves traced))))))
+            (leaves_where Said Rows clean (part_says v s (slices_of t a) (slices_of t y) n vals vals (spent_of w n) part traced) (λ rows. (early_rows rows).leaves traced))))))
 
         former_early : (spent : ℕ → Bool) (i : Image) → SaysFormer s (slices_of t y) n vals spent (sectors_of t) (sliced t i)
             → SaysFormer v (slices_of t a) n vals spent (sectors_of t) (sliced t i)

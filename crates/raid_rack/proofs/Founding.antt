@@ -1,5 +1,5 @@
 -- An array that was opened by the superblocks of a pool's drives is one of the pool, with its absent places noted.
-use Rattle.std.proofs.Common.{◌≡◌, ℕ, ◌/◌, ◌%◌, ◌<◌, ◌≤◌, ◌^◌, Bool, true, false, ◌==◌, ◌&&◌, not, nat_lt, is_ok, is_some, bytes_eq, if◌then◌else◌, List, [], map, length, slice_get, unwrap_or, Option, Some, None, option_map, refl, sym, ap, subst, ◌∙◌, ltb-true, arith}
+use Rattle.std.proofs.Common.{◌≡◌, ℕ, ◌/◌, ◌%◌, ◌<◌, ◌≤◌, ◌^◌, Bool, true, false, ◌==◌, ◌&&◌, not, nat_lt, is_ok, is_some, bytes_eq, if◌then◌else◌, List, [], map, length, slice_get, unwrap_or, Option, Some, None, option_map, refl, sym, ap, subst, ◌∙◌, inl, ltb-true, arith}
 use Rattle.std.specs.Option.{option_map_or}
 use Rattle.std.specs.List.{range_with_len}
 use Rattle.std.proofs.lemmas.Bool.{and_parts, both_ways}
@@ -115,6 +115,7 @@ module _ (s : State) (c : Image) (n : ℕ) (young : Bool) (t : Super) (found : L
         row = six.0;
         roles = six.1;
         unsynced = unsynced_left young t;
+        synced = λ old part. inl (sym (ap (λ (b : Bool). resync_by b t) old));
         zeroed = λ is. subst (λ (b : Bool). t.size / 128 ≤ resync_by b t) (sym is) (omega arith);
         rows = λ k to is.
             restarted_rows (view_found n young found t) some k to

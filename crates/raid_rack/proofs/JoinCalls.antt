@@ -18,7 +18,7 @@ use Rattle.array_core.specs.Seats.{gone as without, renewed, seat_of}
 use Rattle.raid_rack.specs.declared.arrays.Arrays.{Arrays}
 use Rattle.raid_rack.specs.Enlisting.{FindsEach, HasNewSlices, IsEnlisted, JoinsEach, enlisted, next_drive, renewed_at, with_drive}
 use Rattle.raid_rack.specs.Losses.{AddsCopies}
-use Rattle.raid_rack.specs.Moves.{IsHeeded, IsSet, Mends, RaisesBy}
+use Rattle.raid_rack.specs.Moves.{IsHeeded, IsSet, IsUnmarked, Mends, RaisesBy}
 use Rattle.raid_rack.specs.NewDrive.{ReachesAll, first_in, joins, slice_length}
 use Rattle.raid_rack.specs.Raid.{Raid}
 use Rattle.raid_rack.specs.RaidRack.{IsRunning, no_array, raid_by}
@@ -37,7 +37,7 @@ use Rattle.raid_rack.proofs.Truths.{makes_commit, makes_kept}
 pub record HasSeats (a : Arrays) (place units sectors : ℕ) (plan : Plan) (x : Seen) : Type 0 where
   pub running : IsRunning a x
   pub heeded : IsHeeded (raid_by a)
-  pub unmarked : (n : ℕ) → n < a.state.made → ((raid_by a).arrays n).marked ≡ false
+  pub unmarked : (n : ℕ) → n < a.state.made → IsUnmarked ((raid_by a).arrays n)
   pub listed : place < length a.state.drives.items
   pub missing : is_current a.state place ≡ false
   pub others : (p : ℕ) → p < length a.state.drives.items → p ≢ place → is_current a.state p ≡ true

@@ -45,11 +45,12 @@ use Rattle.raid_rack.proofs.Added.{marks_bring, names_current}
 use Rattle.raid_rack.proofs.Brought.{copies_own}
 use Rattle.raid_rack.proofs.Adding.{all_live, no_data, supers_calm, supers_inside}
 use Rattle.raid_rack.proofs.Changed.{lowered_none}
-use Rattle.raid_rack.proofs.Committed.{IsCommitBy, after_further, after_gone, commit_losing, next_later, raid_after, raised_more}
+use Rattle.raid_rack.proofs.Committed.{IsCommitBy, after_further, after_gone, after_set, commit_losing, next_later, raid_after, raised_more}
 use Rattle.raid_rack.proofs.Enlisted.{enlisted_marked, listed}
 use Rattle.raid_rack.proofs.Joining.{MayJoinPool, listed_heeded, listed_raid, listed_shape, lists_listed, was_current}
 use Rattle.raid_rack.proofs.Marking.{MarksCall, NotesLost, commit_new, marks_stood, shape_after}
-use Rattle.raid_rack.proofs.Noted.{live_later}
+use Rattle.raid_rack.proofs.Losing.{only_gone}
+use Rattle.raid_rack.proofs.Noted.{left_reach, live_later}
 use Rattle.raid_rack.proofs.Others.{some_other}
 use Rattle.raid_rack.proofs.Over.{member_left, number_room}
 use Rattle.raid_rack.proofs.Renewed.{found_member, renewed_resync, renewed_truth}
@@ -331,6 +332,9 @@ module _ (place units : ℕ) (plan : Plan) (joining : ℕ → Bool) (v : Raid) (
     marked = λ are.
         let none : names gone ≡ (λ p. false) = λ i p. none_gone u [] takes gone l xs f x y commit n low are p i in
         sym (losing.shape ∙ ap (λ g. lowered g (shape_of (u.arrays n))) none ∙ lowered_none (shape_of (u.arrays n)));
+    noted =
+        left_reach m n (u.arrays n) y low ((after_set u [] takes gone l xs f x y commit).arrays n low)
+        (only_gone (u.arrays n) (f n) gone (commit.marking.set.arrays n low).is_array (commit.arrays n low));
   }
     where
       took_none : (p : ℕ) → (before p && not (names takes p)) ≡ false
@@ -355,4 +359,5 @@ module _ (place units : ℕ) (plan : Plan) (joining : ℕ → Bool) (v : Raid) (
   -- contents with all targets say the array by the new state
   pub joined_new : (c before_c : Image) → Picks x before_c → IsAlike (replayed x.sectors c) (put x.sectors l.added before_c) → SaysBy t n vals spent (replayed x.sectors c)
   joined_new c before_c picks new =
-      commit_new s t (shape_of (u.arrays n)) false (u.arrays n) vals spent before (v.arrays n).resync l on gone x y n c before_c small marks_call restates settled_now holds kept picks new
+      let now = commit_new s t (shape_of (u.arrays n)) false (u.arrays n) vals spent before (v.arrays n).resync l on gone x y n c before_c small marks_call restates settled_now holds kept picks new in
+      record { is_state = now.0; shape = shape_of (u.arrays n); says = now.1 }

@@ -42,6 +42,7 @@ use Rattle.raid_rack.specs.Rows.{LeavesFrom, LeavesRows}
 use Rattle.raid_rack.specs.Settling.{state_after}
 use Rattle.raid_rack.specs.Since.{HoldsTakenSince, IsTakenSince, KeepsTakenSince, each_then}
 use Rattle.raid_rack.specs.Vacated.{FindsArray, IsFormerly}
+use Rattle.raid_rack.proofs.Moving.{part_says}
 use Rattle.raid_rack.proofs.Committed.{IsCommitBy, raid_after}
 use Rattle.raid_rack.proofs.Each.{get_set_other}
 use Rattle.raid_rack.proofs.Enlisted.{enlisted_marked}
@@ -302,7 +303,7 @@ module _ (place units : ℕ) (plan : Plan) (joining : ℕ → Bool) (v : Raid) (
       leaves_both Framed (λ c. Logs c × (Stands_now c × (Said c × (Clean → Rows c)))) ((later.frame g framed after).leaves told)
       (leaves_both Logs (λ c. Stands_now c × (Said c × (Clean → Rows c))) (later_logs.leaves told)
       (leaves_both Stands_now (λ c. Said c × (Clean → Rows c)) (later_logs.stands told)
-      (leaves_where Said Rows Clean (later.leaves told)
+      (leaves_where Said Rows Clean (part_says m w y z n vals vals spent later told)
       (λ clean. (mends.moves.rows n vals spent joined low goes covers after (rows_then clean.0 clean.1)).leaves told))))))
 
   since_then : (new : ℕ → Bool) → HoldsTakenSince new s t x → KeepsTakenSince new s t x z

@@ -39,6 +39,7 @@ use Rattle.raid_rack.specs.Rows.{KeepsRows, LeavesRows, rows_then}
 use Rattle.raid_rack.specs.Settling.{state_after}
 use Rattle.raid_rack.specs.Since.{HoldsSince, HoldsTakenSince, IsJoinSince, IsTakenSince, KeepsJoinSince, KeepsTakenSince, each_then, each_weaker, taken_join}
 use Rattle.raid_rack.specs.Vacated.{FindsArray}
+use Rattle.raid_rack.proofs.Moving.{part_says}
 use Rattle.raid_rack.proofs.Added.{names_current}
 use Rattle.raid_rack.proofs.Committed.{IsCommitBy, raid_after}
 use Rattle.raid_rack.proofs.Enlisted.{enlisted_marked}
@@ -245,7 +246,7 @@ module _ (place units : ℕ) (plan : Plan) (joining : ℕ → Bool) (v : Raid) (
             inr (as_enlisted (replayed x.sectors c)
             (subst (λ (sectors : ℕ → ℕ). SaysBetween t w.state n vals spent (replayed sectors c)) (λ k d. commit.call.stays.sectors d k)
             (says (λ d i out. inside d i (subst (λ k. k ≤ i) (commit.call.stays.sectors d) out)) after))))
-            (later.leaves (commit.call.stays.traced traced)));
+            (part_says m w y z n vals vals spent later (commit.call.stays.traced traced)));
         holds = later.holds after;
         rows = λ rows.
             let first = rows_after rows in

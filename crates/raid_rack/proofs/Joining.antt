@@ -23,7 +23,7 @@ use Rattle.raid_rack.specs.Book.{IsAfter}
 use Rattle.raid_rack.specs.Enlisting.{IsEnlisted, enlisted, next_drive, with_drive}
 use Rattle.raid_rack.specs.Losing.{only_then}
 use Rattle.raid_rack.specs.Losses.{AddsCopies, has_other}
-use Rattle.raid_rack.specs.Moves.{IsHeeded, IsSeated, IsSet, Mends, RaisesBy}
+use Rattle.raid_rack.specs.Moves.{IsHeeded, IsSeated, IsSet, IsUnmarked, Mends, RaisesBy}
 use Rattle.raid_rack.specs.Raid.{Raid, gone_in, is_empty, is_left, is_over, is_used_up}
 use Rattle.raid_rack.specs.Settling.{HasStaged, IsMarking}
 use Rattle.raid_rack.proofs.Added.{names_current}
@@ -34,7 +34,7 @@ use Rattle.raid_rack.proofs.Noted.{current_few, losing_spent}
 use Rattle.raid_rack.proofs.Others.{other_left, some_other}
 use Rattle.raid_rack.proofs.Over.{not_empty, or_from, or_parts, over_still, used_still}
 use Rattle.raid_rack.proofs.Raises.{raised_up}
-use Rattle.raid_rack.proofs.Renewed.{Lists, member_found, renewed_marked, renewed_resync, renewed_shape, renewed_truth, renewed_went, seated_listed, seated_renewed}
+use Rattle.raid_rack.proofs.Renewed.{Lists, member_found, renewed_resync, renewed_shape, renewed_truth, renewed_unmarked, renewed_went, seated_listed, seated_renewed}
 use Rattle.raid_rack.proofs.Restating.{and_none}
 use Rattle.raid_rack.proofs.Settling.{more_super, more_supers}
 use Rattle.raid_rack.proofs.Steps.{length_set}
@@ -58,7 +58,7 @@ lists_listed place units plan s low = record {
 pub record MayJoinPool (place units : ℕ) (plan : Plan) (joining : ℕ → Bool) (v : Raid) (x : Seen) : Type 0 where
   pub set : IsSet v x
   pub heeded : IsHeeded v
-  pub unmarked : (n : ℕ) → n < v.state.made → (v.arrays n).marked ≡ false
+  pub unmarked : (n : ℕ) → n < v.state.made → IsUnmarked (v.arrays n)
   pub listed : place < length v.state.drives.items
   pub missing : is_current v.state place ≡ false
   pub others : (p : ℕ) → p < length v.state.drives.items → p ≢ place → is_current v.state p ≡ true
@@ -95,10 +95,10 @@ module _ (place units : ℕ) (plan : Plan) (joining : ℕ → Bool) (v : Raid) (
         | inl is ↦
             let size = may.members n low ∙ ap (λ (b : Bool). if b then u.truth.size + data_sector else 0) is in
             subst (λ (b : Bool). IsSeated t n (if b then renewed place drive u else u) x) (sym is)
-            (seated_renewed s t n u x place drive drive_lists may.missing seated (may.heeded n low) (omega (arith, listed_few, few, low, most, disks)) (omega (arith, size)))
+            (seated_renewed s t n u x place drive drive_lists may.missing seated (may.heeded n low) (may.unmarked n low) (omega (arith, listed_few, few, low, most, disks)) (omega (arith, size)))
         | inr none ↦
             subst (λ (b : Bool). IsSeated t n (if b then renewed place drive u else u) x) (sym none)
-            (seated_listed s t n u x place drive drive_lists may.missing seated (may.heeded n low) (apart_from n low none))
+            (seated_listed s t n u x place drive drive_lists may.missing seated (may.heeded n low) (may.unmarked n low) (apart_from n low none))
       ]
 
   -- one more place is left
@@ -129,7 +129,8 @@ module _ (place units : ℕ) (plan : Plan) (joining : ℕ → Bool) (v : Raid) (
         ];
     arrays = listed_seated;
     marked = λ n low is.
-        absurd (both_ways (v.arrays n).marked (may.unmarked n low) (sym (renewed_marked (joining n) place (next_drive v.state) (v.arrays n)) ∙ is));
+        absurd (both_ways ((listed_raid place units plan joining v).arrays n).marked
+        (renewed_unmarked (joining n) place (next_drive v.state) (v.arrays n) (may.unmarked n low)).mark is);
   }
 
   pub listed_shape : (n : ℕ) → n < v.state.made → shape_of ((listed_raid place units plan joining v).arrays n) ≡ shape_of (v.arrays n)

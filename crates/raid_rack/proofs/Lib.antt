@@ -1,6 +1,7 @@
 mod Own
 pub mod Logs
 pub mod Frames
+mod Reach
 pub mod Raid
 mod Ranges
 pub mod Dropped

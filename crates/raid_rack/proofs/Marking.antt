@@ -36,7 +36,8 @@ use Rattle.array_model.proofs.Keeping.{live_on, inside_before, logs_of, KeepsDat
 use Rattle.array_model.proofs.Losses.{data_of, noted_holds, marked_holds}
 use Rattle.raid_rack.specs.Raid.{Raid, Stood, IsWritten}
 use Rattle.raid_rack.specs.Enlisting.{SaysBy}
-use Rattle.raid_rack.specs.Marking.{NoData, Restates, SaysBetween, Part}
+use Rattle.raid_rack.specs.Marking.{NoData, Restates, SaysBetween, TiedBetween, Part}
+use Rattle.raid_rack.specs.Reach.{KeepsReach, reach_same}
 use Rattle.raid_rack.specs.Book.{IsAfter, after_same, after_then}
 use Rattle.raid_rack.specs.Frames.{Frame, HasFrame, frame_of}
 use Rattle.raid_rack.specs.Logs.{KeepsLogs, LogsBetween, StandsSince}
@@ -243,29 +244,27 @@ pub commit_new : (s t : State) (noted : Shape) (marked : Bool) (view : View) (va
     → n < 16
     → MarksCall s t gone l on lost a b → Restates t noted marked view l.added a n → IsSettled noted n a.held
     → HoldsData n noted resync vals spent a → LogKept s l.number gone a
-    → Picks a before → IsAlike (replayed a.sectors c) (put a.sectors l.added before) → SaysBy t n vals spent (replayed a.sectors c)
+    → Picks a before → IsAlike (replayed a.sectors c) (put a.sectors l.added before)
+    → (state_in (replayed a.sectors c) ≡ Some t) × Says t n noted vals spent (replayed a.sectors c)
 commit_new s t noted marked view vals spent gone resync l on lost a b n c before few call restates settled holds kept picks new =
     let r : Image = replayed a.sectors c in
-    let e : Image = put a.sectors l.added before in
-    record {
-      is_state =
-          alike_state r e new
+    let e : Image = put a.sectors l.added before in (
+      alike_state r e new
           ∙ joined_state s t l.number gone on call.takes l.added a before call.place kept.logs kept.copies call.brings (stands_of before picks)
-          (kept.few call.place call.was) (kept.there call.place call.was call.left) call.was call.left call.now;
-      shape = noted;
-      says = says_same t n noted vals spent r e (alike_agree n r e few new)
-          (put_says t noted marked view vals spent l.added a n before few restates call.none picks settled holds.open_left holds.current);
-    }
+          (kept.few call.place call.was) (kept.there call.place call.was call.left) call.was call.left call.now,
+      says_same t n noted vals spent r e (alike_agree n r e few new)
+          (put_says t noted marked view vals spent l.added a n before few restates call.none picks settled holds.open_left holds.current),
+    )
 
 -- By the old state it is as it was, by the new one as the targets restate it.
 pub commit_moment : (s t : State) (durable noted : Shape) (vary marked : Bool) (view : View) (vals : ℕ → Values) (spent gone : ℕ → Bool) (v : Raid) (l : LogView) (on lost : List ℕ) (a b : Seen) (n : ℕ) (c : Image)
     → n < 16
     → MarksCall s t gone l on lost a b → Restates t noted marked view l.added a n → IsSettled noted n a.held
     → HoldsShape s n durable noted (v.arrays n).resync vary vals spent a
-    → l.number ≡ v.number → Stood s durable vals spent gone v a n
+    → l.number ≡ v.number → IsAfter s t → KeepsReach t durable noted → Stood s durable vals spent gone v a n
     → IsInside a.sectors c → Commits l.added a c
-    → SaysBy s n vals spent (replayed a.sectors c) ⊎ SaysBy t n vals spent (replayed a.sectors c)
-commit_moment s t durable noted vary marked view vals spent gone v l on lost a b n c few call restates settled holds number stood inside commits =
+    → TiedBetween s t durable noted n vals spent (replayed a.sectors c)
+commit_moment s t durable noted vary marked view vals spent gone v l on lost a b n c few call restates settled holds number book reach stood inside commits =
     let before = commits.before in
     let picks = before_inside l.added a c before inside commits.stands commits.either in
     let r : Image = replayed a.sectors c in
@@ -273,18 +272,31 @@ commit_moment s t durable noted vary marked view vals spent gone v l on lost a b
       | inl old ↦
           let e : Image = replayed a.sectors before in
           let left = stood_left s durable vals spent gone v a n before stood picks in
-          inl (record { is_state = alike_state r e old ∙ left.0; shape = durable; says = says_same s n durable vals spent r e (alike_agree n r e few old) left.1 })
+          record {
+            says = record {
+              state = s;
+              is_state = alike_state r e old ∙ left.0;
+              later = after_same s;
+              sooner = book;
+              shape = durable;
+              says = says_same s n durable vals spent r e (alike_agree n r e few old) left.1;
+            };
+            from = reach_same (is_current s) durable;
+            to = reach;
+          }
       | inr new ↦
-          inr (commit_new s t noted marked view vals spent gone (v.arrays n).resync l on lost a b n c before few call restates settled (data_of holds)
-          (subst (λ k. LogKept s k gone a) (sym number) stood.log) picks new)
+          let now = commit_new s t noted marked view vals spent gone (v.arrays n).resync l on lost a b n c before few call restates settled (data_of holds)
+          (subst (λ k. LogKept s k gone a) (sym number) stood.log) picks new in
+          record {
+            says = record { state = t; is_state = now.0; later = book; sooner = after_same t; shape = noted; says = now.1 };
+            from = reach;
+            to = reach_same (is_current t) noted;
+          }
     ]
 
 -- what is said by a state, is said by one between two that it is
 pub says_first : (s t : State) (n : ℕ) (vals : ℕ → Values) (spent : ℕ → Bool) (r : Image) → IsAfter s t → SaysBy s n vals spent r → SaysBetween s t n vals spent r
 says_first s t n vals spent r book by = record { state = s; is_state = by.is_state; later = after_same s; sooner = book; shape = by.shape; says = by.says }
-
-pub says_last : (s t : State) (n : ℕ) (vals : ℕ → Values) (spent : ℕ → Bool) (r : Image) → IsAfter s t → SaysBy t n vals spent r → SaysBetween s t n vals spent r
-says_last s t n vals spent r book by = record { state = t; is_state = by.is_state; later = book; sooner = after_same t; shape = by.shape; says = by.says }
 
 -- ---- after it
 
@@ -453,22 +465,21 @@ pub marks_part : (s t : State) (durable noted : Shape) (vary marked : Bool) (vie
     → (call : MarksCall s t gone l on lost a b) → Restates t noted marked view l.added a n → IsSettled noted n a.held
     → HoldsShape s n durable noted (v.arrays n).resync vary vals spent a
     → NotesLost (w.arrays n) noted (v.arrays n).resync marked view lost n → frame_of view.truth ≡ frame_of (v.arrays n).truth
-    → ((p : ℕ) → names call.takes p ≡ true → gone p ≡ false)
+    → ((p : ℕ) → names call.takes p ≡ true → gone p ≡ false) → KeepsReach t durable noted
     → ((y : ℕ) → spent y ≡ false → value_by (lowered (names lost) noted) (current_in b.held) n y ≡ value_by noted (current_in b.held) n y)
     → Part s t durable noted vals vals spent gone (gone_with gone lost) v w a b n
-marks_part s t durable noted vary marked view vals spent gone v w l on lost a b n few book number number_now joined arrays call restates settled holds notes framed fresh same =
+marks_part s t durable noted vary marked view vals spent gone v w l on lost a b n few book number number_now joined arrays call restates settled holds notes framed fresh reach same =
     record {
       stays = call.commit.stays;
       book = book;
       leaves = λ traced.
           leaves_weaker (λ c. LogsInside a.sectors c → Commits l.added a c)
-          (λ c. IsInside a.sectors c → Stood s durable vals spent gone v a n → SaysBetween s t n vals spent (replayed a.sectors c))
+          (λ c. IsInside a.sectors c → Stood s durable vals spent gone v a n → TiedBetween s t durable noted n vals spent (replayed a.sectors c))
           (λ c commits inside stood.
-          elim (commit_moment s t durable noted vary marked view vals spent gone v l on lost a b n c few call restates settled holds number stood inside (commits (λ place i out. inside (log_slice place) i out))) [
-            | inl old ↦ says_first s t n vals spent (replayed a.sectors c) book old
-            | inr new ↦ says_last s t n vals spent (replayed a.sectors c) book new
-          ])
+          commit_moment s t durable noted vary marked view vals spent gone v l on lost a b n c few call restates settled holds number book reach stood inside
+          (commits (λ place i out. inside (log_slice place) i out)))
           (call.commit.stops traced call.ready call.decides);
+      reach = reach;
       holds = λ stood.
           subst (λ g. Stood t noted vals spent g w b n) (gone_none gone call.takes lost fresh)
           (marks_stood s t noted marked view vals spent gone (v.arrays n).resync w l on lost a b n few number_now joined arrays restates settled (data_of holds) notes same

@@ -3,9 +3,10 @@ use Rattle.std.proofs.Common.{◌≡◌, ℕ, ◌<◌, ◌≤◌, Bool, true, fa
 use Rattle.std.proofs.lemmas.Bool.{cases_Bool, both_ways}
 use Rattle.rack.specs.Values.{Values}
 use Rattle.rack.specs.Seen.{Image, Seen, Stays}
+use Rattle.rack.specs.Moments.{Leaves}
 use Rattle.rack.specs.Joins.{stays_same, stays_then, leaves_same, leaves_then, leaves_weaker, keeps_same, keeps_then, live_first, live_second, rose_later, rose_early}
 use Rattle.pool_state.specs.declared.contents.State.{State}
-use Rattle.array_image.specs.Arrays.{replayed}
+use Rattle.array_image.specs.Arrays.{Shape, replayed}
 use Rattle.array_image.specs.Places.{place_of}
 use Rattle.array_image.specs.States.{is_current}
 use Rattle.array_image.specs.Left.{IsInside}
@@ -15,7 +16,8 @@ use Rattle.raid_rack.specs.Raid.{Raid, is_left}
 use Rattle.array_model.specs.ArrayCalls.{Covers}
 use Rattle.raid_rack.specs.Frames.{frame_of}
 use Rattle.raid_rack.specs.Logs.{KeepsLogs}
-use Rattle.raid_rack.specs.Marking.{SaysBetween}
+use Rattle.raid_rack.specs.Marking.{SaysBetween, TiedBetween}
+use Rattle.raid_rack.specs.Reach.{KeepsReach, reach_same, reach_then}
 use Rattle.raid_rack.proofs.Frames.{frame_still, frame_then}
 use Rattle.raid_rack.proofs.Logs.{logs_still, logs_then}
 use Rattle.raid_rack.proofs.Rows.{clear_same, rows_still}
@@ -27,58 +29,91 @@ use Rattle.raid_rack.specs.Moves.{IsSet, IsAmid, KeepsMarked, PartOf, AreCaused,
 
 -- where nothing is called, an array that stands after it is all that is owed
 pub part_still : (v w : Raid) (x : Seen) (n : ℕ) (vals : ℕ → Values) (spent : ℕ → Bool)
-    → w.state ≡ v.state → frame_of (w.arrays n).truth ≡ frame_of (v.arrays n).truth → (IsAmid v x n vals spent → IsAmid w x n vals spent)
-    → PartOf v w x x n vals vals spent
-part_still v w x n vals spent same framed holds =
+    → w.state ≡ v.state → frame_of (w.arrays n).truth ≡ frame_of (v.arrays n).truth → (holds : IsAmid v x n vals spent → IsAmid w x n vals spent)
+    → ((amid : IsAmid v x n vals spent) → (holds amid).durable ≡ amid.durable) → PartOf v w x x n vals vals spent
+part_still v w x n vals spent same framed holds still =
     record {
-      leaves = λ traced. leaves_same x (λ c. IsInside x.sectors c → IsAmid v x n vals spent → SaysBetween v.state w.state n vals spent (replayed x.sectors c));
       holds = holds;
+      leaves = λ traced.
+          leaves_same x
+          (λ c. IsInside x.sectors c → (amid : IsAmid v x n vals spent) → TiedBetween v.state w.state amid.durable (holds amid).durable n vals spent (replayed x.sectors c));
+      reach = λ amid. subst (λ (shape : Shape). KeepsReach w.state amid.durable shape) (sym (still amid)) (reach_same (is_current w.state) amid.durable);
       logs = λ copies amid. subst (λ (s : State). KeepsLogs v.state s x x) (sym same) (logs_still v.state x copies);
       frame = λ g before amid. frame_still g n (w.arrays n) x (framed ∙ before);
     }
 
-pub parts_then : (v w z : Raid) (a b c : Seen) (n : ℕ) (vals now late : ℕ → Values) (spent : ℕ → Bool)
-    → Stays a b → IsAfter v.state w.state → Moves w z b c
-    → ((i : Image) → SaysBetween v.state w.state n now spent (replayed a.sectors i) → SaysBetween v.state z.state n late spent (replayed a.sectors i))
-    → ((i : Image) → SaysBetween w.state z.state n late spent (replayed a.sectors i) → SaysBetween v.state z.state n late spent (replayed a.sectors i))
-    → PartOf v w a b n vals now spent → PartOf w z b c n now late spent → PartOf v z a c n vals late spent
-parts_then v w z a b c n vals now late spent stays book moves early late_says one two =
+-- contents that say an array by a state between two, say it by one between more
+tied_sooner : (s t u : State) (first mid last : Shape) (n : ℕ) (vals : ℕ → Values) (spent : ℕ → Bool) (r : Image) → IsAfter t u → KeepsReach u mid last
+    → TiedBetween s t first mid n vals spent r → TiedBetween s u first last n vals spent r
+tied_sooner s t u first mid last n vals spent r after reach at =
+    let by = at.says in
     record {
-      leaves = λ traced.
-          leaves_then
-          (λ i. IsInside a.sectors i → IsAmid v a n vals spent → SaysBetween v.state z.state n late spent (replayed a.sectors i))
-          (leaves_weaker
-          (λ i. IsInside a.sectors i → IsAmid v a n vals spent → SaysBetween v.state w.state n now spent (replayed a.sectors i))
-          (λ i. IsInside a.sectors i → IsAmid v a n vals spent → SaysBetween v.state z.state n late spent (replayed a.sectors i))
-          (λ i says inside amid. early i (says inside amid))
-          (one.leaves traced))
-          (leaves_weaker
-          (λ i. IsInside b.sectors i → IsAmid w b n now spent → SaysBetween w.state z.state n late spent (replayed b.sectors i))
-          (λ i. IsInside a.sectors i → IsAmid v a n vals spent → SaysBetween v.state z.state n late spent (replayed a.sectors i))
-          (λ i says inside amid.
-          late_says i
-          (subst (λ (sectors : ℕ → ℕ). SaysBetween w.state z.state n late spent (replayed sectors i)) (λ k d. stays.sectors d k)
-          (says (λ d t out. inside d t (subst (λ k. k ≤ t) (stays.sectors d) out)) (one.holds amid))))
-          (two.leaves (stays.traced traced)));
-      holds = λ amid. two.holds (one.holds amid);
-      logs = λ copies amid.
-          let first = one.logs copies amid in
-          logs_then v.state w.state z.state a b c book moves.book stays first (two.logs first.holds (one.holds amid));
-      frame = λ g before amid.
-          let first = one.frame g before amid in
-          frame_then g n (w.arrays n) (z.arrays n) a b c stays first (two.frame g first.after (one.holds amid));
+      says = record { state = by.state; is_state = by.is_state; later = by.later; sooner = after_then by.state t u by.sooner after; shape = by.shape; says = by.says };
+      from = at.from;
+      to = reach_then (is_current t) (is_current u) by.shape mid last after.current at.to reach;
     }
 
--- contents that say an array by a state between two, say it by one between more
-pub says_sooner : (s t u : State) (n : ℕ) (vals : ℕ → Values) (spent : ℕ → Bool) (r : Image) → Rattle.raid_rack.specs.Book.IsAfter t u
-    → SaysBetween s t n vals spent r → SaysBetween s u n vals spent r
-says_sooner s t u n vals spent r after at =
-    record { state = at.state; is_state = at.is_state; later = at.later; sooner = after_then at.state t u at.sooner after; shape = at.shape; says = at.says }
+tied_later : (s t u : State) (first mid last : Shape) (n : ℕ) (vals : ℕ → Values) (spent : ℕ → Bool) (r : Image) → IsAfter s t → KeepsReach t first mid
+    → TiedBetween t u mid last n vals spent r → TiedBetween s u first last n vals spent r
+tied_later s t u first mid last n vals spent r after reach at =
+    let by = at.says in
+    record {
+      says = record { state = by.state; is_state = by.is_state; later = after_then s t by.state after by.later; sooner = by.sooner; shape = by.shape; says = by.says };
+      from = reach_then (is_current t) (is_current by.state) first mid by.shape by.later.current reach at.from;
+      to = at.to;
+    }
 
-pub says_later : (s t u : State) (n : ℕ) (vals : ℕ → Values) (spent : ℕ → Bool) (r : Image) → Rattle.raid_rack.specs.Book.IsAfter s t
-    → SaysBetween t u n vals spent r → SaysBetween s u n vals spent r
-says_later s t u n vals spent r after at =
-    record { state = at.state; is_state = at.is_state; later = after_then s t at.state after at.later; sooner = at.sooner; shape = at.shape; says = at.says }
+-- a second part that depends on what stood before the first
+pub parts_within : (v w z : Raid) (a b c : Seen) (n : ℕ) (vals now : ℕ → Values) (spent : ℕ → Bool)
+    → Stays a b → IsAfter v.state w.state → IsAfter w.state z.state → (b.traced → Leaves b c (λ i. Unit {0}))
+    → PartOf v w a b n vals now spent → (IsAmid v a n vals spent → PartOf w z b c n now now spent) → PartOf v z a c n vals now spent
+parts_within v w z a b c n vals now spent stays first second leaves one two =
+    record {
+      holds = λ amid. (two amid).holds (one.holds amid);
+      leaves = λ traced.
+          let all = leaves (stays.traced traced) in
+          let Said : Image → Type 0 = λ i. IsInside a.sectors i → (amid : IsAmid v a n vals spent)
+          → TiedBetween v.state z.state amid.durable ((two amid).holds (one.holds amid)).durable n now spent (replayed a.sectors i) in
+          leaves_then Said
+          (leaves_weaker
+          (λ i. IsInside a.sectors i → (amid : IsAmid v a n vals spent) → TiedBetween v.state w.state amid.durable (one.holds amid).durable n now spent (replayed a.sectors i))
+          Said
+          (λ i says inside amid.
+          tied_sooner v.state w.state z.state amid.durable (one.holds amid).durable ((two amid).holds (one.holds amid)).durable n now spent (replayed a.sectors i) second
+          ((two amid).reach (one.holds amid)) (says inside amid))
+          (one.leaves traced))
+          (record {
+            later = all.later;
+            kept = all.kept;
+            past = all.past;
+            new = λ k i after until stopped inside amid.
+                let mid = one.holds amid in
+                let last = ((two amid).holds mid).durable in
+                tied_later v.state w.state z.state amid.durable mid.durable last n now spent (replayed a.sectors i) first (one.reach amid)
+                (subst (λ (sectors : ℕ → ℕ). TiedBetween w.state z.state mid.durable last n now spent (replayed sectors i)) (λ j d. stays.sectors d j)
+                (((two amid).leaves (stays.traced traced)).new k i after until stopped
+                (λ d t out. inside d t (subst (λ j. j ≤ t) (stays.sectors d) out)) mid));
+          });
+      reach = λ amid.
+          let mid = one.holds amid in
+          reach_then (is_current w.state) (is_current z.state) amid.durable mid.durable ((two amid).holds mid).durable second.current (one.reach amid) ((two amid).reach mid);
+      logs = λ copies amid.
+          let early = one.logs copies amid in
+          logs_then v.state w.state z.state a b c first second stays early ((two amid).logs early.holds (one.holds amid));
+      frame = λ g before amid.
+          let early = one.frame g before amid in
+          frame_then g n (w.arrays n) (z.arrays n) a b c stays early ((two amid).frame g early.after (one.holds amid));
+    }
+
+-- contents say it, whatever the shapes
+pub part_says : (v w : Raid) (a b : Seen) (n : ℕ) (vals now : ℕ → Values) (spent : ℕ → Bool) → PartOf v w a b n vals now spent → a.traced
+    → Leaves a b (λ c. IsInside a.sectors c → IsAmid v a n vals spent → SaysBetween v.state w.state n now spent (replayed a.sectors c))
+part_says v w a b n vals now spent part traced =
+    leaves_weaker
+    (λ c. IsInside a.sectors c → (amid : IsAmid v a n vals spent) → TiedBetween v.state w.state amid.durable (part.holds amid).durable n now spent (replayed a.sectors c))
+    (λ c. IsInside a.sectors c → IsAmid v a n vals spent → SaysBetween v.state w.state n now spent (replayed a.sectors c))
+    (λ c tied inside amid. (tied inside amid).says)
+    (part.leaves traced)
 
 -- ---- all of them
 
@@ -114,7 +149,7 @@ moves_same v x set =
       counted = λ n m sector made among counts. among;
       unwritten = λ d t live gone. keeps_same (x.held d t);
       kept = λ d t live apart other. keeps_same (x.held d t);
-      parts = λ n vals spent joined made goes covers. part_still v v x n vals spent refl refl (λ amid. amid);
+      parts = λ n vals spent joined made goes covers. part_still v v x n vals spent refl refl (λ amid. amid) (λ amid. refl);
       rows = λ n vals spent joined made goes covers amid rows. rows_still v v x n (clear_same (v.arrays n) (v.arrays n) refl) rows;
     }
 
@@ -140,11 +175,9 @@ moves_then v w z a b c one two =
       kept = λ d t live apart other.
           keeps_then (a.held d t) (b.held d t) (c.held d t) (one.kept d t (live_first two.stays live) apart other) (two.kept d t (live_second one.stays live) apart other);
       parts = λ n vals spent joined made goes covers.
-          parts_then v w z a b c n vals vals vals spent one.stays one.book two
-          (λ i says. says_sooner v.state w.state z.state n vals spent (replayed a.sectors i) two.book says)
-          (λ i says. says_later v.state w.state z.state n vals spent (replayed a.sectors i) one.book says)
+          parts_within v w z a b c n vals vals spent one.stays one.book two.book two.leaves
           (one.parts n vals spent joined made (two.still n (still_made n made) goes) (λ y alive. two.spent n y (still_made n made) (covers y alive)))
-          (two.parts n vals spent (subst (λ k. n < k) (sym one.book.same.joined) joined) (still_made n made) goes covers);
+          (λ amid. two.parts n vals spent (subst (λ k. n < k) (sym one.book.same.joined) joined) (still_made n made) goes covers);
       rows = λ n vals spent joined made goes covers amid rows.
           let goes_w = two.still n (still_made n made) goes in
           let covered : Covers (w.arrays n) spent = λ y alive. two.spent n y (still_made n made) (covers y alive) in
@@ -203,11 +236,9 @@ brings_then v w z a b c now one two =
       still = λ n made over. one.still n made (two.still n (still_made n made) over);
       spent = λ n y made alive. one.spent n y made (two.spent n y (still_made n made) alive);
       parts = λ n vals spent joined made goes covers.
-          parts_then v w z a b c n vals (now n vals) (now n vals) spent one.stays one.book two
-          (λ i says. says_sooner v.state w.state z.state n (now n vals) spent (replayed a.sectors i) two.book says)
-          (λ i says. says_later v.state w.state z.state n (now n vals) spent (replayed a.sectors i) one.book says)
+          parts_within v w z a b c n vals (now n vals) spent one.stays one.book two.book two.leaves
           (one.parts n vals spent joined made (two.still n (still_made n made) goes) (λ y alive. two.spent n y (still_made n made) (covers y alive)))
-          (two.parts n (now n vals) spent (subst (λ k. n < k) (sym one.book.same.joined) joined) (still_made n made) goes covers);
+          (λ amid. two.parts n (now n vals) spent (subst (λ k. n < k) (sym one.book.same.joined) joined) (still_made n made) goes covers);
       rows = λ n vals spent unwritten joined made goes covers amid rows.
           let goes_w = two.still n (still_made n made) goes in
           let covered : Covers (w.arrays n) spent = λ y alive. two.spent n y (still_made n made) (covers y alive) in

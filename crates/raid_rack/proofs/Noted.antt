@@ -32,15 +32,17 @@ use Rattle.array_core.specs.Superblocks.{is_settled}
 use Rattle.raid_rack.specs.Book.{after_same}
 use Rattle.raid_rack.specs.Frames.{frame_of}
 use Rattle.raid_rack.specs.Raid.{Raid, AreLive, gone_in, is_left, is_over, IsWritten}
-use Rattle.raid_rack.specs.Moves.{IsSet, IsSeated, IsMarkedWhole, AreMarked, IsAmid, Brings, Moves}
+use Rattle.raid_rack.specs.Moves.{IsSet, IsSeated, IsMarkedWhole, AreMarked, IsAmid, Brings, LosesOnly, Moves}
+use Rattle.raid_rack.specs.Reach.{KeepsReachOn, reach_fewer, reach_then}
 use Rattle.raid_rack.proofs.Own.{look_nothing}
 use Rattle.raid_rack.proofs.Ranges.{any_some, any_from}
+use Rattle.raid_rack.proofs.Reach.{lost_reach}
 use Rattle.raid_rack.proofs.Over.{someone_left, not_true, over_still, IsFurther}
 use Rattle.raid_rack.proofs.Reading.{stood_noted, stood_heeded}
 use Rattle.raid_rack.proofs.Losing.{only_gone, only_heeded}
 use Rattle.raid_rack.proofs.Moving.{part_still}
 use Rattle.raid_rack.proofs.Rows.{KeepsClear, rows_still}
-use Rattle.raid_rack.proofs.Seated.{names_joined, gone_losing, gone_fewer, gone_seated, heeded_seated}
+use Rattle.raid_rack.proofs.Seated.{names_joined, or_last, gone_losing, gone_fewer, gone_seated, heeded_seated}
 
 -- ---- places that went
 
@@ -69,10 +71,6 @@ bool_same true c one two = sym (one refl)
 bool_same false true one two = two refl
 bool_same false false one two = refl
 
-or_last : (b c : Bool) → c ≡ true → (b || c) ≡ true
-or_last true c is = refl
-or_last false c is = is
-
 or_of : (b c : Bool) → (b || c) ≡ true → c ≡ false → b ≡ true
 or_of true c e none = refl
 or_of false c e none = absurd (both_ways c none e)
@@ -84,6 +82,15 @@ current_few s p few current =
       | inl below ↦ omega (arith, below, few)
       | inr past ↦ absurd (both_ways (is_current s p) (ap (λ o. option_map_or (λ drive. not drive.missing) o false) (slice_get_past s.drives.items p past)) current)
     ]
+
+-- an array that has lost members counts those on places that are left as before
+pub left_reach : (w : Raid) (n : ℕ) (u : View) (x : Seen) → n < w.state.made → IsSeated w.state n (w.arrays n) x → LosesOnly u (w.arrays n)
+    → KeepsReachOn (is_left w) (shape_of u) (shape_of (w.arrays n))
+left_reach w n u x low seated only =
+    lost_reach (is_left w) w.state n u (w.arrays n) x seated only
+    (λ p few left.
+    let both = and_parts (is_current w.state p) (not (gone_in w p)) left in
+    and_from (is_current w.state p) (not (has_gone (w.arrays n) p)) both.0 (ap not (gone_not w p n few low (not_true (gone_in w p) both.1))))
 
 -- ---- they are noted
 
@@ -125,7 +132,7 @@ noted_whole lost v f noting n low marked =
 
 pub noted_seated : (lost : List ℕ) (v : Raid) (f : ℕ → View) (x : Seen) → IsNoting lost v f → IsSet v x → (n : ℕ) → n < v.state.made → IsSeated v.state n (f n) x
 noted_seated lost v f x noting set n low =
-    subst (λ (u : View). IsSeated v.state n u x) (sym (noting.arrays n low)) (gone_seated v.state n (v.arrays n) lost x (stays_same x set.fit) (set.arrays n low))
+    subst (λ (u : View). IsSeated v.state n u x) (sym (noting.arrays n low)) (gone_seated v.state n (v.arrays n) lost x (stays_same x set.fit) (λ p current. current_few v.state p set.few current) (set.arrays n low))
 
 noted_losing : (lost : List ℕ) (v : Raid) (f : ℕ → View) (n : ℕ) → IsNoting lost v f → n < v.state.made → IsArray (v.arrays n)
     → IsLosing (v.arrays n) (f n) (names lost)
@@ -135,6 +142,15 @@ noted_losing lost v f n noting low is_array =
     (λ none.
     absurd (both_ways (names (f n).went noting.one) (ap (λ (u : View). names u.went noting.one) (noting.arrays n low) ∙ ap (λ ps. names ps noting.one) none)
     (noted_one lost v f noting n low))))
+
+pub noted_before : (lost : List ℕ) (v : Raid) (f : ℕ → View) → IsNoting lost v f → (p : ℕ) → is_left (with_arrays v f) p ≡ true → is_left v p ≡ true
+noted_before lost v f noting p is =
+    let both = and_parts (is_current v.state p) (not (gone_in (with_arrays v f) p)) is in
+    and_from (is_current v.state p) (not (gone_in v p)) both.0
+    (elim (cases_Bool (gone_in v p)) [
+      | inl was ↦ absurd (both_ways (gone_in (with_arrays v f) p) (not_true (gone_in (with_arrays v f) p) both.1) (noted_more lost v f noting p was))
+      | inr none ↦ ap not none
+    ])
 
 -- An array that stands does so still, its members on these places missing: with images as they were, and the values that it held.
 pub noted_amid : (lost : List ℕ) (v : Raid) (f : ℕ → View) (x : Seen) (n : ℕ) (vals : ℕ → Values) (spent : ℕ → Bool)
@@ -158,16 +174,11 @@ noted_amid lost v f x n vals spent set noting low goes covers amid =
       marked = λ are.
           absurd (both_ways (gone_in (with_arrays v f) noting.one) (are noting.one noting.current)
           (gone_from (with_arrays v f) noting.one n noting.few low (noted_one lost v f noting n low)));
+      noted =
+          reach_then (is_left v) (is_left (with_arrays v f)) amid.durable (shape_of (v.arrays n)) (shape_of (f n)) (noted_before lost v f noting) amid.noted
+          (left_reach (with_arrays v f) n (v.arrays n) x low (noted_seated lost v f x noting set n low)
+          (only_gone (v.arrays n) (f n) lost (set.arrays n low).is_array (noting.arrays n low)));
     }
-
-pub noted_before : (lost : List ℕ) (v : Raid) (f : ℕ → View) → IsNoting lost v f → (p : ℕ) → is_left (with_arrays v f) p ≡ true → is_left v p ≡ true
-noted_before lost v f noting p is =
-    let both = and_parts (is_current v.state p) (not (gone_in (with_arrays v f) p)) is in
-    and_from (is_current v.state p) (not (gone_in v p)) both.0
-    (elim (cases_Bool (gone_in v p)) [
-      | inl was ↦ absurd (both_ways (gone_in (with_arrays v f) p) (not_true (gone_in (with_arrays v f) p) both.1) (noted_more lost v f noting p was))
-      | inr none ↦ ap not none
-    ])
 
 -- ---- they are those that went in some array
 
@@ -240,6 +251,7 @@ heeded_clear u w same = record { resync = ap (λ (z : View). z.resync) same; you
 
 pub moves_noted : (lost : List ℕ) (v : Raid) (f : ℕ → View) (x : Seen) → IsSet v x → IsNoting lost v f → HaveGone lost v
     → ((n : ℕ) → sectors_of (f n) ≡ sectors_of (v.arrays n)) → Moves v (with_arrays v f) x x
+unfolding noted_amid
 moves_noted lost v f x set noting went sectors =
     record {
       stays = stays_same x set.fit;
@@ -261,13 +273,15 @@ moves_noted lost v f x set noting went sectors =
           (subst (λ (shape : Shape). Among m shape.members) (noted_losing lost v f n noting low (set.arrays n low).is_array).shape among) counts;
       unwritten = λ d t live gone. keeps_same (x.held d t);
       kept = λ d t live apart other. keeps_same (x.held d t);
-      parts = λ n vals spent joined low goes covers. part_still v (with_arrays v f) x n vals spent refl (ap (λ (u : View). frame_of u.truth) (noting.arrays n low)) (noted_amid lost v f x n vals spent set noting low goes covers);
+      parts = λ n vals spent joined low goes covers. part_still v (with_arrays v f) x n vals spent refl (ap (λ (u : View). frame_of u.truth) (noting.arrays n low)) (noted_amid lost v f x n vals spent set noting low goes covers)
+          (λ amid. refl);
       rows = λ n vals spent joined low goes covers amid rows. rows_still v (with_arrays v f) x n (noted_clear lost (v.arrays n) (f n) (noting.arrays n low)) rows;
     }
 
 -- so they move no value
 pub noted_brings : (lost : List ℕ) (v : Raid) (f : ℕ → View) (x : Seen) → IsSet v x → IsNoting lost v f
     → ((n : ℕ) → sectors_of (f n) ≡ sectors_of (v.arrays n)) → Brings v (with_arrays v f) x x (λ n vals. vals)
+unfolding noted_amid
 noted_brings lost v f x set noting sectors =
     record {
       stays = stays_same x set.fit;
@@ -288,7 +302,8 @@ noted_brings lost v f x set noting sectors =
       }) n low goes;
       spent = λ n y low alive.
           losing_spent (v.arrays n) (f n) (names lost) (set.arrays n low).is_array (noted_losing lost v f n noting low (set.arrays n low).is_array) y alive;
-      parts = λ n vals spent joined low goes covers. part_still v (with_arrays v f) x n vals spent refl (ap (λ (u : View). frame_of u.truth) (noting.arrays n low)) (noted_amid lost v f x n vals spent set noting low goes covers);
+      parts = λ n vals spent joined low goes covers. part_still v (with_arrays v f) x n vals spent refl (ap (λ (u : View). frame_of u.truth) (noting.arrays n low)) (noted_amid lost v f x n vals spent set noting low goes covers)
+          (λ amid. refl);
       rows = λ n vals spent unwritten joined low goes covers amid rows. rows_still v (with_arrays v f) x n (noted_clear lost (v.arrays n) (f n) (noting.arrays n low)) rows;
     }
 
@@ -366,6 +381,9 @@ heeded_amid v f x n vals spent set arrays are low amid =
       };
       slices = amid.slices;
       marked = λ now. amid.marked are ∙ sym (ap shape_of (arrays n low) ∙ heeded_shape (v.arrays n));
+      noted =
+          subst (λ (shape : Shape). KeepsReachOn (is_left (with_arrays v f)) amid.durable shape) (sym (ap shape_of (arrays n low) ∙ heeded_shape (v.arrays n)))
+          (reach_fewer (is_left v) (is_left (with_arrays v f)) amid.durable (shape_of (v.arrays n)) (λ p is. sym (heeded_left v f arrays are p) ∙ is) amid.noted);
     }
 
 heeded_whole : (v : Raid) (f : ℕ → View) (n : ℕ) → f n ≡ heeded (v.arrays n) → AreMarked v → IsMarkedWhole v n → IsMarkedWhole (with_arrays v f) n
@@ -378,6 +396,7 @@ heeded_whole v f n is are whole marked =
 pub moves_heeded : (v : Raid) (f : ℕ → View) (x : Seen) → IsSet v x
     → ((n : ℕ) → n < v.state.made → f n ≡ heeded (v.arrays n)) → ((n : ℕ) → sectors_of (f n) ≡ sectors_of (v.arrays n)) → AreMarked v
     → Moves v (with_arrays v f) x x
+unfolding heeded_amid
 moves_heeded v f x set arrays sectors are =
     record {
       stays = stays_same x set.fit;
@@ -416,6 +435,7 @@ moves_heeded v f x set arrays sectors are =
           subst (λ (shape : Shape). Among m shape.members) (ap shape_of (arrays n low) ∙ heeded_shape (v.arrays n)) among;
       unwritten = λ d t live gone. keeps_same (x.held d t);
       kept = λ d t live apart other. keeps_same (x.held d t);
-      parts = λ n vals spent joined low goes covers. part_still v (with_arrays v f) x n vals spent refl (ap (λ (u : View). frame_of u.truth) (arrays n low)) (heeded_amid v f x n vals spent set arrays are low);
+      parts = λ n vals spent joined low goes covers. part_still v (with_arrays v f) x n vals spent refl (ap (λ (u : View). frame_of u.truth) (arrays n low)) (heeded_amid v f x n vals spent set arrays are low)
+          (λ amid. refl);
       rows = λ n vals spent joined low goes covers amid rows. rows_still v (with_arrays v f) x n (heeded_clear (v.arrays n) (f n) (arrays n low)) rows;
     }

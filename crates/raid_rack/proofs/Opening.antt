@@ -23,11 +23,13 @@ use Rattle.array_model.proofs.Keeping.{live_on, live_after}
 use Rattle.array_model.proofs.OpenedKept.{opens_kept}
 use Rattle.array_model.specs.Says.{Holds}
 use Rattle.array_model.proofs.Opening.{opens_holds}
-use Rattle.raid_rack.specs.Raid.{Raid, gone_in, held_in, is_over, spent_of, IsTold}
+use Rattle.raid_rack.specs.Raid.{Raid, gone_in, held_in, is_left, is_over, spent_of, IsTold}
+use Rattle.raid_rack.specs.Reach.{reach_same}
 use Rattle.raid_rack.specs.Laws.{live_parts}
 use Rattle.raid_rack.specs.Marking.{SaysBetween}
 use Rattle.raid_rack.specs.Moves.{IsAmid, IsHeeded, IsSet, Mends}
 use Rattle.raid_rack.specs.Opening.{OpensRaid, OpenedRaid}
+use Rattle.raid_rack.proofs.Moving.{part_says}
 use Rattle.raid_rack.proofs.Sourced.{sourced}
 use Rattle.raid_rack.proofs.Told.{own_holds, own_keeps}
 use Rattle.raid_rack.proofs.Whole.{amid_stood, heeded_whole}
@@ -51,6 +53,7 @@ opened_amid v x n spent opens joined =
       };
       slices = opens.slices;
       marked = λ are. refl;
+      noted = reach_same (is_left v) (shape_of u);
     }
 
 -- What an opening knows of slices at rest, before it closes the gates that are open: nothing is pending, each current place that isn't
@@ -159,7 +162,7 @@ opened_raid v w a b opens ready mends =
           (λ c. IsInside a.sectors c → IsAmid v a n (held_in v a n) (spent_of w n) → SaysBetween v.state w.state n (held_in v a n) (spent_of w n) (replayed a.sectors c))
           (λ c. IsInside a.sectors c → SaysBetween v.state w.state n (held_in v a n) (spent_of w n) (replayed a.sectors c))
           (λ c says inside. says inside (before n joined))
-          ((part n joined goes).leaves traced);
+          (part_says v w a b n (held_in v a n) (held_in v a n) (spent_of w n) (part n joined goes) traced);
       agree = λ agree none n joined goes.
           agree none n (held_in v a n) (spent_of w n) joined (omega (arith, joined, ready)) goes (λ y alive. (live_parts w n y alive).1) (before n joined);
     }

@@ -11,7 +11,8 @@ use Rattle.array_image.proofs.Frames.{Agree, supers_same, truth_by_supers, shape
 use Rattle.array_image.proofs.SoundFrames.{sound_same}
 use Rattle.raid_rack.specs.Book.{after_same}
 use Rattle.raid_rack.specs.Laws.{says_value}
-use Rattle.raid_rack.specs.Marking.{SaysBetween}
+use Rattle.raid_rack.specs.Marking.{SaysBetween, TiedBetween}
+use Rattle.raid_rack.specs.Reach.{KeepsReach}
 
 -- no target
 pub look_nothing : (d t : ℕ) → look [] d t ≡ None
@@ -29,10 +30,13 @@ says_same s array shape vals spent c e agree says =
     }
 
 -- contents of a state that say something by it
-pub says_at : (s : State) (array : ℕ) (shape : Shape) (vals : ℕ → Values) (spent : ℕ → Bool) (r : Image) → state_in r ≡ Some s
-    → Says s array shape vals spent r → SaysBetween s s array vals spent r
-says_at s array shape vals spent r state says =
-    record { state = s; is_state = state; later = after_same s; sooner = after_same s; shape = shape; says = says }
+pub tied_at : (s : State) (first last : Shape) (array : ℕ) (shape : Shape) (vals : ℕ → Values) (spent : ℕ → Bool) (r : Image) → state_in r ≡ Some s
+    → KeepsReach s first shape → KeepsReach s shape last → Says s array shape vals spent r → TiedBetween s s first last array vals spent r
+tied_at s first last array shape vals spent r state from to says = record {
+  says = record { state = s; is_state = state; later = after_same s; sooner = after_same s; shape = shape; says = says };
+  from = from;
+  to = to;
+}
 
 -- they give its values
 pub between_value : (s t : State) (array : ℕ) (vals : ℕ → Values) (spent : ℕ → Bool) (r : Image) (y : ℕ) → SaysBetween s t array vals spent r → spent y ≡ false

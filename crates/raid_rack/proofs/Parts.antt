@@ -1,8 +1,8 @@
 -- Parts of a call in a row, and the calls of arrays as parts: each seen from one array.
-use Rattle.std.proofs.Common.{◌≡◌, ℕ, ◌<◌, ◌≤◌, Bool, true, false, Some, refl, sym, ap, subst, ◌∙◌, inl, inr, arith}
+use Rattle.std.proofs.Common.{◌≡◌, ℕ, ◌<◌, Bool, true, false, Some, refl, sym, ap, subst, ◌∙◌, inl, inr, arith}
 use Rattle.rack.specs.Values.{Values}
 use Rattle.rack.specs.Seen.{Image, Seen}
-use Rattle.rack.specs.Joins.{stays_then, leaves_then, leaves_weaker}
+use Rattle.rack.specs.Joins.{leaves_weaker}
 use Rattle.pool_state.specs.declared.contents.State.{State}
 use Rattle.array_image.specs.Places.{log_slice, member_slice}
 use Rattle.array_image.specs.States.{state_in, is_current}
@@ -17,51 +17,16 @@ use Rattle.array_model.specs.Says.{Says, Holds}
 use Rattle.array_model.specs.ArrayCalls.{Acts, Turns}
 use Rattle.array_model.proofs.Moves.{Moves as CallMoves, moves_by, moves_of}
 use Rattle.array_model.proofs.Others.{other_holds_all}
-use Rattle.raid_rack.specs.Book.{after_same, after_then}
+use Rattle.raid_rack.specs.Book.{after_same}
 use Rattle.raid_rack.specs.Raid.{Raid, Stood, IsWritten}
 use Rattle.raid_rack.specs.Frames.{Frame, HasFrame, KeepsFrame, frame_of}
 use Rattle.raid_rack.specs.Logs.{KeepsLogs}
-use Rattle.raid_rack.specs.Marking.{SaysBetween, Part}
+use Rattle.raid_rack.specs.Marking.{Part, TiedBetween}
+use Rattle.raid_rack.specs.Reach.{KeepsReach, reach_same}
 use Rattle.raid_rack.specs.Laws.{stood_left}
-use Rattle.raid_rack.proofs.Frames.{frame_same, frame_then, left_frame, shape_frame, shaped_frame}
-use Rattle.raid_rack.proofs.Logs.{kept_calm, logs_call, logs_then}
-use Rattle.raid_rack.proofs.Own.{says_at, says_same}
-
--- two parts in a row are one
-pub part_then : (s t u : State) (first durable after : Shape) (vals now : ℕ → Values) (spent gone gone_now gone_after : ℕ → Bool) (v w z : Raid) (a b c : Seen) (n : ℕ)
-    → Part s t first durable vals now spent gone gone_now v w a b n
-    → Part t u durable after now now spent gone_now gone_after w z b c n
-    → Part s u first after vals now spent gone gone_after v z a c n
-part_then s t u first durable after vals now spent gone gone_now gone_after v w z a b c n one two =
-    record {
-      stays = stays_then one.stays two.stays;
-      book = after_then s t u one.book two.book;
-      leaves = λ traced.
-          leaves_then
-          (λ i. IsInside a.sectors i → Stood s first vals spent gone v a n → SaysBetween s u n now spent (replayed a.sectors i))
-          (leaves_weaker
-          (λ i. IsInside a.sectors i → Stood s first vals spent gone v a n → SaysBetween s t n now spent (replayed a.sectors i))
-          (λ i. IsInside a.sectors i → Stood s first vals spent gone v a n → SaysBetween s u n now spent (replayed a.sectors i))
-          (λ i says inside stood.
-          let at = says inside stood in
-          record { state = at.state; is_state = at.is_state; later = at.later; sooner = after_then at.state t u at.sooner two.book; shape = at.shape; says = at.says })
-          (one.leaves traced))
-          (leaves_weaker
-          (λ i. IsInside b.sectors i → Stood t durable now spent gone_now w b n → SaysBetween t u n now spent (replayed b.sectors i))
-          (λ i. IsInside a.sectors i → Stood s first vals spent gone v a n → SaysBetween s u n now spent (replayed a.sectors i))
-          (λ i says inside stood.
-          subst (λ (sectors : ℕ → ℕ). SaysBetween s u n now spent (replayed sectors i)) (λ k d. one.stays.sectors d k)
-          (let at = says (λ d t out. inside d t (subst (λ k. k ≤ t) (one.stays.sectors d) out)) (one.holds stood) in
-          record { state = at.state; is_state = at.is_state; later = after_then s t at.state one.book at.later; sooner = at.sooner; shape = at.shape; says = at.says }))
-          (two.leaves (one.stays.traced traced)));
-      holds = λ stood. two.holds (one.holds stood);
-      logs = λ copies stood.
-          let first = one.logs copies stood in
-          logs_then s t u a b c one.book two.book one.stays first (two.logs first.holds (one.holds stood));
-      frame = λ g before stood.
-          let first = one.frame g before stood in
-          frame_then g n (w.arrays n) (z.arrays n) a b c one.stays first (two.frame g first.after (one.holds stood));
-    }
+use Rattle.raid_rack.proofs.Frames.{frame_same, left_frame, shape_frame, shaped_frame}
+use Rattle.raid_rack.proofs.Logs.{kept_calm, logs_call}
+use Rattle.raid_rack.proofs.Own.{says_same, tied_at}
 
 -- ---- a call of the array itself
 
@@ -76,30 +41,33 @@ turned_state s durable vals spent gone v a b n m P c stood turns =
     ∙ turns.left.2 (log_slice place) 0)
     ∙ kept_replayed s v.number gone a before stood.someone.0 stood.log (stands_of before turns.left.1) stood.someone.1 stood.someone.2
 
--- contents say an array whose sectors hold these values, by some shape of this frame
-pub record SaysSome (s : State) (n : ℕ) (g : Frame) (vals : ℕ → Values) (spent : ℕ → Bool) (r : Image) : Type 0 where
+-- contents say an array whose sectors hold these values, by some shape between these two, of the frame of the first
+pub record SaysSome (s : State) (n : ℕ) (first last : Shape) (vals : ℕ → Values) (spent : ℕ → Bool) (r : Image) : Type 0 where
   pub shape : Shape
   pub says : Says s n shape vals spent r
-  pub framed : shape_frame shape ≡ g
+  pub framed : shape_frame shape ≡ shape_frame first
+  pub from : KeepsReach s first shape
+  pub to : KeepsReach s shape last
 
 -- a call of an array, in which contents say its values
 pub acts_some : (s : State) (v w : View) (spent : ℕ → Bool) (a b : Seen) (durable : Shape) (vals now : ℕ → Values)
     → Acts s v w spent a b durable vals (Says s v.number durable now spent) durable now
-    → CallMoves v.number a b (Holds s durable v vals spent a) (SaysSome s v.number (shape_frame durable) now spent) (Holds s durable w now spent b)
+    → CallMoves v.number a b (Holds s durable v vals spent a) (SaysSome s v.number durable durable now spent) (Holds s durable w now spent b)
 acts_some s v w spent a b durable vals now acts =
     let H : Type 0 = Holds s durable v vals spent a in
     let Q : Type 0 = Holds s durable w now spent b in
-    moves_by v.number a b H H Q Q (Says s v.number durable now spent) (SaysSome s v.number (shape_frame durable) now spent)
-    (λ holds. holds) (λ r says. record { shape = durable; says = says; framed = refl }) (λ holds. holds)
+    let same : KeepsReach s durable durable = reach_same (is_current s) durable in
+    moves_by v.number a b H H Q Q (Says s v.number durable now spent) (SaysSome s v.number durable durable now spent)
+    (λ holds. holds) (λ r says. record { shape = durable; says = says; framed = refl; from = same; to = same }) (λ holds. holds)
     (moves_of s v w spent a b durable vals (Says s v.number durable now spent) durable now acts)
 
 -- Such a call keeps the array's frame, where its shape has it.
-pub frame_by : (s : State) (shaped g : Frame) (durable : Shape) (vals now : ℕ → Values) (spent gone : ℕ → Bool) (v : Raid) (w : View) (a b : Seen) (n : ℕ) (Q : Type 0)
-    → CallMoves (v.arrays n).number a b (Holds s durable (v.arrays n) vals spent a) (SaysSome s (v.arrays n).number shaped now spent) Q
-    → shaped ≡ g → frame_of w.truth ≡ g → Stood s durable vals spent gone v a n → KeepsFrame g n w a b
-frame_by s shaped g durable vals now spent gone v w a b n Q moves same after stood =
+pub frame_by : (s : State) (first last : Shape) (g : Frame) (durable : Shape) (vals now : ℕ → Values) (spent gone : ℕ → Bool) (v : Raid) (w : View) (a b : Seen) (n : ℕ) (Q : Type 0)
+    → CallMoves (v.arrays n).number a b (Holds s durable (v.arrays n) vals spent a) (SaysSome s (v.arrays n).number first last now spent) Q
+    → shape_frame first ≡ g → frame_of w.truth ≡ g → Stood s durable vals spent gone v a n → KeepsFrame g n w a b
+frame_by s first last g durable vals now spent gone v w a b n Q moves same after stood =
     let H : Type 0 = Holds s durable (v.arrays n) vals spent a in
-    let P : Image → Type 0 = SaysSome s (v.arrays n).number shaped now spent in
+    let P : Image → Type 0 = SaysSome s (v.arrays n).number first last now spent in
     record {
       leaves = λ traced.
           leaves_weaker
@@ -116,8 +84,9 @@ frame_by s shaped g durable vals now spent gone v w a b n Q moves same after sto
     }
 
 -- Such a call is a part for the array itself.
-pub part_by : (s : State) (shaped : Frame) (durable after : Shape) (vals now : ℕ → Values) (spent gone gone_now : ℕ → Bool) (v w : Raid) (a b : Seen) (n : ℕ)
-    → CallMoves (v.arrays n).number a b (Holds s durable (v.arrays n) vals spent a) (SaysSome s (v.arrays n).number shaped now spent) (Holds s after (w.arrays n) now spent b)
+pub part_by : (s : State) (durable after : Shape) (vals now : ℕ → Values) (spent gone gone_now : ℕ → Bool) (v w : Raid) (a b : Seen) (n : ℕ)
+    → KeepsReach s durable after
+    → CallMoves (v.arrays n).number a b (Holds s durable (v.arrays n) vals spent a) (SaysSome s (v.arrays n).number durable after now spent) (Holds s after (w.arrays n) now spent b)
     → (w.arrays n).number ≡ (v.arrays n).number
     → (LogKept s v.number gone a → LogKept s w.number gone_now b)
     → ((place : ℕ) × (is_current s place ≡ true) × (gone_now place ≡ false))
@@ -125,23 +94,24 @@ pub part_by : (s : State) (shaped : Frame) (durable after : Shape) (vals now : �
     → (HoldsCopies s a → Stood s durable vals spent gone v a n → KeepsLogs s s a b)
     → ((g : Frame) → frame_of (v.arrays n).truth ≡ g → Stood s durable vals spent gone v a n → KeepsFrame g n (w.arrays n) a b)
     → Part s s durable after vals now spent gone gone_now v w a b n
-part_by s shaped durable after vals now spent gone gone_now v w a b n moves number log someone written logs frame =
+part_by s durable after vals now spent gone gone_now v w a b n reach moves number log someone written logs frame =
     let H : Type 0 = Holds s durable (v.arrays n) vals spent a in
-    let P : Image → Type 0 = SaysSome s (v.arrays n).number shaped now spent in
+    let P : Image → Type 0 = SaysSome s (v.arrays n).number durable after now spent in
     record {
       stays = moves.stays;
       book = after_same s;
       leaves = λ traced.
           leaves_weaker
           (λ c. IsInside a.sectors c → Turns (v.arrays n).number a b (λ r. H → P r) c)
-          (λ c. IsInside a.sectors c → Stood s durable vals spent gone v a n → SaysBetween s s n now spent (replayed a.sectors c))
+          (λ c. IsInside a.sectors c → Stood s durable vals spent gone v a n → TiedBetween s s durable after n now spent (replayed a.sectors c))
           (λ c turn inside stood.
           let turns = turn inside in
           let own = turns.own stood.holds in
-          says_at s n own.shape now spent (replayed a.sectors c)
-          (turned_state s durable vals spent gone v a b n (v.arrays n).number (λ r. H → P r) c stood turns)
+          tied_at s durable after n own.shape now spent (replayed a.sectors c)
+          (turned_state s durable vals spent gone v a b n (v.arrays n).number (λ r. H → P r) c stood turns) own.from own.to
           (subst (λ k. Says s k own.shape now spent (replayed a.sectors c)) stood.number own.says))
           (moves.leaves traced);
+      reach = reach;
       holds = λ stood.
           record {
             joined = stood.joined;
@@ -165,7 +135,7 @@ pub part_own : (s : State) (durable : Shape) (vals now : ℕ → Values) (spent 
     → ((g : Frame) → frame_of (v.arrays n).truth ≡ g → Stood s durable vals spent gone v a n → KeepsFrame g n (w.arrays n) a b)
     → Part s s durable durable vals now spent gone gone_now v w a b n
 part_own s durable vals now spent gone gone_now v w a b n acts log someone written logs frame =
-    part_by s (shape_frame durable) durable durable vals now spent gone gone_now v w a b n (acts_some s (v.arrays n) (w.arrays n) spent a b durable vals now acts) acts.noted.same.number
+    part_by s durable durable vals now spent gone gone_now v w a b n (reach_same (is_current s) durable) (acts_some s (v.arrays n) (w.arrays n) spent a b durable vals now acts) acts.noted.same.number
     log someone written logs frame
 
 -- ---- a call of another array
@@ -191,7 +161,7 @@ part_other s durable vals spent gone gone_now v w a b n m H Q during few also ot
       leaves = λ traced.
           leaves_weaker
           (λ c. IsInside a.sectors c → Turns (v.arrays m).number a b (λ r. H → during r) c)
-          (λ c. IsInside a.sectors c → Stood s durable vals spent gone v a n → SaysBetween s s n vals spent (replayed a.sectors c))
+          (λ c. IsInside a.sectors c → Stood s durable vals spent gone v a n → TiedBetween s s durable durable n vals spent (replayed a.sectors c))
           (λ c turn inside stood.
           let turns = turn inside in
           let before = turns.left.0 in
@@ -200,10 +170,12 @@ part_other s durable vals spent gone gone_now v w a b n m H Q during few also ot
           λ place t.
           turns.others (member_slice place n) t (subst (λ k. IsApart k (member_slice place n) t) (sym number) (other_slices m n place t few also other))
           ∙ turns.left.2 (member_slice place n) t in
-          says_at s n durable vals spent (replayed a.sectors c)
+          tied_at s durable durable n durable vals spent (replayed a.sectors c)
           (turned_state s durable vals spent gone v a b n (v.arrays m).number (λ r. H → during r) c stood turns)
+          (reach_same (is_current s) durable) (reach_same (is_current s) durable)
           (says_same s n durable vals spent (replayed a.sectors c) (replayed a.sectors before) agree left.1))
           (acts.leaves traced);
+      reach = reach_same (is_current s) durable;
       holds = λ stood.
           let calm = kept_calm s v.number gone a (v.arrays m).number stood.log all in
           record {

@@ -7,24 +7,26 @@ use Rattle.arrayvec.specs.ArrayVec.{ArrayVec}
 use Rattle.rack.specs.Seen.{Seen}
 use Rattle.pool_state.specs.declared.contents.State.{State}
 use Rattle.array_image.specs.Arrays.{place_with}
-use Rattle.array_image.specs.States.{current_places}
+use Rattle.array_image.specs.States.{current_places, is_current}
 use Rattle.array_image.specs.Supers.{is_reshaping}
 use Rattle.commit_log.specs.View.{LogView}
 use Rattle.array_model.specs.declared.Seat.{Seat}
 use Rattle.array_model.specs.declared.Seat.TheVariants.{Whole, Missing, Rebuilding}
-use Rattle.array_model.specs.View.{View, has_gone, is_missing_seat, is_whole_seat, member_on, place_at, present, rows_of, seat_reach}
+use Rattle.array_model.specs.View.{View, has_gone, is_missing_seat, is_whole_array, is_whole_seat, member_on, place_at, present, rows_of, seat_reach, shape_of}
 use Rattle.array_model.specs.Members.{members_of}
 use Rattle.array_core.specs.Pool.{Goes}
 use Rattle.array_core.specs.Seats.{seat_of}
 use Rattle.array_core.specs.Writing.{KeepsElsewhere}
 use Rattle.array_sync.specs.Rows.{others_give}
-use Rattle.array_sync.specs.Steps.{HasRowLeft, Stepped, Steps, as_it_was, done, reach_on, rebuilt}
+use Rattle.array_sync.specs.Steps.{HasRowLeft, Stepped, Steps, as_it_was, done, reach_on, rebuilt, rebuilt_seat}
 use Rattle.array_sync.proofs.Rebuilt.{IsRebuilding, get_past, next_array, next_rows, other_seat, own_seat, place_found, place_of_other, rebuilding, rebuilt_there}
 use Rattle.raid_rack.specs.declared.arrays.Arrays.{Arrays}
 use Rattle.raid_rack.specs.Raid.{Raid, is_empty, is_over, is_used_up}
 use Rattle.raid_rack.specs.Moves.{IsHeeded, IsSeated, LosesOnly, Mends}
 use Rattle.raid_rack.specs.RaidRack.{IsRunning, raid_by, no_array}
 use Rattle.raid_rack.specs.Works.{RebuildsOne, is_rebuilding, is_rebuilding_seat, is_whole_row, next_row}
+use Rattle.raid_rack.specs.Reach.{KeepsReach}
+use Rattle.raid_rack.proofs.Reach.{CountsOn, reach_by, same_counts}
 use Rattle.raid_rack.proofs.Changed.{caused, left_before}
 use Rattle.raid_rack.proofs.Resynced.{HasStepped, member_less, step_mended}
 use Rattle.raid_rack.proofs.Sent.{low_named}
@@ -92,6 +94,43 @@ module _ (s : State) (m : ℕ) (u : View) (x : Seen) (place : ℕ) (seated : IsS
             ]
       ]
 
+  -- and each member counts as far as it did, or a row further
+  pub rebuilt_grows : KeepsReach s (shape_of u) (shape_of (rebuilt u place))
+  rebuilt_grows =
+      reach_by (is_current s) u (rebuilt u place) refl
+      (λ k low current.
+      elim (cases_eq k position.0) [
+        | inl same ↦
+            subst (CountsOn u (rebuilt u place)) (sym same) (
+              let was = ap (λ (o : Option Seat). option_map_or (seat_reach u.truth.size) o 0) position.3 in
+                  let now =
+                  ap (λ (o : Option Seat). option_map_or (seat_reach u.truth.size) o 0) (own_seat u place position.0 (reach_on u place) is)
+                  ∙ reach_there u.truth.size (reach_on u place + 128) in
+                  omega (arith, was, now),
+              λ whole. absurd (both_ways false refl (sym (ap (λ (o : Option Seat). option_map_or is_whole_seat o false) position.3) ∙ whole)),
+            )
+        | inr other ↦
+            same_counts u (rebuilt u place) k refl
+            (other_seat u place position.0 (reach_on u place) is k (place_of_other u place position.0 (reach_on u place) is k low other))
+      ])
+    where
+      reach_there : (size to : ℕ) → seat_reach size (rebuilt_seat size to) ≡ to
+      reach_there size to =
+          elim (cases_Bool (to == size)) [
+            | inl all ↦ ap (λ (b : Bool). seat_reach size (if b then Whole else Rebuilding to)) all ∙ sym (eqb-true to size all)
+            | inr less ↦ ap (λ (b : Bool). seat_reach size (if b then Whole else Rebuilding to)) less
+          ]
+
+  -- a member isn't whole
+  part_before : is_whole_array u ≡ false
+  part_before = elim (cases_Bool (is_whole_array u)) [
+    | inl all ↦
+        absurd (both_ways (is_whole_seat (Rebuilding (reach_on u place))) refl
+        (all_at u.seats position.0 (Rebuilding (reach_on u place))
+        (and_parts (list_all is_whole_seat u.seats) ((u.resync == rows_of u) && (not u.young && not (is_reshaping u.truth))) all).0 position.3))
+    | inr part ↦ part
+  ]
+
   pub next_rebuilt : IsNext s m u (rebuilt u place) x
   next_rebuilt =
       let pool = seated.is_of_pool in
@@ -114,6 +153,7 @@ module _ (s : State) (m : ℕ) (u : View) (x : Seen) (place : ℕ) (seated : IsS
             row = pool.row;
             roles = pool.roles;
             unsynced = pool.unsynced;
+            synced = λ young part. pool.synced young part_before;
             zeroed = pool.zeroed;
             rows = next_rows u place position.0 (reach_on u place) is pool.rows;
           };
@@ -136,10 +176,7 @@ module _ (s : State) (m : ℕ) (u : View) (x : Seen) (place : ℕ) (seated : IsS
         events = omega arith;
         seats = let same = same_present (rebuilt u place).seats u.seats same_missing in omega (arith, same);
         was = λ marked. inl marked;
-        whole = λ all.
-            absurd (both_ways (is_whole_seat (Rebuilding (reach_on u place))) refl
-            (all_at u.seats position.0 (Rebuilding (reach_on u place))
-            (and_parts (list_all is_whole_seat u.seats) ((u.resync == rows_of u) && (not u.young && not (is_reshaping u.truth))) all).0 position.3));
+        whole = λ all. absurd (both_ways (is_whole_array u) part_before all);
       }
     where
       missing_seat : (o : Option Seat) → option_map is_missing_seat o ≡ Some true → o ≡ Some Missing
@@ -227,6 +264,7 @@ has_rebuilt a all log x y n place on number old u answered running heeded low ha
       few = λ p is. low_named u.went p few (sym (ap (λ (z : View). has_gone z p) own) ∙ is);
       is_next = next_rebuilt a.state n (v.arrays n) x place seated has;
       framed = refl;
+      grows = rebuilt_grows a.state n (v.arrays n) x place seated has;
       rows = omega arith;
       young = refl;
       whole = whole;

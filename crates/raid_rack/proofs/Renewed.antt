@@ -25,7 +25,7 @@ use Rattle.array_core.specs.Slots.{place_by, slots_of}
 use Rattle.array_core.proofs.Truths.{rule_holds}
 use Rattle.raid_rack.specs.declared.arrays.Arrays.{Arrays}
 use Rattle.raid_rack.specs.Enlisting.{renewed_at}
-use Rattle.raid_rack.specs.Moves.{IsOfPool, IsSeated}
+use Rattle.raid_rack.specs.Moves.{IsOfPool, IsSeated, IsUnmarked}
 use Rattle.raid_rack.specs.NewDrive.{first_in, joins, slice_length}
 use Rattle.raid_rack.specs.RaidRack.{IsRunning, no_array, raid_by}
 use Rattle.raid_rack.proofs.LayingDrive.{joins_fits}
@@ -136,9 +136,9 @@ pub renewed_number : (b : Bool) (place : ℕ) (drive : Id) (u : View) → (if b 
 renewed_number true place drive u = refl
 renewed_number false place drive u = refl
 
-pub renewed_marked : (b : Bool) (place : ℕ) (drive : Id) (u : View) → (if b then renewed place drive u else u).marked ≡ u.marked
-renewed_marked true place drive u = refl
-renewed_marked false place drive u = refl
+pub renewed_unmarked : (b : Bool) (place : ℕ) (drive : Id) (u : View) → IsUnmarked u → IsUnmarked (if b then renewed place drive u else u)
+renewed_unmarked true place drive u is = record { mark = is.mark; rows = is.rows }
+renewed_unmarked false place drive u is = is
 
 -- as many
 pub renewed_count : (xs ys : List View) (place : ℕ) (drive : Id) (joining : ℕ → Bool) → ((n : ℕ) → slice_get ys n ≡ renewed_at place drive joining n (slice_get xs n))
@@ -190,8 +190,8 @@ member_from u k o = record { place = place_at u k; reach = option_map_or (seat_r
 
 module _ (s t : State) (n : ℕ) (u : View) (x : Seen) (place : ℕ) (drive : Id) (lists : Lists s place t) (missing : is_current s place ≡ false)
     (seated : IsSeated s n u x) (heeded : u.went ≡ []) where
-  pool_listed : IsOfPool t u
-  pool_listed =
+  pool_listed : IsUnmarked u → IsOfPool t u
+  pool_listed unmarked =
       let pool = seated.is_of_pool in
       record {
         set = pool.set ∙ ap (λ (id : Id). array_id id.0 u.number) (sym lists.pool);
@@ -201,6 +201,7 @@ module _ (s t : State) (n : ℕ) (u : View) (x : Seen) (place : ℕ) (drive : Id
         row = pool.row;
         roles = ap (λ k. has_roles k u.truth) lists.drives ∙ pool.roles;
         unsynced = pool.unsynced;
+        synced = λ young part. inl (unmarked.rows young);
         zeroed = pool.zeroed;
         rows = pool.rows;
       }
@@ -213,13 +214,13 @@ module _ (s t : State) (n : ℕ) (u : View) (x : Seen) (place : ℕ) (drive : Id
       (sym (lists.current (place_at u k) ∙ ap (λ b. b || is_current s (place_at u k)) (ne_eqb (place_at u k) place away)))
 
   -- one of which the place is no member is as it was
-  pub seated_listed : ((k : ℕ) → k < u.truth.raid_disks → place_at u k ≢ place) → IsSeated t n u x
-  seated_listed away = record {
+  pub seated_listed : IsUnmarked u → ((k : ℕ) → k < u.truth.raid_disks → place_at u k ≢ place) → IsSeated t n u x
+  seated_listed unmarked away = record {
     is_array = seated.is_array;
     number = seated.number;
     slices = seated.slices;
     marks = λ k low. marks_apart k low (away k low);
-    is_of_pool = pool_listed;
+    is_of_pool = pool_listed unmarked;
   }
 
   is_own : (p : ℕ) → names (place ∷ []) p ≡ true → p ≡ place
@@ -284,9 +285,10 @@ module _ (s t : State) (n : ℕ) (u : View) (x : Seen) (place : ℕ) (drive : Id
   renewed_spent y = ap (λ (shape : Shape). spent_by shape u.resync y) renewed_shape
 
   -- and it is one of the pool, where the place has its slice
-  pub seated_renewed : member_slice place n < x.disks → data_sector + u.truth.size ≤ x.sectors (member_slice place n) → IsSeated t n (renewed place drive u) x
-  seated_renewed low_disk room =
+  pub seated_renewed : IsUnmarked u → member_slice place n < x.disks → data_sector + u.truth.size ≤ x.sectors (member_slice place n) → IsSeated t n (renewed place drive u) x
+  seated_renewed unmarked low_disk room =
       let a = seated.is_array in
+      let pool = pool_listed unmarked in
       record {
         is_array = record {
           few = a.few;
@@ -332,14 +334,15 @@ module _ (s t : State) (n : ℕ) (u : View) (x : Seen) (place : ℕ) (drive : Id
               | inr other ↦ ap (option_map is_missing_seat) (seats_other k other) ∙ marks_apart k low (is_other (place_at u k) other)
             ];
         is_of_pool = record {
-          set = pool_listed.set;
-          profile = pool_listed.profile;
-          events = pool_listed.events;
-          events_end = pool_listed.events_end;
-          row = pool_listed.row;
-          roles = pool_listed.roles;
-          unsynced = pool_listed.unsynced;
-          zeroed = pool_listed.zeroed;
+          set = pool.set;
+          profile = pool.profile;
+          events = pool.events;
+          events_end = pool.events_end;
+          row = pool.row;
+          roles = pool.roles;
+          unsynced = pool.unsynced;
+          synced = λ young part. inl (unmarked.rows young);
+          zeroed = pool.zeroed;
           rows = λ k to is.
               elim (cases_Bool (names (place ∷ []) (place_at u k))) [
                 | inl own ↦ from_start (slice_get u.seats k) to (sym (seats_own k own) ∙ is)

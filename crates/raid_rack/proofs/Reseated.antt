@@ -24,7 +24,8 @@ use Rattle.array_model.proofs.Views.{shape_members}
 use Rattle.raid_rack.specs.Vacated.{DiffersAt}
 use Rattle.raid_rack.specs.Moves.{IsAmid, IsHeeded, IsSeated, IsSet}
 use Rattle.raid_rack.specs.NewDrive.{no_state}
-use Rattle.raid_rack.specs.Raid.{Raid, Stood, gone_in}
+use Rattle.raid_rack.specs.Raid.{Raid, Stood, gone_in, is_left}
+use Rattle.raid_rack.specs.Reach.{reach_same}
 use Rattle.raid_rack.specs.Rows.{LeavesFrom, LeavesRows}
 use Rattle.raid_rack.proofs.Own.{look_nothing}
 use Rattle.raid_rack.proofs.ReseatedLogs.{as_is_now, live_now, logs_kept, picks_back, put_back, put_back_off, state_now}
@@ -164,6 +165,7 @@ reseated_amid v x y place n vals spent differs set heeded missing cleared low am
       slices = λ m p t made low_place within.
           live_now place x y differs (member_slice p m) t (λ was. amid.slices m p t made low_place was) within;
       marked = λ are. refl;
+      noted = reach_same (is_left v) (shape_of u);
     }
 
 -- and its members are settled

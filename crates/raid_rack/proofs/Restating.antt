@@ -59,7 +59,7 @@ staged_heeded v f xs arrays staged = record {
   each = λ n low.
       let has = staged.each n low in
       subst (λ (u : View). HasSupers u xs) (sym (arrays n low))
-      (record { before = has.before; added = has.added; adds = has.adds; among = has.among; unmarked = has.unmarked });
+      (record { before = has.before; added = has.added; adds = has.adds; among = has.among; unmarked = record { mark = has.unmarked.mark; rows = has.unmarked.rows } });
   few = staged.few;
 }
 

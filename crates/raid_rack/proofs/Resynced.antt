@@ -8,11 +8,11 @@ use Rattle.rack.specs.Values.{Values}
 use Rattle.rack.specs.Seen.{Seen}
 use Rattle.pool_state.specs.declared.contents.State.{State}
 use Rattle.array_image.specs.Spent.{wanting}
-use Rattle.array_image.specs.States.{current_places}
+use Rattle.array_image.specs.States.{current_places, is_current}
 use Rattle.array_image.specs.Supers.{is_reshaping}
 use Rattle.commit_log.specs.View.{LogView, emptied, committed}
 use Rattle.array_model.specs.declared.Seat.{Seat}
-use Rattle.array_model.specs.View.{View, has_gone, is_whole_seat, member_on, rows_of, seat_reach}
+use Rattle.array_model.specs.View.{IsArray, View, has_gone, is_whole_seat, member_on, rows_of, seat_reach, shape_of}
 use Rattle.array_model.specs.Members.{members_of}
 use Rattle.array_model.specs.ArrayCalls.{Covers}
 use Rattle.array_core.specs.Pool.{Goes}
@@ -22,6 +22,7 @@ use Rattle.array_sync.specs.Rows.{lacks_row}
 use Rattle.array_sync.specs.Steps.{Stepped, Steps, as_it_was, done, offset_after, resynced}
 use Rattle.raid_rack.specs.declared.arrays.Arrays.{Arrays}
 use Rattle.raid_rack.specs.Raid.{Raid, is_over}
+use Rattle.raid_rack.specs.Reach.{KeepsReachOn, reach_same}
 use Rattle.raid_rack.specs.Moves.{AreCaused, Brings, IsAmid, IsHeeded, IsSeated, LosesOnly, Mends}
 use Rattle.raid_rack.specs.Rows.{LeavesRows}
 use Rattle.raid_rack.specs.RaidRack.{IsRunning, raid_by, no_array}
@@ -32,7 +33,7 @@ use Rattle.raid_rack.proofs.Committed.{next_later}
 use Rattle.raid_rack.specs.Losing.{only_then}
 use Rattle.raid_rack.proofs.Moving.{brings_then, caused_then}
 use Rattle.raid_rack.proofs.Raises.{raised_up}
-use Rattle.raid_rack.proofs.Rows.{left_old}
+use Rattle.raid_rack.proofs.Rows.{left_old, settled_just}
 use Rattle.raid_rack.proofs.Sent.{low_named}
 use Rattle.raid_rack.proofs.Stepped.{StepCall, done_rows, step_arrays, step_brings, views}
 use Rattle.raid_rack.proofs.Steps.{set_own, set_other, length_set}
@@ -75,21 +76,23 @@ next_resynced s m u x seated row =
     let pool = seated.is_of_pool in
     let events = raised_low u.truth.events pool.events pool.events_end in
     let young = grown s m u x seated row in
+    let array : IsArray (resynced u) = record {
+      few = a.few;
+      level = a.level;
+      least = a.least;
+      most = a.most;
+      seats = a.seats;
+      devices = a.devices;
+      small = a.small;
+      whole_rows = a.whole_rows;
+      placed = a.placed;
+      synced = omega (arith, row);
+      reshape = a.reshape;
+    } in
+    let less = offset_rows u (nat_lt (u.resync + 1) (rows_of u)) a.small row refl in
     record {
       seated = record {
-        is_array = record {
-          few = a.few;
-          level = a.level;
-          least = a.least;
-          most = a.most;
-          seats = a.seats;
-          devices = a.devices;
-          small = a.small;
-          whole_rows = a.whole_rows;
-          placed = a.placed;
-          synced = omega (arith, row);
-          reshape = a.reshape;
-        };
+        is_array = array;
         number = seated.number;
         slices = record { fit = seated.slices.fit; lasting = seated.slices.lasting; disks = seated.slices.disks; sectors = seated.slices.sectors };
         marks = seated.marks;
@@ -100,7 +103,8 @@ next_resynced s m u x seated row =
           events_end = events.1;
           row = pool.row;
           roles = pool.roles;
-          unsynced = offset_rows u (nat_lt (u.resync + 1) (rows_of u)) a.small row refl;
+          unsynced = less;
+          synced = λ old part. inl (settled_just (resynced u) array young (resynced_settled u young) less);
           zeroed = λ is. absurd (both_ways u.young young is);
           rows = pool.rows;
         };
@@ -198,6 +202,11 @@ pub record HasStepped (a b : Arrays) (x y : Seen) (m : ℕ) (next : View) (lacks
       → (vals : ℕ → Values) (spent : ℕ → Bool) → is_over (raid_by b) m ≡ false → Covers ((raid_by b).arrays m) spent
       → IsAmid (raid_by a) x m vals spent → LeavesRows (raid_by b) y m
 
+-- a row that is resynced changes no member
+resynced_reach : (on : ℕ → Bool) (u : View) → KeepsReachOn on (shape_of u) (shape_of (resynced u))
+unfolding shape_of
+resynced_reach on u = reach_same on (shape_of u)
+
 pub has_resynced : (a : Arrays) (all : ArrayVec View) (log : LogView) (x y : Seen) (n : ℕ) (on : List ℕ) (number : ℕ) (old u : View) (answered : Bool)
     → IsRunning a x → IsHeeded (raid_by a) → n < a.state.made → ((raid_by a).arrays n).resync < rows_of ((raid_by a).arrays n)
     → old ≡ get_or a.all.items n no_array → all.items ≡ set a.all.items n u → number ≡ a.log.number → number ≤ log.number
@@ -226,6 +235,7 @@ has_resynced a all log x y n on number old u answered running heeded low row old
       few = λ p is. low_named u.went p few (sym (ap (λ (z : View). has_gone z p) own) ∙ is);
       is_next = next_resynced a.state n (v.arrays n) x seated row;
       framed = refl;
+      grows = resynced_reach (is_current a.state) (v.arrays n);
       rows = omega arith;
       young = refl;
       whole = offset_whole (v.arrays n) (nat_lt ((v.arrays n).resync + 1) (rows_of (v.arrays n))) refl;

@@ -22,7 +22,7 @@ use Rattle.array_sync.proofs.Adopted.{same_lists}
 use Rattle.raid_rack.specs.Book.{IsAfter}
 use Rattle.raid_rack.specs.Enlisting.{IsEnlisted, enlisted, next_drive, with_drive}
 use Rattle.raid_rack.specs.Missing.{marked, marked_from, missing_if}
-use Rattle.raid_rack.specs.Moves.{IsHeeded, IsSeated, IsSet, LosesOnly, RaisesBy}
+use Rattle.raid_rack.specs.Moves.{IsHeeded, IsSeated, IsSet, IsUnmarked, LosesOnly, RaisesBy}
 use Rattle.raid_rack.specs.Raid.{Raid, gone_in, is_left}
 use Rattle.raid_rack.specs.Truths.{JoinsTruths, TellsThere}
 use Rattle.raid_rack.specs.Vacated.{vacated, vacated_state}
@@ -188,7 +188,7 @@ heeded_losing place u none = λ i. record (losing (place ∷ []) u) { went = sym
 
 -- ---- the pool
 
-module _ (place : ℕ) (v : Raid) (x : Seen) (few : place < 16) (set : IsSet v x) (heeded_now : IsHeeded v) (unmarked : (n : ℕ) → n < v.state.made → (v.arrays n).marked ≡ false) where
+module _ (place : ℕ) (v : Raid) (x : Seen) (few : place < 16) (set : IsSet v x) (heeded_now : IsHeeded v) (unmarked : (n : ℕ) → n < v.state.made → IsUnmarked (v.arrays n)) where
   current_now : (p : ℕ) → is_current (vacated place v).state p ≡ true → (is_current v.state p ≡ true) × (names (place ∷ []) p ≡ false)
   current_now p is =
       let both = and_parts (is_current v.state p) (not (names (place ∷ []) p)) (sym (current_marked (place ∷ []) v.state p) ∙ is) in
@@ -209,7 +209,8 @@ module _ (place : ℕ) (v : Raid) (x : Seen) (few : place < 16) (set : IsSet v x
       heeded_seated (marked (place ∷ []) v.state) n (gone (place ∷ []) u) x stays
       (seated_marked v.state (place ∷ []) n (gone (place ∷ []) u) x
       (λ p is. listed p (subst (λ q. q < 16) (eqb-true place p (or_none (place == p) is)) few) ∙ is)
-      (gone_seated v.state n u (place ∷ []) x stays (set.arrays n low)))
+      (let bare = unmarked n low in record { mark = bare.mark; rows = bare.rows })
+      (gone_seated v.state n u (place ∷ []) x stays (λ p current. current_few v.state p set.few current) (set.arrays n low)))
       (λ p current. let at = current_now p current in listed p (current_few v.state p set.few at.0) ∙ at.1) in
       let now = subst (λ (q : View). IsSeated (marked (place ∷ []) v.state) n q x) (heeded_losing place u none) by in
       record {
@@ -225,6 +226,7 @@ module _ (place : ℕ) (v : Raid) (x : Seen) (few : place < 16) (set : IsSet v x
           row = now.is_of_pool.row;
           roles = now.is_of_pool.roles;
           unsynced = now.is_of_pool.unsynced;
+          synced = now.is_of_pool.synced;
           zeroed = now.is_of_pool.zeroed;
           rows = now.is_of_pool.rows;
         };
@@ -248,7 +250,7 @@ module _ (place : ℕ) (v : Raid) (x : Seen) (few : place < 16) (set : IsSet v x
     valid = λ p low. valid_vacated place v.state p (set.valid p (subst (λ k. p < k) (length_marked (place ∷ []) 0 v.state.drives.items) low));
     logs = λ p left. set.logs p (vacated_left p left);
     arrays = seated;
-    marked = λ n low is. absurd (both_ways (v.arrays n).marked (unmarked n low) is);
+    marked = λ n low is. absurd (both_ways (v.arrays n).marked (unmarked n low).mark is);
   }
 
   pub vacated_heeded : IsHeeded (vacated place v)

@@ -63,6 +63,13 @@ settled_rows u is_array young is =
           rows_by u.truth.resync_offset u.truth.size u.resync (λ below. absurd (omega (arith, e, small, below))) (λ past. synced)
     ]
 
+-- and just those, where it leaves no fewer
+pub settled_just : (u : View) → IsArray u → u.young ≡ false → is_settled u ≡ true → first_unsynced u.truth ≤ u.resync → first_unsynced u.truth ≡ u.resync
+settled_just u is_array young is less = same (first_unsynced u.truth) u.resync less (settled_rows u is_array young is)
+  where
+    same : (a b : ℕ) → a ≤ b → b ≤ a → a ≡ b
+    same a b less more = omega (arith, less, more)
+
 -- what a call makes of an array whose truth leaves the rows that are left
 pub record KeepsClear (u w : View) : Type 0 where
   pub resync : w.resync ≡ u.resync

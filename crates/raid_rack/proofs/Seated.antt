@@ -1,25 +1,28 @@
 -- An array of a pool after calls in which places went, and after its places are noted or heeded.
-use Rattle.std.proofs.Common.{◌≡◌, ℕ, zero, suc, ◌+◌, ◌<◌, ◌≤◌, Bool, true, false, ◌==◌, ◌&&◌, ◌||◌, not, if◌then◌else◌, List, [], ◌∷◌, ◌++◌, map, length, slice_get, Option, Some, None, option_map, unwrap_or, refl, sym, ap, subst, ◌∙◌, eqb-true, arith}
-use Rattle.std.proofs.lemmas.Bool.{both_ways}
+use Rattle.std.proofs.Common.{◌≡◌, ℕ, zero, suc, ◌+◌, ◌<◌, ◌≤◌, Bool, true, false, ◌==◌, ◌&&◌, ◌||◌, not, if◌then◌else◌, List, [], ◌∷◌, ◌++◌, map, length, slice_get, Option, Some, None, option_map, unwrap_or, ◌⊎◌, refl, sym, ap, ap₂, subst, ◌∙◌, inl, inr, eqb-true, arith}
+use Rattle.std.proofs.lemmas.Bool.{and_from, and_parts, both_ways, cases_Bool, cases_lt}
+use Rattle.std.proofs.lemmas.Option.{slice_get_past}
 use Rattle.std.proofs.lemmas.List.Folds.{list_any-append}
 use Rattle.std.proofs.lemmas.Map.Views.{any-filter_same}
-use Rattle.std.specs.List.{range_with_len, zip}
+use Rattle.std.specs.List.{list_all, list_any, range_with_len, zip}
 use Rattle.shr_base.specs.declared.Id.{Id}
 use Rattle.rack.specs.Seen.{Seen, Stays}
 use Rattle.pool_state.specs.declared.contents.State.{State}
 use Rattle.array_image.specs.States.{is_current}
+use Rattle.array_image.specs.Supers.{is_reshaping}
 use Rattle.array_image.specs.Places.{data_sector}
 use Rattle.commit_log.proofs.Deciding.{names_first}
 use Rattle.commit_log.proofs.Naming.{names_range}
 use Rattle.array_model.specs.declared.Seat.{Seat}
 use Rattle.array_model.specs.declared.Seat.TheVariants.{Whole, Missing, Rebuilding}
-use Rattle.array_model.specs.View.{View, IsArray, LosesPlaces, has_gone, is_missing_seat, place_at, seat_unless, shape_of, present}
+use Rattle.array_model.specs.View.{View, IsArray, LosesPlaces, has_gone, is_missing_seat, is_whole_array, is_whole_seat, place_at, rows_of, seat_unless, shape_of, present}
 use Rattle.array_model.specs.Members.{IsSameButSeats, slice_on}
 use Rattle.array_model.proofs.Views.{shape_then, vary_then, fewer_left}
 use Rattle.array_model.proofs.Losses.{IsLosing}
 use Rattle.array_core.specs.Slots.{slot_with, place_by}
 use Rattle.array_core.specs.Seats.{names, gone, joined, heeded}
 use Rattle.raid_rack.specs.Moves.{IsOfPool, IsSeated}
+use Rattle.raid_rack.proofs.Ranges.{any_some, any_none}
 
 -- ---- seats after losses
 
@@ -80,8 +83,70 @@ view_with u w same = λ i. record {
 abbrev pub AreLost : View → List Seat → (ℕ → Bool) → Type 0
 AreLost u seats lost = (k : ℕ) → slice_get seats k ≡ option_map (seat_unless lost (place_at u k)) (slice_get u.seats k)
 
-pool_with : (s : State) (u : View) (seats : List Seat) (went : List ℕ) (lost : ℕ → Bool) → AreLost u seats lost → IsOfPool s u → IsOfPool s (with_seats u seats went)
-pool_with s u seats went lost are pool =
+-- a whole array is so after calls in which no place of a current member went
+pub whole_then : (s : State) (n : ℕ) (u w : View) (lost : ℕ → Bool) (x : Seen) → IsSeated s n u x → IsSameButSeats u w → AreLost u w.seats lost → is_whole_array u ≡ true
+    → (is_whole_array w ≡ true) ⊎ ((p : ℕ) × (is_current s p ≡ true) × (lost p ≡ true))
+whole_then s n u w lost x seated same loses whole =
+    let test : ℕ → Bool = λ k. lost (place_at u k) in
+    let parts = and_parts (list_all is_whole_seat u.seats) ((u.resync == rows_of u) && (not u.young && not (is_reshaping u.truth))) whole in
+    elim (cases_Bool (list_any test (range_with_len 0 u.truth.raid_disks))) [
+      | inl some ↦
+          let at = any_some test 0 u.truth.raid_disks some in
+          let low = at.2 in
+          let inside : at.0 < u.truth.raid_disks = omega (arith, low) in
+          inr (
+            place_at u at.0,
+            there_current (is_current s (place_at u at.0)) (has_gone u (place_at u at.0)) u.seats at.0 parts.0
+                (let count = seated.is_array.seats in omega (arith, count, inside)) (seated.marks at.0 inside),
+            at.3,
+          )
+      | inr none ↦
+          let seats : (k : ℕ) → slice_get w.seats k ≡ slice_get u.seats k = λ k.
+          loses k
+          ∙ elim (cases_lt k u.truth.raid_disks) [
+            | inl low ↦ unlost (slice_get u.seats k) (test k) (any_none test 0 u.truth.raid_disks k none (omega arith) (omega (arith, low)))
+            | inr past ↦
+                let out = slice_get_past u.seats k (let count = seated.is_array.seats in omega (arith, count, past)) in
+                ap (option_map (seat_unless lost (place_at u k))) out ∙ sym out
+          ] in
+          inl (ap is_whole_array (view_with u w same)
+          ∙ and_from (list_all is_whole_seat w.seats) ((u.resync == rows_of u) && (not u.young && not (is_reshaping u.truth)))
+          (ap (list_all is_whole_seat) (same_seats w.seats u.seats seats) ∙ parts.0) parts.1)
+    ]
+  where
+    same_seats : (ws vs : List Seat) → ((k : ℕ) → slice_get ws k ≡ slice_get vs k) → ws ≡ vs
+    same_seats [] [] same = refl
+    same_seats [] (v ∷ vs) same = let bad : None ≡ Some v = same 0 in absurd (cc)
+    same_seats (z ∷ ws) [] same = let bad : Some z ≡ None = same 0 in absurd (cc)
+    same_seats (z ∷ ws) (v ∷ vs) same = ap₂ (λ (seat : Seat) (seats : List Seat). seat ∷ seats) (ap (λ o. unwrap_or o z) (same 0)) (same_seats ws vs (λ k. same (suc k)))
+
+    unlost : (o : Option Seat) (b : Bool) → b ≡ false → option_map (λ seat. if b then Missing else seat) o ≡ o
+    unlost None b is = refl
+    unlost (Some seat) true is = absurd (both_ways true is refl)
+    unlost (Some seat) false is = refl
+
+    there : (current went : Bool) (seat : Seat) → is_whole_seat seat ≡ true → is_missing_seat seat ≡ not (current && not went) → current ≡ true
+    there true went seat all is = refl
+    there false went Whole all is = absurd (both_ways false refl is)
+    there false went Missing all is = absurd (both_ways false refl all)
+    there false went (Rebuilding to) all is = absurd (both_ways false refl all)
+
+    there_current : (current went : Bool) (seats : List Seat) (k : ℕ) → list_all is_whole_seat seats ≡ true → k < length seats
+        → option_map is_missing_seat (slice_get seats k) ≡ Some (not (current && not went)) → current ≡ true
+    there_current current went [] k all low is = absurd (omega (arith, low))
+    there_current current went (seat ∷ seats) zero all low is =
+        there current went seat (and_parts (is_whole_seat seat) (list_all is_whole_seat seats) all).0 (ap (λ o. unwrap_or o true) is)
+    there_current current went (seat ∷ seats) (suc k) all low is =
+        there_current current went seats k (and_parts (is_whole_seat seat) (list_all is_whole_seat seats) all).1 (omega (arith, low)) is
+
+pub or_last : (b c : Bool) → c ≡ true → (b || c) ≡ true
+or_last true c is = refl
+or_last false c is = is
+
+pool_with : (s : State) (n : ℕ) (u : View) (seats : List Seat) (went : List ℕ) (lost : ℕ → Bool) (x : Seen) → IsSeated s n u x → AreLost u seats lost
+    → ((p : ℕ) → is_current s p ≡ true → names went p ≡ (lost p || has_gone u p)) → IsOfPool s (with_seats u seats went)
+pool_with s n u seats went lost x seated are listed =
+    let pool = seated.is_of_pool in
     record {
       set = pool.set;
       profile = pool.profile;
@@ -90,6 +155,20 @@ pool_with s u seats went lost are pool =
       row = pool.row;
       roles = pool.roles;
       unsynced = pool.unsynced;
+      synced = λ young part.
+          elim (cases_Bool (is_whole_array u)) [
+            | inl all ↦
+                elim (whole_then s n u (with_seats u seats went) lost x seated
+                (record { number = refl; truth = refl; devices = refl; resync = refl; young = refl; marked = refl }) are all) [
+                  | inl yet ↦ absurd (both_ways (is_whole_array (with_seats u seats went)) part yet)
+                  | inr some ↦ inr (some.0, some.1, listed some.0 some.1 ∙ ap (λ b. b || has_gone u some.0) some.2)
+                ]
+            | inr not_all ↦
+                elim (pool.synced young not_all) [
+                  | inl rows ↦ inl rows
+                  | inr some ↦ inr (some.0, some.1, listed some.0 some.1 ∙ or_last (lost some.0) (has_gone u some.0) some.2)
+                ]
+          ];
       zeroed = pool.zeroed;
       rows = λ k to is. pool.rows k to (rebuilding_before (lost (place_at u k)) (slice_get u.seats k) to (sym (are k) ∙ is));
     }
@@ -118,7 +197,7 @@ place_few u k is_array low =
 -- Calls in which places went: the array is one of the pool without them, where those that are listed and current are those.
 pub seated_with : (s : State) (n : ℕ) (u : View) (seats : List Seat) (went : List ℕ) (lost : ℕ → Bool) (x y : Seen) → Stays x y
     → IsSeated s n u x → AreLost u seats lost
-    → ((p : ℕ) → p < 16 → is_current s p ≡ true → names went p ≡ (lost p || has_gone u p))
+    → ((p : ℕ) → is_current s p ≡ true → names went p ≡ (lost p || has_gone u p))
     → IsSeated s n (with_seats u seats went) y
 seated_with s n u seats went lost x y stays seated are listed =
     record {
@@ -133,9 +212,9 @@ seated_with s n u seats went lost x y stays seated are listed =
       marks = λ k low.
           ap (option_map is_missing_seat) (are k)
           ∙ marks_lost (lost (place_at u k)) (has_gone u (place_at u k)) (names went (place_at u k)) (is_current s (place_at u k)) (slice_get u.seats k)
-          (seated.marks k low) (λ current. listed (place_at u k) (place_few u k seated.is_array low) current)
+          (seated.marks k low) (λ current. listed (place_at u k) current)
           (λ other gone. missing_of (slice_get u.seats k) (is_current s (place_at u k)) (has_gone u (place_at u k)) other (seated.marks k low));
-      is_of_pool = pool_with s u seats went lost are seated.is_of_pool;
+      is_of_pool = pool_with s n u seats went lost x seated are listed;
     }
   where
     was : (k : ℕ) → (slice_get seats k ≡ Some Missing → ⊥) → slice_get u.seats k ≡ Some Missing → ⊥
@@ -214,10 +293,11 @@ unfolding listed
 gone_fewer u lost is_array = fewer_left u (listed u lost) (names lost) (listed_loses u lost is_array)
 
 -- it is one of the pool still
-pub gone_seated : (s : State) (n : ℕ) (u : View) (lost : List ℕ) (x : Seen) → Stays x x → IsSeated s n u x → IsSeated s n (gone lost u) x
-gone_seated s n u lost x stays seated =
+pub gone_seated : (s : State) (n : ℕ) (u : View) (lost : List ℕ) (x : Seen) → Stays x x → ((p : ℕ) → is_current s p ≡ true → p < 16)
+    → IsSeated s n u x → IsSeated s n (gone lost u) x
+gone_seated s n u lost x stays few seated =
     seated_with s n u (gone lost u).seats (gone lost u).went (names lost) x x stays seated (gone_lost u lost seated.is_array)
-    (λ p few current. names_joined u.went lost p few ∙ or_swap (has_gone u p) (names lost p))
+    (λ p current. names_joined u.went lost p (few p current) ∙ or_swap (has_gone u p) (names lost p))
   where
     or_swap : (p q : Bool) → (p || q) ≡ (q || p)
     or_swap true true = refl
@@ -229,7 +309,7 @@ gone_seated s n u lost x stays seated =
 pub heeded_seated : (s : State) (n : ℕ) (u : View) (x : Seen) → Stays x x → IsSeated s n u x
     → ((p : ℕ) → is_current s p ≡ true → has_gone u p ≡ false) → IsSeated s n (heeded u) x
 heeded_seated s n u x stays seated marked =
-    seated_with s n u u.seats [] (λ p. false) x x stays seated (λ k. same (place_at u k) (slice_get u.seats k)) (λ p few current. sym (marked p current))
+    seated_with s n u u.seats [] (λ p. false) x x stays seated (λ k. same (place_at u k) (slice_get u.seats k)) (λ p current. sym (marked p current))
   where
     same : (place : ℕ) (o : Option Seat) → o ≡ option_map (seat_unless (λ p. false) place) o
     same place None = refl

@@ -9,7 +9,7 @@ use Rattle.pool_state.specs.declared.contents.State.{State}
 use Rattle.array_image.specs.States.{current_places}
 use Rattle.commit_log.specs.View.{LogView, committed}
 use Rattle.commit_log.specs.Kept.{LogKept}
-use Rattle.array_model.specs.View.{View, has_gone, shape_of}
+use Rattle.array_model.specs.View.{View, has_gone, is_whole_array, shape_of}
 use Rattle.array_model.specs.ArrayCalls.{Covers, WritesArray}
 use Rattle.array_core.specs.Pool.{Goes, MayCommit}
 use Rattle.array_core.specs.Superblocks.{raised}
@@ -34,7 +34,7 @@ views_write v f m a b set low stays others (as_it_was why notes) =
     let u = v.arrays m in
     let pool = (set.arrays m low).is_of_pool in
     views_notes v f m a b u.truth.events u.truth.resync_offset u.marked set low stays others
-    (record { later = omega arith; some = pool.events; few = pool.events_end; whole = λ was. was; unsynced = pool.unsynced })
+    (record { later = omega arith; some = pool.events; few = pool.events_end; whole = λ was. was; unsynced = pool.unsynced; synced = λ young part rows. rows })
     (λ marked. inl marked) notes
 views_write v f m a b set low stays others (newly_marked whole fresh unmarked notes) =
     let u = v.arrays m in
@@ -47,6 +47,7 @@ views_write v f m a b set low stays others (newly_marked whole fresh unmarked no
       few = events.1;
       whole = λ was. inr refl;
       unsynced = unsynced_by 0 u.truth.size u.resync (λ below. omega arith) (λ above. omega (arith, above));
+      synced = λ young part rows. absurd (both_ways (is_whole_array u) part whole);
     })
     (λ marked. inr whole) notes
 

@@ -11,12 +11,15 @@ use Rattle.array_image.proofs.Sources.{held_single}
 use Rattle.commit_log.proofs.Deciding.{names_first}
 use Rattle.commit_log.proofs.HeldCopies.{kept_holds}
 use Rattle.array_image.specs.States.{is_current}
+use Rattle.array_image.specs.Arrays.{replayed}
 use Rattle.array_core.specs.Seats.{gone}
 use Rattle.array_model.specs.View.{View, shape_of, sectors_of as array_sectors}
 use Rattle.array_model.specs.ArrayCalls.{appended_at}
 use Rattle.raid_rack.specs.declared.arrays.Arrays.{Arrays}
 use Rattle.raid_rack.specs.Raid.{Raid, is_over, live_of, spent_of, held_in, StopsInside, raid_of}
 use Rattle.raid_rack.specs.Acts.{RaidActs}
+use Rattle.raid_rack.specs.Marking.{TiedBetween}
+use Rattle.raid_rack.specs.Reach.{KeepsReach}
 use Rattle.raid_rack.specs.Moves.{AreCaused, Brings, KeepsArrays, Mends, Moves, ReadsValue, SyncsOne, WritesOne, noted_at, written_at}
 use Rattle.raid_rack.specs.Frames.{frame_of}
 use Rattle.raid_rack.specs.Runs.{KeepsMoments, RaidRuns}
@@ -28,7 +31,7 @@ use Rattle.raid_rack.specs.Laws.{live_parts}
 use Rattle.raid_rack.proofs.Moving.{brings_then, moves_bring}
 use Rattle.raid_rack.proofs.Noted.{IsNoting, current_few, noted_brings}
 use Rattle.raid_rack.proofs.Raid.{keeps_raid, reads_raid, refused_raid, stays_raid, syncs_raid, writes_raid}
-use Rattle.raid_rack.proofs.Whole.{IsWholeCall, before_amid, brings_whole, raid_acts}
+use Rattle.raid_rack.proofs.Whole.{IsWholeCall, before_amid, brings_whole, ends_by, raid_acts, tied_reach}
 
 pub whole_call : (a b : Arrays) (x y : Seen) (now : ℕ → (ℕ → Values) → ℕ → Values) → IsFit a x → IsFit b y → Brings (raid_by a) (raid_by b) x y now → StopsInside y
     → IsWholeCall (raid_by a) (raid_by b) x y (λ n. now n (held_in (raid_by a) x n))
@@ -188,9 +191,9 @@ moments_call a b x y now fit after inside brings =
             kept = all.kept;
             past = all.past;
             new = λ k c after until stopped.
-                let at = ((call.parts n told.joined goes).leaves traced).new k c after until stopped
+                let at = (((call.parts n told.joined goes).leaves traced).new k c after until stopped
                 (λ d t out. inside k c stopped d t (subst (λ i. i ≤ t) (sym (brings.stays.sectors d)) out))
-                (before_amid v w x y vals call n told goes) in
+                (before_amid v w x y vals call n told goes)).says in
                 record {
                   state = at.state;
                   is_state = at.is_state;
@@ -228,6 +231,22 @@ moments_call a b x y now fit after inside brings =
                 (((call.parts n told.joined goes).frame (frame_of (v.arrays n).truth) refl amid).leaves traced).new k c after until stopped
                 (λ d t out. inside k c stopped d t (subst (λ i. i ≤ t) (sym (brings.stays.sectors d)) out));
           };
+      reach = λ n told goes traced.
+          let all = brings.leaves traced in
+          record {
+            later = all.later;
+            kept = all.kept;
+            past = all.past;
+            new = λ k c after until stopped s shape state is.
+                tied_reach v w n (vals n) (spent_of w n) (replayed x.sectors c)
+                (ends_by v w x y vals call (λ first last. TiedBetween v.state w.state first last n (vals n) (spent_of w n) (replayed x.sectors c)) n told goes
+                (((call.parts n told.joined goes).leaves traced).new k c after until stopped
+                (λ d t out. inside k c stopped d t (subst (λ i. i ≤ t) (sym (brings.stays.sectors d)) out))
+                (before_amid v w x y vals call n told goes)))
+                s shape state is;
+          };
+      reached = λ n told goes.
+          ends_by v w x y vals call (KeepsReach w.state) n told goes ((call.parts n told.joined goes).reach (before_amid v w x y vals call n told goes));
     }
 
 pub lose_moments : (a b : Arrays) (place : ℕ) (x y : Seen) → IsFit a x → IsFit b y → StopsInside y → is_current a.state place ≡ true

@@ -1,5 +1,5 @@
 -- One array more is settled.
-use Rattle.std.proofs.Common.{◌≡◌, ℕ, ◌+◌, ◌<◌, ◌≤◌, Bool, true, false, ◌||◌, List, [], get_or, length, slice_get, Some, unwrap_or, refl, sym, ap, subst, ◌∙◌, inl, inr, arith}
+use Rattle.std.proofs.Common.{◌≡◌, ℕ, ◌+◌, ◌<◌, ◌≤◌, Bool, true, false, ◌||◌, List, [], get_or, length, slice_get, Some, unwrap_or, refl, sym, ap, subst, ◌∙◌, inl, inr, eq-eqb, arith}
 use Rattle.std.proofs.lemmas.Bool.{cases_eq, cases_lt, both_ways}
 use Rattle.std.proofs.lemmas.List.{length-append}
 use Rattle.std.proofs.lemmas.Option.{slice_get-get_or}
@@ -30,11 +30,11 @@ use Rattle.array_core.specs.Staging.{AddsSupersOf}
 use Rattle.array_core.specs.Superblocks.{left_offset}
 use Rattle.array_core.proofs.StagedTargets.{targets_apart}
 use Rattle.raid_rack.specs.Raid.{Raid}
-use Rattle.raid_rack.specs.Moves.{IsSet, IsAmid}
+use Rattle.raid_rack.specs.Moves.{IsSet, IsAmid, IsUnmarked}
 use Rattle.raid_rack.specs.Settling.{IsSuperOf, HasSupers, HasStaged, SettlesTo}
 use Rattle.raid_rack.proofs.Moving.{moves_same, moves_then}
 use Rattle.raid_rack.proofs.Noted.{with_arrays}
-use Rattle.raid_rack.proofs.Rows.{left_same}
+use Rattle.raid_rack.proofs.Rows.{left_same, settled_just}
 use Rattle.raid_rack.proofs.Calls.{ReadsOne, moves_read}
 use Rattle.raid_rack.proofs.Elements.{among_either, among_first, among_second, apart_append, slot_at_position, supers_from, supers_count}
 
@@ -116,7 +116,7 @@ slice_array v n m j k few also one two same = omega (arith, few, also, one, two,
 
 pub staged_more : (v w : Raid) (m : ℕ) (xs ys : List Target) → m < 16
     → ((n : ℕ) → n < m → (v.arrays n).number ≡ n) → ((n : ℕ) → (n ≡ m → ⊥) → w.arrays n ≡ v.arrays n) → (w.arrays m).number ≡ m → IsArray (w.arrays m)
-    → HasStaged v m xs → AddsSupersOf (w.arrays m) xs ys → (w.arrays m).marked ≡ false → HasStaged w (m + 1) ys
+    → HasStaged v m xs → AddsSupersOf (w.arrays m) xs ys → IsUnmarked (w.arrays m) → HasStaged w (m + 1) ys
 staged_more v w m xs ys few numbers others number is_array staged adds unmarked =
     let u = w.arrays m in
     let earlier : (n : ℕ) → n < m → w.arrays n ≡ v.arrays n = λ n less. others n (λ same. omega (arith, less, same)) in
@@ -230,7 +230,15 @@ settles_more v w f a b c m xs ys few before call syncs adds unmarked raised left
           ];
       staged = staged_more w (with_arrays w f) m xs ys (let last = call.views.low in omega (arith, last, few))
           (λ n less. (before.moves.set.arrays n (let last = call.views.low in omega (arith, less, last))).number)
-          call.views.others call.views.seated.number call.views.seated.is_array before.staged adds unmarked;
+          call.views.others call.views.seated.number call.views.seated.is_array before.staged adds
+          (record {
+            mark = unmarked;
+            rows = λ young.
+                let same = call.loses.only.same in
+                settled_just (f m) call.views.seated.is_array young
+                (eq-eqb (f m).truth.resync_offset (left_offset (f m)) (left ∙ sym (left_same (w.arrays m) (f m) same (sym same.young ∙ young))))
+                call.views.seated.is_of_pool.unsynced;
+          });
       settled = λ n vals spent low joined goes covers amid.
           let made : n < w.state.made = let last = call.views.low in omega (arith, low, last) in
           let was : n < v.state.made = subst (λ (s : State). n < s.made) before.same made in

@@ -59,7 +59,7 @@ module _ (v : Raid) (lost on : List ℕ) (l : LogView) (xs : List Target) (b : S
 
   state_of : IsStateOf (v.arrays n) (state_after v lost)
   state_of =
-      let by = seated_marked v.state lost n (v.arrays n) b (λ q is. marking.noted n q low is) seated in
+      let by = seated_marked v.state lost n (v.arrays n) b (λ q is. marking.noted n q low is) has.unmarked seated in
       record {
         set = by.is_of_pool.set;
         profile = by.is_of_pool.profile;
@@ -130,7 +130,7 @@ module _ (v : Raid) (lost on : List ℕ) (l : LogView) (xs : List Target) (b : S
         written = written;
         unsynced = pool.unsynced;
         settled = settled;
-        unmarked = has.unmarked;
+        unmarked = has.unmarked.mark;
       }
 
 module _ (v : Raid) (lost on : List ℕ) {by : List ℕ} (gone : List ℕ) (l : LogView) (xs : List Target) (f : ℕ → View) (b c : Seen)
@@ -156,7 +156,7 @@ module _ (v : Raid) (lost on : List ℕ) {by : List ℕ} (gone : List ℕ) (l : 
         number = losing.number ∙ number;
         shape = losing.shape;
         resync_is = losing.resync;
-        marked_is = λ is. absurd (both_ways (v.arrays n).marked (commit.marking.staged.each n low).unmarked (losing.marked is));
+        marked_is = λ is. absurd (both_ways (v.arrays n).marked (commit.marking.staged.each n low).unmarked.mark (losing.marked is));
         view_number = number;
         truth = losing.truth;
         written = subst IsWritten (sym (commit.arrays n low)) written;

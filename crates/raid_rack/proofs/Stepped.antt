@@ -4,6 +4,7 @@ use Rattle.std.proofs.lemmas.Bool.{cases_Bool, cases_eq}
 use Rattle.rack.specs.Values.{Values}
 use Rattle.rack.specs.Seen.{Image, Seen}
 use Rattle.rack.specs.Joins.{leaves_weaker}
+use Rattle.rack.specs.Moments.{Leaves}
 use Rattle.md_super.specs.declared.superblock.Super.{Super}
 use Rattle.pool_state.specs.declared.contents.State.{State}
 use Rattle.array_image.specs.Places.{log_slice, member_slice, super_sector}
@@ -21,11 +22,13 @@ use Rattle.array_model.specs.Says.{Holds, IsOpen, Says}
 use Rattle.array_model.specs.Members.{Notes}
 use Rattle.array_model.specs.ArrayCalls.{Covers, HasFields, KeepsSupers, Turns}
 use Rattle.array_model.proofs.Moves.{Moves as CallMoves, moves_by}
+use Rattle.array_model.proofs.Keeping.{keeping_calls}
 use Rattle.array_core.specs.Pool.{Goes}
 use Rattle.array_core.specs.Superblocks.{is_settled}
 use Rattle.array_core.specs.Writing.{KeepsElsewhere}
 use Rattle.array_sync.specs.Steps.{MayStep, Stepped, Steps, as_it_was, done, if_done}
-use Rattle.raid_rack.specs.Raid.{Raid, gone_in, is_over}
+use Rattle.raid_rack.specs.Raid.{Raid, gone_in, is_left, is_over}
+use Rattle.raid_rack.specs.Reach.{KeepsReach, KeepsReachOn, reach_same}
 use Rattle.raid_rack.specs.Laws.{stood_left}
 use Rattle.raid_rack.specs.Moves.{AreMarked, Brings, IsAmid, IsHeeded, IsSet, LosesOnly}
 use Rattle.raid_rack.specs.Rows.{KeepsRows, LeavesFrom, LeavesRows, from_lower}
@@ -34,13 +37,13 @@ use Rattle.raid_rack.proofs.Added.{names_current}
 use Rattle.raid_rack.proofs.Changed.{ViewsOne, called}
 use Rattle.raid_rack.specs.Losing.{only_same}
 use Rattle.raid_rack.proofs.Losing.{only_notes}
-use Rattle.raid_rack.proofs.Noted.{gone_from}
-use Rattle.raid_rack.proofs.Parts.{SaysSome, turned_state}
+use Rattle.raid_rack.proofs.Noted.{gone_from, left_reach}
+use Rattle.raid_rack.proofs.Parts.{SaysSome, acts_some, turned_state}
 use Rattle.raid_rack.proofs.Rows.{clear_seats, rows_read, settled_rows}
 use Rattle.raid_rack.proofs.Views.{IsNext, next_same, next_shape, views_next}
 use Rattle.raid_rack.proofs.Whole.{heeded_gone}
 use Rattle.raid_rack.specs.Frames.{frame_of}
-use Rattle.raid_rack.proofs.Frames.{shape_frame, view_frame}
+use Rattle.raid_rack.proofs.Frames.{view_frame}
 use Rattle.raid_rack.proofs.Written.{ActsOne, may_commit, one_brings, opened, own_part}
 
 -- what was noted, by the array as it was or as the step made it
@@ -59,6 +62,7 @@ pub record StepCall (v : Raid) (f : ℕ → View) (next : View) (number m : ℕ)
   pub few : (p : ℕ) → has_gone (f m) p ≡ true → p < 16
   pub is_next : IsNext v.state m (v.arrays m) next a
   pub framed : frame_of next.truth ≡ frame_of (v.arrays m).truth
+  pub grows : KeepsReach v.state (shape_of (v.arrays m)) (shape_of next)
   pub rows : (v.arrays m).resync ≤ next.resync
   pub young : next.young ≡ (v.arrays m).young
   pub whole : (next.truth.resync_offset ≡ 2 ^ 64 - 1) ⊎ (next.truth.resync_offset % 128 ≡ 0)
@@ -144,27 +148,74 @@ module _ (v : Raid) (f : ℕ → View) (next : View) (number m : ℕ) (a b : See
   abbrev Held : (ℕ → Values) → (ℕ → Bool) → Type 0
   Held vals spent = Holds v.state (shape_of (v.arrays m)) (v.arrays m) vals spent a
 
+  grows_if : (d : Bool) → KeepsReach v.state (shape_of (v.arrays m)) (if_done d (shape_of (v.arrays m)) (shape_of next))
+  grows_if true = call.grows
+  grows_if false = reach_same (is_current v.state) (shape_of (v.arrays m))
+
+  -- where it is done, they say it by the shape before it or after it
+  done_during : (vals : ℕ → Values) (spent : ℕ → Bool) (r : Image) → call.steps.is_done ≡ true → Either vals spent r
+      → SaysSome v.state (v.arrays m).number (shape_of (v.arrays m)) (if_done call.steps.is_done (shape_of (v.arrays m)) (shape_of next)) vals spent r
+  done_during vals spent r is either = elim either [
+    | inl old ↦
+        record {
+          shape = shape_of (v.arrays m);
+          says = old.0;
+          framed = refl;
+          from = reach_same (is_current v.state) (shape_of (v.arrays m));
+          to = grows_if call.steps.is_done;
+        }
+    | inr new ↦
+        record {
+          shape = shape_of next;
+          says = new.0;
+          framed = view_frame next ∙ call.framed ∙ sym (view_frame (v.arrays m));
+          from = call.grows;
+          to = subst (λ (d : Bool). KeepsReach v.state (shape_of next) (if_done d (shape_of (v.arrays m)) (shape_of next))) (sym is)
+              (reach_same (is_current v.state) (shape_of next));
+        }
+  ]
+
   step_acts : (vals : ℕ → Values) (spent : ℕ → Bool) → Covers (f m) spent → MayStep v.state (v.arrays m) next (f m) v.number on a
-      → CallMoves (v.arrays m).number a b (Held vals spent) (SaysSome v.state (v.arrays m).number (shape_frame (shape_of (v.arrays m))) vals spent)
+      → CallMoves (v.arrays m).number a b (Held vals spent)
+      (SaysSome v.state (v.arrays m).number (shape_of (v.arrays m)) (if_done call.steps.is_done (shape_of (v.arrays m)) (shape_of next)) vals spent)
       (Holds v.state (if_done call.steps.is_done (shape_of (v.arrays m)) (shape_of next)) (f m) vals spent b)
   step_acts vals spent covers able =
       let moving = call.steps.moving v.state vals spent covers able in
       let H = Held vals spent in
       let Q : Type 0 = Holds v.state (if_done call.steps.is_done (shape_of (v.arrays m)) (shape_of next)) (f m) vals spent b in
-      moves_by (v.arrays m).number a b H H Q Q (Either vals spent) (SaysSome v.state (v.arrays m).number (shape_frame (shape_of (v.arrays m))) vals spent)
-      (λ holds. holds)
-      (λ r either. elim either [
-        | inl old ↦ record { shape = shape_of (v.arrays m); says = old.0; framed = refl }
-        | inr new ↦ record { shape = shape_of next; says = new.0; framed = view_frame next ∙ call.framed ∙ sym (view_frame (v.arrays m)) }
-      ])
-      (λ holds. holds)
-      (record { stays = moving.stays; leaves = moving.leaves; holds = moving.holds; apart = moving.apart; calm = moving.calm; bounded = moving.bounded })
+      let During : Bool → Image → Type 0 = λ d.
+      SaysSome v.state (v.arrays m).number (shape_of (v.arrays m)) (if_done d (shape_of (v.arrays m)) (shape_of next)) vals spent in
+      elim (cases_Bool call.steps.is_done) [
+        | inl is ↦
+            moves_by (v.arrays m).number a b H H Q Q (Either vals spent) (During call.steps.is_done)
+            (λ holds. holds) (λ r either. done_during vals spent r is either) (λ holds. holds)
+            (record { stays = moving.stays; leaves = moving.leaves; holds = moving.holds; apart = moving.apart; calm = moving.calm; bounded = moving.bounded })
+        | inr not_done ↦
+            let reads = call.steps.idle not_done in
+            let quiet = acts_some v.state (v.arrays m) (v.arrays m) spent a b (shape_of (v.arrays m)) vals vals
+            (keeping_calls a b set.lasting reads.stays reads.keeps v.state (shape_of (v.arrays m)) (v.arrays m) vals spent) in
+            record {
+              stays = moving.stays;
+              leaves = λ traced.
+                  subst (λ (d : Bool). Leaves a b (λ c. IsInside a.sectors c → Turns (v.arrays m).number a b (λ r. Held vals spent → During d r) c)) (sym not_done)
+                  (quiet.leaves traced);
+              holds = moving.holds;
+              apart = moving.apart;
+              calm = moving.calm;
+              bounded = moving.bounded;
+            }
+      ]
 
   acts : ActsOne v f number m a b (λ vals. vals) (if_done call.steps.is_done (shape_of (v.arrays m)) (shape_of next)) (MayStep v.state (v.arrays m) next (f m) v.number on a)
   acts = record {
     heeded = call.heeded;
     views = views;
     shape = after_marked;
+    grows = grows_if call.steps.is_done;
+    noted =
+        subst (λ (shape : Shape). KeepsReachOn (is_left (called v f number)) shape (shape_of (f m))) (shape_if call.steps.is_done)
+        (left_reach (called v f number) m (if_done call.steps.is_done (v.arrays m) next) b call.low views.seated
+        (only_notes (if_done call.steps.is_done (v.arrays m) next) (f m) a b notes));
     frame = ap frame_of notes.same.truth ∙ frame_if call.steps.is_done;
     goes = call.goes;
     later = call.later;

@@ -22,7 +22,7 @@ use Rattle.array_core.specs.TruthHeld.{HoldTruth, SaysTruth}
 use Rattle.array_core.proofs.OwnSupers.{passes_only}
 use Rattle.array_core.proofs.TruthHeld.{slice_place}
 use Rattle.array_core.proofs.TruthValid.{says_valid}
-use Rattle.raid_rack.specs.Agreeing.{AgreeLeaving, SupersAgree}
+use Rattle.raid_rack.specs.Agreeing.{AgreeLeaving, SayTruth, SupersAgree}
 use Rattle.raid_rack.specs.Cleaning.{Cleans, IsEnded, NoneFails, as_it_was, restated}
 use Rattle.raid_rack.specs.Moves.{IsHeeded, IsSeated, IsSet}
 use Rattle.raid_rack.specs.Raid.{IsTold, Raid, Stood, held_in, is_over, spent_of}
@@ -99,7 +99,7 @@ module _ (v : Raid) (x : Seen) (n : ℕ) (set : IsSet v x) (heeded : IsHeeded v)
       none_some : {y : Super} → None ≡ Some y → ⊥
       none_some e = cc
 
-  pub truth_fields : (t : Super) → truth_in v.state r n ≡ Some t → array_fields t ≡ array_fields (v.arrays n).truth
+  truth_fields : (t : Super) → truth_in v.state r n ≡ Some t → array_fields t ≡ array_fields (v.arrays n).truth
   unfolding truth_in
   truth_fields t is =
       let lead = leads (super_in v.state r n) (current_places v.state) t is in
@@ -129,6 +129,10 @@ module _ (v : Raid) (x : Seen) (n : ℕ) (set : IsSet v x) (heeded : IsHeeded v)
             let own = own_of k small (ap (is_current v.state) here ∙ current) in
             ap is_some (ap (super_in v.state r n) (sym here) ∙ own.is);
       }
+
+  -- they agree, and say the array's truth
+  pub truth_said : SayTruth (v.arrays n) v.state r n
+  truth_said = record { agree = supers_agree; fields = truth_fields }
 
   -- they agree, and where the array is settled they leave the rows to resync that are left in it
   pub truth_agrees : is_settled (v.arrays n) ≡ true → AgreeLeaving (v.arrays n) v.state r n

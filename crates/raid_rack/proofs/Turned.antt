@@ -12,7 +12,7 @@ use Rattle.array_model.specs.View.{View, present, has_gone as went_in}
 use Rattle.raid_rack.specs.declared.arrays.Arrays.{Arrays}
 use Rattle.raid_rack.specs.Raid.{Raid, gone_in, is_left, is_over, is_used_up}
 use Rattle.raid_rack.specs.Losses.{has_gone, newly_gone}
-use Rattle.raid_rack.specs.Moves.{IsSet, AreMarked, Moves}
+use Rattle.raid_rack.specs.Moves.{IsSet, IsUnmarked, AreMarked, Moves}
 use Rattle.raid_rack.specs.Settling.{state_after}
 use Rattle.raid_rack.specs.RaidRack.{raid_by, no_array}
 use Rattle.raid_rack.proofs.Missing.{current_marked, length_marked}
@@ -139,7 +139,7 @@ pub moves_emptied : (v : Raid) (lost : List ℕ) (x : Seen) → IsSet v x
     → ((p : ℕ) → names lost p ≡ (is_current v.state p && gone_in v p))
     → ((n p : ℕ) → n < v.state.made → names lost p ≡ true → went_in (v.arrays n) p ≡ true)
     → ((p : ℕ) → is_current (state_after v lost) p ≡ false)
-    → ((n : ℕ) → n < v.state.made → (v.arrays n).marked ≡ false)
+    → ((n : ℕ) → n < v.state.made → IsUnmarked (v.arrays n))
     → Moves v (record v { state = state_after v lost }) x x
 moves_emptied v lost x set lost_is noted nobody unmarked =
     let w : Raid = record v { state = state_after v lost } in
@@ -157,8 +157,8 @@ moves_emptied v lost x set lost_is noted nobody unmarked =
         most = set.most;
         valid = λ p low. valid_marked lost v.state p (set.valid p (subst (λ k. p < k) (length_marked lost 0 v.state.drives.items) low));
         logs = λ p left. absurd (both_ways (is_left w p) (none p) left);
-        arrays = λ n low. seated_marked v.state lost n (v.arrays n) x (λ p is. noted n p low is) (set.arrays n low);
-        marked = λ n low is. absurd (both_ways (v.arrays n).marked (unmarked n low) is);
+        arrays = λ n low. seated_marked v.state lost n (v.arrays n) x (λ p is. noted n p low is) (unmarked n low) (set.arrays n low);
+        marked = λ n low is. absurd (both_ways (v.arrays n).marked (unmarked n low).mark is);
       };
       book = after_marked lost v.state;
       leaves = λ traced. leaves_same x (λ c. Unit {0});

@@ -1,15 +1,12 @@
 -- The arrays are settled, and one commit marks the losses.
-use Rattle.std.proofs.Common.{◌≡◌, ◌⊎◌, ℕ, ◌<◌, ◌≤◌, Bool, true, false, ◌&&◌, ◌||◌, not, List, [], ◌∷◌, refl, sym, ap, subst, ◌∙◌, inl, inr, arith}
+use Rattle.std.proofs.Common.{◌≡◌, ◌⊎◌, ℕ, ◌<◌, Bool, true, false, ◌&&◌, ◌||◌, not, List, [], ◌∷◌, refl, sym, ap, subst, ◌∙◌, inl, inr, arith}
 use Rattle.std.proofs.lemmas.Bool.{cases_Bool, both_ways, and_parts}
-use Rattle.rack.specs.Values.{Values}
-use Rattle.rack.specs.Seen.{Seen, Stays}
-use Rattle.rack.specs.Moments.{Leaves}
-use Rattle.rack.specs.Joins.{stays_then, leaves_then, leaves_weaker, keeps_then, live_first, live_second, rose_later, rose_early}
+use Rattle.rack.specs.Seen.{Seen}
+use Rattle.rack.specs.Joins.{stays_then, leaves_then, keeps_then, live_first, live_second, rose_later, rose_early}
 use Rattle.rack.specs.Targets.{Target}
 use Rattle.array_image.specs.Places.{place_of}
 use Rattle.array_image.specs.States.{is_current}
-use Rattle.array_image.specs.Arrays.{Shape, replayed}
-use Rattle.array_image.specs.Left.{IsInside}
+use Rattle.array_image.specs.Arrays.{Shape}
 use Rattle.commit_log.specs.View.{LogView, names, next_number}
 use Rattle.commit_log.proofs.Deciding.{names_first}
 use Rattle.array_model.specs.View.{View, shape_of}
@@ -17,58 +14,21 @@ use Rattle.array_image.specs.Held.{Among}
 use Rattle.array_image.proofs.Marked.{among_lowered}
 use Rattle.array_model.specs.ArrayCalls.{Covers}
 use Rattle.raid_rack.specs.Raid.{Raid, gone_in, is_left}
-use Rattle.raid_rack.specs.Book.{IsAfter, after_then}
-use Rattle.raid_rack.specs.Marking.{SaysBetween}
-use Rattle.raid_rack.specs.Moves.{AreMarked, IsAmid, PartOf, Moves}
+use Rattle.raid_rack.specs.Book.{after_then}
+use Rattle.raid_rack.specs.Moves.{AreMarked, Moves}
 use Rattle.raid_rack.specs.Agreeing.{MakesAgree}
 use Rattle.raid_rack.specs.Cleaning.{NoneFails}
 use Rattle.raid_rack.specs.Settling.{SettlesTo, state_after}
 use Rattle.raid_rack.specs.Losing.{only_then}
-use Rattle.raid_rack.proofs.Frames.{frame_then}
-use Rattle.raid_rack.proofs.Logs.{logs_then}
 use Rattle.raid_rack.proofs.Losing.{only_gone}
 use Rattle.raid_rack.proofs.Over.{over_still, not_true}
-use Rattle.raid_rack.proofs.Moving.{marked_later, says_sooner, says_later}
+use Rattle.raid_rack.proofs.Moving.{marked_later, parts_within}
 use Rattle.raid_rack.proofs.Noted.{gone_some, losing_spent}
 use Rattle.raid_rack.proofs.Elements.{look_lacks}
 use Rattle.raid_rack.proofs.Adding.{which, current_is}
 use Rattle.raid_rack.proofs.Committed.{IsCommit, commit_unwritten, raid_after, after_gone, after_new, gone_current, after_set, after_left, after_cause, after_further, after_marked, commit_losing, next_later}
 use Rattle.raid_rack.proofs.Carried.{commit_agrees, commit_left, commit_part, commit_rows}
 use Rattle.raid_rack.specs.Rows.{rows_then}
-
--- a second part that depends on what stood before the first
-parts_within : (v w z : Raid) (a b c : Seen) (n : ℕ) (vals : ℕ → Values) (spent : ℕ → Bool)
-    → Stays a b → IsAfter v.state w.state → IsAfter w.state z.state → (b.traced → Leaves b c (λ i. Unit {0}))
-    → PartOf v w a b n vals vals spent → (IsAmid v a n vals spent → PartOf w z b c n vals vals spent) → PartOf v z a c n vals vals spent
-parts_within v w z a b c n vals spent stays first second leaves one two =
-    record {
-      leaves = λ traced.
-          let all = leaves (stays.traced traced) in
-          leaves_then
-          (λ i. IsInside a.sectors i → IsAmid v a n vals spent → SaysBetween v.state z.state n vals spent (replayed a.sectors i))
-          (leaves_weaker
-          (λ i. IsInside a.sectors i → IsAmid v a n vals spent → SaysBetween v.state w.state n vals spent (replayed a.sectors i))
-          (λ i. IsInside a.sectors i → IsAmid v a n vals spent → SaysBetween v.state z.state n vals spent (replayed a.sectors i))
-          (λ i says inside amid. says_sooner v.state w.state z.state n vals spent (replayed a.sectors i) second (says inside amid))
-          (one.leaves traced))
-          (record {
-            later = all.later;
-            kept = all.kept;
-            past = all.past;
-            new = λ k i after until stopped inside amid.
-                says_later v.state w.state z.state n vals spent (replayed a.sectors i) first
-                (subst (λ (sectors : ℕ → ℕ). SaysBetween w.state z.state n vals spent (replayed sectors i)) (λ j d. stays.sectors d j)
-                (((two amid).leaves (stays.traced traced)).new k i after until stopped
-                (λ d t out. inside d t (subst (λ j. j ≤ t) (stays.sectors d) out)) (one.holds amid)));
-          });
-      holds = λ amid. (two amid).holds (one.holds amid);
-      logs = λ copies amid.
-          let early = one.logs copies amid in
-          logs_then v.state w.state z.state a b c first second stays early ((two amid).logs early.holds (one.holds amid));
-      frame = λ g before amid.
-          let early = one.frame g before amid in
-          frame_then g n (w.arrays n) (z.arrays n) a b c stays early ((two amid).frame g early.after (one.holds amid));
-    }
 
 pub moves_commit : (u v : Raid) (lost on gone : List ℕ) (l : LogView) (xs : List Target) (f : ℕ → View) (a b c : Seen)
     → SettlesTo u v a b v.state.made xs → IsCommit v lost on gone l xs f b c
@@ -129,9 +89,9 @@ moves_commit u v lost on gone l xs f a b c settles commit =
           let covered : Covers (v.arrays n) spent = λ y alive.
           losing_spent (v.arrays n) (f n) (names gone) (commit.marking.set.arrays n low).is_array (commit_losing v lost on gone l xs f b c commit n low) y (covers y alive) in
           let first = one.parts n vals spent joined made mid_goes covered in
-          parts_within u v w a b c n vals spent one.stays one.book second call.leaves first
+          parts_within u v w a b c n vals vals spent one.stays one.book second call.leaves first
           (λ amid.
-          commit_part v lost on gone l xs f b c commit n vals spent (subst (λ k. n < k) (sym one.book.same.joined) joined) low goes covers (first.holds amid)
+          commit_part v lost on gone l xs f b c commit n vals spent (subst (λ k. n < k) (sym one.book.same.joined) joined) low goes covers
           (settles.settled n vals spent low joined mid_goes covered amid));
       rows = λ n vals spent joined made goes covers amid rows.
           let low = made_still n made in

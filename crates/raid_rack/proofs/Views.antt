@@ -1,8 +1,6 @@
 -- What is known of an array after calls that restate it or do a step of it, and in which places went.
-use Rattle.std.proofs.Common.{◌≡◌, ℕ, zero, suc, ◌-◌, ◌/◌, ◌%◌, ◌^◌, ◌<◌, ◌≤◌, Bool, true, false, ◌==◌, ◌&&◌, ◌||◌, not, nat_lt, if◌then◌else◌, List, [], ◌∷◌, length, slice_get, Option, Some, None, option_map, unwrap_or, ◌⊎◌, refl, sym, ap, ap₂, subst, ◌∙◌, inl, inr, arith}
-use Rattle.std.proofs.lemmas.Bool.{cases_Bool, cases_lt, both_ways, and_parts, and_from}
-use Rattle.std.specs.List.{list_all, list_any, range_with_len}
-use Rattle.std.proofs.lemmas.Option.{slice_get_past}
+use Rattle.std.proofs.Common.{◌≡◌, ℕ, zero, suc, ◌-◌, ◌/◌, ◌%◌, ◌^◌, ◌<◌, ◌≤◌, Bool, true, false, ◌||◌, nat_lt, if◌then◌else◌, List, [], ◌∷◌, length, slice_get, Option, Some, None, option_map, ◌⊎◌, refl, sym, ap, subst, ◌∙◌, inl, inr, arith}
+use Rattle.std.proofs.lemmas.Bool.{cases_Bool, cases_lt, both_ways}
 use Rattle.rack.specs.Seen.{Seen, Stays}
 use Rattle.md_super.specs.declared.superblock.Super.{Super}
 use Rattle.array_image.specs.Stripes.{capacity}
@@ -11,12 +9,12 @@ use Rattle.array_image.specs.States.{is_current}
 use Rattle.array_image.specs.Arrays.{Shape, first_layout}
 use Rattle.array_image.specs.Held.{Among}
 use Rattle.array_image.specs.Marks.{lowered}
+use Rattle.array_image.specs.SoundArray.{first_unsynced}
 use Rattle.array_image.proofs.Marked.{among_lowered}
-use Rattle.array_image.specs.Supers.{is_reshaping}
 use Rattle.array_model.specs.declared.Seat.{Seat}
-use Rattle.array_model.specs.declared.Seat.TheVariants.{Whole, Missing, Rebuilding}
-use Rattle.array_model.specs.View.{View, IsArray, LosesPlaces, has_gone, is_missing_seat, is_whole_array, is_whole_seat, place_at, seat_unless, present, rows_of, sectors_of, shape_of, spent_in}
-use Rattle.array_model.specs.Members.{IsSameButSeats, Notes}
+use Rattle.array_model.specs.declared.Seat.TheVariants.{Missing}
+use Rattle.array_model.specs.View.{View, IsArray, LosesPlaces, has_gone, is_whole_array, place_at, seat_unless, present, sectors_of, shape_of, spent_in}
+use Rattle.array_model.specs.Members.{Notes}
 use Rattle.array_model.proofs.Views.{shape_then, fewer_left}
 use Rattle.array_model.proofs.Noting.{losing_by}
 use Rattle.raid_rack.specs.Raid.{Raid, gone_in, IsWritten}
@@ -25,8 +23,7 @@ use Rattle.raid_rack.specs.Moves.{IsSet, IsSeated, AreMarked, LosesOnly}
 use Rattle.raid_rack.proofs.Changed.{LosesOne, ViewsOne, lowered_none, or_left}
 use Rattle.raid_rack.specs.Losing.{only_then}
 use Rattle.raid_rack.proofs.Losing.{only_notes}
-use Rattle.raid_rack.proofs.Ranges.{any_some, any_none}
-use Rattle.raid_rack.proofs.Seated.{with_seats, view_with, seated_with, missing_of, place_few}
+use Rattle.raid_rack.proofs.Seated.{with_seats, view_with, seated_with, missing_of, place_few, whole_then}
 use Rattle.raid_rack.proofs.Noted.{with_arrays, gone_from, losing_spent}
 
 of_shape : (w : View) (went : List ℕ) → shape_of (with_seats w w.seats went) ≡ shape_of w
@@ -64,62 +61,6 @@ shape_still u w lost is_array truth loses missing =
           | inl low ↦ inl (missing k low gone)
           | inr high ↦ inr (past u.seats k (let count = is_array.seats in omega (arith, count, high)))
         ])
-
--- a whole array is so after calls in which no place of a current member went
-pub whole_then : (s : State) (n : ℕ) (u w : View) (lost : ℕ → Bool) (x : Seen) → IsSeated s n u x → IsSameButSeats u w → LosesPlaces u w lost → is_whole_array u ≡ true
-    → (is_whole_array w ≡ true) ⊎ ((p : ℕ) × (is_current s p ≡ true) × (lost p ≡ true))
-whole_then s n u w lost x seated same loses whole =
-    let test : ℕ → Bool = λ k. lost (place_at u k) in
-    let parts = and_parts (list_all is_whole_seat u.seats) ((u.resync == rows_of u) && (not u.young && not (is_reshaping u.truth))) whole in
-    elim (cases_Bool (list_any test (range_with_len 0 u.truth.raid_disks))) [
-      | inl some ↦
-          let at = any_some test 0 u.truth.raid_disks some in
-          let low = at.2 in
-          let inside : at.0 < u.truth.raid_disks = omega (arith, low) in
-          inr (
-            place_at u at.0,
-            there_current (is_current s (place_at u at.0)) (has_gone u (place_at u at.0)) u.seats at.0 parts.0
-                (let count = seated.is_array.seats in omega (arith, count, inside)) (seated.marks at.0 inside),
-            at.3,
-          )
-      | inr none ↦
-          let seats : (k : ℕ) → slice_get w.seats k ≡ slice_get u.seats k = λ k.
-          loses.seats k
-          ∙ elim (cases_lt k u.truth.raid_disks) [
-            | inl low ↦ unlost (slice_get u.seats k) (test k) (any_none test 0 u.truth.raid_disks k none (omega arith) (omega (arith, low)))
-            | inr past ↦
-                let out = slice_get_past u.seats k (let count = seated.is_array.seats in omega (arith, count, past)) in
-                ap (option_map (seat_unless lost (place_at u k))) out ∙ sym out
-          ] in
-          inl (ap is_whole_array (view_with u w same)
-          ∙ and_from (list_all is_whole_seat w.seats) ((u.resync == rows_of u) && (not u.young && not (is_reshaping u.truth)))
-          (ap (list_all is_whole_seat) (same_seats w.seats u.seats seats) ∙ parts.0) parts.1)
-    ]
-  where
-    same_seats : (ws vs : List Seat) → ((k : ℕ) → slice_get ws k ≡ slice_get vs k) → ws ≡ vs
-    same_seats [] [] same = refl
-    same_seats [] (v ∷ vs) same = let bad : None ≡ Some v = same 0 in absurd (cc)
-    same_seats (z ∷ ws) [] same = let bad : Some z ≡ None = same 0 in absurd (cc)
-    same_seats (z ∷ ws) (v ∷ vs) same = ap₂ (λ (seat : Seat) (seats : List Seat). seat ∷ seats) (ap (λ o. unwrap_or o z) (same 0)) (same_seats ws vs (λ k. same (suc k)))
-
-    unlost : (o : Option Seat) (b : Bool) → b ≡ false → option_map (λ seat. if b then Missing else seat) o ≡ o
-    unlost None b is = refl
-    unlost (Some seat) true is = absurd (both_ways true is refl)
-    unlost (Some seat) false is = refl
-
-    there : (current went : Bool) (seat : Seat) → is_whole_seat seat ≡ true → is_missing_seat seat ≡ not (current && not went) → current ≡ true
-    there true went seat all is = refl
-    there false went Whole all is = absurd (both_ways false refl is)
-    there false went Missing all is = absurd (both_ways false refl all)
-    there false went (Rebuilding to) all is = absurd (both_ways false refl all)
-
-    there_current : (current went : Bool) (seats : List Seat) (k : ℕ) → list_all is_whole_seat seats ≡ true → k < length seats
-        → option_map is_missing_seat (slice_get seats k) ≡ Some (not (current && not went)) → current ≡ true
-    there_current current went [] k all low is = absurd (omega (arith, low))
-    there_current current went (seat ∷ seats) zero all low is =
-        there current went seat (and_parts (is_whole_seat seat) (list_all is_whole_seat seats) all).0 (ap (λ o. unwrap_or o true) is)
-    there_current current went (seat ∷ seats) (suc k) all low is =
-        there_current current went seats k (and_parts (is_whole_seat seat) (list_all is_whole_seat seats) all).1 (omega (arith, low)) is
 
 -- ---- an array that a step has changed, and places lost
 
@@ -161,7 +102,7 @@ module _ (v : Raid) (f : ℕ → View) (m : ℕ) (a b : Seen) (z : View) (set : 
         stays = stays;
         others = others;
         seated = subst (λ (k : View). IsSeated v.state m k b) (sym (view_with z w notes.same))
-            (seated_with v.state m z w.seats w.went notes.lost a b stays next.seated notes.loses.seats (λ p few current. notes.loses.went p));
+            (seated_with v.state m z w.seats w.went notes.lost a b stays next.seated notes.loses.seats (λ p current. notes.loses.went p));
         lost = notes.lost;
         went = next_went;
         cause = notes.cause;
@@ -171,7 +112,7 @@ module _ (v : Raid) (f : ℕ → View) (m : ℕ) (a b : Seen) (z : View) (set : 
         events = subst (λ (t : Super). (v.arrays m).truth.events ≤ t.events) (sym notes.same.truth) next.events;
         seats = let few = next.seats in omega (arith, few, fewer);
         was = λ marked. next.was (sym notes.same.marked ∙ marked);
-        whole = λ all. whole_then v.state m z w notes.lost a next.seated notes.same notes.loses (next.whole all);
+        whole = λ all. whole_then v.state m z w notes.lost a next.seated notes.same notes.loses.seats (next.whole all);
       }
 
   -- where whoever went is marked, it has the shape by the marks that images go by
@@ -203,6 +144,9 @@ pub record MayRestate (u : View) (events offset : ℕ) : Type 0 where
   pub few : events < 2 ^ 63
   pub whole : ((u.truth.resync_offset ≡ 2 ^ 64 - 1) ⊎ (u.truth.resync_offset % 128 ≡ 0)) → (offset ≡ 2 ^ 64 - 1) ⊎ (offset % 128 ≡ 0)
   pub unsynced : (if nat_lt offset u.truth.size then offset / 128 else u.truth.size / 128) ≤ u.resync
+  pub synced :
+      u.young ≡ false → is_whole_array u ≡ false → first_unsynced u.truth ≡ u.resync
+      → (if nat_lt offset u.truth.size then offset / 128 else u.truth.size / 128) ≡ u.resync
 
 pub seated_restated : (s : State) (n : ℕ) (u : View) (events offset : ℕ) (mark : Bool) (x : Seen) → MayRestate u events offset
     → IsSeated s n u x → IsSeated s n (restated u events offset mark) x
@@ -234,6 +178,7 @@ seated_restated s n u events offset mark x may seated =
         row = pool.row;
         roles = pool.roles;
         unsynced = may.unsynced;
+        synced = λ young part. elim (pool.synced young part) [ inl rows ↦ inl (may.synced young part rows) | inr some ↦ inr some ];
         zeroed = pool.zeroed;
         rows = pool.rows;
       };

@@ -1,17 +1,21 @@
 -- A whole call, from what it does to each array.
-use Rattle.std.proofs.Common.{◌≡◌, ℕ, ◌<◌, ◌≤◌, Bool, true, false, not, refl, sym, ap, subst, inl, inr}
+use Rattle.std.proofs.Common.{◌≡◌, ℕ, ◌<◌, ◌≤◌, Bool, true, false, not, Option, Some, unwrap_or, refl, sym, ap, subst, ◌∙◌, inl, inr}
 use Rattle.std.proofs.lemmas.Bool.{cases_Bool, cases_lt, both_ways, and_from}
 use Rattle.rack.specs.Values.{Values, Keeps}
-use Rattle.rack.specs.Seen.{Held, Seen}
+use Rattle.rack.specs.Seen.{Held, Image, Seen}
 use Rattle.rack.specs.Moments.{Leaves}
-use Rattle.array_image.specs.Arrays.{Shape, replayed}
+use Rattle.pool_state.specs.declared.contents.State.{State}
+use Rattle.array_image.specs.Arrays.{Shape, replayed, shape_in}
 use Rattle.array_image.specs.Held.{held_by}
 use Rattle.array_image.specs.States.{is_current}
 use Rattle.array_model.specs.View.{has_gone, is_whole_array, shape_of, spent_in}
 use Rattle.array_model.specs.Says.{Holds}
 use Rattle.array_core.specs.Seats.{names}
 use Rattle.raid_rack.specs.Raid.{Raid, gone_in, is_left, is_over, spent_of, held_in, Stood, StopsInside, IsTold}
+use Rattle.raid_rack.specs.Marking.{TiedBetween}
+use Rattle.raid_rack.specs.Reach.{KeepsReach, ReachBetween, reach_same}
 use Rattle.raid_rack.specs.Acts.{RaidStays, RaidActs}
+use Rattle.raid_rack.specs.Agreeing.{HasOwnRows}
 use Rattle.raid_rack.specs.Moves.{IsAmid, IsHeeded, IsMarkedWhole, IsSet, Brings, PartOf}
 use Rattle.raid_rack.proofs.Noted.{gone_some}
 use Rattle.raid_rack.proofs.Over.{or_from}
@@ -43,6 +47,19 @@ heeded_whole v n heeded whole marked =
       | inr some ↦ absurd (both_ways (gone_in v some.0) (heeded_gone v heeded some.0) some.2)
     ]
 
+-- so an array has its own rows
+pub own_rows : (v : Raid) (x : Seen) (n : ℕ) → IsSet v x → IsHeeded v → n < v.state.made → HasOwnRows (v.arrays n)
+own_rows v x n set heeded low =
+    let seated = set.arrays n low in
+    record {
+      is_array = seated.is_array;
+      rows = λ young part.
+          elim (seated.is_of_pool.synced young part) [
+            | inl rows ↦ rows
+            | inr some ↦ absurd (both_ways (has_gone (v.arrays n) some.0) (ap (λ ps. names ps some.0) (heeded n low)) some.2)
+          ];
+    }
+
 -- an array between calls, as one at some point of a call
 pub told_amid : (v : Raid) (x : Seen) (n : ℕ) (spent : ℕ → Bool) → IsHeeded v → IsTold v x n → is_over v n ≡ false
     → ((y : ℕ) → spent y ≡ false → spent_of v n y ≡ false) → IsAmid v x n (held_in v x n) spent
@@ -53,6 +70,7 @@ told_amid v x n spent heeded told goes fewer =
           (fewer_stood v.state (shape_of (v.arrays n)) (held_in v x n) (spent_of v n) spent (λ place. false) v x n fewer (told.stood goes));
       slices = told.slices goes;
       marked = λ are. refl;
+      noted = reach_same (is_left v) (shape_of (v.arrays n));
     }
 
 -- and the other way round, by its own shape
@@ -101,6 +119,18 @@ pub record IsWholeCall (v w : Raid) (a b : Seen) (vals : Held) : Type 0 where
   pub set : IsSet w b
   pub parts : (n : ℕ) → n < v.state.joined → is_over w n ≡ false → PartOf v w a b n (held_in v a n) (vals n) (spent_of w n)
 
+-- how far members count by the shape that contents say
+pub tied_reach : (v w : Raid) (n : ℕ) (vals : ℕ → Values) (spent : ℕ → Bool) (r : Image)
+    → TiedBetween v.state w.state (shape_of (v.arrays n)) (shape_of (w.arrays n)) n vals spent r → ReachBetween v w n r
+tied_reach v w n vals spent r at s shape state is =
+    let by = at.says in
+    let same : by.state ≡ s = ap (λ (o : Option State). unwrap_or o s) (sym by.is_state ∙ state) in
+    let same_shape : by.shape ≡ shape =
+    ap (λ (o : Option Shape). unwrap_or o shape) (sym by.says.shape_is ∙ subst (λ (k : State). shape_in k r n ≡ Some shape) (sym same) is) in (
+      subst (λ (k : State). KeepsReach k (shape_of (v.arrays n)) shape) same (subst (λ (z : Shape). KeepsReach by.state (shape_of (v.arrays n)) z) same_shape at.from),
+      subst (λ (z : Shape). KeepsReach w.state z (shape_of (w.arrays n))) same_shape at.to,
+    )
+
 module _ (v w : Raid) (a b : Seen) (vals : Held) (call : IsWholeCall v w a b vals) where
   -- what an array that was told stands for before it and after it
   pub before_amid : (n : ℕ) → IsTold v a n → is_over w n ≡ false → IsAmid v a n (held_in v a n) (spent_of w n)
@@ -108,6 +138,14 @@ module _ (v w : Raid) (a b : Seen) (vals : Held) (call : IsWholeCall v w a b val
 
   after_amid : (n : ℕ) → IsTold v a n → is_over w n ≡ false → IsAmid w b n (vals n) (spent_of w n)
   after_amid n told goes = (call.parts n told.joined goes).holds (before_amid n told goes)
+
+  -- images go by the run's own shape before it, and after it
+  pub ends_by : (X : Shape → Shape → Type 0) (n : ℕ) (told : IsTold v a n) (goes : is_over w n ≡ false)
+      → X (before_amid n told goes).durable ((call.parts n told.joined goes).holds (before_amid n told goes)).durable → X (shape_of (v.arrays n)) (shape_of (w.arrays n))
+  ends_by X n told goes by =
+      subst (λ (last : Shape). X (shape_of (v.arrays n)) last) (((call.parts n told.joined goes).holds (before_amid n told goes)).marked (λ p current. heeded_gone w call.after p))
+      (subst (λ (first : Shape). X first ((call.parts n told.joined goes).holds (before_amid n told goes)).durable)
+      ((before_amid n told goes).marked (λ p current. heeded_gone v call.before p)) by)
 
   after_stood : (n : ℕ) → IsTold v a n → is_over w n ≡ false → Stood w.state (shape_of (w.arrays n)) (vals n) (spent_of w n) (λ place. false) w b n
   after_stood n told goes = amid_stood w b n (vals n) (spent_of w n) call.after (after_amid n told goes)
@@ -138,7 +176,7 @@ module _ (v w : Raid) (a b : Seen) (vals : Held) (call : IsWholeCall v w a b val
                   between_value v.state w.state n (vals n) (spent_of w n) (replayed a.sectors c) y
                   (((call.parts n told.joined goes).leaves traced).new k c after until stopped
                   (λ d t out. call.stays.inside k c stopped d t (subst (λ i. i ≤ t) (sym (call.stays.below.sectors d)) out))
-                  (before_amid n told goes))
+                  (before_amid n told goes)).says
                   alive;
             };
         held = λ n y told alive. stood_keeps w b n y (vals n) (after_stood n told (live_parts w n y alive).0) alive;

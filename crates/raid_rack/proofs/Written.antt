@@ -22,15 +22,17 @@ use Rattle.array_model.proofs.Moves.{Moves as CallMoves}
 use Rattle.array_core.specs.Pool.{Goes, MayCommit, MayRenew}
 use Rattle.array_core.specs.Writing.{IsElsewhere, KeepsElsewhere}
 use Rattle.raid_rack.specs.Book.{after_same}
-use Rattle.raid_rack.specs.Raid.{Raid, AreLive, gone_in, is_over, held_in, Stood}
+use Rattle.raid_rack.specs.Marking.{Part}
+use Rattle.raid_rack.specs.Raid.{Raid, AreLive, gone_in, is_left, is_over, held_in}
+use Rattle.raid_rack.specs.Reach.{KeepsReach, KeepsReachOn, reach_fewer, reach_same}
 use Rattle.raid_rack.specs.Moves.{AreMarked, Brings, IsAmid, IsHeeded, IsSeated, IsSet, KeepsMarked, PartOf, written_at}
 use Rattle.raid_rack.proofs.Added.{names_current}
 use Rattle.raid_rack.proofs.Staged.{seat_marks}
-use Rattle.raid_rack.proofs.Changed.{LosesOne, ViewsOne, called, part_if, marked_before, further, views_set, views_sectors, views_spent}
-use Rattle.raid_rack.proofs.Noted.{current_few, gone_from, gone_not}
+use Rattle.raid_rack.proofs.Changed.{LosesOne, ViewsOne, called, left_before, part_if, marked_before, further, views_set, views_sectors, views_spent}
+use Rattle.raid_rack.proofs.Noted.{current_few, gone_from, gone_not, left_reach}
 use Rattle.raid_rack.proofs.Over.{event_room, number_room, over_still, someone_left}
 use Rattle.raid_rack.specs.Frames.{frame_of}
-use Rattle.raid_rack.proofs.Frames.{geometry_frame, shape_frame, view_frame}
+use Rattle.raid_rack.proofs.Frames.{geometry_frame, view_frame}
 use Rattle.raid_rack.proofs.Logs.{kept_calm, logs_call}
 use Rattle.raid_rack.proofs.Parts.{SaysSome, acts_some, frame_by, part_by, part_other}
 use Rattle.raid_rack.specs.Rows.{KeepsRows, LeavesRows}
@@ -124,13 +126,15 @@ pub record ActsOne (v : Raid) (f : ℕ → View) (number m : ℕ) (a b : Seen) (
   pub heeded : IsHeeded v
   pub views : ViewsOne v f m a b
   pub shape : AreMarked (called v f number) → after ≡ shape_of (f m)
+  pub grows : KeepsReach v.state (shape_of (v.arrays m)) after
+  pub noted : KeepsReachOn (is_left (called v f number)) after (shape_of (f m))
   pub frame : frame_of (f m).truth ≡ frame_of (v.arrays m).truth
   pub goes : Goes a b
   pub later : v.number ≤ number
   pub able : (n : ℕ) (vals : ℕ → Values) (spent : ℕ → Bool) → n < v.state.made → is_over (called v f number) n ≡ false → IsAmid v a n vals spent → Able
   pub acts :
       (vals : ℕ → Values) (spent : ℕ → Bool) → Covers (f m) spent → Able
-      → CallMoves (v.arrays m).number a b (Holds v.state (shape_of (v.arrays m)) (v.arrays m) vals spent a) (SaysSome v.state (v.arrays m).number (shape_frame (shape_of (v.arrays m))) (now vals) spent)
+      → CallMoves (v.arrays m).number a b (Holds v.state (shape_of (v.arrays m)) (v.arrays m) vals spent a) (SaysSome v.state (v.arrays m).number (shape_of (v.arrays m)) after (now vals) spent)
       (Holds v.state after (f m) (now vals) spent b)
   pub kept : Able → LogKept v.state v.number (λ place. false) a → LogKept v.state number (gone_in (called v f number)) b
   pub elsewhere : (on : List ℕ) × ((p : ℕ) → is_current v.state p ≡ false → names on p ≡ false) × KeepsElsewhere false (v.arrays m) on a b
@@ -152,7 +156,7 @@ module _ (v : Raid) (f : ℕ → View) (number m : ℕ) (a b : Seen) (now : (ℕ
   OwnBefore own = Holds v.state (shape_of (v.arrays m)) (v.arrays m) own (spent_in (f m)) a
 
   abbrev OwnDuring : (ℕ → Values) → Image → Type 0
-  OwnDuring own = SaysSome v.state (v.arrays m).number (shape_frame (shape_of (v.arrays m))) (now own) (spent_in (f m))
+  OwnDuring own = SaysSome v.state (v.arrays m).number (shape_of (v.arrays m)) after (now own) (spent_in (f m))
 
   abbrev OwnAfter : (ℕ → Values) → Type 0
   OwnAfter own = Holds v.state after (f m) (now own) (spent_in (f m)) b
@@ -160,37 +164,39 @@ module _ (v : Raid) (f : ℕ → View) (number m : ℕ) (a b : Seen) (now : (ℕ
   pub own_part : (vals : ℕ → Values) (spent : ℕ → Bool) → is_over (called v f number) m ≡ false → Covers (f m) spent
       → PartOf v (called v f number) a b m vals (now vals) spent
   own_part vals spent goes covers =
-      part_if v f number a b m vals (now vals) spent call.goes.stays set.lasting call.goes.leaves
+      part_if v (called v f number) a b m vals (now vals) spent call.goes.stays set.lasting call.goes.leaves
       (λ amid.
       let able = call.able m vals spent call.views.low goes amid in
       let shape = shape_of (v.arrays m) in
       record {
-        before = shape;
         after = after;
-        stood = subst (λ (s : Shape). Stood v.state s vals spent (gone_in v) v a m) (amid.marked marked) amid.stood;
-        part = part_by v.state (shape_frame shape) shape after vals (now vals) spent (gone_in v) (gone_in (called v f number)) v (called v f number) a b m
-            (call.acts vals spent covers able) (call.views.seated.number ∙ sym (set.arrays m call.views.low).number) (λ log. log_after able log)
+        part = subst (λ (first : Shape). Part v.state v.state first after vals (now vals) spent (gone_in v) (gone_in (called v f number)) v (called v f number) a b m)
+            (sym (amid.marked marked))
+            (part_by v.state shape after vals (now vals) spent (gone_in v) (gone_in (called v f number)) v (called v f number) a b m
+            call.grows (call.acts vals spent covers able) (call.views.seated.number ∙ sym (set.arrays m call.views.low).number) (λ log. log_after able log)
             (someone_left (called v f number) m goes) call.views.written
             (λ copies stood.
             logs_call v.state v.number (gone_in v) (v.arrays m).number a b (Holds v.state shape (v.arrays m) vals spent a) (Holds v.state after (f m) (now vals) spent b)
-            (SaysSome v.state (v.arrays m).number (shape_frame shape) (now vals) spent) set.lasting marked (call.acts vals spent covers able) stood.log stood.someone copies)
+            (SaysSome v.state (v.arrays m).number shape after (now vals) spent) set.lasting marked (call.acts vals spent covers able) stood.log stood.someone copies)
             (λ g framed stood.
-            frame_by v.state (shape_frame shape) g shape vals (now vals) spent (gone_in v) v (f m) a b m (Holds v.state after (f m) (now vals) spent b)
-            (call.acts vals spent covers able) (view_frame (v.arrays m) ∙ framed) (call.frame ∙ framed) stood);
+            frame_by v.state shape after g shape vals (now vals) spent (gone_in v) v (f m) a b m (Holds v.state after (f m) (now vals) spent b)
+            (call.acts vals spent covers able) (view_frame (v.arrays m) ∙ framed) (call.frame ∙ framed) stood));
         marked = call.shape;
+        noted = call.noted;
       })
 
   pub other_part : (n : ℕ) (vals : ℕ → Values) (spent : ℕ → Bool) → (n ≡ m → ⊥) → n < v.state.made → is_over (called v f number) n ≡ false
       → PartOf v (called v f number) a b n vals vals spent
   other_part n vals spent apart below goes =
-      part_if v f number a b n vals vals spent call.goes.stays set.lasting call.goes.leaves
+      part_if v (called v f number) a b n vals vals spent call.goes.stays set.lasting call.goes.leaves
       (λ amid.
       let able = call.able n vals spent below goes amid in
       let own = held_in v a m in
       record {
-        before = amid.durable;
         after = amid.durable;
-        stood = amid.stood;
+        noted =
+            subst (λ (u : View). KeepsReachOn (is_left (called v f number)) amid.durable (shape_of u)) (sym (call.views.others n apart))
+            (reach_fewer (is_left v) (is_left (called v f number)) amid.durable (shape_of (v.arrays n)) (left_before v f m a b set call.views) amid.noted);
         part = part_other v.state amid.durable vals spent (gone_in v) (gone_in (called v f number)) v (called v f number) a b n m
             (OwnBefore own) (OwnAfter own) (OwnDuring own)
             (small m call.views.low) (small n below) apart (set.arrays m call.views.low).number (call.views.others n apart) set.lasting marked
@@ -301,6 +307,8 @@ write_brings v f number m a b on sector from set call =
       heeded = call.heeded;
       views = call.views;
       shape = call.loses.shape;
+      grows = reach_same (is_current v.state) (shape_of (v.arrays m));
+      noted = left_reach (called v f number) m (v.arrays m) b call.views.low call.views.seated call.loses.only;
       frame = geometry_frame (v.arrays m).truth (f m).truth call.loses.only.same.geometry;
       goes = call.goes;
       later = call.later;

@@ -6,12 +6,12 @@ use Rattle.md_super.specs.declared.superblock.Super.{Super}
 use Rattle.pool_state.specs.declared.contents.State.{State}
 use Rattle.array_image.specs.Arrays.{place_with}
 use Rattle.array_image.specs.Left.{IsLeft}
-use Rattle.array_image.specs.SoundArray.{array_fields}
+use Rattle.array_image.specs.SoundArray.{array_fields, first_unsynced}
 use Rattle.array_image.specs.States.{is_current}
 use Rattle.array_image.specs.Supers.{super_in, truth_in}
 use Rattle.array_core.specs.Superblocks.{left_offset}
 use Rattle.array_model.specs.ArrayCalls.{Covers}
-use Rattle.array_model.specs.View.{View}
+use Rattle.array_model.specs.View.{IsArray, View, is_whole_array}
 use Rattle.raid_rack.specs.Cleaning.{NoneFails}
 use Rattle.raid_rack.specs.Moves.{IsAmid}
 use Rattle.raid_rack.specs.Raid.{Raid, is_over}
@@ -25,6 +25,16 @@ pub record SupersAgree (s : State) (r : Image) (n : ℕ) : Type 0 where
   pub there :
       (k p : ℕ) → k < truth.raid_disks → place_with truth.roles.items k ≡ Some p → is_current s p ≡ true
       → is_some (super_in s r n p) ≡ true
+
+-- They agree, and their truth has the fields of an array's.
+pub record SayTruth (v : View) (s : State) (r : Image) (n : ℕ) : Type 0 where
+  pub agree : SupersAgree s r n
+  pub fields : (t : Super) → truth_in s r n ≡ Some t → array_fields t ≡ array_fields v.truth
+
+-- An array as calls leave it that isn't young: it is whole, or its truth leaves just the rows to resync that are left in it.
+pub record HasOwnRows (v : View) : Type 0 where
+  pub is_array : IsArray v
+  pub rows : v.young ≡ false → is_whole_array v ≡ false → first_unsynced v.truth ≡ v.resync
 
 -- They agree, and where the array isn't young they leave the rows to resync that are left in it, and no others.
 pub record AgreeLeaving (v : View) (s : State) (r : Image) (n : ℕ) : Type 0 where

@@ -16,7 +16,7 @@ use Rattle.raid_rack.specs.RaidRack.{SliceRuns, raid_in, refused_in, slices_in, 
 use Rattle.raid_rack.specs.Runs.{RaidRuns, raid_runs_same, raid_runs_then}
 
 -- No spent sector comes back, and an array of which no sector is spent in the end has refused nothing meanwhile. Nothing of an array
--- changes but whom it lost, and a plan stays. `before` and `now` are the spent answers of each array.
+-- changes but whom it lost, its events, the rows that its superblocks leave and its mark, and a plan stays. `before` and `now` are the spent answers of each array.
 pub record Serves (v w : Raid) (before now : ℕ → ℕ) : Type 0 where
   pub sectors : (n : ℕ) → sectors_of (w.arrays n) ≡ sectors_of (v.arrays n)
   pub spent : (n y : ℕ) → live_of w n y → live_of v n y

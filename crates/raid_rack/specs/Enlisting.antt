@@ -37,7 +37,7 @@ use Rattle.raid_rack.specs.Logs.{LogsBetween}
 use Rattle.raid_rack.specs.Losses.{has_other}
 use Rattle.raid_rack.specs.Marking.{SaysBetween}
 use Rattle.raid_rack.specs.Missing.{raised}
-use Rattle.raid_rack.specs.Moves.{AreCaused, IsAmid, IsHeeded, KeepsArrays, Mends, Moves, RaisesBy}
+use Rattle.raid_rack.specs.Moves.{AreCaused, IsAmid, IsHeeded, IsUnmarked, KeepsArrays, Mends, Moves, RaisesBy}
 use Rattle.raid_rack.specs.NewDrive.{IsOfDrive, drive_table, joins, length_in, no_state}
 use Rattle.raid_rack.specs.Raid.{Raid, IsTold, held_in, is_over, live_of, spent_of}
 use Rattle.raid_rack.specs.Truths.{KeepsTruths}
@@ -247,7 +247,7 @@ pub record SettlesWhole (v w : Raid) (a b : Seen) : Type 0 where
   pub number : w.number ≡ v.number
   pub raised : (n : ℕ) → n < v.state.made → (w.arrays n).truth.events ≤ (v.arrays n).truth.events + 1
   pub heeded : IsHeeded w
-  pub unmarked : (n : ℕ) → n < v.state.made → (w.arrays n).marked ≡ false
+  pub unmarked : (n : ℕ) → n < v.state.made → IsUnmarked (w.arrays n)
   pub settled :
       (n : ℕ) (vals : ℕ → Values) (spent : ℕ → Bool) → n < v.state.made → n < v.state.joined → is_over w n ≡ false → Covers (w.arrays n) spent
       → IsAmid v a n vals spent → IsSettled (shape_of (w.arrays n)) n b.held

@@ -6,6 +6,7 @@ pub mod Frames
 pub mod Missing
 pub mod Vacated
 pub mod Acts
+pub mod Reach
 pub mod Marking
 pub mod Losses
 pub mod Rows

@@ -20,6 +20,7 @@ use Rattle.raid_rack.specs.Book.{IsAfter}
 use Rattle.raid_rack.specs.Frames.{Frame, KeepsFrame, frame_of}
 use Rattle.raid_rack.specs.Logs.{KeepsLogs}
 use Rattle.raid_rack.specs.Raid.{Raid, Stood}
+use Rattle.raid_rack.specs.Reach.{KeepsReach}
 
 -- the targets are copies of a state and superblocks
 abbrev pub NoData : List Target → Type 0
@@ -43,6 +44,12 @@ pub record SaysBetween (s t : State) (n : ℕ) (vals : ℕ → Values) (spent : 
   pub shape : Shape
   pub says : Says state n shape vals spent r
 
+-- So they do, and by that shape its members count at least as far as by the first one, and no further than by the last one.
+pub record TiedBetween (s t : State) (first last : Shape) (n : ℕ) (vals : ℕ → Values) (spent : ℕ → Bool) (r : Image) : Type 0 where
+  pub says : SaysBetween s t n vals spent r
+  pub from : KeepsReach says.state first says.shape
+  pub to : KeepsReach t says.shape last
+
 -- A part of a call, seen from an array that stands before it: at each moment contents say it by a state between the two, and it
 -- stands after it.
 pub record Part (s t : State) (durable after : Shape) (vals vals_after : ℕ → Values) (spent gone gone_after : ℕ → Bool) (v w : Raid) (a b : Seen) (n : ℕ)
@@ -51,7 +58,8 @@ pub record Part (s t : State) (durable after : Shape) (vals vals_after : ℕ →
   pub book : IsAfter s t
   pub leaves :
       a.traced
-      → Leaves a b (λ c. IsInside a.sectors c → Stood s durable vals spent gone v a n → SaysBetween s t n vals_after spent (replayed a.sectors c))
+      → Leaves a b (λ c. IsInside a.sectors c → Stood s durable vals spent gone v a n → TiedBetween s t durable after n vals_after spent (replayed a.sectors c))
+  pub reach : KeepsReach t durable after
   pub holds : Stood s durable vals spent gone v a n → Stood t after vals_after spent gone_after w b n
   pub logs : HoldsCopies s a → Stood s durable vals spent gone v a n → KeepsLogs s t a b
   pub frame : (g : Frame) → frame_of (v.arrays n).truth ≡ g → Stood s durable vals spent gone v a n → KeepsFrame g n (w.arrays n) a b

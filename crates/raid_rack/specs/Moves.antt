@@ -25,7 +25,8 @@ use Rattle.commit_log.specs.Saying.{HoldsCopies}
 use Rattle.raid_rack.specs.Book.{IsAfter}
 use Rattle.raid_rack.specs.Frames.{Frame, KeepsFrame, frame_of}
 use Rattle.raid_rack.specs.Logs.{KeepsLogs}
-use Rattle.raid_rack.specs.Marking.{SaysBetween}
+use Rattle.raid_rack.specs.Marking.{TiedBetween}
+use Rattle.raid_rack.specs.Reach.{KeepsReach, KeepsReachOn}
 use Rattle.raid_rack.specs.Rows.{KeepsRows, LeavesRows}
 
 -- ---- what holds at each point of a call, whatever the rack below tells
@@ -39,9 +40,18 @@ pub record IsOfPool (s : State) (v : View) : Type 0 where
   pub row : has_whole_row v.truth ≡ true
   pub roles : has_roles (length s.drives.items) v.truth ≡ true
   pub unsynced : first_unsynced v.truth ≤ v.resync
+  -- it is whole, or its superblocks leave just the rows to resync that are left in it, or a member has gone whose drive isn't marked yet
+  pub synced :
+      v.young ≡ false → is_whole_array v ≡ false
+      → (first_unsynced v.truth ≡ v.resync) ⊎ ((place : ℕ) × (is_current s place ≡ true) × (has_gone v place ≡ true))
   -- in a young array rows are zeroed, and none is left to resync
   pub zeroed : v.young ≡ true → rows_of v ≤ v.resync
   pub rows : HasRowRebuilds v
+
+-- No write of this run has marked an array, and its superblocks leave just the rows to resync that are left in it, unless it is young.
+pub record IsUnmarked (v : View) : Type 0 where
+  pub mark : v.marked ≡ false
+  pub rows : v.young ≡ false → first_unsynced v.truth ≡ v.resync
 
 -- Array n: it has the slices of its members, and the members that are missing are those whose drive is marked, or has gone in a
 -- call of this array.
@@ -88,13 +98,18 @@ pub record IsAmid (v : Raid) (x : Seen) (n : ℕ) (vals : ℕ → Values) (spent
   pub stood : Stood v.state durable vals spent (gone_in v) v x n
   pub slices : AreLive v.state.made x
   pub marked : AreMarked v → durable ≡ shape_of (v.arrays n)
+  -- and members on places that are left count in the run at least as far
+  pub noted : KeepsReachOn (is_left v) durable (shape_of (v.arrays n))
 
 -- A part of a call, seen from an array: it gives its values at each moment, and stands after it with these.
 pub record PartOf (v w : Raid) (a b : Seen) (n : ℕ) (vals now : ℕ → Values) (spent : ℕ → Bool) : Type 0 where
+  pub holds : IsAmid v a n vals spent → IsAmid w b n now spent
   pub leaves :
       a.traced
-      → Leaves a b (λ c. IsInside a.sectors c → IsAmid v a n vals spent → SaysBetween v.state w.state n now spent (replayed a.sectors c))
-  pub holds : IsAmid v a n vals spent → IsAmid w b n now spent
+      → Leaves a b (λ c. IsInside a.sectors c → (amid : IsAmid v a n vals spent)
+      → TiedBetween v.state w.state amid.durable (holds amid).durable n now spent (replayed a.sectors c))
+  -- no member counts less far after it by the marks that images go by then
+  pub reach : (amid : IsAmid v a n vals spent) → KeepsReach w.state amid.durable (holds amid).durable
   -- and so do the log slices, where they hold all copies of the state before it
   pub logs : HoldsCopies v.state a → IsAmid v a n vals spent → KeepsLogs v.state w.state a b
   -- its size and its members' places stay

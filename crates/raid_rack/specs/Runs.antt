@@ -1,5 +1,5 @@
 -- What calls in a row of a rack of arrays do to its book and to images of its slices.
-use Rattle.std.proofs.Common.{◌≡◌, ℕ, ◌<◌, ◌≤◌, Bool, true, false, Some, refl, sym, subst, inl, inr, ◌∙◌, arith}
+use Rattle.std.proofs.Common.{◌≡◌, ℕ, ◌<◌, ◌≤◌, Bool, true, false, Option, Some, unwrap_or, refl, sym, ap, subst, inl, inr, ◌∙◌, arith}
 use Rattle.std.proofs.lemmas.Bool.{cases_Bool, both_ways}
 use Rattle.rack.specs.Seen.{Image, Seen}
 use Rattle.rack.specs.Moments.{Leaves}
@@ -12,11 +12,13 @@ use Rattle.array_image.specs.States.{is_current, state_in}
 use Rattle.array_image.specs.Supers.{truth_in}
 use Rattle.array_image.specs.SoundArray.{IsSoundArray}
 use Rattle.array_image.specs.Arrays.{Shape, shape_in, replayed}
+use Rattle.array_model.specs.View.{shape_of}
 use Rattle.raid_rack.specs.Book.{IsAfter, after_same, after_then}
 use Rattle.raid_rack.specs.Frames.{Frame, HasFrame, frame_of}
 use Rattle.raid_rack.specs.Logs.{LogsBetween}
 use Rattle.raid_rack.specs.Since.{HoldsSince, KeepsSince, since_still, since_then}
 use Rattle.raid_rack.specs.Moves.{AreCaused, KeepsMarked}
+use Rattle.raid_rack.specs.Reach.{KeepsReach, ReachBetween, reach_same, reach_then}
 use Rattle.raid_rack.specs.Raid.{Raid, is_left, is_over, IsTold}
 use Rattle.raid_rack.specs.Truths.{KeepsTruths}
 use Rattle.raid_rack.specs.Rows.{KeepsRows, LeavesFrom, LeavesRows, rows_then}
@@ -46,6 +48,10 @@ pub record KeepsMoments (v w : Raid) (a b : Seen) : Type 0 where
       → KeepsSince base a b
   pub framed : (n : ℕ) → IsTold v a n → is_over w n ≡ false → frame_of (w.arrays n).truth ≡ frame_of (v.arrays n).truth
   pub frames : (n : ℕ) → IsTold v a n → is_over w n ≡ false → a.traced → Leaves a b (λ c. HasFrame (frame_of (v.arrays n).truth) n (replayed a.sectors c))
+  -- and its members count at least as far as before the call, and no further than after it, by the marks of the state that contents
+  -- have and of the one after the call
+  pub reach : (n : ℕ) → IsTold v a n → is_over w n ≡ false → a.traced → Leaves a b (λ c. ReachBetween v w n (replayed a.sectors c))
+  pub reached : (n : ℕ) → IsTold v a n → is_over w n ≡ false → KeepsReach w.state (shape_of (v.arrays n)) (shape_of (w.arrays n))
 
 -- Marks are added and nothing else of the book, each with its cause; what stops leave meanwhile has marks between those before and
 -- those after. What is told stays so. `p` and `q` are the arrays that were written before it and after it.
@@ -81,6 +87,8 @@ moments_same v x = record {
   since = λ n base told goes after holds. since_still base x holds;
   framed = λ n told goes. refl;
   frames = λ n told goes traced. leaves_same x (λ c. HasFrame (frame_of (v.arrays n).truth) n (replayed x.sectors c));
+  reach = λ n told goes traced. leaves_same x (λ c. ReachBetween v v n (replayed x.sectors c));
+  reached = λ n told goes. reach_same (is_current v.state) (shape_of (v.arrays n));
 }
 
 -- no call is a run
@@ -175,6 +183,35 @@ moments_then v w z a b c one two book after sectors_same still_traced = record {
       subst (λ (sectors : ℕ → ℕ). HasFrame g n (replayed sectors i)) (λ k d. sectors_same d k)
       (subst (λ (k : Frame). HasFrame k n (replayed b.sectors i)) (one.framed n told (two.still n goes)) frame))
       (two.frames n (one.told n told) goes (still_traced traced)));
+  reach = λ n told goes traced.
+      let u = shape_of (v.arrays n) in
+      let x = shape_of (w.arrays n) in
+      let y = shape_of (z.arrays n) in
+      let late = two.images n (one.told n told) goes (still_traced traced) in
+      let from = two.reach n (one.told n told) goes (still_traced traced) in
+      let Goal : Image → Type 0 = λ i. ReachBetween v z n (replayed a.sectors i) in
+      leaves_then Goal
+      (leaves_weaker (λ i. ReachBetween v w n (replayed a.sectors i)) Goal
+      (λ i at s shape state is.
+      let both = at s shape state is in
+      (both.0, reach_then (is_current w.state) (is_current z.state) shape x y after.current both.1 (two.reached n (one.told n told) goes)))
+      (one.reach n told (two.still n goes) traced))
+      (record {
+        later = late.later;
+        kept = late.kept;
+        past = late.past;
+        new = λ k i since until stopped.
+            subst (λ (sectors : ℕ → ℕ). ReachBetween v z n (replayed sectors i)) (λ j d. sectors_same d j)
+            (λ s shape state is.
+            let at = late.new k i since until stopped in
+            let both = from.new k i since until stopped s shape state is in
+            let same : at.state ≡ s = ap (λ (o : Option State). unwrap_or o s) (sym at.is_state ∙ state) in
+            let later : IsAfter w.state s = subst (IsAfter w.state) same at.later in
+            (reach_then (is_current w.state) (is_current s) u x shape later.current (one.reached n told (two.still n goes)) both.0, both.1));
+      });
+  reached = λ n told goes.
+      reach_then (is_current w.state) (is_current z.state) (shape_of (v.arrays n)) (shape_of (w.arrays n)) (shape_of (z.arrays n)) after.current
+      (one.reached n told (two.still n goes)) (two.reached n (one.told n told) goes);
   since = λ n base told goes since holds.
       let early = one.since n base told (two.still n goes) since holds in
       since_then base a b c sectors_same still_traced early

@@ -21,7 +21,7 @@ use Rattle.commit_log.specs.View.{LogView, names}
 use Rattle.raid_rack.specs.Missing.{marked}
 use Rattle.raid_rack.specs.Losses.{AddsCopies}
 use Rattle.raid_rack.specs.Raid.{Raid, gone_in, is_over}
-use Rattle.raid_rack.specs.Moves.{IsAmid, IsSet, Moves}
+use Rattle.raid_rack.specs.Moves.{IsAmid, IsSet, IsUnmarked, Moves}
 
 -- a target is the superblock of a member of one of the first arrays, one that isn't missing
 pub record IsSuperOf (v : Raid) (k : ℕ) (x : Target) : Type 0 where
@@ -39,7 +39,7 @@ pub record HasSupers (u : View) (xs : List Target) : Type 0 where
   pub added : List Target
   pub adds : AddsSupersOf u before added
   pub among : (x : Target) → AmongTargets x adds.targets → AmongTargets x xs
-  pub unmarked : u.marked ≡ false
+  pub unmarked : IsUnmarked u
 
 -- targets are the superblocks of the first arrays, and nothing else
 pub record HasStaged (v : Raid) (k : ℕ) (xs : List Target) : Type 0 where

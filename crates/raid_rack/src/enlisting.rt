@@ -6,7 +6,7 @@ ghost use Rattle.slice_rack.specs.Slices.{seat_of as disk_at};
 ghost use Rattle.array_image.specs.States.{is_current};
 ghost use Rattle.array_model.specs.declared.Seat.TheVariants.{Missing};
 ghost use Rattle.array_core.specs.Seats.{gone, heeded, seat_of};
-ghost use Rattle.raid_rack.specs.Moves.{IsHeeded, Mends, RaisesBy};
+ghost use Rattle.raid_rack.specs.Moves.{IsHeeded, IsUnmarked, Mends, RaisesBy};
 ghost use Rattle.raid_rack.specs.NewDrive.{ReachesAll, SeatsDrive, joins};
 ghost use Rattle.raid_rack.specs.Settling.{HasStaged};
 ghost use Rattle.raid_rack.specs.RaidRack.{IsFit, IsRunning, arrays_in, arrays_of, is_written, raid_by, raid_in, refused_in, slices_in, slices_seen, written_in};
@@ -133,7 +133,7 @@ impl Arrays {
         requires few { length self.old.all.items ≤ 16 }
         requires empty { self.old.log.added ≡ [] }
         requires numbers { (n : ℕ) → n < length self.old.all.items → ((raid_by self.old).arrays n).number ≡ n }
-        requires unmarked { (n : ℕ) → n < length self.old.all.items → ((raid_by self.old).arrays n).marked ≡ false }
+        requires unmarked { (n : ℕ) → n < length self.old.all.items → IsUnmarked ((raid_by self.old).arrays n) }
         ensures staged { HasStaged (raid_by self.old) (length self.old.all.items) self.new.log.added }
         ensures rest { self.new ≡ record self.old { log = record self.old.log { added = self.new.log.added } } }
     {
@@ -150,7 +150,7 @@ impl Arrays {
         requires running { IsRunning self.old (S.seen rack.old) }
         requires heeded { IsHeeded (raid_by self.old) }
         requires empty { self.old.log.added ≡ [] }
-        requires unmarked { (n : ℕ) → n < self.old.state.made → ((raid_by self.old).arrays n).marked ≡ false }
+        requires unmarked { (n : ℕ) → n < self.old.state.made → IsUnmarked ((raid_by self.old).arrays n) }
         requires serial { self.old.state.serial < 2 ^ 32 - 1 }
         requires listed { place < length self.old.state.drives.items }
         requires missing { is_current self.old.state place ≡ false }

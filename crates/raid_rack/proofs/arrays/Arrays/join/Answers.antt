@@ -22,7 +22,8 @@ use Rattle.raid_rack.proofs.JoinCalls.{IsJoining, joins_each, joins_finds, joins
 use Rattle.raid_rack.proofs.Mended.{each_items, on_named, some_copies}
 use Rattle.raid_rack.proofs.Noted.{current_few}
 use Rattle.raid_rack.proofs.Whole.{heeded_left}
-use Rattle.raid_rack.proofs.Renewed.{joins_missing, renewed_count, renewed_get, renewed_marked, renewed_number}
+use Rattle.raid_rack.specs.Moves.{IsUnmarked}
+use Rattle.raid_rack.proofs.Renewed.{joins_missing, renewed_count, renewed_get, renewed_number, renewed_unmarked}
 use Rattle.raid_rack.proofs.arrays.Arrays.join.Given.{Over}
 use Rattle.raid_rack.proofs.arrays.Arrays.join.Goals as goal
 use Rattle.raid_rack.proofs.arrays.Arrays.join.Goals.{After-add_copies, After-current_places-current, After-note_gone, After-renew_members, After-stage_all}
@@ -63,8 +64,8 @@ pub stage_all-requires-clause-unmarked : goal.stage_all-requires-clause-unmarked
 stage_all-requires-clause-unmarked g c n low =
     let at = (goal.at.stage_all-requires-clause-unmarked g c).After-renew_members in
     let made = count_made g at in
-    ap (λ (u : View). u.marked) (array_made g at n low) ∙ renewed_marked (is_written c.joining-joining.result n) c.args.place (next_drive c.args.self.now.state) _
-    ∙ c.requires.unmarked n (omega (arith, low, made))
+    subst IsUnmarked (sym (array_made g at n low))
+    (renewed_unmarked (is_written c.joining-joining.result n) c.args.place (next_drive c.args.self.now.state) _ (c.requires.unmarked n (omega (arith, low, made))))
 
 -- the state is the new one
 state_made : (g : Over) (c : After-stage_all g) → c.stage_all.new.self.state ≡ enlisted c.args.place c.args.units c.args.plan c.args.self.now.state

@@ -21,7 +21,7 @@ use Rattle.slice_rack.specs.Runs.{IsSliced, inside_still}
 use Rattle.slice_rack.specs.Slices.{Slices}
 use Rattle.shr_base.specs.declared.Id.{Id}
 use Rattle.raid_rack.specs.Enlisting.{Enlists, FindsEach, HasLost, HasNewSlices, IsEnlisted, JoinsEach, SettlesWhole, new_table, next_drive, with_drive}
-use Rattle.raid_rack.specs.Moves.{IsSet, Mends}
+use Rattle.raid_rack.specs.Moves.{IsSet, IsUnmarked, Mends}
 use Rattle.raid_rack.specs.NewDrive.{IsOfDrive, LaysDrive, ReachesAll, SeatsDrive, drive_table, joins}
 use Rattle.raid_rack.specs.RaidRack.{IsFit, IsRunning, raid_by, slices_in}
 use Rattle.raid_rack.proofs.Apart.{fit_still, not_whole, refused_lay, running_still}
@@ -118,7 +118,7 @@ returns-then-not-settle_whole-clause-not_whole g c is =
 few_place : (g : Over) (c : After-retire g) → c.args.place < 16
 few_place g c = let low = c.requires.listed in let few = c.requires.fit.running.set.few in omega (arith, low, few)
 
-all_unmarked : (g : Over) (c : After-retire g) (n : ℕ) → n < c.settle_whole.new.self.state.made → ((raid_by c.settle_whole.new.self).arrays n).marked ≡ false
+all_unmarked : (g : Over) (c : After-retire g) (n : ℕ) → n < c.settle_whole.new.self.state.made → IsUnmarked ((raid_by c.settle_whole.new.self).arrays n)
 all_unmarked g c n low =
     let whole = c.settle_whole.ensures.whole c.if-not-settle_whole.false in
     whole.unmarked n (subst (λ (s : State). n < s.made) whole.same low)
@@ -183,7 +183,8 @@ join-requires-clause-heeded g c =
 pub join-requires-clause-unmarked : goal.join-requires-clause-unmarked
 join-requires-clause-unmarked g c n low =
     let at = (goal.at.join-requires-clause-unmarked g c).After-retire in
-    ap (λ (r : Raid). (r.arrays n).marked) (retired_is g at) ∙ all_unmarked g at n (subst (λ (s : State). n < s.made) c.retire.ensures.state low)
+    let before = all_unmarked g at n (subst (λ (s : State). n < s.made) c.retire.ensures.state low) in
+    subst (λ (r : Raid). IsUnmarked (r.arrays n)) (sym (retired_is g at)) (record { mark = before.mark; rows = before.rows })
 
 pub join-requires-clause-others : goal.join-requires-clause-others
 join-requires-clause-others g c p low away =
