@@ -1,5 +1,5 @@
 -- The arrays of a new pool over its slices are a set of arrays, each whole.
-use Rattle.std.proofs.Common.{◌≡◌, ℕ, pos, eqb-true, zero, suc, ◌+◌, ◌-◌, ◌*◌, ◌<◌, ◌≤◌, ◌^◌, ◌==◌, ◌&&◌, not, nat_le, nat_lt, Bool, true, false, List, [], ◌∷◌, get_or, map, length, slice_get, slice_index, if◌then◌else◌, Option, Some, None, Ok, option_map, unwrap_or, refl, sym, ap, subst, ◌∙◌, le-leb, lt-ltb, arith}
+use Rattle.std.proofs.Common.{◌≡◌, ℕ, pos, eqb-true, zero, suc, ◌+◌, ◌-◌, ◌*◌, ◌<◌, ◌≤◌, ◌^◌, ◌==◌, ◌&&◌, not, nat_le, nat_lt, Bool, true, false, List, [], ◌∷◌, get_or, map, length, slice_get, slice_index, if◌then◌else◌, Option, Some, None, Ok, option_map, unwrap_or, refl, sym, ap, subst, ◌∙◌, inl, le-leb, lt-ltb, arith}
 use Rattle.std.specs.Option.{option_map_or}
 use Rattle.std.specs.List.{range_with_len, list_all}
 use Rattle.std.proofs.lemmas.Bool.{and_from, and_parts, both_ways}
@@ -195,6 +195,7 @@ module _ (plan : NewPool) (birth : Birth) (is : IsPlan plan) where
               row = refl;
               roles = roles_ok birth a n p plan.extent n_drives is.most na small_p few (length s.drives.items) (let many = drives_many in omega (arith, many));
               unsynced = unsynced_left false u;
+              synced = λ old part. inl refl;
               zeroed = λ young. absurd (both_ways false refl young);
               rows = λ k to rebuilds.
                   let within = slice_get_within v.seats k (Rebuilding to) rebuilds in
