@@ -9,31 +9,44 @@ use Rattle.slice_rack.specs.Runs.{IsSliced}
 use Rattle.slice_rack.specs.Slices.{Slices, disk_of, first_of as slice_first, place_of as slice_place, seat_of as slice_seat, sectors_of}
 use Rattle.slice_rack.specs.Sliced.{IsInside, sliced, slices_of as slices_shown}
 use Rattle.pool_state.specs.declared.contents.State.{State}
-use Rattle.array_image.specs.Arrays.{array_in, arrays_in, replayed}
+use Rattle.array_image.specs.Arrays.{array_in, arrays_in, replayed, shape_in}
 use Rattle.array_image.specs.Left.{Picks}
 use Rattle.array_image.specs.States.{state_in}
 use Rattle.commit_log.proofs.Kept.{live_after, live_on}
 use Rattle.raid_rack.specs.Raid.{Raid}
 use Rattle.pool_image.specs.Disks.{Disks, disks_of}
-use Rattle.pool_image.specs.Drives.{Found, found}
-use Rattle.pool_image.specs.Meaning.{arrays_held}
+use Rattle.pool_image.specs.Drives.{Found, found, slices_of}
+use Rattle.pool_image.specs.Meaning.{arrays_held, shape_of}
 use Rattle.pool_model.specs.InService.{IsOutset}
 use Rattle.pool_model.specs.Pools.{IsSoundPool}
 use Rattle.pool_model.specs.Left.{AreAlone, AreAloneBy, HoldAgain, HoldRest, IsLeftBy, IsPickOff, IsServed, AreElsewhere}
 use Rattle.pool_model.proofs.Copies.{IsKnown, known_of, c, quiet, seat_there, seats_now, state_is}
+use Rattle.pool_model.proofs.Current.{shape_current}
 use Rattle.pool_model.proofs.Extents.{sectors_now}
 use Rattle.pool_model.proofs.Found.{found_is}
 use Rattle.pool_model.proofs.Outset.{outset_of}
 use Rattle.pool_model.proofs.Known.{says_pool}
 use Rattle.pool_model.proofs.Rested.{found_now, idle_now, now, sound_logs, stood}
-use Rattle.pool_model.proofs.Still.{alone_now, slices_now, sound_now, value_now}
+use Rattle.pool_model.proofs.Still.{alone_now, same, slices_now, sound_now, value_now}
 
 module _ (f : Found) (t : Slices) (v : Raid) (y : Seen) (i : Image) (known : IsKnown f t v y i) where
+  -- what is pending changes nothing
+  still_quiet : replayed (sectors_of t) (c f t v y i known) ≡ c f t v y i known
+  still_quiet = λ j k u. quiet f t v y i known k u j
+
+  pub state_known : state_in (replayed (sectors_of t) (c f t v y i known)) ≡ Some v.state
+  state_known = ap state_in still_quiet ∙ state_is f t v y i known
+
+  pub shape_known : (n : ℕ) → n < f.state.made → shape_of (now f t v y i known) n ≡ shape_in v.state (replayed (sectors_of t) (c f t v y i known)) n
+  shape_known n low =
+      shape_current v.state (slices_of (now f t v y i known)) (c f t v y i known) n (same f t v.state i (stood f t v y i known) (says_pool f t v y i known) n low)
+      ∙ sym (ap (λ (r : Image). shape_in v.state r n) still_quiet)
+
   pub value_known : (n x : ℕ) → n < f.state.made → arrays_held (now f t v y i known) n x ≡ arrays_in (replayed (sectors_of t) (c f t v y i known)) n x
   unfolding arrays_in
   value_known n x low =
       value_now f t v.state i (stood f t v y i known) (says_pool f t v y i known) n low x
-      ∙ sym (ap (λ (r : Image). option_map_or (λ (z : State). array_in z r n x) (state_in r) []) (λ j k u. quiet f t v y i known k u j)
+      ∙ sym (ap (λ (r : Image). option_map_or (λ (z : State). array_in z r n x) (state_in r) []) still_quiet
       ∙ ap (λ (o : Option State). option_map_or (λ z. array_in z (c f t v y i known) n x) o []) (state_is f t v y i known))
 
   unfoldable pub known_again : HoldAgain f t v.state i
@@ -49,6 +62,8 @@ module _ (f : Found) (t : Slices) (v : Raid) (y : Seen) (i : Image) (known : IsK
       joined = known.served.after.same.joined ∙ known.served.joined ∙ sym known.served.after.same.made;
       alone = alone_now f t v.state i (stood f t v y i known) (says_pool f t v y i known) i known.left.alone;
       sectors = sectors_now f t v.state i (stood f t v y i known) (says_pool f t v y i known);
+      is_state = state_known;
+      shapes = shape_known;
       values = value_known;
     };
     present = λ p counts. let one = seat_there f t v y i known p counts in (one.0, seats_now f t v y i known p counts ∙ one.1);

@@ -162,6 +162,8 @@ still_said f e t s i is = record {
   joined = is.joined;
   alone = is.alone;
   sectors = λ n low. is.sectors n low ∙ sectors_said f e n;
+  is_state = is.is_state;
+  shapes = is.shapes;
   values = is.values;
 }
 

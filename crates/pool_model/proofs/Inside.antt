@@ -14,7 +14,7 @@ use Rattle.md_super.specs.declared.superblock.Super.{Super}
 use Rattle.pool_state.specs.declared.contents.Copied.{Copied}
 use Rattle.pool_state.specs.declared.contents.State.{State}
 use Rattle.pool_state.specs.Sector.{decoded}
-use Rattle.array_image.specs.Arrays.{array_in, arrays_in, replayed}
+use Rattle.array_image.specs.Arrays.{array_in, arrays_in, replayed, shape_in}
 use Rattle.array_image.specs.Places.{data_sector, log_sectors, log_slice, member_slice, place_of, slice_of, state_sector, super_sector}
 use Rattle.array_image.specs.States.{current_places, epoch_of, is_current}
 use Rattle.array_image.proofs.Frames.{super_of_sector}
@@ -23,7 +23,7 @@ use Rattle.commit_log.specs.Saying.{AreOwnCopies}
 use Rattle.commit_log.proofs.Kept.{later_yet}
 use Rattle.commit_log.proofs.Replaying.{pending_sound}
 use Rattle.pool_image.specs.Disks.{Identities, Identity, identities_of, newest, seat_of, stands_for}
-use Rattle.pool_image.specs.Drives.{Found, end_of, extent_from, first_of, found, found_by}
+use Rattle.pool_image.specs.Drives.{Found, end_of, extent_from, first_of, found, found_by, slices_of}
 use Rattle.pool_image.specs.Meaning.{is_member}
 use Rattle.pool_image.specs.Replay.{Extent, standing_by, written}
 use Rattle.pool_image.proofs.Founds.{first_behind}
@@ -35,7 +35,7 @@ use Rattle.pool_model.specs.Left.{AreAloneBy, HasNoSuper, HoldStill}
 use Rattle.pool_model.specs.Pools.{extent_in}
 use Rattle.pool_model.specs.Stopped.{SaysArray, SaysStopped, StandFor}
 use Rattle.pool_model.proofs.Brought.{apart, e, e_is, e_none, lands_as, replays, ys, zs}
-use Rattle.pool_model.proofs.Current.{SameCurrent, SameMembers, array_current, sound_current, truth_current}
+use Rattle.pool_model.proofs.Current.{SameCurrent, SameMembers, array_current, shape_current, sound_current, truth_current}
 use Rattle.pool_model.proofs.Extents.{sectors_now}
 use Rattle.pool_model.proofs.Found.{newest_latest}
 use Rattle.pool_model.proofs.Layers.{IsLaid, laid}
@@ -43,7 +43,7 @@ use Rattle.pool_model.proofs.Logs.{log_lies}
 use Rattle.pool_model.proofs.Named.{IsNamed, id_same, same_position, stands_named, stands_same}
 use Rattle.pool_model.proofs.Said.{SaysPool, SaysSeats, pool_of}
 use Rattle.pool_model.proofs.Seats.{nowhere, seats_now}
-use Rattle.pool_model.proofs.Still.{alone_now, slices_now, sound_now, value_now}
+use Rattle.pool_model.proofs.Still.{alone_now, same, slices_now, sound_now, value_now}
 use Rattle.pool_model.proofs.Stopped.{c, copied_is, few, ids, later_base, many, on_place, seated_or}
 
 some_same : {X : Type 0} (a b : X) → Some a ≡ Some b → a ≡ b
@@ -224,6 +224,9 @@ module _ (f : Found) (t : Slices) (base s : State) (i : Image) (stop : SaysStopp
           named = was.named;
         }
 
+    pub shape_same : shape_in s (sliced t after) n ≡ shape_in s written_as n
+    shape_same = shape_current s (sliced t after) written_as n same_current
+
     pub value_same : (x : ℕ) → array_in s (sliced t after) n x ≡ arrays_in written_as n x
     unfolding arrays_in
     value_same x =
@@ -379,5 +382,9 @@ module _ (f : Found) (t : Slices) (base s : State) (i : Image) (stop : SaysStopp
     joined = (later_base f t base s i stop).same.joined ∙ stop.joined ∙ sym (later_base f t base s i stop).same.made;
     alone = alone_now f t s after (standing_by f.disks i st.stood) says_pool after alone_now_written;
     sectors = sectors_now f t s after (standing_by f.disks i st.stood) says_pool;
+    is_state = stop.says.is_state;
+    shapes = λ n low.
+        shape_current s (slices_of now) (sliced t after) n (same f t s after (standing_by f.disks i st.stood) says_pool n low)
+        ∙ shape_same n low;
     values = λ n x low. value_now f t s after (standing_by f.disks i st.stood) says_pool n low x ∙ value_same n low x;
   }

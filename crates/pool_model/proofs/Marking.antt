@@ -26,6 +26,7 @@ use Rattle.raid_rack.specs.Moves.{IsAmid, PartOf}
 use Rattle.raid_rack.specs.Raid.{Raid}
 use Rattle.raid_rack.specs.Runs.{IsBetween}
 use Rattle.raid_rack.specs.Since.{AreSince, HoldsSince}
+use Rattle.raid_rack.proofs.Moving.{part_says}
 use Rattle.raid_rack.proofs.Noted.{current_few}
 use Rattle.pool_image.specs.Disks.{Candidate, candidate, identities_of, seat_of, stands_for}
 use Rattle.pool_image.specs.Drives.{Found}
@@ -67,7 +68,7 @@ parts_tell made v w a b vals spent some parts amid copies since traced =
             shape_is = at.says.shape_is;
             is_sound = at.says.is_sound;
           })
-          ((parts n low).leaves traced);
+          (part_says v w a b n (vals n) (vals n) (spent n) (parts n low) traced);
       frames = λ n low. ((parts n low).frame (frame_of (v.arrays n).truth) refl (amid n low)).leaves traced;
     }
 

@@ -61,7 +61,7 @@ find_passes p (y ∷ ys) x is = of (p y) refl (find_passes p ys x) is
     of true passes later at = subst (λ k. p k ≡ true) (alike at) passes
     of false fails later at = later at
 
-all_range : (p : ℕ → Bool) (a m : ℕ) → ((n : ℕ) → n < a + m → p n ≡ true) → list_all p (range_with_len a m) ≡ true
+pub all_range : (p : ℕ → Bool) (a m : ℕ) → ((n : ℕ) → n < a + m → p n ≡ true) → list_all p (range_with_len a m) ≡ true
 all_range p a zero each = refl
 all_range p a (suc m) each = ap₂ (λ b rest. b && rest) (each a (omega arith)) (all_range p (a + 1) m (λ n low. each n (omega (arith, low))))
 

@@ -1,8 +1,9 @@
--- A later opening of what a stop leaves means the run's volume, or refuses it for what superblocks say of an array or another pool's disk says.
-use Rattle.std.proofs.Common.{◌≡◌, ℕ, zero, suc, ◌+◌, ◌<◌, ◌≤◌, ◌^◌, Bool, true, false, ◌||◌, not, is_some, nat_lt, if◌then◌else◌, [], ◌∷◌, length, Option, Some, None, option_map, refl, sym, ap, ap₂, subst, ◌∙◌, inl, inr, le-ltb, lt-ltb, arith}
-use Rattle.std.specs.List.{list_all, range_with_len}
+-- A later opening of what a stop leaves finds the arrays of the run's book and means its volume, or refuses it for what the book says of an array or another pool's disk says.
+use Rattle.std.proofs.Common.{◌≡◌, ℕ, zero, suc, ◌+◌, ◌<◌, ◌≤◌, ◌/◌, ◌^◌, Bool, true, false, ◌||◌, not, is_some, nat_lt, if◌then◌else◌, [], ◌∷◌, map, count_by, length, Option, Some, None, option_map, refl, sym, ap, ap₂, subst, ◌∙◌, inl, inr, le-ltb, lt-ltb, ltb-true, arith}
+use Rattle.std.specs.List.{range_with_len}
 use Rattle.std.specs.Option.{option_map_or}
-use Rattle.std.proofs.lemmas.Bool.{and_from, cases_Bool}
+use Rattle.std.proofs.lemmas.Bool.{and_parts, cases_Bool}
+use Rattle.std.proofs.lemmas.List.Sums.{sum_by-cons}
 use Rattle.std.proofs.lemmas.Option.{none-some}
 use Rattle.rack.specs.Seen.{Image, IsPick, Seen}
 use Rattle.rack.specs.Values.{MayLeave}
@@ -11,12 +12,15 @@ use Rattle.slice_rack.specs.Slices.{Slices, sectors_of}
 use Rattle.slice_rack.specs.Sliced.{IsInside, sliced, slices_of as slices_shown}
 use Rattle.md_super.specs.declared.superblock.Super.{Super}
 use Rattle.pool_state.specs.declared.contents.State.{State}
-use Rattle.array_image.specs.Arrays.{Shape, arrays_in, place_with, replayed, value_by}
+use Rattle.array_image.specs.Arrays.{Member, Shape, arrays_in, place_with, replayed, value_by}
 use Rattle.array_image.specs.Left.{IsLeft}
+use Rattle.array_image.specs.SoundArray.{array_fields, first_unsynced}
 use Rattle.array_image.specs.States.{is_current}
-use Rattle.array_image.specs.Supers.{is_named, super_in}
+use Rattle.array_image.specs.Supers.{is_named, is_unclean, super_in}
 use Rattle.array_core.proofs.Rules.{placed}
-use Rattle.array_model.specs.View.{sectors_of as sectors_in}
+use Rattle.array_core.proofs.Stripped.{some_same}
+use Rattle.array_model.specs.View.{IsArray, View, is_whole_array, is_whole_seat, member_on, rows_of, sectors_of as sectors_in, shape_of as shape_by_book}
+use Rattle.array_model.proofs.RowWrites.{whole_seat}
 use Rattle.lvm_text.specs.declared.group.Group.{Group}
 use Rattle.lvm_group.specs.Group.{first_bad as bad_in, linear_in}
 use Rattle.lvm_group.specs.Images.{IsVolume}
@@ -25,7 +29,7 @@ use Rattle.lvm_group.specs.Shown.{contents_of}
 use Rattle.lvm_group.proofs.SameParts.{area_below}
 use Rattle.pool_image.specs.Disks.{Disks, Identities}
 use Rattle.pool_image.specs.Drives.{Found, slices_of}
-use Rattle.pool_image.specs.Meaning.{Refusal, array_sectors, arrays_held, damage_of, has_table, is_member, joined_arrays, meaning, refusal_of, super_at, volume_by, volumes_of}
+use Rattle.pool_image.specs.Meaning.{Refusal, array_sectors, arrays_held, damage_of, has_table, is_dirty_degraded, is_member, is_too_few, joined_arrays, lacking_of, meaning, refusal_of, shape_of, super_at, truth_of, volume_by, volumes_of}
 use Rattle.pool_image.specs.Replay.{Standing}
 use Rattle.pool_image.specs.Sound.{AreSame}
 use Rattle.pool_image.specs.Volumes.{Arrays, first_bad, linear_of}
@@ -34,7 +38,7 @@ use Rattle.pool_image.proofs.Groups.{AreWholeArrays, bad_alike, group_alike}
 use Rattle.pool_image.proofs.Joined.{AreAlike, bad_kept, group_kept, volumes_kept}
 use Rattle.pool_image.proofs.Parts.{held_in}
 use Rattle.pool_scan.proofs.Valid.{valid_arrays}
-use Rattle.raid_rack.specs.Agreeing.{SupersAgree}
+use Rattle.raid_rack.specs.Agreeing.{HasOwnRows, SayTruth, SupersAgree}
 use Rattle.raid_rack.specs.Book.{IsAfter, after_same}
 use Rattle.raid_rack.specs.Raid.{IsTold, Raid, held_in as raid_held, is_over, spent_of}
 use Rattle.pool_model.specs.Absent.{volume_arrays}
@@ -42,16 +46,17 @@ use Rattle.pool_model.specs.Alone.{AreTabled, HoldTabled}
 use Rattle.pool_model.specs.Grouped.{AreHeadsLive, HoldGroup, IsVolumeOf}
 use Rattle.pool_model.specs.InService.{InService, IsArranged}
 use Rattle.pool_model.specs.Left.{HoldStill}
-use Rattle.pool_model.specs.Reopening.{AreWholeSectors, HoldVolume, IsExcused, Reopens}
+use Rattle.pool_model.specs.Reopening.{AreWholeSectors, HoldVolume, MayRefuseBy, Reopens}
 use Rattle.pool_model.specs.Taken.{LacksDrive}
 use Rattle.pool_model.proofs.Again.{known_again, value_known}
 use Rattle.pool_model.proofs.Alone.{tabled_says}
 use Rattle.pool_model.proofs.Copies.{c, copy_pool, IsKnown, s, seat_there, seats_now}
-use Rattle.pool_model.proofs.Current.{array_current}
+use Rattle.pool_model.proofs.Current.{array_current, shape_current, truth_current}
 use Rattle.pool_model.proofs.Extents.{is, is_is, made_same, truth_is}
 use Rattle.pool_model.proofs.Found.{found_is, valid}
 use Rattle.pool_model.proofs.InService.{service_known, vacant_known}
 use Rattle.pool_model.proofs.Known.{left, says, says_pool}
+use Rattle.pool_model.proofs.Refused.{all_range}
 use Rattle.pool_model.proofs.Rested.{found_now, now, stands_so, stood}
 use Rattle.pool_model.proofs.Roles.{named_position}
 use Rattle.pool_model.proofs.Said.{AreInside, SaysPool}
@@ -60,9 +65,6 @@ use Rattle.pool_model.proofs.Sizes.{facts_known, reaches, sectors_known}
 use Rattle.pool_model.proofs.Still.{members, same}
 use Rattle.pool_model.proofs.Undamaged.{present_now, sound_parts}
 use Rattle.pool_model.proofs.Unrefused.{no_damage, no_damages, refused_so}
-
-some_same : {X : Type 0} (a b : X) → Some a ≡ Some b → a ≡ b
-some_same a b same = cc
 
 -- ---- the volume
 
@@ -200,9 +202,32 @@ amid_volume f t s i still inside small whole v y l after few group sized may =
 
 -- ---- why it is refused
 
-all_hold : (test : ℕ → Bool) (a m : ℕ) → ((n : ℕ) → n < a + m → test n ≡ true) → list_all test (range_with_len a m) ≡ true
-all_hold test a zero each = refl
-all_hold test a (suc m) each = and_from (test a) (list_all test (range_with_len (a + 1) m)) (each a (omega arith)) (all_hold test (a + 1) m (λ n low. each n (omega (arith, low))))
+-- where all members are whole, none lacks
+none_lacks : (member : ℕ → Member) (a m : ℕ) → ((k : ℕ) → a ≤ k → k < a + m → (member k).is_whole ≡ true) → count_by (λ k. not k.is_whole) (map member (range_with_len a m)) ≡ 0
+none_lacks member a zero whole = refl
+none_lacks member a (suc m) whole =
+    sum_by-cons (λ (k : Member). if not k.is_whole then 1 else 0) (member a) (map member (range_with_len (a + 1) m))
+    ∙ ap (λ (b : Bool). (if not b then 1 else 0) + count_by (λ k. not k.is_whole) (map member (range_with_len (a + 1) m))) (whole a (omega arith) (omega arith))
+    ∙ ap (λ n. 0 + n) (none_lacks member (a + 1) m (λ k least low. whole k (omega (arith, least)) (omega (arith, low))))
+
+-- So it is with a whole array.
+whole_lacks : (v : View) → IsArray v → is_whole_array v ≡ true → lacking_of (shape_by_book v) ≡ 0
+unfolding shape_by_book
+whole_lacks v is_array whole =
+    none_lacks (member_on v) 0 v.truth.raid_disks (λ k least low. ap (λ o. option_map_or is_whole_seat o false) (whole_seat v k is_array whole (omega (arith, low))))
+
+-- An array that lacks a member and isn't young has rows left to resync, where a superblock with the fields of its truth is unclean.
+lacks_rows : (v : View) (u : Super) → HasOwnRows v → array_fields u ≡ array_fields v.truth → is_unclean u ≡ true → 0 < lacking_of (shape_by_book v) → v.young ≡ false → v.resync < rows_of v
+lacks_rows v u own fields unclean lacks young = elim (cases_Bool (is_whole_array v)) [
+  | inl whole ↦ (let none = whole_lacks v own.is_array whole in absurd (omega (arith, lacks, none)))
+  | inr not_whole ↦
+      let dirty : is_unclean v.truth ≡ true = ap (λ (z : Super). is_unclean z) (sym fields) ∙ unclean in
+      let first : v.truth.resync_offset / 128 ≡ v.resync =
+      ap (λ (b : Bool). if b then v.truth.resync_offset / 128 else v.truth.size / 128) (sym dirty) ∙ own.rows young not_whole in
+      let low = ltb-true v.truth.resync_offset v.truth.size dirty in
+      let rows = own.is_array.whole_rows in
+      omega (arith, first, low, rows)
+]
 
 module _ (f : Found) (t : Slices) (v : Raid) (y : Seen) (i : Image) (known : IsKnown f t v y i) (small : (d : ℕ) → d < f.disks.count → f.disks.sectors d < 2 ^ 48) where
   abbrev book : State
@@ -230,6 +255,9 @@ module _ (f : Found) (t : Slices) (v : Raid) (y : Seen) (i : Image) (known : IsK
       ∙ array_current book (slices_of g) held n (same f t v.state i rest said n low) (members f t v.state i rest said n low) x
       ∙ ap (λ (o : Option Shape). option_map_or (λ shape. value_by shape held n x) o []) (says f t v y i known n low).shape_is))
       ((says f t v y i known n low).value x live)
+
+  low_before : (n : ℕ) → n < book.made → n < f.state.made
+  low_before n low = (let made = made_same f t v.state i rest said in omega (arith, low, made))
 
   before_made : (n : ℕ) → n < book.joined → n < f.state.made
   before_made n low = (let joined = known.served.after.same.joined in let all = known.served.joined in omega (arith, low, joined, all))
@@ -285,55 +313,106 @@ module _ (f : Found) (t : Slices) (v : Raid) (y : Seen) (i : Image) (known : IsK
           copy = parts.copy;
           log = parts.log;
           supers =
-              all_hold (λ n. not (is_member g n p) || is_some (super_at g n p)) 0 book.made
-              (λ n low. super_there p n counts (let made = made_same f t v.state i rest said in omega (arith, low, made)));
+              all_range (λ n. not (is_member g n p) || is_some (super_at g n p)) 0 book.made
+              (λ n low. super_there p n counts (low_before n (omega (arith, low))));
         })
 
-    excused_known : first_bad (joined_arrays g) ≡ None → (why : Refusal) → refusal_of f.disks i ≡ Some why → IsExcused g why
+  -- ---- by the book
+
+  -- each array has its members as they are by the book
+  shape_known : (n : ℕ) → n < book.made → shape_of g n ≡ Some (shape_by_book (v.arrays n))
+  shape_known n low =
+      let less = low_before n low in
+      shape_current book (slices_of g) held n (same f t v.state i rest said n less) ∙ (says f t v y i known n less).shape_is
+
+  module _ (truths : (n : ℕ) (r : Image) → n < f.state.made → IsLeft y r → SayTruth (v.arrays n) v.state r n)
+      (own : (n : ℕ) → n < f.state.made → HasOwnRows (v.arrays n))
+      (tables : (p d : ℕ) → is_current v.state p ≡ true → f.seats p ≡ Some d → has_table f p d ≡ true) where
+    -- and its truth has the fields of the book's
+    fields_known : (n : ℕ) (u : Super) → n < book.made → truth_of g n ≡ Some u → array_fields u ≡ array_fields (v.arrays n).truth
+    fields_known n u low at =
+        let less = low_before n low in
+        (truths n held less (left f t v y i known)).fields u (sym (truth_current book (slices_of g) held n (same f t v.state i rest said n less)) ∙ at)
+
+    few_known : (n : ℕ) → n < book.made → is_too_few g n ≡ true → (n < book.made) × (1 < lacking_of (shape_by_book (v.arrays n)))
+    few_known n low few = (
+      low,
+      ltb-true 1 (lacking_of (shape_by_book (v.arrays n)))
+          (sym (ap (λ (o : Option Shape). option_map_or (λ shape. nat_lt 1 (lacking_of shape)) o true) (shape_known n low)) ∙ few),
+    )
+
+    dirty_known : (n : ℕ) → n < book.made → is_dirty_degraded g n ≡ true
+        → (n < book.made) × (0 < lacking_of (shape_by_book (v.arrays n))) × ((v.arrays n).young ≡ false → (v.arrays n).resync < rows_of (v.arrays n))
+    dirty_known n low dirty =
+        let less = low_before n low in
+        let truth = is f t v.state i rest said n less in
+        let truth_there = truth_is f t v.state i rest said n less in
+        let both = (and_parts (nat_lt n book.joined) _ dirty).1 in
+        let parts = and_parts (option_map_or (λ shape. nat_lt 0 (lacking_of shape)) (shape_of g n) false) (option_map_or is_unclean (truth_of g n) false) both in
+        let lacks = ltb-true 0 (lacking_of (shape_by_book (v.arrays n)))
+        (sym (ap (λ (o : Option Shape). option_map_or (λ shape. nat_lt 0 (lacking_of shape)) o false) (shape_known n low)) ∙ parts.0) in (
+          low,
+          lacks,
+          lacks_rows (v.arrays n) truth (own n less) (fields_known n truth low truth_there)
+              (sym (ap (λ (o : Option Super). option_map_or is_unclean o false) truth_there) ∙ parts.1) lacks,
+        )
+
+    excused_known : first_bad (joined_arrays g) ≡ None → (why : Refusal) → refusal_of f.disks i ≡ Some why → MayRefuseBy v g why
     excused_known good why is =
-        elim (refused_so i g (stands_so f t v y i known) (found_now f t v y i known) refl (copy_pool f t v y i known) (present_now f t v y i known) good why is) [
+        elim (refused_so g (MayRefuseBy v g) (λ other. other) few_known dirty_known (present_now f t v y i known) good why i (stands_so f t v y i known) (found_now f t v y i known) refl
+        (copy_pool f t v y i known) is) [
           | inl excused ↦ excused
-          | inr wants ↦ absurd (none-some why (sym (no_damages g undamaged_known) ∙ wants))
+          | inr wants ↦ absurd (none-some why (sym (no_damages g (undamaged_known (λ n r low left. (truths n r low left).agree) tables)) ∙ wants))
         ]
 
-    pub known_reopens : (l : Linear) → HoldGroup v l y → AreHeadsLive v → AreWholeSectors f.disks i → Reopens f t l i
+    pub known_reopens : (l : Linear) → HoldGroup v l y → AreHeadsLive v → AreWholeSectors f.disks i → Reopens f t l v i
     unfolding known_again volume_known amid_volume still_volume
     known_reopens l holds heads whole = record {
       volume = volume_known l holds heads whole;
+      state = refl;
+      shapes = shape_known;
+      truths = fields_known;
+      rows = λ n u low at young not_whole. ap (λ (z : Super). first_unsynced z) (fields_known n u low at) ∙ (own n (low_before n low)).rows young not_whole;
       excused = λ why is. excused_known (sound_known l holds heads whole) why is;
     }
 
 -- ---- a pool in service
 
 -- what disks say is no part of it
-reopens_said : (f : Found) (e : Identities) (t : Slices) (l : Linear) (i : Image) → Reopens (record f { identities = e }) t l i → Reopens f t l i
-reopens_said f e t l i is = record {
+reopens_said : (f : Found) (e : Identities) (t : Slices) (l : Linear) (v : Raid) (i : Image) → Reopens (record f { identities = e }) t l v i → Reopens f t l v i
+reopens_said f e t l v i is = record {
   volume = record { now = is.volume.now; found_is = is.volume.found_is; lies = is.volume.lies; areas = is.volume.areas; means = is.volume.means };
+  state = is.state;
+  shapes = is.shapes;
+  truths = is.truths;
+  rows = is.rows;
   excused = is.excused;
 }
 
 said_reopens : (f : Found) (t : Slices) (v : Raid) (l : Linear) (y : Seen) (i : Image) → IsArranged f → ((e : Identities) × IsKnown (record f { identities = e }) t v y i)
     → ((d : ℕ) → d < f.disks.count → f.disks.sectors d < 2 ^ 48) → AreTabled f (λ d. Unit {0}) v.state i
-    → ((n : ℕ) (r : Image) → n < f.state.made → IsLeft y r → SupersAgree v.state r n) → HoldGroup v l y → AreHeadsLive v → AreWholeSectors f.disks i → Reopens f t l i
-said_reopens f t v l y i arranged one small tabled agree group heads whole =
+    → ((n : ℕ) (r : Image) → n < f.state.made → IsLeft y r → SayTruth (v.arrays n) v.state r n) → ((n : ℕ) → n < f.state.made → HasOwnRows (v.arrays n))
+    → HoldGroup v l y → AreHeadsLive v → AreWholeSectors f.disks i → Reopens f t l v i
+said_reopens f t v l y i arranged one small tabled truths own group heads whole =
     let e = one.0 in
-    reopens_said f e t l i
-    (known_reopens (record f { identities = e }) t v y i one.1 small agree (tabled_says f v.state e i arranged tabled one.1.left.elsewhere.tables) l group heads whole)
+    reopens_said f e t l v i
+    (known_reopens (record f { identities = e }) t v y i one.1 small truths own (tabled_says f v.state e i arranged tabled one.1.left.elsewhere.tables) l group heads whole)
 
--- Where its arrays are told and none is over, its drives have their tables, its superblocks agree and its arrays hold a volume's group, so it is with whatever the disks may be left with.
+-- Where its arrays are told and none is over, its drives have their tables, its superblocks say the book's truths, whose rows are the arrays' own, and its arrays hold a volume's group, so
+-- it is with whatever the disks may be left with.
 pub service_reopens : (f : Found) (t : Slices) (v : Raid) (l : Linear) (x : Seen) → InService f t v x → IsInside t x
     → ((n : ℕ) → n < f.state.made → IsTold v (slices_shown t x) n) → ((n : ℕ) → n < f.state.made → is_over v n ≡ false) → HoldTabled f v.state t x
-    → ((n : ℕ) (r : Image) → n < f.state.made → IsLeft (slices_shown t x) r → SupersAgree v.state r n) → HoldGroup v l (slices_shown t x) → AreHeadsLive v
-    → (i : Image) → IsPick x x x.held i → AreWholeSectors f.disks i → Reopens f t l i
-service_reopens f t v l x is inside told lasts tabled agree group heads i pick whole =
+    → ((n : ℕ) (r : Image) → n < f.state.made → IsLeft (slices_shown t x) r → SayTruth (v.arrays n) v.state r n) → ((n : ℕ) → n < f.state.made → HasOwnRows (v.arrays n))
+    → HoldGroup v l (slices_shown t x) → AreHeadsLive v → (i : Image) → IsPick x x x.held i → AreWholeSectors f.disks i → Reopens f t l v i
+service_reopens f t v l x is inside told lasts tabled truths own group heads i pick whole =
     said_reopens f t v l (slices_shown t x) i is.arranged (service_known f t v x is inside told lasts i pick)
-    (subst (λ (k : Disks). (d : ℕ) → d < k.count → k.sectors d < 2 ^ 48) (sym is.disks) inside.small) (tabled i (λ d s live never. pick d s live)) agree group heads whole
+    (subst (λ (k : Disks). (d : ℕ) → d < k.count → k.sectors d < 2 ^ 48) (sym is.disks) inside.small) (tabled i (λ d s live never. pick d s live)) truths own group heads whole
 
 -- also where a place whose drive is missing has no disk any more
 pub vacant_reopens : (f : Found) (t u : Slices) (v : Raid) (l : Linear) (x : Seen) (place : ℕ) → InService f t v x → LacksDrive f t u v place x → IsInside u x
     → ((n : ℕ) → n < f.state.made → IsTold v (slices_shown u x) n) → ((n : ℕ) → n < f.state.made → is_over v n ≡ false) → HoldTabled f v.state t x
-    → ((n : ℕ) (r : Image) → n < f.state.made → IsLeft (slices_shown u x) r → SupersAgree v.state r n) → HoldGroup v l (slices_shown u x) → AreHeadsLive v
-    → (i : Image) → IsPick x x x.held i → AreWholeSectors f.disks i → Reopens f u l i
-vacant_reopens f t u v l x place is lacks inside told lasts tabled agree group heads i pick whole =
+    → ((n : ℕ) (r : Image) → n < f.state.made → IsLeft (slices_shown u x) r → SayTruth (v.arrays n) v.state r n) → ((n : ℕ) → n < f.state.made → HasOwnRows (v.arrays n))
+    → HoldGroup v l (slices_shown u x) → AreHeadsLive v → (i : Image) → IsPick x x x.held i → AreWholeSectors f.disks i → Reopens f u l v i
+vacant_reopens f t u v l x place is lacks inside told lasts tabled truths own group heads i pick whole =
     said_reopens f u v l (slices_shown u x) i is.arranged (vacant_known f t u v x place is lacks inside told lasts i pick)
-    (subst (λ (k : Disks). (d : ℕ) → d < k.count → k.sectors d < 2 ^ 48) (sym is.disks) inside.small) (tabled i (λ d s live never. pick d s live)) agree group heads whole
+    (subst (λ (k : Disks). (d : ℕ) → d < k.count → k.sectors d < 2 ^ 48) (sym is.disks) inside.small) (tabled i (λ d s live never. pick d s live)) truths own group heads whole

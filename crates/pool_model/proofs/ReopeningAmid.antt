@@ -2,10 +2,11 @@
 --
 -- `calls_reopen` says it of calls that write slices alone. It asks for the pool's slices and its drives' tables (`HoldTabled`) by the slices of the calls: for a pool in
 -- service these are there (`slices_by`), and `vacant_lies` gives them where a place whose drive is missing has no disk any more.
-use Rattle.std.proofs.Common.{◌≡◌, ◌⊎◌, ℕ, suc, ◌+◌, ◌<◌, ◌≤◌, ◌&&◌, ◌||◌, not, Bool, true, false, find, nat_lt, if◌then◌else◌, is_none, is_some, List, [], Option, Some, None, option_map, unwrap_or, refl, sym, ap, ap₂, subst, ◌∙◌, inl, inr, lt-ltb, arith}
+use Rattle.std.proofs.Common.{◌≡◌, ◌⊎◌, ℕ, zero, suc, ◌+◌, ◌<◌, ◌≤◌, ◌&&◌, ◌||◌, not, Bool, true, false, find, nat_lt, if◌then◌else◌, is_none, is_some, List, [], ◌∷◌, slice_get, Option, Some, None, option_map, unwrap_or, refl, sym, ap, ap₂, subst, ◌∙◌, inl, inr, lt-ltb, arith}
+use Rattle.std.specs.List.{list_all, range_with_len}
 use Rattle.std.specs.Option.{option_and_then, option_map_or}
 use Rattle.std.specs.Result.{result_ok}
-use Rattle.std.proofs.lemmas.Bool.{cases_Bool}
+use Rattle.std.proofs.lemmas.Bool.{both_ways, cases_Bool}
 use Rattle.std.proofs.lemmas.Option.{none-some}
 use Rattle.rack.specs.Seen.{Image, Seen}
 use Rattle.rack.specs.Sequences.{WritesOnly}
@@ -18,19 +19,26 @@ use Rattle.gpt_table.specs.Changes.{the_table}
 use Rattle.md_super.specs.declared.superblock.Super.{Super}
 use Rattle.pool_state.specs.declared.contents.Copied.{Copied}
 use Rattle.pool_state.specs.declared.contents.State.{State}
+use Rattle.array_image.specs.Arrays.{Member, Shape, member_by, member_in, replayed, shape_by}
+use Rattle.array_image.specs.Held.{Among}
 use Rattle.array_image.specs.Places.{arrays_first, data_sector, log_slice, member_slice, state_sector}
 use Rattle.array_image.specs.Record.{is_bad_gate}
 use Rattle.array_image.specs.States.{current_places, is_current}
+use Rattle.array_image.specs.Supers.{is_named}
+use Rattle.array_core.proofs.Rules.{get_map, get_range, placed, zero_more}
+use Rattle.array_core.proofs.Stripped.{some_same}
+use Rattle.array_model.specs.View.{shape_of as shape_by_book}
 use Rattle.commit_log.proofs.Kept.{put_none}
 use Rattle.lvm_group.specs.Runs.{Linear}
 use Rattle.pool_image.specs.Alike.{drive_gate, is_bad_block}
 use Rattle.pool_image.specs.Disks.{Identities, identities_of, newest}
 use Rattle.pool_image.specs.Drives.{Found, extent_from, extent_of, first_of, found, slices_of, truth_from}
-use Rattle.pool_image.specs.Meaning.{Refusal, damage_of, damaged, first_damaged, has_log, has_slice_of, has_supers, has_table, in_superblock, is_member, is_table, joined_arrays, refusal_of}
+use Rattle.pool_image.specs.Meaning.{Refusal, damage_of, damaged, first_damaged, has_log, has_slice_of, has_supers, has_table, in_superblock, is_member, is_table, joined_arrays, refusal_of, shape_of, super_at, truth_of}
 use Rattle.pool_image.specs.Replay.{Extent, Standing, standing, standing_by, written}
 use Rattle.pool_image.specs.Volumes.{first_bad}
 use Rattle.pool_image.proofs.Identities.{seat_inside}
 use Rattle.pool_image.proofs.Rested.{gate_block, stood_by}
+use Rattle.pool_check.proofs.Valid.{valid_fit}
 use Rattle.pool_rest.specs.Moments.{StandsReplaying, landed_on}
 use Rattle.pool_rest.specs.Resting.{seated_state}
 use Rattle.pool_rest.specs.SoundLogs.{IsSoundLog}
@@ -39,6 +47,7 @@ use Rattle.pool_rest.proofs.MidwayDisks.{copied_or, seats_written, tables_now, w
 use Rattle.pool_rest.proofs.MidwayPool.{found_was, gates_early, was, whole_early}
 use Rattle.raid_rack.specs.Book.{IsAfter, after_then}
 use Rattle.raid_rack.specs.Raid.{IsTold, Raid, is_over}
+use Rattle.raid_rack.specs.Reach.{KeepsReach, ReachBetween}
 use Rattle.raid_rack.specs.Runs.{KeepsMoments}
 use Rattle.raid_rack.specs.Since.{AreSince, HasOwnSince}
 use Rattle.raid_rack.proofs.Added.{names_current}
@@ -46,45 +55,131 @@ use Rattle.pool_model.specs.Alone.{AreTabled, HoldTabled}
 use Rattle.pool_model.specs.InService.{InService}
 use Rattle.pool_model.specs.Left.{HavePlaces, HaveSlices}
 use Rattle.pool_model.specs.Pools.{extent_in}
-use Rattle.pool_model.specs.Reopening.{HoldVolume, IsExcused, ReopensAmid}
+use Rattle.pool_model.specs.Reopening.{HasEmptyMember, HoldVolume, MayRefuse, ReopensAmid}
 use Rattle.pool_model.specs.Stopped.{AreSlicesNow, HoldAmid}
 use Rattle.pool_model.specs.Taken.{LacksDrive}
 use Rattle.pool_model.proofs.Amid.{moments_since, nothing_past, off_amid, off_more}
 use Rattle.pool_model.proofs.Away.{find_passes}
-use Rattle.pool_model.proofs.Found.{IsFound, few_places, found_is, some_made}
+use Rattle.pool_model.proofs.Found.{IsFound, few_places, found_is, some_made, valid}
+use Rattle.pool_model.proofs.Framed.{truth_placed}
 use Rattle.pool_model.proofs.Logs.{copied_in, room_in, there_in}
 use Rattle.pool_model.proofs.Named.{id_same}
+use Rattle.pool_model.proofs.Roles.{named_position}
 use Rattle.pool_model.proofs.Said.{AreInside}
 use Rattle.pool_model.proofs.Seats.{nowhere}
 use Rattle.pool_model.proofs.Undamaged.{none_absent, slice_alike, table_alike}
 use Rattle.pool_model.proofs.Unrefused.{refused_so, superblocks_alone}
 use Rattle.pool_model.proofs.Vacant.{slices_now, sliced_before}
 
-some_same : {X : Type 0} (a b : X) → Some a ≡ Some b → a ≡ b
-some_same a b same = cc
+-- ---- a member without a superblock
+
+-- where not all pass, one of them doesn't
+some_fails : (test : ℕ → Bool) (a m : ℕ) → list_all test (range_with_len a m) ≡ false → (n : ℕ) × (n < a + m) × (test n ≡ false)
+some_fails test a zero is = absurd (both_ways true is refl)
+some_fails test a (suc m) is = of (test a) refl is (some_fails test (a + 1) m)
+  where
+    of : (b : Bool) → test a ≡ b → (b && list_all test (range_with_len (a + 1) m)) ≡ false
+        → (list_all test (range_with_len (a + 1) m) ≡ false → (n : ℕ) × (n < a + 1 + m) × (test n ≡ false)) → (n : ℕ) × (n < a + suc m) × (test n ≡ false)
+    of false fails all rest = (a, omega arith, fails)
+    of true passes all rest = let one = rest all in (one.0, (let low = one.1 in omega (arith, low)), one.2)
+
+-- a member at a position is one of the list
+among_get : (ms : List Member) (k : ℕ) (m : Member) → slice_get ms k ≡ Some m → Among m ms
+among_get [] k m at = none-some m at
+among_get (x ∷ ms) zero m at = inl (sym (some_same x m at))
+among_get (x ∷ ms) (suc k) m at = inr (among_get ms k m at)
+
+-- the members of a pool's arrays count as far as in the book v at least, and no further than in w
+abbrev CountsBetween : Raid → Raid → Found → Type 0
+CountsBetween v w g =
+    (n : ℕ) (shape : Shape) → n < v.state.made → shape_of g n ≡ Some shape
+    → KeepsReach g.state (shape_by_book (v.arrays n)) shape × KeepsReach w.state shape (shape_by_book (w.arrays n))
+
+-- A current place whose drive wants a superblock has an empty member by the book before the call.
+module _ (v w : Raid) (g : Found) (is : IsFound g) (made : g.state.made ≡ v.state.made) (counts : CountsBetween v w g) (p : ℕ) (now : is_current g.state p ≡ true) where
+  module _ (n : ℕ) (low : n < g.state.made) (t : Super) (truth : truth_of g n ≡ Some t) (named : is_named t p ≡ true) (none : super_at g n p ≡ None) where
+    abbrev shape : Shape
+    shape = shape_by g.state (slices_of g) n t
+
+    wanting : HasEmptyMember v p
+    unfolding shape_by
+    wanting =
+        let good = valid g is in
+        let has = truth_placed g.state (slices_of g) n t (valid_fit g.state good.0 good.1).few truth in
+        let at = named_position t p 16 has.roles (λ k less. let one = placed t k has.roles less in (one.0, one.1)) has.few named in
+        let k = at.0 in
+        let member : ℕ → Member = member_in g.state (slices_of g) n t in
+        let there : slice_get shape.members k ≡ Some (member k) =
+        get_map member (range_with_len 0 t.raid_disks) k ∙ ap (option_map member) (get_range 0 t.raid_disks k at.1) ∙ ap (λ j. Some (member j)) (zero_more k) in
+        let place : (member k).place ≡ p = ap (λ o. unwrap_or o 16) at.2 in
+        let nothing : (member k).reach ≡ 0 =
+        ap (λ q. (member_by t.size q (is_current g.state q) (super_at g n q)).reach) place ∙ ap₂ (λ b o. (member_by t.size p b o).reach) now none in
+        let below : n < v.state.made = omega (arith, low, made) in
+        let keeps = (counts n shape below (ap (option_map (shape_by g.state (slices_of g) n)) truth)).0 in
+        let one = before (slice_get (shape_by_book (v.arrays n)).members k)
+        (sym (get_map (λ (z : Member). z.place) (shape_by_book (v.arrays n)).members k) ∙ ap (λ ps. slice_get ps k) (sym keeps.places)
+        ∙ get_map (λ (z : Member). z.place) shape.members k ∙ ap (option_map (λ (z : Member). z.place)) there ∙ ap Some place) in
+        let most = (keeps.reach k one.0 (member k) one.1 there (ap (is_current g.state) one.2 ∙ now)).0 in
+        record {
+          array = n;
+          low = below;
+          member = one.0;
+          among = among_get (shape_by_book (v.arrays n)).members k one.0 one.1;
+          on = one.2;
+          empty = omega (arith, most, nothing);
+        }
+      where
+        before : (o : Option Member) → option_map (λ (z : Member). z.place) o ≡ Some p → (m : Member) × (o ≡ Some m) × (m.place ≡ p)
+        before None at = absurd (none-some p at)
+        before (Some m) at = (m, refl, some_same m.place p at)
+
+  empty_member : has_supers g p ≡ false → HasEmptyMember v p
+  empty_member wants =
+      let one = some_fails (λ n. not (is_member g n p) || is_some (super_at g n p)) 0 g.state.made wants in
+      let n = one.0 in
+      of n (let low = one.1 in omega (arith, low)) (truth_of g n) refl (super_at g n p) refl one.2
+    where
+      named : (n : ℕ) (low : n < g.state.made) (t : Super) → truth_of g n ≡ Some t → super_at g n p ≡ None → (b : Bool) → is_named t p ≡ b → (not b || false) ≡ false → HasEmptyMember v p
+      named n low t truth none true is fails = wanting n low t truth is none
+      named n low t truth none false is fails = absurd (both_ways true fails refl)
+
+      or_true : (b : Bool) → (b || true) ≡ true
+      or_true true = refl
+      or_true false = refl
+
+      of : (n : ℕ) (low : n < g.state.made) (o : Option Super) → truth_of g n ≡ o → (u : Option Super) → super_at g n p ≡ u
+          → (not (option_map_or (λ t. is_named t p) o false) || is_some u) ≡ false → HasEmptyMember v p
+      of n low None truth u super fails = absurd (both_ways true fails refl)
+      of n low (Some t) truth None none fails = named n low t truth none (is_named t p) refl fails
+      of n low (Some t) truth (Some u) there fails = absurd (both_ways (not (is_named t p) || true) fails (or_true (not (is_named t p))))
 
 -- ---- why a pool is refused
 
--- it is so, or since a superblock wants on the drive of a current place
-abbrev IsExcusedAmid : Found → Refusal → Type 0
-IsExcusedAmid g why = IsExcused g why ⊎ ((place : ℕ) × (is_current g.state place ≡ true) × (why ≡ damaged place in_superblock))
+-- it is so, or since a superblock wants on the drive of a current place whose member was to be rebuilt from its start by the book before the call
+abbrev MayRefuseAmid : Raid → Found → Refusal → Type 0
+MayRefuseAmid v g why =
+    MayRefuse g why ⊎ ((place : ℕ) × (is_current g.state place ≡ true) × HasEmptyMember v place × (why ≡ damaged place in_superblock))
 
 -- where drives want a superblock alone, the lowest one that wants something does
-first_wants : (g : Found) → ((p : ℕ) → is_current g.state p ≡ true → damage_of g p ≡ (if not (has_supers g p) then Some in_superblock else None))
-    → (why : Refusal) → first_damaged g ≡ Some why → (place : ℕ) × (is_current g.state place ≡ true) × (why ≡ damaged place in_superblock)
-first_wants g each why is = of (find (λ place. is_some (damage_of g place)) (current_places g.state)) refl is
+first_wants : (v : Raid) (g : Found) → ((p : ℕ) → is_current g.state p ≡ true → damage_of g p ≡ (if not (has_supers g p) then Some in_superblock else None))
+    → ((p : ℕ) → is_current g.state p ≡ true → has_supers g p ≡ false → HasEmptyMember v p)
+    → (why : Refusal) → first_damaged g ≡ Some why
+    → (place : ℕ) × (is_current g.state place ≡ true) × HasEmptyMember v place × (why ≡ damaged place in_superblock)
+first_wants v g each empty why is = of (find (λ place. is_some (damage_of g place)) (current_places g.state)) refl is
   where
-    by : (p : ℕ) (b : Bool) → option_map (damaged p) (if not b then Some in_superblock else None) ≡ Some why → why ≡ damaged p in_superblock
-    by p true at = absurd (none-some why at)
-    by p false at = sym (some_same (damaged p in_superblock) why at)
+    by : (p : ℕ) (b : Bool) → has_supers g p ≡ b → option_map (damaged p) (if not b then Some in_superblock else None) ≡ Some why
+        → (has_supers g p ≡ false) × (why ≡ damaged p in_superblock)
+    by p true has at = absurd (none-some why at)
+    by p false wants at = (wants, sym (some_same (damaged p in_superblock) why at))
 
     of : (o : Option ℕ) → find (λ place. is_some (damage_of g place)) (current_places g.state) ≡ o
         → option_and_then (λ place. option_map (damaged place) (damage_of g place)) o ≡ Some why
-        → (place : ℕ) × (is_current g.state place ≡ true) × (why ≡ damaged place in_superblock)
+        → (place : ℕ) × (is_current g.state place ≡ true) × HasEmptyMember v place × (why ≡ damaged place in_superblock)
     of None lowest at = absurd (none-some why at)
     of (Some p) lowest at =
         let now = sym (names_current g.state p) ∙ (find_passes (λ place. is_some (damage_of g place)) (current_places g.state) p lowest).1 in
-        (p, now, by p (has_supers g p) (sym (ap (option_map (damaged p)) (each p now)) ∙ at))
+        let wants = by p (has_supers g p) refl (sym (ap (option_map (damaged p)) (each p now)) ∙ at) in
+        (p, now, empty p now wants.0, wants.1)
 
 -- ---- what is known of the pool
 
@@ -253,47 +348,73 @@ module _ (f : Found) (t : Slices) (v : State) (i : Image) (begun : IsAfter f.sta
           ∙ (own p d now seat).after.same.pool ∙ sym is.after.same.pool
     ]
 
-    excused_now : first_bad (joined_arrays g) ≡ None → (why : Refusal) → refusal_of f.disks i ≡ Some why → IsExcusedAmid g why
-    excused_now good why at = elim (refused_so i g stands found_now log.pool own_pool (none_absent g is.present) good why at) [
+    excused_now : (book : Raid) → ((p : ℕ) → is_current g.state p ≡ true → has_supers g p ≡ false → HasEmptyMember book p) → first_bad (joined_arrays g) ≡ None
+        → (why : Refusal) → refusal_of f.disks i ≡ Some why → MayRefuseAmid book g why
+    excused_now book empty good why at = elim (refused_so g (MayRefuse g) (λ other. other) (λ n low lacks. lacks) (λ n low lacks. lacks) (none_absent g is.present) good why i stands found_now log.pool own_pool at) [
       | inl excused ↦ inl excused
-      | inr wants ↦ inr (first_wants g wants_now why wants)
+      | inr wants ↦ inr (first_wants book g wants_now empty why wants)
     ]
 
 -- ---- a stop inside calls
 
--- Contents that hold the pool still and mean a volume where they aren't refused, with copies since the calls began and the tables of current places' drives.
-pub amid_reopens : (f : Found) (t : Slices) (v w : State) (l : Linear) (i : Image) → IsAfter f.state v → AreSlicesNow f t v → AreInside f t
-    → AreTabled f (λ d. Unit {0}) v i → AreSince v (sectors_of t) (sliced t i) → HoldAmid f t v w i → HoldVolume f t l i → ReopensAmid f t l i
-amid_reopens f t v w l i begun had inside tabled since amid volume =
+-- Contents that hold the pool still and mean a volume where they aren't refused, with copies since the calls began, members that count as far as between the books, and the tables of
+-- current places' drives.
+pub amid_reopens : (f : Found) (t : Slices) (v w : Raid) (l : Linear) (i : Image) → IsAfter f.state v.state → AreSlicesNow f t v.state → AreInside f t
+    → AreTabled f (λ d. Unit {0}) v.state i → AreSince v.state (sectors_of t) (sliced t i)
+    → ((n : ℕ) → n < f.state.made → ReachBetween v w n (replayed (sectors_of t) (sliced t i))) → HoldAmid f t v.state w.state i → HoldVolume f t l i
+    → ReopensAmid f t l v w i
+amid_reopens f t v w l i begun had inside tabled since reach amid volume =
     let still = amid.between.still in
     let by = stood_by f.disks i still.logs.before still.logs.stands in
     let stands : standing f.disks i ≡ Some (standing_by f.disks i by.0) = still.logs.stands ∙ ap Some by.2 in
     let log : IsSoundLog f.disks i (standing_by f.disks i by.0) (seated_state (standing_by f.disks i by.0).targets by.0) =
     subst (λ (x : Standing). IsSoundLog f.disks i x (seated_state x.targets x.state)) by.2 still.logs.log in
-    let g : Found = was f.disks i i by.0 by.1 log (mid f t v i begun had inside tabled since by.0 stands by.1 log) in
-    let found_g : found f.disks i ≡ Some g = found_now f t v i begun had inside tabled since by.0 stands by.1 log in
-    let is : IsNow f t v still.now = record {
-      after = subst (IsAfter v) (sym still.state) amid.between.later;
+    let g : Found = was f.disks i i by.0 by.1 log (mid f t v.state i begun had inside tabled since by.0 stands by.1 log) in
+    let found_g : found f.disks i ≡ Some g = found_now f t v.state i begun had inside tabled since by.0 stands by.1 log in
+    let here : still.now ≡ g = some_same still.now g (sym still.found_is ∙ found_g) in
+    let is : IsNow f t v.state still.now = record {
+      after = subst (IsAfter v.state) (sym still.state) amid.between.later;
       seats = λ p now. still.seats p (subst (λ (z : State). is_current z p ≡ true) still.state now);
       slices = still.slices;
       present = λ p now. amid.present p (subst (λ (z : State). is_current z p ≡ true) still.state now);
     } in
+    let is_now : IsNow f t v.state g = subst (IsNow f t v.state) here is in
+    let counts : CountsBetween v w g = subst (CountsBetween v w) here
+    (λ n shape low at.
+    let made = begun.same.made in
+    let less : n < f.state.made = omega (arith, low, made) in
+    subst (λ (z : State). KeepsReach z (shape_by_book (v.arrays n)) shape × KeepsReach w.state shape (shape_by_book (w.arrays n))) (sym still.state)
+    (reach n less amid.between.state shape still.is_state (sym (still.shapes n less) ∙ at))) in
     let same : g ≡ volume.now = some_same g volume.now (sym found_g ∙ volume.found_is) in
     record {
       volume = volume;
+      reach = subst (CountsBetween v w) same counts;
       excused =
-          subst (λ (k : Found). (why : Refusal) → refusal_of f.disks i ≡ Some why → IsExcusedAmid k why) same
-          (excused_now f t v i begun had inside tabled since by.0 stands by.1 log (subst (IsNow f t v) (some_same still.now g (sym still.found_is ∙ found_g)) is)
+          subst (λ (k : Found). (why : Refusal) → refusal_of f.disks i ≡ Some why → MayRefuseAmid v k why) same
+          (excused_now f t v.state i begun had inside tabled since by.0 stands by.1 log is_now v
+          (empty_member v w g (found_is f.disks i g found_g).0 is_now.after.same.made counts)
           (subst (λ (k : Found). first_bad (joined_arrays k) ≡ None) (sym same) volume.lies.sound));
     }
 
--- So it is with stops inside calls that write slices alone, of a pool by slices that lie as those of its current places.
+-- So it is with stops inside calls that write slices alone, of a pool by slices that lie as those of its current places, where the arrays are told when calls begin and none is over
+-- when they end.
 pub calls_reopen : (f : Found) (t : Slices) (v w : Raid) (x y : Seen) (l : Linear) → IsAfter f.state v.state → AreSlicesNow f t v.state → AreInside f t
-    → HoldTabled f v.state t x → x.lasting → WritesOnly x y (IsSliced t) → KeepsMoments v w (slices_shown t x) (slices_shown t y) → IsTold v (slices_shown t x) 0 → is_over w 0 ≡ false
-    → x.traced → (k : ℕ) (i : Image) → x.clock < k → k ≤ y.clock → y.stops k i → HoldAmid f t v.state w.state i → HoldVolume f t l i → ReopensAmid f t l i
-calls_reopen f t v w x y l begun had inside tabled lasting only keeps told lasts traced k i late early stop =
-    amid_reopens f t v.state w.state l i begun had inside (tabled i (off_amid t x y lasting only traced k i late early stop))
-    (((moments_since v w (slices_shown t x) (slices_shown t y) keeps told lasts).leaves traced).new k (sliced t i) late early (i, stop, λ d s. refl) (nothing_past t i))
+    → HoldTabled f v.state t x → x.lasting → WritesOnly x y (IsSliced t) → KeepsMoments v w (slices_shown t x) (slices_shown t y)
+    → ((n : ℕ) → n < f.state.made → IsTold v (slices_shown t x) n) → ((n : ℕ) → n < f.state.made → is_over w n ≡ false)
+    → x.traced → (k : ℕ) (i : Image) → x.clock < k → k ≤ y.clock → y.stops k i → HoldAmid f t v.state w.state i → HoldVolume f t l i → ReopensAmid f t l v w i
+calls_reopen f t v w x y l begun had inside tabled lasting only keeps told lasts traced k i late early stop amid volume =
+    amid_reopens f t v w l i begun had inside (tabled i (off_amid t x y lasting only traced k i late early stop))
+    (((moments_since v w (slices_shown t x) (slices_shown t y) keeps (told 0 first) (lasts 0 first)).leaves traced).new k (sliced t i) late early (i, stop, λ d s. refl) (nothing_past t i))
+    (λ n low. (keeps.reach n (told n low) (lasts n low) traced).new k (sliced t i) late early (i, stop, λ d s. refl)) amid volume
+  where
+    first : 0 < f.state.made
+    first =
+        let still = amid.between.still in
+        let some = (some_made still.now (found_is f.disks i still.now still.found_is).0).0 in
+        let now : still.now.state.made ≡ amid.between.state.made = ap (λ (z : State). z.made) still.state in
+        let later = amid.between.later.same.made in
+        let made = begun.same.made in
+        omega (arith, some, now, later, made)
 
 -- its slices and tables, where a place whose drive is missing has no disk any more
 pub vacant_lies : (f : Found) (t u : Slices) (v : Raid) (x : Seen) (place : ℕ) → InService f t v x → LacksDrive f t u v place x → HoldTabled f v.state t x

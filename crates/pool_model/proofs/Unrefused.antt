@@ -10,7 +10,9 @@ use Rattle.shr_base.specs.declared.Id.{Id}
 use Rattle.pool_state.specs.declared.contents.Copied.{Copied}
 use Rattle.pool_state.specs.declared.contents.State.{State}
 use Rattle.array_image.specs.States.{current_places, is_current}
+use Rattle.array_core.proofs.Stripped.{some_same}
 use Rattle.commit_log.specs.Kept.{IsNoLater}
+use Rattle.commit_log.specs.View.{names}
 use Rattle.commit_log.proofs.LeftPlaces.{any_found}
 use Rattle.commit_log.proofs.Naming.{range_below}
 use Rattle.raid_rack.proofs.Added.{names_current}
@@ -22,16 +24,13 @@ use Rattle.pool_image.specs.Sound.{skip}
 use Rattle.pool_image.specs.Volumes.{first_bad}
 use Rattle.pool_image.proofs.Identities.{seat_inside}
 use Rattle.pool_model.specs.Absent.{IsWholePool}
-use Rattle.pool_model.specs.Reopening.{HasOtherPool, IsExcused}
+use Rattle.pool_model.specs.Reopening.{HasOtherPool}
 use Rattle.pool_model.proofs.Found.{found_is, latest, newest_latest}
 use Rattle.pool_model.proofs.Named.{seat_ahead}
 use Rattle.pool_model.proofs.Skipped.{back, back_inside, skip_inside}
 use Rattle.pool_model.proofs.Standing.{found_at, pool_at}
 use Rattle.pool_model.proofs.Undamaged.{find_false}
 use Rattle.pool_model.proofs.Away.{beside, disk_back, fewer, find_passes, idle_now, inside, is_found, none_found, other_disk, rest, seat_there}
-
-some_same : {X : Type 0} (a b : X) → Some a ≡ Some b → a ≡ b
-some_same a b same = cc
 
 -- ---- a place without a damage
 
@@ -173,34 +172,45 @@ other_pool g same own other = of (find is_other (all_disks g.disks)) refl (any_f
         let low = range_below 0 g.disks.count d at.1 in
         by d (omega (arith, low)) (g.before.identities d).copied refl at.0
 
--- a pool whose drives are there and which has no bad array is refused for an excused reason or for a damage
-refused_or : (g : Found) (why : Refusal) → absent_count g ≡ 0 → first_bad (joined_arrays g) ≡ None → refused_by g ≡ Some why → IsExcused g why ⊎ (first_damaged g ≡ Some why)
-unfolding refused_by
-refused_or g why present good is =
-    of (first_damaged g) (find (is_too_few g) (arrays_of g)) (find (is_dirty_degraded g) (arrays_of g)) refl refl refl
-    (sym (ap₂ (λ k o. if nat_lt 1 k then Some (absent k) else option_or (first_damaged g) (option_or (option_map too_few (find (is_too_few g) (arrays_of g)))
-    (option_or (option_map dirty_degraded (find (is_dirty_degraded g) (arrays_of g))) (option_map bad_volume o)))) present good)
-    ∙ is)
-  where
-    of : (x : Option Refusal) (a b : Option ℕ) → first_damaged g ≡ x → find (is_too_few g) (arrays_of g) ≡ a → find (is_dirty_degraded g) (arrays_of g) ≡ b
-        → option_or x (option_or (option_map too_few a) (option_or (option_map dirty_degraded b) None)) ≡ Some why → IsExcused g why ⊎ (first_damaged g ≡ Some why)
-    of (Some r) a b wants one two at = inr (wants ∙ at)
-    of None (Some n) b wants one two at = inl (subst (IsExcused g) (some_same (too_few n) why at) (find_passes (is_too_few g) (arrays_of g) n one).0)
-    of None None (Some n) wants one two at = inl (subst (IsExcused g) (some_same (dirty_degraded n) why at) (find_passes (is_dirty_degraded g) (arrays_of g) n two).0)
-    of None None None wants one two at = absurd (none-some why at)
+-- A pool whose drives are there and which has no bad array is refused for another pool's disk, for one of its arrays or for a damage.
+module _ (g : Found) (Excuse : Refusal → Type 0) (others : HasOtherPool g → Excuse two_pools)
+    (few : (n : ℕ) → n < g.state.made → is_too_few g n ≡ true → Excuse (too_few n))
+    (dirty : (n : ℕ) → n < g.state.made → is_dirty_degraded g n ≡ true → Excuse (dirty_degraded n))
+    (present : absent_count g ≡ 0) (good : first_bad (joined_arrays g) ≡ None) (why : Refusal) where
+  refused_or : refused_by g ≡ Some why → Excuse why ⊎ (first_damaged g ≡ Some why)
+  unfolding refused_by
+  refused_or is =
+      of (first_damaged g) (find (is_too_few g) (arrays_of g)) (find (is_dirty_degraded g) (arrays_of g)) refl refl refl
+      (sym (ap₂ (λ k o. if nat_lt 1 k then Some (absent k) else option_or (first_damaged g) (option_or (option_map too_few (find (is_too_few g) (arrays_of g)))
+      (option_or (option_map dirty_degraded (find (is_dirty_degraded g) (arrays_of g))) (option_map bad_volume o)))) present good)
+      ∙ is)
+    where
+      below : (n : ℕ) → names (arrays_of g) n ≡ true → n < g.state.made
+      below n among = let low = range_below 0 g.state.made n among in omega (arith, low)
 
--- So are contents that have such a pool, where the copies of its drives are of it.
-pub refused_so : (c : Image) (g : Found) → standing g.disks c ≡ Some g.before → found g.disks c ≡ Some g → g.state.pool ≡ g.before.state.pool
-    → ((p d : ℕ) (copy : Copied) → g.seats p ≡ Some d → (g.before.identities d).copied ≡ Some copy → copy.state.pool ≡ g.state.pool)
-    → absent_count g ≡ 0 → first_bad (joined_arrays g) ≡ None → (why : Refusal) → refusal_of g.disks c ≡ Some why → IsExcused g why ⊎ (first_damaged g ≡ Some why)
-unfolding refusal_of
-refused_so c g stands found_at same own present good why is =
-    of (has_other_pool g.disks g.before) refl (sym (ap (λ o. option_map_or (refused_at g.disks c) o (Some no_pool)) stands) ∙ is)
-  where
-    of : (b : Bool) → has_other_pool g.disks g.before ≡ b → (if b then Some two_pools else option_map_or refused_by (found g.disks c) (Some no_pool)) ≡ Some why
-        → IsExcused g why ⊎ (first_damaged g ≡ Some why)
-    of true other at = inl (subst (IsExcused g) (some_same two_pools why at) (other_pool g same own other))
-    of false none at = refused_or g why present good (sym (ap (λ o. option_map_or refused_by o (Some no_pool)) found_at) ∙ at)
+      of : (x : Option Refusal) (a b : Option ℕ) → first_damaged g ≡ x → find (is_too_few g) (arrays_of g) ≡ a → find (is_dirty_degraded g) (arrays_of g) ≡ b
+          → option_or x (option_or (option_map too_few a) (option_or (option_map dirty_degraded b) None)) ≡ Some why → Excuse why ⊎ (first_damaged g ≡ Some why)
+      of (Some r) a b wants one two at = inr (wants ∙ at)
+      of None (Some n) b wants one two at =
+          let lacks = find_passes (is_too_few g) (arrays_of g) n one in
+          inl (subst Excuse (some_same (too_few n) why at) (few n (below n lacks.1) lacks.0))
+      of None None (Some n) wants one two at =
+          let lacks = find_passes (is_dirty_degraded g) (arrays_of g) n two in
+          inl (subst Excuse (some_same (dirty_degraded n) why at) (dirty n (below n lacks.1) lacks.0))
+      of None None None wants one two at = absurd (none-some why at)
+
+  -- So are contents that have such a pool, where the copies of its drives are of it.
+  pub refused_so : (c : Image) → standing g.disks c ≡ Some g.before → found g.disks c ≡ Some g → g.state.pool ≡ g.before.state.pool
+      → ((p d : ℕ) (copy : Copied) → g.seats p ≡ Some d → (g.before.identities d).copied ≡ Some copy → copy.state.pool ≡ g.state.pool)
+      → refusal_of g.disks c ≡ Some why → Excuse why ⊎ (first_damaged g ≡ Some why)
+  unfolding refusal_of
+  refused_so c stands found_at same own is =
+      of (has_other_pool g.disks g.before) refl (sym (ap (λ o. option_map_or (refused_at g.disks c) o (Some no_pool)) stands) ∙ is)
+    where
+      of : (b : Bool) → has_other_pool g.disks g.before ≡ b → (if b then Some two_pools else option_map_or refused_by (found g.disks c) (Some no_pool)) ≡ Some why
+          → Excuse why ⊎ (first_damaged g ≡ Some why)
+      of true other at = inl (subst Excuse (some_same two_pools why at) (others (other_pool g same own other)))
+      of false none at = refused_or (sym (ap (λ o. option_map_or refused_by o (Some no_pool)) found_at) ∙ at)
 
 -- ---- tables
 

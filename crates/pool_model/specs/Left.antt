@@ -9,10 +9,10 @@ use Rattle.gpt_table.specs.Changes.{the_table}
 use Rattle.md_super.specs.declared.superblock.Super.{Super}
 use Rattle.md_super.specs.Profile.{profiled}
 use Rattle.pool_state.specs.declared.contents.State.{State}
-use Rattle.array_image.specs.Arrays.{arrays_in, replayed}
+use Rattle.array_image.specs.Arrays.{arrays_in, replayed, shape_in}
 use Rattle.array_image.specs.Left.{Picks}
 use Rattle.array_image.specs.Places.{array_id, log_slice, member_slice, super_sector}
-use Rattle.array_image.specs.States.{is_current}
+use Rattle.array_image.specs.States.{is_current, state_in}
 use Rattle.array_image.specs.Supers.{is_unclean, super_of, truth_in}
 use Rattle.array_model.specs.View.{HasGeometry}
 use Rattle.pool_image.specs.Disks.{identities_of}
@@ -100,6 +100,9 @@ pub record HoldStill (f : Found) (t : Slices) (s : State) (i : Image) : Type 0 w
   pub joined : now.state.joined ≡ now.state.made
   pub alone : AreAlone now now.contents
   pub sectors : (n : ℕ) → n < f.state.made → array_sectors now n ≡ array_sectors f n
+  -- once that is written the slices give this state, and its arrays their shapes
+  pub is_state : state_in (replayed (sectors_of t) (sliced t i)) ≡ Some s
+  pub shapes : (n : ℕ) → n < f.state.made → shape_of now n ≡ shape_in s (replayed (sectors_of t) (sliced t i)) n
   pub values : (n x : ℕ) → n < f.state.made → arrays_held now n x ≡ arrays_in (replayed (sectors_of t) (sliced t i)) n x
 
 -- They hold it so, nothing is pending, and each current place has its drive.

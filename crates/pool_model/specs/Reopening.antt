@@ -1,16 +1,22 @@
 -- What a later opening makes of the contents that a stop leaves on a pool's disks.
-use Rattle.std.specs.Prelude.{◌≡◌, ◌≢◌, ◌⊎◌, ℕ, ◌<◌, true, [], ◌∷◌, length, Some, None}
+use Rattle.std.specs.Prelude.{◌≡◌, ◌≢◌, ◌⊎◌, ℕ, ◌<◌, true, false, [], ◌∷◌, length, Some, None}
 use Rattle.rack.specs.Seen.{Image}
 use Rattle.slice_rack.specs.Slices.{Slices, sectors_of}
 use Rattle.slice_rack.specs.Sliced.{sliced}
 use Rattle.pool_state.specs.declared.contents.Copied.{Copied}
-use Rattle.array_image.specs.Arrays.{arrays_in, replayed}
+use Rattle.md_super.specs.declared.superblock.Super.{Super}
+use Rattle.array_image.specs.Arrays.{Member, Shape, arrays_in, replayed}
+use Rattle.array_image.specs.Held.{Among}
+use Rattle.array_image.specs.SoundArray.{array_fields, first_unsynced}
 use Rattle.array_image.specs.States.{is_current}
+use Rattle.array_model.specs.View.{is_whole_array, rows_of, shape_of as shape_by_book}
+use Rattle.raid_rack.specs.Raid.{Raid}
+use Rattle.raid_rack.specs.Reach.{KeepsReach}
 use Rattle.lvm_group.specs.Runs.{Linear, sectors_in}
 use Rattle.lvm_group.specs.Shown.{contents_of}
 use Rattle.pool_image.specs.Disks.{Disks}
 use Rattle.pool_image.specs.Drives.{Found, found}
-use Rattle.pool_image.specs.Meaning.{Refusal, Volume, absent, bad_volume, damaged, dirty_degraded, in_superblock, is_dirty_degraded, is_too_few, meaning, no_pool, refusal_of, too_few, two_pools}
+use Rattle.pool_image.specs.Meaning.{Refusal, Volume, absent, bad_volume, damaged, dirty_degraded, in_superblock, is_dirty_degraded, is_too_few, lacking_of, meaning, no_pool, refusal_of, shape_of, too_few, truth_of, two_pools}
 use Rattle.pool_model.specs.Grouped.{HaveOwnAreas, IsVolumeOf}
 
 -- contents of disks in whole sectors
@@ -26,16 +32,28 @@ pub record HasOtherPool (f : Found) : Type 0 where
   pub says : (f.before.identities disk).copied ≡ Some copy
   pub other : copy.state.pool ≢ f.state.pool
 
--- Why a pool may be refused whose drives are there and sound: a disk that is none of them is another pool's, or superblocks say of an array that members lack rows,
--- two of them, or one where rows are left to resync.
-abbrev pub IsExcused : Found → Refusal → Type 0
-IsExcused f no_pool = ⊥
-IsExcused f two_pools = HasOtherPool f
-IsExcused f (absent count) = ⊥
-IsExcused f (damaged place part) = ⊥
-IsExcused f (too_few n) = is_too_few f n ≡ true
-IsExcused f (dirty_degraded n) = is_dirty_degraded f n ≡ true
-IsExcused f (bad_volume n) = ⊥
+-- Why a pool may be refused whose drives are there and sound: a disk that is none of them is another pool's, or its own superblocks and marks say of an array that two members
+-- are lacking, or one where they leave rows to resync.
+abbrev pub MayRefuse : Found → Refusal → Type 0
+MayRefuse f no_pool = ⊥
+MayRefuse f two_pools = HasOtherPool f
+MayRefuse f (absent count) = ⊥
+MayRefuse f (damaged place part) = ⊥
+MayRefuse f (too_few n) = is_too_few f n ≡ true
+MayRefuse f (dirty_degraded n) = is_dirty_degraded f n ≡ true
+MayRefuse f (bad_volume n) = ⊥
+
+-- Why it may be where its arrays stand as in a book: two members of one are missing or being rebuilt by the book, or one is while the book has rows of the array left to resync.
+-- So a mark that a write of the run made is no reason.
+abbrev pub MayRefuseBy : Raid → Found → Refusal → Type 0
+MayRefuseBy v f no_pool = ⊥
+MayRefuseBy v f two_pools = HasOtherPool f
+MayRefuseBy v f (absent count) = ⊥
+MayRefuseBy v f (damaged place part) = ⊥
+MayRefuseBy v f (too_few n) = (n < v.state.made) × (1 < lacking_of (shape_by_book (v.arrays n)))
+MayRefuseBy v f (dirty_degraded n) =
+    (n < v.state.made) × (0 < lacking_of (shape_by_book (v.arrays n))) × ((v.arrays n).young ≡ false → (v.arrays n).resync < rows_of (v.arrays n))
+MayRefuseBy v f (bad_volume n) = ⊥
 
 -- Contents of the disks of a pool have a pool whose volume lies so on its arrays; where they aren't refused they mean this volume, with what the slices hold once what is pending is
 -- written.
@@ -49,14 +67,35 @@ pub record HoldVolume (f : Found) (t : Slices) (l : Linear) (i : Image) : Type 0
       → (volume : Volume) × (meaning f.disks i ≡ Some (volume ∷ [])) × (volume.sectors ≡ sectors_in l)
       × ((s : ℕ) → s < sectors_in l → volume.contents s ≡ contents_of l (arrays_in (replayed (sectors_of t) (sliced t i))) 0 s)
 
--- What a stop inside a call leaves of it: it is refused for such a reason, or since a superblock wants on a drive.
-pub record ReopensAmid (f : Found) (t : Slices) (l : Linear) (i : Image) : Type 0 where
+-- By a book the member of an array on a place has no row that counts: it is to be rebuilt from its start.
+pub record HasEmptyMember (v : Raid) (place : ℕ) : Type 0 where
+  pub array : ℕ
+  pub low : array < v.state.made
+  pub member : Member
+  pub among : Among member (shape_by_book (v.arrays array)).members
+  pub on : member.place ≡ place
+  pub empty : member.reach ≡ 0
+
+-- What a stop inside a call leaves of it, from the book v to the book w. Members on places that are current by it count at least as far as they did, and those on places that are
+-- current after the call no further than then. It is refused for such a reason, or since a superblock wants on a drive whose member was to be rebuilt from its start.
+pub record ReopensAmid (f : Found) (t : Slices) (l : Linear) (v w : Raid) (i : Image) : Type 0 where
   pub volume : HoldVolume f t l i
+  pub reach :
+      (n : ℕ) (shape : Shape) → n < v.state.made → shape_of volume.now n ≡ Some shape
+      → KeepsReach volume.now.state (shape_by_book (v.arrays n)) shape × KeepsReach w.state shape (shape_by_book (w.arrays n))
   pub excused :
       (why : Refusal) → refusal_of f.disks i ≡ Some why
-      → IsExcused volume.now why ⊎ ((place : ℕ) × (is_current volume.now.state place ≡ true) × (why ≡ damaged place in_superblock))
+      → MayRefuse volume.now why
+      ⊎ ((place : ℕ) × (is_current volume.now.state place ≡ true) × HasEmptyMember v place × (why ≡ damaged place in_superblock))
 
--- And they are refused for such a reason alone.
-pub record Reopens (f : Found) (t : Slices) (l : Linear) (i : Image) : Type 0 where
+-- Between calls they stand as a book has them: each array has its members, as far as they are rebuilt, and its truth has the fields of the book's. Where an array isn't whole by the book,
+-- its truth leaves just the rows to resync that are left in it. They are refused for what the book says alone, or for another pool's disk.
+pub record Reopens (f : Found) (t : Slices) (l : Linear) (v : Raid) (i : Image) : Type 0 where
   pub volume : HoldVolume f t l i
-  pub excused : (why : Refusal) → refusal_of f.disks i ≡ Some why → IsExcused volume.now why
+  pub state : volume.now.state ≡ v.state
+  pub shapes : (n : ℕ) → n < v.state.made → shape_of volume.now n ≡ Some (shape_by_book (v.arrays n))
+  pub truths : (n : ℕ) (u : Super) → n < v.state.made → truth_of volume.now n ≡ Some u → array_fields u ≡ array_fields (v.arrays n).truth
+  pub rows :
+      (n : ℕ) (u : Super) → n < v.state.made → truth_of volume.now n ≡ Some u → (v.arrays n).young ≡ false → is_whole_array (v.arrays n) ≡ false
+      → first_unsynced u ≡ (v.arrays n).resync
+  pub excused : (why : Refusal) → refusal_of f.disks i ≡ Some why → MayRefuseBy v volume.now why
