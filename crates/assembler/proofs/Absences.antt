@@ -61,7 +61,7 @@ module _ (f : Found) (t : Slices) (v w : Raid) (x y : Seen) (spent : ℕ → ℕ
         (says_only f.state w.state n (vals n) (pool_values f n) (spent n) (replayed (sectors_of t) (sliced t i)) (λ u value may. inl (means n u value low may))
         (subst (λ (z : State). SaysBetween z w.state n (vals n) (spent n) (replayed (sectors_of t) (sliced t i))) same
         (((parts n low).leaves traced).new k (sliced t i) late early (i, stop, λ j u. refl)
-        (λ j u past. ap (λ (b : Bool). if b then i (disk_of t j) (first_of t j + u) else []) (le-ltb u (sectors_of t j) past)) (amid n low))))
+        (λ j u past. ap (λ (b : Bool). if b then i (disk_of t j) (first_of t j + u) else []) (le-ltb u (sectors_of t j) past)) (amid n low)).says))
         (live n s low within)
 
     opened : HoldOpened f 0 i

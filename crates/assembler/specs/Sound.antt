@@ -27,7 +27,8 @@ use Rattle.raid_rack.specs.Book.{IsAfter}
 use Rattle.raid_rack.specs.Raid.{IsTold, Raid}
 use Rattle.raid_rack.specs.RaidRack.{raid_in, raid_seen, slices_in, slices_seen}
 use Rattle.assembler.specs.declared.refusal.Refusal.{Refusal}
-use Rattle.pool_model.specs.Grouped.{HaveOwnAreas, HoldGroup, IsVolumeOf}
+pub use Rattle.pool_model.specs.Grouped.{HaveOwnAreas}
+use Rattle.pool_model.specs.Grouped.{HoldGroup, IsVolumeOf}
 pub use Rattle.pool_model.specs.Left.{AreAlone}
 use Rattle.pool_model.specs.Left.{AreElsewhere, HoldSame, IsPickOff}
 use Rattle.pool_model.specs.Openings.{HoldOpened, MayReplay}
