@@ -24,6 +24,7 @@ mod Giving
 mod Ways
 mod Cleaning
 mod NewPools
+mod OwnAreas
 mod Working
 mod Rooms
 mod Books

@@ -36,6 +36,7 @@ use Rattle.new_pool.proofs.Truths.{first_at}
 use Rattle.new_pool.proofs.Undamaged.{member_is}
 use Rattle.new_pool.proofs.Unlisted.{no_slice}
 use Rattle.new_pool.proofs.Values.{sectors_now, value_now}
+use Rattle.pool.proofs.OwnAreas.{areas_now}
 use Rattle.pool.specs.Made.{AreFair, HaveNoOthers, HaveOwnIds, HaveWholeSectors, HeldNone, IsPoolOf, IsSafelyRefused, IsSoundlyMade, MeansStop, StopsMean}
 
 some_same : (x y : ℕ) → Some x ≡ Some y → x ≡ y
@@ -231,6 +232,8 @@ module _ (x y : Seen) (extent : ℕ) (birth : Birth) (a : Arrays) (l : Linear) (
         apart = λ m n p d e b low least seat none member lies there.
             absurd (no_slice made.plan birth (disks_of y) (now_in y) is_new m p d e (omega (arith, low, least)) seat none lies);
         alone = alone_now made.plan birth (disks_of y) (now_in y) is_new;
+        joined = refl;
+        areas = areas_now made.plan birth (disks_of y) (now_in y) is_new;
         means =
             subst (MeanZeros (disks_of y) (now_in y)) (ap (λ e. sectors_in (new_volume e (extents_of made.plan))) made.planned.extent_is ∙ ap sectors_in (sym made.volume))
             (zeros_meant made.plan birth (disks_of y) (now_in y) is_new made.group all_said);

@@ -133,7 +133,7 @@ module _ {R : Type 0} (seen : R → Seen) (shelf : R → Shelf) (runs : R → R 
         named = says.named;
         why = elim (cases_Bool (is_due v work)) [
           | inl due ↦ inr (lacks_row v (raid_in new) (slices_seen seen (arrays_of p)) (slices_seen seen new) work (says.does due))
-          | inr idle ↦ inl idle
+          | inr idle ↦ inl (idle, ap raid_in (says.idle idle).1)
         ];
       }
 

@@ -142,7 +142,7 @@ IsOneFewer x y =
     IsQuiet x y → HasRowsAlone (book x) → HasRowsAlone (book y) × (0 < left_of x → left_of y + 1 ≡ left_of x)
 
 -- Works of maintenance are done. No value moves, and what is answered is left. Where no disk's faults rose and only rows to resync and to
--- rebuild were left of the arrays, as many fewer are left as were asked for, or none. Else an array can't do a work.
+-- rebuild were left of the arrays, as many fewer are left as were asked for, or none. Else an array can't do a work that was left.
 pub record Steps (x y : View) (count : ℕ) (result : Result ℕ Stuck) : Type 0 where
   pub passes : Passes x y
   pub raises : Raises count x y
@@ -151,4 +151,4 @@ pub record Steps (x y : View) (count : ℕ) (result : Result ℕ Stuck) : Type 0
   pub left : IfOk result (λ left. left ≡ left_of y)
   pub progress :
       OnOk result (IsQuiet x y → HasRowsAlone (book x) → HasRowsAlone (book y) × (left_of y + min count (left_of x) ≡ left_of x))
-  pub stuck : IfErr result (λ e. StopsStuck y.linear (book x) (book y) e.array)
+  pub stuck : IfErr result (λ e. StopsStuck (IsQuiet x y) y.linear count (book x) (book y) e.array)

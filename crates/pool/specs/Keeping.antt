@@ -20,7 +20,7 @@ pub record KeepsArray (s : State) (u w : ArrayView) : Type 0 where
 abbrev pub KeepsBook : Raid → Raid → Type 0
 KeepsBook v w = (n : ℕ) → n < v.state.made → KeepsArray w.state (v.arrays n) (w.arrays n)
 
--- Works are left as they were but for losses: nothing of an array changes but whom it lost, and the plan stays.
+-- Works are left as they were but for losses: nothing of an array changes but whom it lost, its events, the rows that its superblocks leave, and its mark; and the plan stays.
 pub record KeepsWorks (v w : Raid) : Type 0 where
   pub arrays : KeepsArrays v w
   pub plan : w.state.plan ≡ v.state.plan

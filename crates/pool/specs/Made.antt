@@ -24,7 +24,7 @@ use Rattle.pool_format.specs.Plan.{capacity_of, has}
 use Rattle.pool_format.specs.Writing.{InCleared}
 use Rattle.new_pool.specs.Contents.{MeanNoneOrZeros, MeanZeros, SaysNone}
 use Rattle.assembler.specs.Holding.{AreSteady}
-use Rattle.assembler.specs.Sound.{AreAlone, HoldSound, LieApart}
+use Rattle.assembler.specs.Sound.{AreAlone, HaveOwnAreas, HoldSound, LieApart}
 
 -- the ids of a pool's first drives, which are named after it, differ
 abbrev pub HaveOwnIds : Birth → ℕ → Type 0
@@ -76,6 +76,9 @@ pub record IsPoolOf (plan : NewPool) (birth : Birth) (y : Seen) (f : Found) (siz
   pub apart : LieApart f
   -- no superblock of an array stands on a drive that is no member of it
   pub alone : AreAlone f f.contents
+  -- its arrays are all ready for the volume, and have the pool's metadata areas
+  pub joined : f.state.joined ≡ f.state.made
+  pub areas : HaveOwnAreas f
   pub means : MeanZeros (disks_of y) (now_in y) size
 
 -- A pool was made on disks. Its volume has all the extents that the plan offers, and no slicing of the drives offers more. Where the

@@ -1,5 +1,5 @@
 -- The works of maintenance that a pool has left, by its arrays and its volume.
-use Rattle.std.specs.Prelude.{◌≡◌, ℕ, ◌-◌, ◌*◌, ◌/◌, ◌⊎◌, ◌||◌, not, ◌<◌, Bool, true, false, nat_lt, if◌then◌else◌, List, [], find, length, map, slice_get, Option, Some}
+use Rattle.std.specs.Prelude.{◌≡◌, ℕ, ◌+◌, ◌-◌, ◌*◌, ◌/◌, ◌⊎◌, ◌||◌, not, ◌<◌, Bool, true, false, nat_lt, if◌then◌else◌, List, [], find, length, map, slice_get, Option, Some}
 use Rattle.std.specs.List.{range_with_len}
 use Rattle.std.specs.Option.{option_map_or}
 use Rattle.array_image.specs.SoundArray.{first_unsynced}
@@ -113,19 +113,23 @@ LacksRow v w (Ready n) = ⊥
 LacksRow v w Extend = ⊥
 LacksRow v w Close = ⊥
 
--- The first of the works that the book v has left can't be done, which is one of this array: it isn't due, or its next row can't be had by the book w, where losses that
--- were found meanwhile are marked.
+-- The first of the works that the book v has left can't be done, which is one of this array: it isn't due, and nothing was called; or its next row can't be had by the
+-- book w, which has the losses that were met in the try.
 pub record IsStuck (l : Linear) (v w : Raid) (array : ℕ) : Type 0 where
   pub work : Work
   pub first : slice_get (works_by l v) 0 ≡ Some work
   pub named : array ≡ array_of work
-  pub why : (is_due v work ≡ false) ⊎ LacksRow v w work
+  pub why : ((is_due v work ≡ false) × (w ≡ v)) ⊎ LacksRow v w work
 
--- So it is by a book between two: from the first one on works alone were done, and then losses alone came to the last one.
-pub record StopsStuck (l : Linear) (v w : Raid) (array : ℕ) : Type 0 where
+-- So it is by a book between two. Up to it fewer works than were asked for were done; where no disk's faults rose (`Quiet`) and only rows to resync and to rebuild were left of the
+-- arrays, each left one fewer. From it to the last book there is what a try does.
+pub record StopsStuck (Quiet : Type 0) (l : Linear) (count : ℕ) (v w : Raid) (array : ℕ) : Type 0 where
   pub mid : Raid
   pub marks : IsAfter v.state mid.state
   pub done : KeepsBook v mid
+  pub works : ℕ
+  pub few : works < count
+  pub fewer : Quiet → HasRowsAlone v → left_by l mid + works ≡ left_by l v
   pub losses : IsAfter mid.state w.state
   pub left : KeepsBook mid w
   pub stuck : IsStuck l mid w array

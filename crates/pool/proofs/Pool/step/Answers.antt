@@ -1,8 +1,9 @@
-use Rattle.std.proofs.Common.{◌+◌, sym, subst, arith}
+use Rattle.std.proofs.Common.{◌+◌, sym, ap, subst, ◌∙◌, arith}
 use Rattle.std.proofs.lemmas.Result.{err_from_is_err_and}
+use Rattle.rack.specs.Joins.{rose_before}
 use Rattle.raid_rack.specs.declared.works.Stuck.{Stuck}
 use Rattle.pool.specs.View.{book, view}
-use Rattle.pool.specs.Works.{IsStuck}
+use Rattle.pool.specs.Works.{IsStuck, left_by}
 use Rattle.pool.proofs.Booked.{raises_fewer}
 use Rattle.pool.proofs.Stepping.{fewer_none, fewer_then}
 use Rattle.pool.proofs.Working.{worked_call, worked_does, worked_fit, worked_none, worked_then}
@@ -49,6 +50,8 @@ returns-in_err-advance g c =
     let all = worked_then seen shelf g.R.Rack.runs g.met.R.Rack.runs_then turn p c.loop-turn.self q c.loop-turn.invariant.worked c.advance.ensures.worked in
     let call = worked_call seen shelf g.R.Rack.runs g.met.R.Rack.sound g.met.R.Bay.runs_shelf (turn + 1) p q c.requires all in
     let error = err_from_is_err_and c.from_residual.result c.from_residual.ensures.1 in
+    let fit = worked_fit seen shelf g.R.Rack.runs turn p c.loop-turn.self c.requires c.loop-turn.invariant.worked in
+    let try = worked_call seen shelf g.R.Rack.runs g.met.R.Rack.sound g.met.R.Bay.runs_shelf 1 c.loop-turn.self q fit c.advance.ensures.worked in
     record {
       steps = record {
         passes = call.passes;
@@ -62,6 +65,12 @@ returns-in_err-advance g c =
               mid = book (view seen shelf c.loop-turn.self);
               marks = c.loop-turn.invariant.worked.book.book;
               done = c.loop-turn.invariant.worked.arrays;
+              works = turn;
+              few = (let end = c.min-turn-end.ensures in let test = c.loop-turn-test.true in omega (arith, end, test));
+              fewer = λ quiet alone.
+                  ap (λ l. left_by l (book (view seen shelf c.loop-turn.self)) + turn) c.advance.ensures.worked.linear
+                  ∙ (c.loop-turn.invariant.fewer (λ d rose. quiet d (rose_before (try.passes.apart.stays.faults d) rose)) alone).1
+                  ∙ sym (ap (λ l. left_by l (book (view seen shelf p))) all.linear);
               losses = c.advance.ensures.worked.book.book;
               left = c.advance.ensures.worked.arrays;
               stuck = subst (λ (e : Stuck). IsStuck (view seen shelf q).linear (book (view seen shelf c.loop-turn.self)) (book (view seen shelf q)) e.array) (sym error.2) c.in_err-advance.ensures.stuck;
