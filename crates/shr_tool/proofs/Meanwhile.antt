@@ -51,9 +51,6 @@ module _ {L G : Type 0} {o : Option Lone} (x y : View) (f : Found) (l : Linear) 
       let one = goes.service.arranged.truths n (low_made n low) in
       sectors_kept f n one.0 ((book x).arrays n) one.1 (goes.service.geometry n one.0 (low_made n low) one.1)
 
-  some : 0 < f.state.made
-  some = (let made = goes.service.arranged.made.0 in omega (arith, made))
-
   moments : KeepsMoments (book x) (book y) (slices_of x.slices x.bay) (slices_of x.slices y.bay)
   moments = subst (λ (t : Slices). KeepsMoments (book x) (book y) (slices_of x.slices x.bay) (slices_of t y.bay)) passes.slices passes.moments
 
@@ -72,7 +69,7 @@ module _ {L G : Type 0} {o : Option Lone} (x y : View) (f : Found) (l : Linear) 
         amid = amid;
         opens = λ says heads whole.
             calls_reopen f x.slices (book x) (book y) x.bay y.bay l goes.service.after lies.0 (inside_of f x.slices x.bay goes.service.disks inside) lies.1 goes.lasting passes.apart
-            moments (told 0 some) (lasts 0 some) traced k i since until stopped amid (volume_at says heads whole);
+            moments told lasts traced k i since until stopped amid (volume_at says heads whole);
       }
     where
       amid : HoldAmid f x.slices (book x).state (book y).state i

@@ -444,13 +444,10 @@ pub kept_by : {X E K : Type 0} (r : Result X E) (e : E) → r ≡ Err e → OnEr
 kept_by {X} {E} {K} r e refused kept = subst (λ q. OnErr q K) refused kept
 
 -- refused, it marks no drive
-still_marks :
-    (x y : View) (event : Event) → Passes x y → book y ≡ book x → MarksFor (moment_of x) (moment_of y) event
+still_marks : (x y : View) (event : Event) → Passes x y → book y ≡ book x → MarksFor (moment_of x) (moment_of y) event
 still_marks x y event passes same = record {
   after = passes.marks;
-  cause = λ p was now.
-      absurd
-      (both_ways (is_current (book x).state p) (subst (λ b. is_current b.state p ≡ false) same now) was);
+  cause = λ p was now. absurd (both_ways (is_current (book x).state p) (subst (λ b. is_current b.state p ≡ false) same now) was);
 }
 
 pub lose_missing :

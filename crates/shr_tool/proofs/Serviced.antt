@@ -20,11 +20,12 @@ use Rattle.array_image.specs.Left.{IsLeft}
 use Rattle.array_image.specs.Places.{log_slice, state_sector}
 use Rattle.array_image.specs.States.{is_current}
 use Rattle.raid_rack.specs.Book.{after_same}
-use Rattle.raid_rack.specs.Agreeing.{SupersAgree}
+use Rattle.raid_rack.specs.Agreeing.{HasOwnRows, SayTruth}
 use Rattle.raid_rack.specs.Moves.{IsSet}
 use Rattle.raid_rack.specs.Raid.{IsTold, is_over}
 use Rattle.raid_rack.specs.Runs.{KeepsMoments}
-use Rattle.raid_rack.proofs.TruthAgrees.{supers_agree}
+use Rattle.raid_rack.proofs.TruthAgrees.{truth_said}
+use Rattle.raid_rack.proofs.Whole.{own_rows}
 use Rattle.assembler.specs.Sound.{TargetsLand}
 use Rattle.pool_image.specs.Disks.{Disks}
 use Rattle.pool_image.specs.Drives.{Found}
@@ -263,20 +264,25 @@ goes_again {L} {G} x f l fit goes told lasts truths group i pick = record { agai
     landing : L → HoldLanding f x.slices (book x).state i
     landing lands = landing_again f x.slices (book x).state x.bay (tables_now x f goes lands) i pick again
 
-    agree : (n : ℕ) (r : Image) → n < f.state.made → IsLeft (slices_shown x) r → SupersAgree (book x).state r n
-    agree n r low left =
-        let made = goes.service.after.same.made in
-        supers_agree (book x) (slices_shown x) n set fit.0.heeded (omega (arith, low, made)) (told n low) (lasts n low) (truths n low) r left
+    made_now : (n : ℕ) → n < f.state.made → n < (book x).state.made
+    made_now n low = (let made = goes.service.after.same.made in omega (arith, low, made))
 
-    opens : G → AreHeadsLive (book x) → AreWholeSectors f.disks i → Reopens f x.slices l i
+    say : (n : ℕ) (r : Image) → n < f.state.made → IsLeft (slices_shown x) r → SayTruth ((book x).arrays n) (book x).state r n
+    say n r low left = truth_said (book x) (slices_shown x) n set fit.0.heeded (made_now n low) (told n low) (lasts n low) (truths n low) r left
+
+    own : (n : ℕ) → n < f.state.made → HasOwnRows ((book x).arrays n)
+    own n low = own_rows (book x) (slices_shown x) n set fit.0.heeded (made_now n low)
+
+    opens : G → AreHeadsLive (book x) → AreWholeSectors f.disks i → Reopens f x.slices l (book x) i
     opens says heads whole = elim goes.vacant [
       | inl same ↦
-          subst (λ (t : Slices). Reopens f t l i) (sym same)
+          subst (λ (t : Slices). Reopens f t l (book x) i) (sym same)
           (service_reopens f goes.tables (book x) l x.bay goes.service (subst (λ (t : Slices). IsInside t x.bay) same inside)
           (λ n low. subst (λ (t : Slices). IsTold (book x) (slices_of t x.bay) n) same (told n low)) lasts goes.tabled
-          (λ n r low left. agree n r low (subst (λ (t : Slices). IsLeft (slices_of t x.bay) r) (sym same) left))
+          (λ n r low left. say n r low (subst (λ (t : Slices). IsLeft (slices_of t x.bay) r) (sym same) left)) own
           (subst (λ (t : Slices). HoldGroup (book x) l (slices_of t x.bay)) same (group says heads)) heads i pick whole)
-      | inr one ↦ vacant_reopens f goes.tables x.slices (book x) l x.bay one.0 goes.service one.2 inside told lasts goes.tabled agree (group says heads) heads i pick whole
+      | inr one ↦
+          vacant_reopens f goes.tables x.slices (book x) l x.bay one.0 goes.service one.2 inside told lasts goes.tabled say own (group says heads) heads i pick whole
     ]
 
 -- What a stop leaves inside calls that take no disk holds it too.

@@ -5,7 +5,7 @@ use Rattle.std.proofs.lemmas.Bool.{both_ways}
 use Rattle.shr_script.specs.Reply.{left_line}
 use Rattle.pool.specs.View.{View, book}
 use Rattle.pool.specs.Volume.{unchanged}
-use Rattle.pool.specs.Calls.{Steps}
+use Rattle.pool.specs.Calls.{IsQuiet, Steps}
 use Rattle.pool.specs.Works.{StopsStuck, left_by, left_of}
 use Rattle.raid_rack.specs.declared.works.Stuck.{Stuck}
 use Rattle.shr_tool.specs.Events.{stuck_line}
@@ -44,7 +44,7 @@ pub step_stuck :
 step_stuck x y count at text r refused is steps_r =
     let steps : Steps x y count (Err at) = subst (λ q. Steps x y count q) refused steps_r in
     performs_by x y (stuck count at.array) text unchanged unchanged refl (λ none. absurd (both_ways false refl none)) steps.passes steps.raises
-    (λ none. absurd (both_ways true none refl)) (subst (λ l. StopsStuck l (book x) (book y) at.array) steps.passes.linear steps.stuck)
+    (λ none. absurd (both_ways true none refl)) (subst (λ l. StopsStuck (IsQuiet x y) l count (book x) (book y) at.array) steps.passes.linear steps.stuck)
     (marks_for x y _ steps.passes steps.marks)
     (λ a holds. is)
     (λ a holds. refl)

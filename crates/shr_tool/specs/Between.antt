@@ -28,16 +28,18 @@ use Rattle.shr_tool.specs.Timeline.{Ground, Steps}
 
 -- Contents hold the pool f again, over slices and by a book. Where targets land in the pool that the run began on (`Landing`), they land in the one that
 -- is found, so that no more is to be known of it when it is opened. Where the arrays of that pool have its metadata areas (`Group`), and before their first extents no
--- sector is spent by the book, whole sectors mean the run's volume, or are refused for what superblocks say of an array or another pool's disk says.
+-- sector is spent by the book, the arrays of whole sectors stand as the book has them, and they mean the run's volume, or are refused for what the book says of an array or for
+-- another pool's disk.
 pub record HoldsNext (Landing Group : Type 0) (f : Found) (t : Slices) (l : Linear) (v : Raid) (i : Image) : Type 0 where
   pub again : HoldAgain f t v.state i
   pub landing : Landing → HoldLanding f t v.state i
-  pub opens : Group → AreHeadsLive v → AreWholeSectors f.disks i → Reopens f t l i
+  pub opens : Group → AreHeadsLive v → AreWholeSectors f.disks i → Reopens f t l v i
 
--- Contents hold the pool f, by a state between those of two books, once what is pending is written. They mean the run's volume, too, or are refused for such a reason, or since a superblock wants.
+-- Contents hold the pool f, by a state between those of two books, once what is pending is written. They mean the run's volume, too, with members that count as far as in between, or
+-- are refused for such a reason, or since a superblock wants of a member that was to be rebuilt from its start.
 pub record HoldsMeanwhile (Group : Type 0) (f : Found) (t : Slices) (l : Linear) (v w : Raid) (i : Image) : Type 0 where
   pub amid : HoldAmid f t v.state w.state i
-  pub opens : Group → AreHeadsLive w → AreWholeSectors f.disks i → ReopensAmid f t l i
+  pub opens : Group → AreHeadsLive w → AreWholeSectors f.disks i → ReopensAmid f t l v w i
 
 -- Whatever a stop at a moment leaves holds the pool f again, by the book of that moment and over its slices, unless an array is over by then. `done`
 -- are the events before it: where one of them was to replace a drive, a sector of the volume can be had at that moment, and the ids of the pool's

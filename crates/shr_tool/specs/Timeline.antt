@@ -66,7 +66,7 @@ HasCause g p q (replaced place name) =
     HasGrowCause g.linear p q place name (Ok tt) × ((d : ℕ) → IsNamed q name d → IsReplaced p q place d)
 HasCause g p q (declined place name fault) = HasGrowCause g.linear p q place name (Err fault) × IsDeclined p q place fault
 HasCause g p q (stepped count left) = HasSteps g p q count left
-HasCause g p q (stuck count array) = StopsStuck g.linear p.book q.book array
+HasCause g p q (stuck count array) = StopsStuck ((d : ℕ) → Rose (p.faults d) (q.faults d) → ⊥) g.linear count p.book q.book array
 HasCause g p q (shown text) = text ≡ status_text g.linear q.book
 
 -- Marks alone come to the pool's state, each of a drive whose disk's faults rose or that the script lost.
