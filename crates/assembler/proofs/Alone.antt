@@ -11,6 +11,7 @@ use Rattle.slice_rack.specs.Runs.{IsSliced}
 use Rattle.slice_rack.specs.Slices.{IsOrderly, Slices, first_of as slice_first, seat_of, sectors_of}
 use Rattle.md_super.specs.declared.superblock.Super.{Super}
 use Rattle.array_image.specs.Places.{data_sector, log_sectors, log_slice, member_slice, place_of, slice_of, state_sector, super_sector}
+use Rattle.array_core.proofs.Stripped.{some_same}
 use Rattle.array_model.proofs.Keeping.{live_on}
 use Rattle.pool_image.specs.Disks.{Disks, disks_of}
 use Rattle.pool_image.specs.Drives.{Found, end_of, extent_from, extent_of, first_of}
@@ -25,7 +26,6 @@ use Rattle.pool_model.proofs.Layers.{IsLaid, laid}
 use Rattle.pool_model.proofs.NoSuper.{no_super_replaced}
 use Rattle.assembler.specs.Holding.{AreSteady}
 use Rattle.assembler.specs.Writing.{IsSlicedOrTable}
-use Rattle.assembler.proofs.Finding.{some_same}
 
 -- ---- where the slice of a place would be that is no member of an array
 

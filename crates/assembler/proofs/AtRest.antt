@@ -7,6 +7,7 @@ use Rattle.rack.specs.Sequences.{OnlyReads}
 use Rattle.slice_rack.specs.SliceRack.{below_of}
 use Rattle.array_image.specs.Record.{damaged_log}
 use Rattle.array_image.specs.States.{current_places}
+use Rattle.array_core.proofs.Stripped.{some_same}
 use Rattle.pool_image.specs.Disks.{disks_of, identities_of, newest}
 use Rattle.pool_image.specs.Drives.{Found}
 use Rattle.pool_image.specs.Replay.{Standing, standing, standing_by}
@@ -25,9 +26,6 @@ use Rattle.pool_model.proofs.SameAlone.{own_alone}
 use Rattle.assembler.specs.Sound.{HoldSound}
 use Rattle.assembler.proofs.Entry.{IsRested, f, pool_same, rest_found}
 use Rattle.assembler.proofs.Rereading.{rereading_leaves}
-
-some_same : {X : Type 0} (a b : X) → Some a ≡ Some b → a ≡ b
-some_same a b same = cc
 
 module _ {R : Type 0} (seen : R → Seen) (a : Seen) (rest : AtRest R) (e : Found) (sound : HoldSound a e) (rested : IsRested seen a rest) where
   abbrev x : Seen

@@ -13,6 +13,7 @@ use Rattle.pool_state.specs.declared.contents.State.{State}
 use Rattle.pool_state.specs.Sector.{decoded}
 use Rattle.array_image.specs.Places.{log_sectors, log_slice, place_of, state_sector}
 use Rattle.array_image.specs.States.{copy_in, state_in}
+use Rattle.array_core.proofs.Stripped.{some_same}
 use Rattle.pool_image.specs.Disks.{Disks, Identities, disks_of, identities_of, newest, seat_of as pool_seat}
 use Rattle.pool_image.specs.Drives.{Found, found, found_by}
 use Rattle.pool_image.specs.Replay.{Standing, standing, written}
@@ -20,7 +21,6 @@ use Rattle.pool_image.proofs.Rested.{stood_by}
 use Rattle.commit_log.specs.Kept.{IsNoLater}
 use Rattle.pool_scan.specs.Scanning.{now_in}
 use Rattle.assembler.specs.Sound.{HaveStood}
-use Rattle.assembler.proofs.Finding.{some_same}
 use Rattle.assembler.proofs.Rest.{nothing_decodes, ok_of, state_of_latest}
 
 -- how disks stood is part of the pool that they have

@@ -8,6 +8,7 @@ use Rattle.array_image.specs.SoundArray.{first_unsynced}
 use Rattle.array_image.specs.Supers.{is_unclean, truth_in}
 use Rattle.array_core.specs.Model.{is_truth}
 use Rattle.array_core.specs.Superblocks.{left_offset}
+use Rattle.array_core.proofs.Stripped.{some_same}
 use Rattle.array_model.specs.Says.{IsEarlier}
 use Rattle.array_model.specs.View.{View, rows_of}
 use Rattle.raid_rack.specs.Agreeing.{AgreeLeaving}
@@ -20,7 +21,6 @@ use Rattle.pool_check.specs.declared.Checked.{Checked}
 use Rattle.pool_check.specs.Layers.{AreOpened}
 use Rattle.assembler.specs.Holding.{IsArrayOf}
 use Rattle.assembler.specs.Members.{AreMembers}
-use Rattle.assembler.proofs.Finding.{some_same}
 use Rattle.assembler.proofs.Shows.{got}
 
 -- the truth that an array leaves, in which no row is left to resync

@@ -1,6 +1,7 @@
 -- A pool that was brought to rest is the one that the disks held before.
 use Rattle.std.proofs.Common.{◌≡◌, ◌<◌, Bool, true, false, not, bytes_eq, ◌∷◌, [], Option, Some, None, option_map, refl, sym, ap, ap₂, subst, ◌∙◌, arith}
 use Rattle.std.specs.Option.{option_map_or}
+use Rattle.array_core.proofs.Stripped.{some_same}
 use Rattle.rack.specs.Seen.{Seen, Stays}
 use Rattle.rack.specs.Joins.{rose_before, rose_since}
 use Rattle.rack.specs.Sequences.{OnlyReads}
@@ -31,7 +32,7 @@ use Rattle.pool_model.specs.Grouped.{IsVolumeOf}
 use Rattle.assembler.specs.Holding.{IsFoundOn}
 use Rattle.assembler.specs.Sound.{HoldSound}
 use Rattle.assembler.proofs.Agreeing.{none_passes}
-use Rattle.assembler.proofs.Finding.{same as found_same, some_same}
+use Rattle.assembler.proofs.Finding.{same as found_same}
 use Rattle.assembler.proofs.Meaning.{refusal_is}
 
 -- where no disk refused a call in all, none did in a part

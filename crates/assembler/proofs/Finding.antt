@@ -9,6 +9,7 @@ use Rattle.pool_state.specs.Valid.{is_valid}
 use Rattle.array_image.specs.Left.{reading}
 use Rattle.array_image.specs.Record.{GateAt, pending_at}
 use Rattle.array_image.specs.States.{current_places}
+use Rattle.array_core.proofs.Stripped.{some_same}
 use Rattle.commit_log.specs.View.{LogView, left_of}
 use Rattle.commit_log.specs.Opening.{Finds}
 use Rattle.pool_image.specs.Disks.{Disks, Identities, Seats, disks_of, identities_of, newest, seat_of as pool_seat}
@@ -26,9 +27,6 @@ use Rattle.pool_check.specs.Drives.{AreCopied, AreDrivesOf, found_with}
 use Rattle.pool_check.proofs.Meant.{drives_now, found_is}
 use Rattle.raid_rack.proofs.Noted.{current_few}
 use Rattle.assembler.specs.Holding.{HoldPool, IsFoundOn, IsPoolOn, drives_of}
-
-pub some_same : {X : Type 0} (a b : X) → Some a ≡ Some b → a ≡ b
-some_same a b same = cc
 
 module _ (x : Seen) (known : List Known) (s : State) (t : Slices) (on : List ℕ) (l : LogView) (is_pending : Bool) (damaged : Option ℕ) where
   abbrev pub disks : Disks

@@ -8,6 +8,7 @@ use Rattle.array_model.specs.declared.Seat.TheVariants.{Missing}
 use Rattle.array_core.specs.Opening.{seat_by}
 use Rattle.array_core.specs.Seats.{gone, restarted}
 use Rattle.array_core.specs.Slots.{place_by}
+use Rattle.array_core.proofs.Stripped.{some_same}
 use Rattle.pool_image.specs.Drives.{Found}
 use Rattle.pool_image.specs.Meaning.{super_at, truth_of}
 use Rattle.pool_check.specs.Layers.{IsOpened}
@@ -38,9 +39,6 @@ array_same f g n t v same of = record {
     | inr said ↦ inr (said ∙ ap (λ (o : Option Super). Some (option_map_or seat_by o Missing)) (same (place_by t k)))
   ];
 }
-
-some_same : (t u : Super) → Some t ≡ Some u → t ≡ u
-some_same t u same = cc
 
 pub array_founded : (f : Found) (n : ℕ) (t : Super) (u before w : View) (places : List ℕ) → IsOpened f n u → n < f.state.joined → truth_of f n ≡ Some t
     → before ≡ gone places (restarted u) → LosesOnly before w

@@ -31,6 +31,7 @@ use Rattle.array_core.specs.Opening.{seat_by}
 use Rattle.array_core.specs.Seats.{gone, names, restarted}
 use Rattle.array_core.specs.TruthHeld.{HoldTruth}
 use Rattle.array_core.specs.Slots.{place_by}
+use Rattle.array_core.proofs.Stripped.{some_same}
 use Rattle.pool_scan.proofs.Valid.{valid_arrays}
 use Rattle.array_image.specs.Arrays.{array_in, replayed, value_by}
 use Rattle.pool_image.specs.Drives.{Found, slices_of}
@@ -58,7 +59,6 @@ use Rattle.pool_model.specs.Pools.{IsSoundPool}
 use Rattle.assembler.specs.Holding.{AreSteady, HoldPool, HoldsArrays, IsArrayOf, IsIdle, IsPoolOn, pool_values}
 use Rattle.assembler.proofs.Amid.{closing_leaves, says_only}
 use Rattle.assembler.proofs.Clean.{clean_left}
-use Rattle.assembler.proofs.Finding.{some_same}
 use Rattle.assembler.proofs.Founded.{array_founded}
 use Rattle.assembler.proofs.Arrays.{array_room, array_whole, array_read, array_values, opens_array, seats_read, sectors_are}
 use Rattle.assembler.proofs.Rest.{copies_agree, log_there, opened_now}

@@ -18,6 +18,7 @@ use Rattle.pool_state.specs.Sector.{decoded}
 use Rattle.array_image.specs.Places.{arrays_first, log_sectors, log_slice, place_of, slice_of, state_sector}
 use Rattle.array_image.specs.Record.{damaged_log}
 use Rattle.array_image.specs.States.{copy_in, current_places, state_in}
+use Rattle.array_core.proofs.Stripped.{some_same}
 use Rattle.commit_log.specs.Kept.{IsNoLater}
 use Rattle.pool_image.specs.Alike.{Agree}
 use Rattle.pool_image.specs.Disks.{Disks, Identity, disks_of, identities_of, newest}
@@ -45,7 +46,7 @@ use Rattle.assembler.specs.Sound.{HoldSound}
 use Rattle.assembler.proofs.AtRest.{pool_alone}
 use Rattle.assembler.proofs.Before.{before_is}
 use Rattle.assembler.proofs.Entry.{IsRested, f, pool_same, rest_found}
-use Rattle.assembler.proofs.Finding.{idle, newest_is, same as found_same, some_same}
+use Rattle.assembler.proofs.Finding.{idle, newest_is, same as found_same}
 use Rattle.assembler.proofs.Rereading.{rereading_leaves}
 use Rattle.assembler.proofs.Rest.{nothing_decodes, ok_of, state_of_latest}
 

@@ -18,6 +18,7 @@ use Rattle.array_image.specs.Foremost.{foremost}
 use Rattle.array_image.specs.Places.{log_sectors, log_slice, place_of, state_sector}
 use Rattle.array_image.specs.States.{copy_in, epoch_of, is_current, state_in, id_of}
 use Rattle.array_core.proofs.Leading.{foremost_leads, none_leads}
+use Rattle.array_core.proofs.Stripped.{some_same}
 use Rattle.commit_log.specs.View.{LogView, names}
 use Rattle.commit_log.specs.AtRest.{AtRest, CopiesAgree, Opened}
 use Rattle.pool_image.specs.Disks.{Disks, Identity}
@@ -32,9 +33,6 @@ use Rattle.pool_model.specs.Pools.{IsSoundPool}
 use Rattle.assembler.specs.Holding.{AreSteady, IsIdle, IsPoolOn}
 use Rattle.assembler.proofs.Copied.{has_copy}
 use Rattle.assembler.proofs.Shows.{few_place, live, now, reads_outside, slice_seat}
-
-some_same : {X : Type 0} (a b : X) → Some a ≡ Some b → a ≡ b
-some_same a b same = cc
 
 pub nothing_decodes : (copy : Copied) → decoded [] ≡ Ok copy → ⊥
 unfolding number_at bytes_at

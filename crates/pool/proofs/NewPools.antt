@@ -7,6 +7,7 @@ use Rattle.rack.specs.Joins.{leaves_weaker}
 use Rattle.rack.specs.Sequences.{IsMix}
 use Rattle.array_image.specs.Places.{state_sector, super_sector}
 use Rattle.array_image.specs.Supers.{super_of}
+use Rattle.array_core.proofs.Stripped.{some_same}
 use Rattle.lvm_group.specs.Made.{new_volume}
 use Rattle.lvm_group.specs.Runs.{Linear, sectors_in}
 use Rattle.lvm_group.proofs.NewMeaning.{new_extents_are}
@@ -38,9 +39,6 @@ use Rattle.new_pool.proofs.Unlisted.{no_slice}
 use Rattle.new_pool.proofs.Values.{sectors_now, value_now}
 use Rattle.pool.proofs.OwnAreas.{areas_now}
 use Rattle.pool.specs.Made.{AreFair, HaveNoOthers, HaveOwnIds, HaveWholeSectors, HeldNone, IsPoolOf, IsSafelyRefused, IsSoundlyMade, MeansStop, StopsMean}
-
-some_same : (x y : ℕ) → Some x ≡ Some y → x ≡ y
-some_same x y same = cc
 
 -- ---- contents of disks on which a plan was written
 

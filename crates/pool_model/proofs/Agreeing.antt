@@ -5,6 +5,7 @@ use Rattle.std.proofs.lemmas.Option.{none-some}
 use Rattle.rack.specs.Seen.{Image}
 use Rattle.pool_state.specs.declared.contents.State.{State}
 use Rattle.array_image.specs.States.{is_current}
+use Rattle.array_core.proofs.Stripped.{some_same}
 use Rattle.raid_rack.specs.Book.{IsAfter}
 use Rattle.pool_image.specs.Alike.{Agree, IsSamePool, MeansTheSame}
 use Rattle.pool_image.specs.Disks.{Disks, identities_of, newest, seat_of}
@@ -18,9 +19,6 @@ use Rattle.pool_rest.proofs.Unwritten.{agreeing_mean}
 use Rattle.pool_model.specs.Openings.{HoldOpened, MayReplay}
 use Rattle.pool_model.proofs.Found.{found_is}
 use Rattle.pool_model.proofs.Rereading.{agree_holds}
-
-some_same : {X : Type 0} (x y : X) → Some x ≡ Some y → x ≡ y
-some_same x y same = cc
 
 some_newest : (f : Found) (g : State → Found) (o : Option State) → option_map g o ≡ Some f → (z : State) × (o ≡ Some z)
 some_newest f g None has = absurd (none-some f has)

@@ -24,6 +24,7 @@ use Rattle.pool_state.specs.declared.contents.Drive.{Drive}
 use Rattle.pool_state.specs.declared.contents.Plan.{Plan}
 use Rattle.pool_state.specs.declared.contents.State.{State}
 use Rattle.array_image.specs.Places.{drive_id}
+use Rattle.array_core.proofs.Stripped.{some_same}
 use Rattle.pool_image.specs.Disks.{Disks, Identities, Identity, disks_of, id_by, identities_of, stands_for}
 use Rattle.pool_image.specs.Drives.{Found}
 use Rattle.pool_image.specs.Meaning.{has_table, is_table, truth_of}
@@ -43,9 +44,6 @@ use Rattle.pool_model.proofs.Named.{IsNamed, id_same, stands_named}
 use Rattle.pool_model.proofs.Staying.{sliced_before as sliced_taken}
 use Rattle.pool_model.proofs.Taken.{IsKnownBefore, has_truths, seat_here, seat_other}
 use Rattle.pool_model.proofs.Undamaged.{members_alike}
-
-some_same : {X : Type 0} (a b : X) → Some a ≡ Some b → a ≡ b
-some_same a b same = cc
 
 -- a disk with the contents and the sectors that it had says what it said
 said_same : (f : Found) (z : Seen) (was i : Image) (d : ℕ) → was d ≡ i d → z.sectors d ≡ f.disks.sectors d → identities_of f.disks was d ≡ identities_of (disks_of z) i d

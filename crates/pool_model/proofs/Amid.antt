@@ -53,9 +53,6 @@ use Rattle.pool_model.proofs.Said.{AreInside, slices_by}
 use Rattle.pool_model.proofs.Shown.{shown_between}
 use Rattle.pool_model.proofs.Vacant.{logs_other, seat_other, sliced_before, slices_now}
 
-some_same : {X : Type 0} (a b : X) → Some a ≡ Some b → a ≡ b
-some_same a b same = cc
-
 -- ---- tables
 
 -- the drives' tables have the members' slices where they had them, and outside the slices they are as they were

@@ -13,6 +13,7 @@ use Rattle.array_image.specs.Foremost.{foremost}
 use Rattle.array_image.specs.Places.{log_sectors, log_slice, place_of, slice_of}
 use Rattle.array_image.specs.Record.{gate_in, gate_of, gate_sector, pending_at}
 use Rattle.array_image.specs.States.{current_places, is_current}
+use Rattle.array_core.proofs.Stripped.{some_same}
 use Rattle.commit_log.specs.View.{names}
 use Rattle.raid_rack.proofs.Added.{names_current}
 use Rattle.pool_image.specs.Book.{book_of}
@@ -27,9 +28,6 @@ use Rattle.pool_model.proofs.Named.{seat_ahead}
 use Rattle.pool_model.proofs.Skipped.{back, seat_left, seat_none, seated, skip_back}
 use Rattle.pool_model.proofs.Standing.{closed_none, pool_at}
 use Rattle.pool_scan.proofs.Valid.{valid_places}
-
-some_same : {X : Type 0} (x y : X) → Some x ≡ Some y → x ≡ y
-some_same x y same = cc
 
 -- ---- lists
 

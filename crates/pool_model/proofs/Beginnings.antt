@@ -6,6 +6,7 @@ use Rattle.std.proofs.lemmas.List.Sums.{sum_by-cons}
 use Rattle.std.proofs.lemmas.Option.{none-some}
 use Rattle.md_super.specs.declared.superblock.Super.{Super}
 use Rattle.array_image.specs.Places.{data_sector}
+use Rattle.array_core.proofs.Stripped.{some_same}
 use Rattle.array_model.specs.View.{HasGeometry, View}
 use Rattle.pool_image.specs.Drives.{Found, end_of, extent_from, first_of}
 use Rattle.pool_image.specs.Meaning.{truth_of}
@@ -29,9 +30,6 @@ view_at v n low = get_range v.arrays 0 v.state.made n low ∙ ap (λ k. Some (v.
 
 pub no_view : (v : Raid) (n : ℕ) → v.state.made ≤ n → slice_get (views_of v) n ≡ None
 no_view v n past = past_range v.arrays 0 v.state.made n past
-
-some_same : {X : Type 0} (a b : X) → Some a ≡ Some b → a ≡ b
-some_same a b same = cc
 
 pub take_sum : (xs : List View) (n : ℕ) (u : View) → slice_get xs n ≡ Some u → sum_by slice_length (take (suc n) xs) ≡ sum_by slice_length (take n xs) + slice_length u
 take_sum [] n u is = absurd (none-some u is)

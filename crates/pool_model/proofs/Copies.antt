@@ -15,6 +15,7 @@ use Rattle.array_image.specs.Arrays.{replayed}
 use Rattle.array_image.specs.Places.{arrays_first, log_sectors, log_slice, place_of, state_sector}
 use Rattle.array_image.specs.Record.{pending}
 use Rattle.array_image.specs.States.{epoch_of, is_current, state_in}
+use Rattle.array_core.proofs.Stripped.{some_same}
 use Rattle.commit_log.specs.Commits.{Stands}
 use Rattle.commit_log.specs.Kept.{IsCopyOf, IsNoLater, LogKept}
 use Rattle.commit_log.specs.Standing.{LogsStand, deciding}
@@ -211,9 +212,6 @@ module _ (f : Found) (t : Slices) (v : Raid) (y : Seen) (i : Image) (known : IsK
     | inl one ↦ inl one
     | inr none ↦ inr (λ p seat. none p (low_place p d seat) seat)
   ]
-
-  some_same : {X : Type 0} (a b : X) → Some a ≡ Some b → a ≡ b
-  some_same a b same = cc
 
   pub no_later : (d : ℕ) (copy : Copied) → d < f.disks.count → (ids d).copied ≡ Some copy → IsNoLater s copy
   no_later d copy low here = elim (seated_or d) [

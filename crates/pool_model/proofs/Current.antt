@@ -17,6 +17,7 @@ use Rattle.array_image.specs.Stripes.{AgreeIn, sector_in, there, width}
 use Rattle.array_image.specs.Supers.{super_in, truth_in}
 use Rattle.array_image.proofs.Frames.{map_same, value_by_data}
 use Rattle.array_image.proofs.Settled.{among_take}
+use Rattle.array_core.proofs.Stripped.{some_same}
 
 -- the same valid superblocks of an array on current places
 abbrev pub SameCurrent : State → ℕ → Image → Image → Type 0
@@ -34,9 +35,6 @@ map_filtered {X} f g keep (x ∷ xs) same = of (keep x) refl (map_filtered f g k
         → map f (if b then x ∷ filter keep xs else filter keep xs) ≡ map g (if b then x ∷ filter keep xs else filter keep xs)
     of true is rest = ap₂ (λ y ys. y ∷ ys) (same x is) rest
     of false is rest = rest
-
-some_same : {X : Type 0} (x y : X) → Some x ≡ Some y → x ≡ y
-some_same x y same = cc
 
 -- the truth that a shape goes by
 pub shape_truth : (s : State) (c : Image) (n : ℕ) (o : Option Super) (shape : Shape) → option_map (shape_by s c n) o ≡ Some shape

@@ -19,6 +19,7 @@ use Rattle.array_image.specs.Supers.{is_named, is_rebuilding, is_unclean, named_
 use Rattle.array_core.proofs.Opened.{current_below}
 use Rattle.array_core.proofs.Rules.{get_map, get_range, placed}
 use Rattle.array_core.proofs.Truths.{Truth}
+use Rattle.array_core.proofs.Stripped.{some_same}
 use Rattle.array_model.specs.declared.Seat.{Seat}
 use Rattle.array_model.specs.View.{View, is_whole_seat, member_on, rows_of as rows_in, shape_of}
 use Rattle.commit_log.specs.View.{names}
@@ -68,9 +69,6 @@ module _ (f : Found) (t : Slices) (v : Raid) (y : Seen) (i : Image) (known : IsK
 
   abbrev pub said : SaysPool f t v.state i
   said = says_pool f t v y i known
-
-  some_same : {X : Type 0} (a b : X) → Some a ≡ Some b → a ≡ b
-  some_same a b same = cc
 
   pub low_before : (n : ℕ) → n < book.made → n < f.state.made
   low_before n low = let same = made_same f t v.state i rest said in omega (arith, low, same)

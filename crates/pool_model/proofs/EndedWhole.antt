@@ -8,6 +8,7 @@ use Rattle.slice_rack.specs.Slices.{Slices}
 use Rattle.slice_rack.specs.Sliced.{IsInside, slices_of as slices_shown}
 use Rattle.pool_state.specs.declared.contents.State.{State}
 use Rattle.array_image.specs.States.{is_current}
+use Rattle.array_core.proofs.Stripped.{some_same}
 use Rattle.array_model.specs.View.{sectors_of as sectors_in}
 use Rattle.raid_rack.specs.Raid.{Raid, spent_of}
 use Rattle.lvm_group.specs.Runs.{Linear}
@@ -46,9 +47,6 @@ module _ (f : Found) (t : Slices) (v : Raid) (y : Seen) (i : Image) (known : IsK
 
   abbrev said : SaysPool f t v.state i
   said = says_pool f t v y i known
-
-  some_same : {X : Type 0} (a b : X) → Some a ≡ Some b → a ≡ b
-  some_same a b same = cc
 
   -- no disk is of another pool
   own_pool : has_other_pool f.disks rest ≡ false

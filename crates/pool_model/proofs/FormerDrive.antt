@@ -19,6 +19,7 @@ use Rattle.pool_state.specs.declared.contents.Plan.{Plan}
 use Rattle.array_image.specs.Places.{arrays_first, log_sectors, log_slice, slice_of, state_sector}
 use Rattle.array_image.specs.Record.{GateAt, gate_sector, pending_at}
 use Rattle.array_image.specs.States.{current_places, epoch_of, is_current, id_of}
+use Rattle.array_core.proofs.Stripped.{some_same}
 use Rattle.commit_log.specs.Kept.{IsCopyOf, LogKept}
 use Rattle.raid_rack.specs.Book.{after_same}
 use Rattle.raid_rack.specs.Enlisting.{enlisted, next_drive}
@@ -42,9 +43,6 @@ use Rattle.pool_model.proofs.Logs.{copied_in, many_in, reads_in, room_in}
 use Rattle.pool_model.proofs.Named.{stands_named}
 use Rattle.pool_model.proofs.Said.{AreInside}
 use Rattle.pool_model.proofs.Seats.{seat_leads}
-
-some_same : {X : Type 0} (a b : X) → Some a ≡ Some b → a ≡ b
-some_same a b same = cc
 
 -- By the tables with the new drive the former one's disk has no slice.
 pub former_free : (f : Found) (t u : Slices) (v : Raid) (place disk sectors : ℕ) → SeatsNew f t u v place disk sectors → IsOrderly t → IsOrderly u → (d : ℕ) → slice_seat t place ≡ Some d

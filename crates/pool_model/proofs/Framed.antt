@@ -13,6 +13,7 @@ use Rattle.array_image.specs.Supers.{has_roles, has_whole_row, is_named, named_p
 use Rattle.array_core.proofs.Opened.{current_is, named_place, super_passes, truth_leads}
 use Rattle.array_core.proofs.Rules.{get_map, get_range, placed}
 use Rattle.array_core.proofs.Truths.{rule_holds}
+use Rattle.array_core.proofs.Stripped.{some_same}
 use Rattle.raid_rack.specs.Frames.{Frame, frame_of}
 use Rattle.pool_model.proofs.Roles.{named_position}
 
@@ -68,9 +69,6 @@ module _ (t u : Super) (has : IsPlaced t) (had : IsPlaced u) (same : frame_of t 
       get_map (λ j. unwrap_or (place_with r.roles.items j) 16) (range_with_len 0 r.raid_disks) k
       ∙ ap (option_map (λ j. unwrap_or (place_with r.roles.items j) 16)) (get_range 0 r.raid_disks k low)
       ∙ (let here : 0 + k ≡ k = omega arith in ap (λ j. Some (unwrap_or (place_with r.roles.items j) 16)) here)
-
-  some_same : (a b : ℕ) → Some a ≡ Some b → a ≡ b
-  some_same a b is = cc
 
   place_same : (k : ℕ) → k < t.raid_disks → unwrap_or (place_with t.roles.items k) 16 ≡ unwrap_or (place_with u.roles.items k) 16
   place_same k low =

@@ -8,6 +8,7 @@ use Rattle.pool_state.specs.declared.contents.State.{State}
 use Rattle.array_image.specs.Places.{arrays_first, log_slice, log_sectors, place_of, slice_of, state_sector}
 use Rattle.array_image.specs.Record.{damaged_log, gate_of, gate_sector, is_bad_gate, is_bad_log, is_there, pending}
 use Rattle.array_image.specs.States.{current_places, is_current}
+use Rattle.array_core.proofs.Stripped.{some_same}
 use Rattle.raid_rack.proofs.Added.{names_current}
 use Rattle.pool_image.specs.Alike.{Agree, IsSameButGates, IsSamePool, drive_gate}
 use Rattle.pool_image.specs.Disks.{Disks, identities_of, newest, seat_of}
@@ -26,9 +27,6 @@ use Rattle.pool_model.proofs.Rereading.{same_holds, same_sound}
 use Rattle.pool_model.proofs.Seats.{nowhere}
 use Rattle.pool_model.proofs.Settled.{IsIdlePool, idle_found, idle_logs, idle_stands, pool_at}
 use Rattle.pool_model.proofs.Undamaged.{find_false, or_left}
-
-some_same : {X : Type 0} (x y : X) → Some x ≡ Some y → x ≡ y
-some_same x y same = cc
 
 -- what a log slice shows of the gate of a place
 abbrev log_gate : Disks → Image → Option ℕ → List ℕ

@@ -21,6 +21,7 @@
 -- it may have said before, or none. `LacksDrive` (kept by `lacks_calls`, `lacks_still`) says of the place, where it has no disk any more, that t are still
 -- the tables from before that. What is laid on a new drive says no state and is no superblock: proofs/Unsliced.antt.
 use Rattle.std.proofs.Common.{◌≡◌, ℕ, ◌<◌, Bool, false, Some, refl, sym, ap₂, ◌∙◌, inl, arith}
+use Rattle.array_core.proofs.Stripped.{some_same}
 use Rattle.rack.specs.Seen.{Image, IsPick, Seen}
 use Rattle.rack.specs.Sequences.{WritesOnly}
 use Rattle.slice_rack.specs.Runs.{IsSliced}
@@ -53,9 +54,6 @@ use Rattle.pool_model.proofs.Staying.{held_taken}
 use Rattle.pool_model.proofs.Taken.{IsKnownBefore, arranged_taken}
 use Rattle.pool_model.proofs.TakenSlices.{geometry_taken, geometry_then, slices_taken}
 use Rattle.pool_model.proofs.Vacant.{known_vacant, on_disks, slices_now}
-
-some_same : {X : Type 0} (a b : X) → Some a ≡ Some b → a ≡ b
-some_same a b same = cc
 
 -- a sound pool that was found on the disks
 pub in_service : (before : Image) (f : Found) (t : Slices) (v : Raid) (x : Seen)

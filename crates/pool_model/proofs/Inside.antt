@@ -18,6 +18,7 @@ use Rattle.array_image.specs.Arrays.{array_in, arrays_in, replayed, shape_in}
 use Rattle.array_image.specs.Places.{data_sector, log_sectors, log_slice, member_slice, place_of, slice_of, state_sector, super_sector}
 use Rattle.array_image.specs.States.{current_places, epoch_of, is_current}
 use Rattle.array_image.proofs.Frames.{super_of_sector}
+use Rattle.array_core.proofs.Stripped.{some_same}
 use Rattle.commit_log.specs.Kept.{IsNoLater}
 use Rattle.commit_log.specs.Saying.{AreOwnCopies}
 use Rattle.commit_log.proofs.Kept.{later_yet}
@@ -45,9 +46,6 @@ use Rattle.pool_model.proofs.Said.{SaysPool, SaysSeats, pool_of}
 use Rattle.pool_model.proofs.Seats.{nowhere, seats_now}
 use Rattle.pool_model.proofs.Still.{alone_now, same, slices_now, sound_now, value_now}
 use Rattle.pool_model.proofs.Stopped.{c, copied_is, few, ids, later_base, many, on_place, seated_or}
-
-some_same : {X : Type 0} (a b : X) → Some a ≡ Some b → a ≡ b
-some_same a b same = cc
 
 module _ (f : Found) (t : Slices) (base s : State) (i : Image) (stop : SaysStopped f t base s i) (st : StandFor f t s i) where
   abbrev xs : List Target

@@ -19,6 +19,7 @@ use Rattle.pool_state.specs.declared.contents.State.{State}
 use Rattle.pool_state.specs.Sector.{decoded}
 use Rattle.array_image.specs.Places.{log_slice}
 use Rattle.array_image.specs.States.{epoch_of, is_current, id_of}
+use Rattle.array_core.proofs.Stripped.{some_same}
 use Rattle.commit_log.specs.Kept.{IsNoLater}
 use Rattle.raid_rack.specs.Book.{IsAfter}
 use Rattle.raid_rack.specs.Enlisting.{enlisted, next_drive}
@@ -41,9 +42,6 @@ use Rattle.pool_model.proofs.Said.{AreInside}
 use Rattle.pool_model.proofs.Staying.{sliced_seated}
 use Rattle.pool_model.proofs.Taken.{IsKnownBefore, arranged_taken, seat_here, seat_other}
 use Rattle.pool_model.proofs.TakenSlices.{slices_taken}
-
-some_same : {X : Type 0} (a b : X) → Some a ≡ Some b → a ≡ b
-some_same a b same = cc
 
 -- s are the tables by which the pool goes, and u those with the new drive. The drive that the place had says a state from before, or its own of the book's state.
 module _ (f : Found) (s u : Slices) (v : Raid) (place disk units : ℕ) (plan : Plan) (x : Seen) (i : Image) (is : InService f s v x)

@@ -4,6 +4,7 @@ use Rattle.std.proofs.lemmas.Bool.{cases_eq}
 use Rattle.rack.specs.Seen.{Image}
 use Rattle.pool_state.specs.declared.contents.State.{State}
 use Rattle.array_image.specs.States.{is_current}
+use Rattle.array_core.proofs.Stripped.{some_same}
 use Rattle.raid_rack.proofs.Noted.{current_few}
 use Rattle.pool_image.specs.Disks.{Identities, identities_of, seat_of, stands_for}
 use Rattle.pool_image.specs.Drives.{Found}
@@ -15,9 +16,6 @@ use Rattle.pool_model.proofs.Seats.{seat_leads}
 module _ (h : Found) (v next : State) (place : ℕ) (i : Image) (outset : IsOutset h) (says : NamesJoining h v next place i) where
   abbrev ids : Identities
   ids = identities_of h.disks i
-
-  some_same : {X : Type 0} (a b : X) → Some a ≡ Some b → a ≡ b
-  some_same a b same = cc
 
   seated_or : (d : ℕ) → ((p : ℕ) × (h.seats p ≡ Some d)) ⊎ ((p : ℕ) → h.seats p ≡ Some d → ⊥)
   seated_or d = elim (seated_below h.seats d 16) [

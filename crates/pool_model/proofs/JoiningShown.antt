@@ -13,6 +13,7 @@ use Rattle.pool_state.specs.declared.contents.State.{State}
 use Rattle.array_image.specs.Arrays.{replayed}
 use Rattle.array_image.specs.Places.{member_slice}
 use Rattle.array_image.specs.States.{is_current, state_in}
+use Rattle.array_core.proofs.Stripped.{some_same}
 use Rattle.raid_rack.specs.Book.{IsAfter, after_same}
 use Rattle.raid_rack.specs.Enlisting.{next_drive}
 use Rattle.raid_rack.specs.Frames.{HasFrame, frame_of}
@@ -36,9 +37,6 @@ use Rattle.pool_model.proofs.JoiningSeats.{joining_seats}
 use Rattle.pool_model.proofs.Said.{AreInside, slices_by}
 use Rattle.pool_model.proofs.Tables.{lie_same, slice_apart}
 use Rattle.pool_model.proofs.Taken.{IsKnownBefore, has_truths}
-
-some_same : {X : Type 0} (a b : X) → Some a ≡ Some b → a ≡ b
-some_same a b same = cc
 
 -- s are the tables by which the pool goes, and u those with the new drive. The drive that the place had says a state from before, or its own of the book's state.
 module _ (f : Found) (s u : Slices) (v : Raid) (place disk units : ℕ) (plan : Plan) (x : Seen) (i : Image) (is : InService f s v x)

@@ -18,6 +18,7 @@ use Rattle.array_image.specs.Foremost.{foremost}
 use Rattle.array_image.specs.Places.{arrays_first, log_sectors, log_slice, place_of, slice_of, state_sector}
 use Rattle.array_image.specs.Record.{gate_sector, pending}
 use Rattle.array_image.specs.States.{copy_in, epoch_of, is_current, state_in}
+use Rattle.array_core.proofs.Stripped.{some_same}
 use Rattle.commit_log.specs.Kept.{IsNoLater}
 use Rattle.commit_log.specs.Saying.{PlaceJoins}
 use Rattle.commit_log.specs.Standing.{deciding}
@@ -37,9 +38,6 @@ use Rattle.pool_model.proofs.Found.{newest_latest, ok_of}
 use Rattle.pool_model.proofs.Logs.{there_in}
 use Rattle.pool_model.proofs.Outset.{no_later_epoch}
 use Rattle.pool_model.proofs.Stopped.{copied_is, decoded_seat, decoded_there, few, lies, many, nothing_decodes, on_place, reads, reads_none, room, seated_or}
-
-some_same : {X : Type 0} (a b : X) → Some a ≡ Some b → a ≡ b
-some_same a b same = cc
 
 module _ (h : Found) (u : Slices) (v next s : State) (place : ℕ) (i : Image) (stop : SaysStopped h u next s i) (shows : ShowsJoining h u v next s place i) where
   abbrev held : Image

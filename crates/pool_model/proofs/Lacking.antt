@@ -50,9 +50,6 @@ same_layout t u fields = record {
   position = ap (λ (z : Super). z.reshape_position) fields;
 }
 
-some_same : {X : Type 0} (x y : X) → Some x ≡ Some y → x ≡ y
-some_same x y same = cc
-
 -- the places that are lost
 abbrev pub only_place : ℕ → ℕ → Bool
 only_place p q = q == p

@@ -17,6 +17,7 @@ use Rattle.array_image.specs.Arrays.{replayed}
 use Rattle.array_image.specs.Left.{IsInside as HasNothing}
 use Rattle.array_image.specs.Places.{log_sectors, log_slice, place_of, slice_of, state_sector}
 use Rattle.array_image.specs.States.{is_current}
+use Rattle.array_core.proofs.Stripped.{some_same}
 use Rattle.array_model.specs.View.{View}
 use Rattle.commit_log.specs.Saying.{SaysState}
 use Rattle.commit_log.proofs.Kept.{live_on}
@@ -30,9 +31,6 @@ use Rattle.pool_image.specs.Drives.{Found}
 use Rattle.pool_model.specs.Laid.{IsLaidOff, SaysBooks}
 use Rattle.pool_model.proofs.Found.{ok_of}
 use Rattle.pool_model.proofs.Unsliced.{laid_state}
-
-some_same : {X : Type 0} (a b : X) → Some a ≡ Some b → a ≡ b
-some_same a b same = cc
 
 -- contents that say an array by the book's state
 says_between : (v : Raid) (n : ℕ) (vals : ℕ → Values) (spent : ℕ → Bool) (r : Image) → SaysBy v.state n vals spent r → IsBetween v.state v.state n r

@@ -15,6 +15,7 @@ use Rattle.pool_state.specs.declared.contents.Drive.{Drive}
 use Rattle.pool_state.specs.declared.contents.State.{State}
 use Rattle.array_image.specs.Places.{arrays_first, data_sector, member_slice}
 use Rattle.array_image.specs.States.{is_current}
+use Rattle.array_core.proofs.Stripped.{some_same}
 use Rattle.pool_image.specs.Book.{height_of, top_of}
 use Rattle.pool_image.specs.Disks.{Disks, Identity}
 use Rattle.pool_image.specs.Drives.{Found, end_of, extent_from, extent_of, first_of, truth_from}
@@ -33,9 +34,6 @@ use Rattle.pool_model.proofs.Layers.{IsLaid, laid}
 use Rattle.pool_model.proofs.Seats.{nowhere}
 use Rattle.pool_model.proofs.Settled.{idle_pool}
 use Rattle.pool_model.proofs.TableRoom.{slices}
-
-some_same : {X : Type 0} (a b : X) → Some a ≡ Some b → a ≡ b
-some_same a b same = cc
 
 -- ---- where slices lie
 

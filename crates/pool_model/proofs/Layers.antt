@@ -10,6 +10,7 @@ use Rattle.array_image.specs.Foremost.{foremost}
 use Rattle.array_image.specs.Places.{member_slice, super_sector}
 use Rattle.array_image.specs.States.{current_places}
 use Rattle.array_image.specs.Supers.{is_super_of, only_if, super_in, super_of, truth_in}
+use Rattle.array_core.proofs.Stripped.{some_same}
 use Rattle.pool_image.specs.Drives.{Found, extent_from, extent_of, first_of, slices_of, truth_from}
 use Rattle.pool_image.proofs.Truths.{no_truth, truth_found}
 
@@ -30,9 +31,6 @@ none_all g (p ∷ ps) none = ap (λ (o : Option Super). foremost (λ t. t.events
 nothing_truth : (s : State) (n : ℕ) → truth_in s (λ k u. []) n ≡ None
 unfolding truth_in
 nothing_truth s n = none_all (super_in s (λ k u. []) n) (current_places s) (λ p. nothing_super s (λ k u. []) n p refl)
-
-some_same : {X : Type 0} (x y : X) → Some x ≡ Some y → x ≡ y
-some_same x y same = cc
 
 -- where they begin, and that the truth is the one that stands there
 pub record IsLaid (f : Found) (n : ℕ) (t : Super) : Type 0 where

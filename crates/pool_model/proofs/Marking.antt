@@ -18,6 +18,7 @@ use Rattle.array_image.specs.Foremost.{foremost}
 use Rattle.array_image.specs.Left.{IsInside as HasNothing}
 use Rattle.array_image.specs.States.{epoch_of, is_current}
 use Rattle.array_core.proofs.Leading.{none_leads}
+use Rattle.array_core.proofs.Stripped.{some_same}
 use Rattle.commit_log.specs.Saying.{HoldsCopies}
 use Rattle.raid_rack.specs.Book.{IsAfter, after_same}
 use Rattle.raid_rack.specs.Frames.{frame_of}
@@ -39,9 +40,6 @@ use Rattle.pool_model.proofs.Found.{IsFound, seated_below}
 use Rattle.pool_model.proofs.Logs.{copied_in, there_in}
 use Rattle.pool_model.proofs.Named.{IsNamed, candidate_is, id_same, same_position, stands_named, stands_same}
 use Rattle.pool_model.proofs.Said.{AreInside}
-
-some_same : {X : Type 0} (a b : X) → Some a ≡ Some b → a ≡ b
-some_same a b same = cc
 
 -- ---- what the commit tells
 

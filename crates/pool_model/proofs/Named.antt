@@ -12,6 +12,7 @@ use Rattle.pool_state.specs.declared.contents.State.{State}
 use Rattle.array_image.specs.Foremost.{foremost}
 use Rattle.array_image.specs.States.{epoch_of, is_current, id_of}
 use Rattle.array_core.proofs.Leading.{Leads, foremost_leads}
+use Rattle.array_core.proofs.Stripped.{some_same}
 use Rattle.pool_image.specs.Disks.{Candidate, Disks, Identities, Identity, candidate, id_by, seat_of, stands_for}
 use Rattle.raid_rack.specs.Book.{IsSameBook, drive_of}
 
@@ -102,9 +103,6 @@ pub named_stands : (s : State) (table : Option Table) (own p : ℕ) (id : List �
 named_stands s table own p id first is = ap (option_and_then (λ id. position (has_id id) s.drives.items)) is ∙ first
 
 -- ---- the disk that a place has
-
-some_same : {X : Type 0} (x y : X) → Some x ≡ Some y → x ≡ y
-some_same x y same = cc
 
 -- of which candidate a disk is
 pub record IsCandidate (s : State) (ids : Identities) (p q : ℕ) (y : Candidate) : Type 0 where

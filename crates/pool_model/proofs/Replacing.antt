@@ -13,6 +13,7 @@ use Rattle.pool_state.specs.declared.contents.Plan.{Plan}
 use Rattle.pool_state.specs.declared.contents.State.{State}
 use Rattle.array_image.specs.Arrays.{replayed}
 use Rattle.array_image.specs.States.{is_current, id_of}
+use Rattle.array_core.proofs.Stripped.{some_same}
 use Rattle.array_model.specs.View.{View}
 use Rattle.commit_log.specs.Kept.{LogKept}
 use Rattle.raid_rack.specs.Enlisting.{Enlists, IsWrittenBy, KeepsTold, SaysLatter, SaysReplacing, enlisted, new_table, next_drive}
@@ -30,9 +31,6 @@ use Rattle.pool_model.proofs.Amid.{inside_of}
 use Rattle.pool_model.proofs.FormerDrive.{former_below, former_own, former_yet}
 use Rattle.pool_model.proofs.ReplacingEarly.{former_all, replacing_former, replacing_laid}
 use Rattle.pool_model.proofs.TakingLate.{IsEntering, between_says, entering_late, entering_off}
-
-some_same : {X : Type 0} (a b : X) → Some a ≡ Some b → a ≡ b
-some_same a b same = cc
 
 -- What is known of a pool and of the disk when it takes the place of a drive that is there: t are the tables by which the pool goes, and u those with the new one. The disk is none of the
 -- pool's drives, and the drive that goes has another id.

@@ -15,6 +15,7 @@ use Rattle.pool_state.specs.Sector.{decoded}
 use Rattle.array_image.specs.Arrays.{replayed}
 use Rattle.array_image.specs.Places.{log_slice, place_of}
 use Rattle.array_image.specs.States.{is_current, state_in}
+use Rattle.array_core.proofs.Stripped.{some_same}
 use Rattle.raid_rack.specs.Enlisting.{HasNoCopy, IsNotWhole, IsOpenDisk, IsRefused, IsWrittenBy, KeepsTold, SaysFormer, SaysReplacing, enlisted}
 use Rattle.raid_rack.specs.Missing.{raised}
 use Rattle.raid_rack.specs.NewDrive.{IsOfDrive}
@@ -31,9 +32,6 @@ use Rattle.pool_model.specs.Taken.{SeatsNew, views_of}
 use Rattle.pool_model.proofs.LaidOff.{declined_book, declined_off, former_book, laid_off, laid_says, laying_book, new_sector}
 use Rattle.pool_model.proofs.Laying.{service_laid}
 use Rattle.pool_model.proofs.Staying.{sliced_seated}
-
-some_same : {X : Type 0} (a b : X) → Some a ≡ Some b → a ≡ b
-some_same a b same = cc
 
 -- Each place that is current has its drive, where an array is told: it has its log slice then.
 pub present_told : (f : Found) (t : Slices) (v : Raid) (x : Seen) → InService f t v x → IsTold v (slices_of t x) 0 → is_over v 0 ≡ false → HavePlaces v.state f

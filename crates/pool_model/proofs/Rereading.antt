@@ -9,6 +9,7 @@ use Rattle.pool_state.specs.declared.contents.State.{State}
 use Rattle.array_image.specs.Places.{arrays_first, state_sector}
 use Rattle.array_image.specs.States.{is_current}
 use Rattle.array_image.specs.Supers.{is_named}
+use Rattle.array_core.proofs.Stripped.{some_same}
 use Rattle.commit_log.specs.Kept.{IsNoLater}
 use Rattle.raid_rack.specs.Book.{IsAfter, after_same}
 use Rattle.pool_image.specs.Alike.{Agree, IsSamePool}
@@ -34,9 +35,6 @@ use Rattle.pool_model.specs.Pools.{IsSoundPool}
 use Rattle.pool_model.specs.Stopped.{LieApart, StoodInLog}
 use Rattle.pool_model.proofs.Found.{found_is, some_made}
 use Rattle.pool_model.proofs.SameAlone.{own_alone}
-
-some_same : {X : Type 0} (x y : X) → Some x ≡ Some y → x ≡ y
-some_same x y same = cc
 
 -- ---- the same pool but for gates
 

@@ -9,6 +9,7 @@ use Rattle.array_image.specs.States.{id_of}
 use Rattle.pool_state.specs.declared.contents.State.{State}
 use Rattle.array_image.specs.Places.{data_sector, super_sector}
 use Rattle.array_image.specs.Supers.{is_named}
+use Rattle.array_core.proofs.Stripped.{some_same}
 use Rattle.pool_image.specs.Alike.{IsSamePool}
 use Rattle.pool_image.specs.Disks.{Disks, Identity}
 use Rattle.pool_image.specs.Drives.{Found, extent_of, first_of}
@@ -20,9 +21,6 @@ use Rattle.pool_model.specs.Left.{AreAlone, HasNoSuper}
 use Rattle.pool_model.specs.Openings.{HaveGoodTables}
 use Rattle.pool_model.specs.Stopped.{HaveTables}
 use Rattle.pool_model.proofs.Layers.{laid}
-
-some_same : {X : Type 0} (x y : X) → Some x ≡ Some y → x ≡ y
-some_same x y same = cc
 
 -- whether a table has a place's slices, by the extents of slices and the arrays that the place is a member of
 abbrev is_table_by : (ℕ → Option Extent) → (ℕ → Bool) → Option (List ℕ) → ℕ → ℕ → Table → Bool

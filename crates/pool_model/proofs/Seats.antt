@@ -9,6 +9,7 @@ use Rattle.pool_state.specs.declared.contents.State.{State}
 use Rattle.array_image.specs.Foremost.{foremost}
 use Rattle.array_image.specs.States.{epoch_of, is_current}
 use Rattle.array_core.proofs.Leading.{Leads, leads_foremost}
+use Rattle.array_core.proofs.Stripped.{some_same}
 use Rattle.raid_rack.proofs.Noted.{current_few}
 use Rattle.pool_image.specs.Disks.{Candidate, Disks, Identities, Identity, candidate, identities_of, seat_of, stands_for}
 use Rattle.pool_image.specs.Drives.{Found}
@@ -17,9 +18,6 @@ use Rattle.pool_model.proofs.Found.{seated_below}
 use Rattle.pool_model.proofs.Named.{IsNamed, candidate_is, id_same, is_candidate, same_position, stands_named, stands_same}
 use Rattle.pool_model.proofs.Outset.{no_later_epoch}
 use Rattle.pool_model.proofs.Said.{SaysSeats}
-
-some_same : {X : Type 0} (a b : X) → Some a ≡ Some b → a ≡ b
-some_same a b same = cc
 
 -- where there is nothing, nothing is foremost
 none_foremost : {X : Type 0} (measure : X → ℕ) (h : ℕ → Option X) (a n : ℕ) → ((k : ℕ) → a ≤ k → k < a + n → h k ≡ None) → foremost measure (map h (range_with_len a n)) ≡ None

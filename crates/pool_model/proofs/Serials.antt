@@ -7,6 +7,7 @@ use Rattle.pool_state.specs.declared.contents.Drive.{Drive}
 use Rattle.pool_state.specs.declared.contents.Plan.{Plan}
 use Rattle.pool_state.specs.declared.contents.State.{State}
 use Rattle.array_image.specs.Places.{drive_id}
+use Rattle.array_core.proofs.Stripped.{some_same}
 use Rattle.pool_image.specs.Drives.{Found}
 use Rattle.pool_image.specs.Sound.{IsSoundList}
 use Rattle.raid_rack.specs.Book.{IsAfter}
@@ -14,9 +15,6 @@ use Rattle.raid_rack.specs.Enlisting.{enlisted, next_drive}
 use Rattle.pool_model.specs.Taken.{AreDistinct, AreSerial}
 use Rattle.pool_model.proofs.Joined.{id_here, id_other}
 use Rattle.pool_model.proofs.Named.{id_same}
-
-some_same : {X : Type 0} (a b : X) → Some a ≡ Some b → a ≡ b
-some_same a b same = cc
 
 -- in a sound pool they are of serials
 pub serial_found : (f : Found) → IsSoundList f → AreSerial f.state

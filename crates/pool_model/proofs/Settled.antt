@@ -18,6 +18,7 @@ use Rattle.array_image.specs.Record.{damaged_log, pending}
 use Rattle.array_image.specs.States.{current_places, is_current}
 use Rattle.array_image.specs.Supers.{super_in}
 use Rattle.array_image.proofs.Frames.{super_of_sector}
+use Rattle.array_core.proofs.Stripped.{some_same}
 use Rattle.raid_rack.specs.Book.{after_same}
 use Rattle.commit_log.proofs.Places.{joins_none}
 use Rattle.pool_image.specs.Disks.{Disks, Identity, identities_of, newest, seat_of}
@@ -41,9 +42,6 @@ use Rattle.pool_model.proofs.Layers.{IsLaid, laid, none_there}
 use Rattle.pool_model.proofs.NoSuper.{no_super_bare, no_super_in}
 use Rattle.pool_rest.proofs.SameLogs.{logs_same}
 use Rattle.pool_model.proofs.TableRoom.{log_room, member_room}
-
-some_same : {X : Type 0} (x y : X) → Some x ≡ Some y → x ≡ y
-some_same x y same = cc
 
 -- the pool of contents in which nothing is pending
 abbrev pub pool_at : Disks → Image → State → Found

@@ -9,6 +9,7 @@ use Rattle.array_image.specs.Arrays.{replayed}
 use Rattle.array_image.specs.SoundArray.{IsSoundArray}
 use Rattle.array_image.specs.States.{is_current}
 use Rattle.array_image.specs.Supers.{truth_in}
+use Rattle.array_core.proofs.Stripped.{some_same}
 use Rattle.raid_rack.specs.Book.{IsAfter, after_then}
 use Rattle.raid_rack.specs.Frames.{Frame, frame_of}
 use Rattle.raid_rack.specs.Raid.{Raid}
@@ -26,9 +27,6 @@ use Rattle.pool_model.proofs.Inside.{stopped_still}
 use Rattle.pool_model.proofs.Named.{same_length}
 use Rattle.pool_model.proofs.Pending.{apart_now, lower_now, stood_in_log}
 use Rattle.pool_model.proofs.Stopped.{stopped_stands}
-
-some_same : {X : Type 0} (a b : X) → Some a ≡ Some b → a ≡ b
-some_same a b same = cc
 
 module _ (f : Found) (t : Slices) (v w : Raid) (i : Image) (is : IsCalledBy f t v) (shows : ShowsParts f t v w i)
     (someone : (s : State) → IsAfter v.state s → IsAfter s w.state → (p d : ℕ) × (is_current s p ≡ true) × (f.seats p ≡ Some d)) where

@@ -8,12 +8,10 @@ use Rattle.pool_state.specs.declared.contents.State.{State}
 use Rattle.array_image.specs.Foremost.{foremost}
 use Rattle.array_image.specs.States.{epoch_of, is_current}
 use Rattle.array_core.proofs.Leading.{Leads, foremost_leads, leads_foremost}
+use Rattle.array_core.proofs.Stripped.{some_same}
 use Rattle.pool_image.specs.Disks.{Candidate, Disks, Identities, candidate, seat_of, stands_for}
 use Rattle.pool_image.specs.Sound.{disks_without, skip}
 use Rattle.pool_model.proofs.Named.{IsAhead, candidate_is, is_candidate, seat_ahead}
-
-some_same : {X : Type 0} (x y : X) → Some x ≡ Some y → x ≡ y
-some_same x y same = cc
 
 -- ---- numbers
 

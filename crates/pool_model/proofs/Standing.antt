@@ -8,6 +8,7 @@ use Rattle.rack.specs.Seen.{Image}
 use Rattle.pool_state.specs.declared.contents.State.{State}
 use Rattle.array_image.specs.Record.{Gate, GateAt, decisive, gate_in, gates_in, is_open_if_of, pending_at}
 use Rattle.array_image.specs.States.{current_places}
+use Rattle.array_core.proofs.Stripped.{some_same}
 use Rattle.commit_log.specs.View.{names}
 use Rattle.commit_log.proofs.Deciding.{all_at, gate_at}
 use Rattle.commit_log.proofs.Replayable.{pending_named}
@@ -17,9 +18,6 @@ use Rattle.pool_image.specs.Drives.{Found, found, found_by}
 use Rattle.pool_image.specs.Replay.{Standing, standing, standing_by, written}
 use Rattle.pool_image.proofs.Rested.{none_pending, stood_by, written_none}
 use Rattle.pool_model.specs.Absent.{AreClosed}
-
-some_same : {X : Type 0} (x y : X) → Some x ≡ Some y → x ≡ y
-some_same x y same = cc
 
 -- all gates of the pending number are open
 all_open : (ps : List ℕ) (c : Image) (a : GateAt) → pending_at ps c ≡ Some a → list_all (is_open_if_of a.gate.number) (gates_in ps c) ≡ true

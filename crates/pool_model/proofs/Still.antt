@@ -17,6 +17,7 @@ use Rattle.array_image.specs.States.{current_places, is_current}
 use Rattle.array_image.specs.Supers.{is_named, super_in, truth_in}
 use Rattle.array_image.proofs.Frames.{super_of_sector}
 use Rattle.array_core.proofs.Opened.{super_place}
+use Rattle.array_core.proofs.Stripped.{some_same}
 use Rattle.array_model.proofs.Renewed.{leads}
 use Rattle.pool_image.specs.Drives.{Found, extent_of, slices_from, slices_of}
 use Rattle.pool_image.specs.Meaning.{arrays_held, is_member}
@@ -39,9 +40,6 @@ module _ (f : Found) (t : Slices) (book : State) (e : Image) (before : Standing)
 
   abbrev g : Found
   g = pool_of f book e before
-
-  some_same : {X : Type 0} (a b : X) → Some a ≡ Some b → a ≡ b
-  some_same a b same = cc
 
   -- ---- one array
 

@@ -18,6 +18,7 @@ use Rattle.array_image.specs.Foremost.{foremost}
 use Rattle.array_image.specs.Places.{arrays_first, log_sectors, log_slice, place_of, slice_of, state_sector}
 use Rattle.array_image.specs.Record.{gate_sector, pending}
 use Rattle.array_image.specs.States.{copy_in, epoch_of, is_current, state_in}
+use Rattle.array_core.proofs.Stripped.{some_same}
 use Rattle.commit_log.specs.Kept.{IsNoLater}
 use Rattle.commit_log.specs.Standing.{deciding}
 use Rattle.raid_rack.specs.Book.{IsAfter, after_then}
@@ -39,9 +40,6 @@ use Rattle.pool_model.proofs.Named.{IsNamed, id_same, same_position, stands_name
 use Rattle.pool_model.proofs.Outset.{no_later_epoch}
 use Rattle.pool_model.proofs.Said.{SaysSeats}
 use Rattle.pool_model.proofs.Seats.{seats_now}
-
-some_same : {X : Type 0} (a b : X) → Some a ≡ Some b → a ≡ b
-some_same a b same = cc
 
 -- of nothing no copy is decoded
 pub nothing_decodes : (copy : Copied) → decoded [] ≡ Ok copy → ⊥

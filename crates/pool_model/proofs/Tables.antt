@@ -13,6 +13,7 @@ use Rattle.pool_state.specs.declared.contents.Plan.{Plan}
 use Rattle.pool_state.specs.declared.contents.State.{State}
 use Rattle.array_image.specs.Places.{member_slice}
 use Rattle.array_image.specs.States.{is_current}
+use Rattle.array_core.proofs.Stripped.{some_same}
 use Rattle.raid_rack.specs.Book.{IsAfter}
 use Rattle.raid_rack.specs.Enlisting.{enlisted}
 use Rattle.raid_rack.specs.Raid.{Raid}
@@ -33,9 +34,6 @@ use Rattle.pool_model.proofs.Joined.{current_other}
 use Rattle.pool_model.proofs.Staying.{sliced_before as sliced_taken}
 use Rattle.pool_model.proofs.Taken.{IsKnownBefore}
 use Rattle.pool_model.proofs.Vacant.{seat_other, sliced_before}
-
-some_same : {X : Type 0} (a b : X) → Some a ≡ Some b → a ≡ b
-some_same a b same = cc
 
 -- ---- a place that gave its disk up
 

@@ -16,6 +16,7 @@ use Rattle.array_image.specs.Supers.{is_named, is_super_of, only_if, super_in, s
 use Rattle.array_core.proofs.Leading.{Leads, foremost_filtered, foremost_leads, leads_foremost}
 use Rattle.array_core.proofs.Opened.{super_place}
 use Rattle.array_core.specs.Seats.{seat_of as seat_in}
+use Rattle.array_core.proofs.Stripped.{some_same}
 use Rattle.array_model.specs.View.{HasGeometry, View}
 use Rattle.pool_image.specs.Disks.{Disks}
 use Rattle.pool_image.specs.Drives.{Found, drive_sector, first_of, slices_from, truth_from}
@@ -32,9 +33,6 @@ use Rattle.pool_model.proofs.Beginnings.{first_is, view_at}
 use Rattle.pool_model.proofs.Joined.{current_here, current_other, few_same}
 use Rattle.pool_model.proofs.Layers.{none_there}
 use Rattle.pool_model.proofs.Named.{same_length}
-
-some_same : {X : Type 0} (a b : X) → Some a ≡ Some b → a ≡ b
-some_same a b same = cc
 
 -- what is known of the pool before
 pub record IsKnownBefore (f : Found) (v : Raid) : Type 0 where

@@ -8,6 +8,7 @@ use Rattle.md_super.specs.declared.superblock.Super.{Super}
 use Rattle.pool_state.specs.declared.contents.Plan.{Plan}
 use Rattle.array_image.specs.Places.{data_sector, log_sectors, log_slice, member_slice, slice_of, state_sector}
 use Rattle.array_core.specs.Seats.{renewed, seat_of as seat_in}
+use Rattle.array_core.proofs.Stripped.{some_same}
 use Rattle.array_model.specs.View.{HasGeometry, View}
 use Rattle.pool_image.specs.Disks.{Disks}
 use Rattle.pool_image.specs.Drives.{Found, extent_of}
@@ -20,9 +21,6 @@ use Rattle.pool_model.specs.Taken.{JoinsBook, SeatsNew, views_of}
 use Rattle.pool_model.proofs.Alike.{HasTruths, extent_is, extent_same, lies, member_same, truth_same}
 use Rattle.pool_model.proofs.Beginnings.{first_is, no_view, size_is, view_at}
 use Rattle.pool_model.proofs.Taken.{IsKnownBefore, g, has_truths, made_same, seat_here, seat_other}
-
-some_same : {X : Type 0} (a b : X) → Some a ≡ Some b → a ≡ b
-some_same a b same = cc
 
 -- geometries that follow each other
 pub geometry_then : (t u w : Super) → HasGeometry t u → HasGeometry u w → HasGeometry t w

@@ -19,6 +19,7 @@ use Rattle.pool_state.specs.declared.contents.State.{State}
 use Rattle.array_image.specs.Arrays.{replayed}
 use Rattle.array_image.specs.Places.{log_slice, super_sector}
 use Rattle.array_image.specs.States.{is_current, state_in}
+use Rattle.array_core.proofs.Stripped.{some_same}
 use Rattle.array_model.specs.View.{View}
 use Rattle.commit_log.proofs.Kept.{live_on}
 use Rattle.raid_rack.specs.Book.{IsAfter, after_then}
@@ -48,9 +49,6 @@ use Rattle.pool_model.proofs.Staying.{sliced_seated}
 use Rattle.pool_model.proofs.Taken.{IsKnownBefore}
 use Rattle.pool_model.proofs.Unsliced.{free_super, laid_super, past_log}
 use Rattle.pool_model.proofs.Vacant.{lacks_still, seats_from}
-
-some_same : {X : Type 0} (a b : X) → Some a ≡ Some b → a ≡ b
-some_same a b same = cc
 
 -- What is known of a pool and of the disk when it is taken in at a place: s are the tables by which the pool goes, t those in which the place has no disk, and u those with the new one,
 -- whose table of these arrays has its slices there. Each place that is current has its drive. No superblock of an array stands on the disk where the slice of one would begin that the

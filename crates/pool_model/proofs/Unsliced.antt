@@ -13,6 +13,7 @@ use Rattle.gpt_table.specs.Plans.{IsOfTable, in_table}
 use Rattle.pool_state.specs.declared.contents.Copied.{Copied}
 use Rattle.pool_state.specs.Sector.{decoded}
 use Rattle.array_image.specs.Places.{arrays_first, slice_of, state_sector, super_sector}
+use Rattle.array_core.proofs.Stripped.{some_same}
 use Rattle.pool_image.specs.Drives.{Found, first_of}
 use Rattle.pool_image.specs.Meaning.{is_member}
 use Rattle.raid_rack.specs.NewDrive.{IsOfDrive, first_in, first_laid, joins, length_in, no_state, sectors_laid, slice_length}
@@ -24,9 +25,6 @@ use Rattle.pool_model.specs.Taken.{SeatsNew, views_of}
 use Rattle.pool_model.proofs.Beginnings.{first_is, no_view, take_sum, view_at}
 use Rattle.pool_model.proofs.NoSuper.{no_super_table}
 use Rattle.pool_model.proofs.Taken.{IsKnownBefore}
-
-some_same : {X : Type 0} (a b : X) → Some a ≡ Some b → a ≡ b
-some_same a b same = cc
 
 -- ---- a disk that is no drive
 

@@ -9,15 +9,13 @@ use Rattle.std.proofs.lemmas.Slice.Eq.{bytes_eq-Decides}
 use Rattle.gpt_table.specs.declared.Entry.{Entry}
 use Rattle.gpt_table.specs.declared.Table.{Table}
 use Rattle.array_core.specs.Seats.{seat_of}
+use Rattle.array_core.proofs.Stripped.{some_same}
 use Rattle.array_image.specs.Places.{arrays_first, log_kind, log_sectors, raid_kind, state_sector}
 use Rattle.array_model.specs.View.{View}
 use Rattle.pool_image.specs.Replay.{Extent, entry_extent, extent_by, extents_below, free_of, share, shares_any, slice_entry}
 use Rattle.pool_rest.proofs.Extents.{extent_at, extent_by_is, free_entry, shares_below}
 use Rattle.raid_rack.specs.NewDrive.{drive_table, entry_of, first_in, joins, length_in, member_entry, slice_length}
 use Rattle.pool_model.proofs.Beginnings.{take_sum}
-
-some_same : {X : Type 0} (a b : X) → Some a ≡ Some b → a ≡ b
-some_same a b same = cc
 
 -- ---- where its slices lie
 

@@ -15,6 +15,7 @@ use Rattle.pool_state.specs.declared.contents.State.{State}
 use Rattle.pool_state.specs.Sector.{decoded}
 use Rattle.array_image.specs.Places.{log_slice}
 use Rattle.array_image.specs.States.{is_current}
+use Rattle.array_core.proofs.Stripped.{some_same}
 use Rattle.array_model.specs.View.{spent_in}
 use Rattle.raid_rack.specs.Book.{IsAfter, after_same}
 use Rattle.raid_rack.specs.declared.arrays.Arrays.{Arrays}
@@ -36,9 +37,6 @@ use Rattle.shr_tool.specs.Service.{IsOwnCopy}
 use Rattle.shr_tool.proofs.Former.{array_low, own_since}
 use Rattle.shr_tool.proofs.GivesWay.{after, others_then}
 use Rattle.shr_tool.proofs.TakingFrom.{other_left}
-
-some_same : {X : Type 0} (a b : X) → Some a ≡ Some b → a ≡ b
-some_same a b same = cc
 
 -- ---- arrays are told yet
 

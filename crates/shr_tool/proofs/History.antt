@@ -3,6 +3,7 @@ use Rattle.std.proofs.Common.{◌≡◌, ◌⊎◌, ℕ, ◌<◌, ◌≤◌, tru
 use Rattle.std.proofs.lemmas.Bool.{cases_Bool}
 use Rattle.std.proofs.lemmas.List.{append-nil}
 use Rattle.std.proofs.lemmas.Option.{none-some}
+use Rattle.array_core.proofs.Stripped.{some_same}
 use Rattle.rack.specs.Moments.{IsSound}
 use Rattle.slice_rack.specs.Slices.{IsOrderly}
 use Rattle.shr_script.specs.Line.{Line}
@@ -244,9 +245,6 @@ service_more x y z events event text a f unspent ran performs holds served goes 
     let parts = fit_parts f (moment_of x) events (moment_of y) event (moment_of z) ran.steps fit in
     on_more x y z events event text a f unspent ran performs holds served serials parts.1 (λ l none. absurd (none-some l none)) (λ l none. absurd (none-some l none))
     (ran.service a holds (served_first x y z events event text ran.continues.linear performs served) f goes (λ takes. serials (takes_first events event takes)) parts.0)
-
-some_same : {X : Type 0} (a b : X) → Some a ≡ Some b → a ≡ b
-some_same a b same = cc
 
 -- one that stands alone on its disks
 lone_more :

@@ -10,6 +10,7 @@ use Rattle.gpt_table.specs.declared.Table.{Table}
 use Rattle.pool_state.specs.declared.contents.Plan.{Plan}
 use Rattle.array_image.specs.Places.{log_kind, log_sectors, raid_kind, state_sector}
 use Rattle.array_core.specs.Seats.{seat_of as seat_in}
+use Rattle.array_core.proofs.Stripped.{some_same}
 use Rattle.array_model.specs.View.{View}
 use Rattle.pool_image.specs.Disks.{Disks}
 use Rattle.pool_image.specs.Drives.{Found, end_of, extent_of}
@@ -23,9 +24,6 @@ use Rattle.pool_model.proofs.Alike.{extent_is, extent_same, lies, member_same}
 use Rattle.pool_model.proofs.Beginnings.{first_is, size_is, view_at}
 use Rattle.pool_model.proofs.Joined.{id_here}
 use Rattle.pool_model.proofs.Taken.{IsKnownBefore, g, has_truths, made_same}
-
-some_same : {X : Type 0} (a b : X) → Some a ≡ Some b → a ≡ b
-some_same a b same = cc
 
 or_true : (b : Bool) → (b || true) ≡ true
 or_true true = refl

@@ -16,6 +16,7 @@ use Rattle.pool_state.specs.declared.contents.Copied.{Copied}
 use Rattle.array_image.specs.Left.{IsInside}
 use Rattle.array_image.specs.Places.{log_slice, state_sector}
 use Rattle.array_image.specs.States.{is_current}
+use Rattle.array_core.proofs.Stripped.{some_same}
 use Rattle.raid_rack.specs.Enlisting.{IsWrittenBy, next_drive}
 use Rattle.raid_rack.specs.Laws.{live_parts}
 use Rattle.raid_rack.specs.Raid.{IsTold, is_over}
@@ -51,9 +52,6 @@ use Rattle.shr_tool.proofs.GivesWay.{after}
 use Rattle.shr_tool.proofs.Serviced.{IsServedBy}
 use Rattle.shr_tool.proofs.TakenIn as new
 use Rattle.shr_tool.proofs.TakingFrom.{other_left}
-
-some_same : {X : Type 0} (a b : X) → Some a ≡ Some b → a ≡ b
-some_same a b same = cc
 
 module _ {L : Type 0} {bound : ℕ} (x y : View) (place : ℕ) (name text : List ℕ) (b : FlatArray) (unspent : (d s : ℕ) → y.bay.spent d s ≡ false) (fit : (volume x).fit)
     (performs : Performs x y (replaced place name) text) (holds : Holds x b) (some : (s : ℕ) × (s < size_of x) × (spent_by x.linear (book y) s ≡ false))

@@ -10,6 +10,7 @@ use Rattle.slice_rack.specs.Runs.{IsSliced}
 use Rattle.slice_rack.specs.Slices.{Slices}
 use Rattle.flat_array.specs.Array.{FlatArray}
 use Rattle.array_image.specs.Places.{state_sector}
+use Rattle.array_core.proofs.Stripped.{some_same}
 use Rattle.pool_image.specs.Disks.{disks_of, identities_of}
 use Rattle.pool_image.specs.Drives.{Found}
 use Rattle.pool_model.specs.Alone.{IsStranger}
@@ -30,9 +31,6 @@ use Rattle.shr_tool.specs.Service.{GoesBy, HoldOwn, IsOut, LaysNothing, Lone, St
 use Rattle.shr_tool.specs.Timeline.{Performs}
 use Rattle.shr_tool.proofs.LeavingOut.{alone_later, out_later}
 use Rattle.shr_tool.proofs.TakenIn.{count_is, disks_more, live_at, sectors_kept, sliced_old}
-
-some_same : {X : Type 0} (a b : X) → Some a ≡ Some b → a ≡ b
-some_same a b same = cc
 
 pub same_fault : (e f : GrowFault) → ◌≡◌ {A = Result (Unit {0}) GrowFault} (Err e) (Err f) → e ≡ f
 same_fault e f same = cc

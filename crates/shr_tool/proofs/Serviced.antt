@@ -16,6 +16,7 @@ use Rattle.lvm_group.specs.Runs.{Linear, array_of}
 use Rattle.pool_state.specs.declared.contents.Copied.{Copied}
 use Rattle.pool_state.specs.Sector.{decoded}
 use Rattle.array_core.specs.TruthHeld.{HoldTruth}
+use Rattle.array_core.proofs.Stripped.{some_same}
 use Rattle.array_image.specs.Left.{IsLeft}
 use Rattle.array_image.specs.Places.{log_slice, state_sector}
 use Rattle.array_image.specs.States.{is_current}
@@ -61,9 +62,6 @@ use Rattle.shr_tool.proofs.Former.{going_seat, held_there, lacks_bare, log_many,
 use Rattle.shr_tool.proofs.Taking.{none_takes}
 use Rattle.shr_tool.proofs.TakenIn.{on_replaced}
 use Rattle.shr_tool.proofs.LeavingOut.{alone_later, lone_sector, out_later}
-
-some_same : {X : Type 0} (a b : X) → Some a ≡ Some b → a ≡ b
-some_same a b same = cc
 
 -- at the beginning
 service_first : (x : View) (f : Found) → IsRunOn f (ground_of x) (moment_of x) x.bay → InService f x.slices (book x) x.bay

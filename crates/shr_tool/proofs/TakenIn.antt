@@ -20,6 +20,7 @@ use Rattle.array_image.specs.Places.{state_sector, super_sector}
 use Rattle.array_image.specs.States.{is_current}
 use Rattle.array_core.proofs.Opened.{current_below}
 use Rattle.array_core.specs.Seats.{seat_of as slot_of}
+use Rattle.array_core.proofs.Stripped.{some_same}
 use Rattle.array_model.specs.View.{View as ArrayView}
 use Rattle.raid_rack.specs.Enlisting.{enlisted, new_table}
 use Rattle.raid_rack.specs.NewDrive.{SeatsDrive, is_reached, joins}
@@ -63,9 +64,6 @@ use Rattle.shr_tool.proofs.Former.{copy_parts, gave_below, going_seat, held_log,
 use Rattle.shr_tool.proofs.GivesWay.{entered_copy}
 use Rattle.shr_tool.proofs.LeavingOut.{alone_later, lone_sector, out_later}
 use Rattle.shr_tool.proofs.TakenTables.{lies_taken, table_taken}
-
-some_same : {X : Type 0} (a b : X) → Some a ≡ Some b → a ≡ b
-some_same a b same = cc
 
 -- ---- what holds of each line that names a disk
 

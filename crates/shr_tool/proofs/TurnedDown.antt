@@ -50,9 +50,6 @@ use Rattle.shr_tool.proofs.GivesWay.{left_copy, others_left}
 use Rattle.shr_tool.proofs.Quiet.{listed_of, named_or, same_fault, twice_or}
 use Rattle.shr_tool.proofs.TakenIn.{count_is, disks_more, keeps_but, keeps_off, live_at, seat_low, seat_now, sectors_kept, sliced_old, vacant_not}
 
-some_same : {X : Type 0} (a b : X) → Some a ≡ Some b → a ≡ b
-some_same a b same = cc
-
 -- places that give their disk up one after the other
 pub seats_both : (t u w : Slices) (place : ℕ) → Seats t u place None → Seats u w place None → Seats t w place None
 seats_both t u w place one two = record {
