@@ -13,6 +13,7 @@ pub mod ZerosDone
 pub mod MakeDone
 pub mod EndDone
 pub mod Done
+pub mod Last
 pub mod Above
 pub mod Held
 pub mod Sums
