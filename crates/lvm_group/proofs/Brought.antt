@@ -20,7 +20,7 @@ use Rattle.lvm_group.specs.Brought.{BringsUp, HaveAreas, IsBefore, IsEven, Rewri
 use Rattle.lvm_group.specs.Changing.{Changes, IsInTurn}
 use Rattle.lvm_group.specs.Found.{IsPart}
 use Rattle.lvm_group.specs.Group.{group_in, parts_in}
-use Rattle.lvm_group.specs.Images.{HoldOnly, IsSettled, MeansVolume, over}
+use Rattle.lvm_group.specs.Images.{HoldOnly, IsSettled, IsVolume, MeansVolume, over}
 use Rattle.lvm_group.specs.Opening.{AreServed, Finds, Opens, group_by, says, within_sectors}
 use Rattle.lvm_group.specs.Parts.{Array, part_of}
 use Rattle.lvm_group.specs.Reading.{AreRead}
@@ -32,7 +32,7 @@ use Rattle.lvm_group.proofs.Mixed.{AreOneOf, array_sound, means_same, one_of_gro
 use Rattle.lvm_group.proofs.NewTargets.{first_at, head_nowhere, new_at, place_bounds, text_nowhere}
 use Rattle.lvm_group.proofs.Passed.{all_at}
 use Rattle.lvm_group.proofs.Renewed.{at_end, end_area, end_one, leaves_both}
-use Rattle.lvm_group.proofs.StopsMean.{IsChange, all_late, all_mixed, past_none}
+use Rattle.lvm_group.proofs.StopsMean.{IsChange, all_late, all_mixed, areas_late, areas_mixed, past_none}
 
 -- ---- only metadata is written
 
@@ -123,6 +123,13 @@ same_means : {a b : Seen} (pool : List ℕ) (joined : ℕ) (l : Linear) (seqno :
 same_means {a} pool joined l seqno before c labels headers settled same =
     means_same pool l.extent joined a.sectors (over joined l) seqno before c settled.means (same_says pool joined l seqno before c labels headers settled same)
 
+same_volume : {a b : Seen} (pool : List ℕ) (joined : ℕ) (l : Linear) (seqno : ℕ) (before c : Image) → HaveLabelsDecoded → HaveHeadersDecoded → IsSettled pool joined l seqno a b before → AreSame joined before c
+    → IsVolume pool joined l seqno a.sectors c
+same_volume {a} pool joined l seqno before c labels headers settled same = record {
+  areas = λ d below. area_kept pool d (a.sectors d) [] (before d) (c d) (same_writing pool joined l seqno before c labels headers settled same d below);
+  means = same_means pool joined l seqno before c labels headers settled same;
+}
+
 -- as they read now, with nothing past the arrays' ends
 abbrev now_in : Seen → Image
 now_in a = within_sectors a (λ d s. (a.held d s).current)
@@ -181,27 +188,35 @@ same_group pool sectors joined before c group other same each = subst (λ (g : G
 one_group : (group other : Group) (o : Option Group) → o ≡ Some group → o ≡ Some other → group ≡ other
 one_group group other o one two = let same : Some group ≡ Some other = sym one ∙ two in cc
 
-change_means : {m b : Seen} (pool text : List ℕ) (joined : ℕ) (l : Linear) (seqno : ℕ) (group : Group) (before c : Image) {X : Type 0} (result : Result X Gone) (changes : Changes pool text joined m b result)
+change_volume : {m b : Seen} (pool text : List ℕ) (joined : ℕ) (l : Linear) (seqno : ℕ) (group : Group) (before c : Image) {X : Type 0} (result : Result X Gone) (changes : Changes pool text joined m b result)
     → IsReadBack pool text joined m.sectors group → IsSettled pool joined l seqno m b before → group_in before m.sectors joined ≡ Some group
     → IsMix m b (IsPayload (new_targets pool m.sectors changes.starts text joined)) c
     → IsInTurn m b (targets_to (first_targets pool m.sectors changes.starts text) joined) (targets_to (header_target changes.starts text) joined) joined c
-    → MeansVolume pool joined m.sectors l seqno c
-change_means {m} {b} pool text joined l seqno group before c result changes back settled right all turn =
+    → IsVolume pool joined l seqno m.sectors c
+change_volume {m} {b} pool text joined l seqno group before c result changes back settled right all turn =
     let is = to_change pool text joined l seqno group before result changes back settled in
-    means_same pool l.extent joined m.sectors (over joined l) seqno before c settled.means
-    (elim turn [
-      | inl first ↦ all_mixed pool text joined joined changes.starts group settled.means.group is first all
+    let means = means_same pool l.extent joined m.sectors (over joined l) seqno before c settled.means in
+    elim turn [
+      | inl first ↦
+          record {
+            areas = areas_mixed pool text joined joined changes.starts group is first all;
+            means = means (all_mixed pool text joined joined changes.starts group settled.means.group is first all);
+          }
       | inr late ↦
-          same_group pool m.sectors joined before c group settled.means.group (one_group group settled.means.group (group_in before m.sectors joined) right settled.means.found)
-          (all_late pool text joined joined changes.starts group is late all).0
-    ])
+          record {
+            areas = areas_late pool text joined joined changes.starts group is late all;
+            means = means
+                (same_group pool m.sectors joined before c group settled.means.group (one_group group settled.means.group (group_in before m.sectors joined) right settled.means.found)
+                (all_late pool text joined joined changes.starts group is late all).0);
+          }
+    ]
 
 -- ---- an opening
 
--- contents that mean the volume of a group
-abbrev pub MeanStill : List ℕ → ℕ → Linear → ℕ → Group → Seen → Seen → Image → Type 0
-MeanStill pool joined l seqno group a b c =
-    (before : Image) → IsSettled pool joined l seqno a b before → group_in before a.sectors joined ≡ Some group → MeansVolume pool joined a.sectors l seqno c
+-- contents from which the volume of a group can be extended again
+abbrev pub AreVolumes : List ℕ → ℕ → Linear → ℕ → Group → Seen → Seen → Image → Type 0
+AreVolumes pool joined l seqno group a b c =
+    (before : Image) → IsSettled pool joined l seqno a b before → group_in before a.sectors joined ≡ Some group → IsVolume pool joined l seqno a.sectors c
 
 -- what is done once the arrays were read
 pub record IsOpening (pool text : List ℕ) (extent joined : ℕ) (l : Linear) (seqno : ℕ) (even : Bool) (a m b : Seen) : Type 0 where
@@ -216,28 +231,28 @@ sectors_same : {a m : Seen} → OnlyReads a m → m.sectors ≡ a.sectors
 sectors_same looks = λ i d. looks.stays.sectors d i
 
 reading_images : {a m b : Seen} (pool : List ℕ) (joined : ℕ) (l : Linear) (seqno : ℕ) (group : Group) → HaveLabelsDecoded → HaveHeadersDecoded → OnlyReads a m → Stays m b → a.traced
-    → Leaves a m (MeanStill pool joined l seqno group a b)
+    → Leaves a m (AreVolumes pool joined l seqno group a b)
 reading_images {a} {m} {b} pool joined l seqno group labels headers looks later traced =
-    leaves_weaker (IsPick a m a.held) (MeanStill pool joined l seqno group a b)
-    (λ c pick before settled right. same_means pool joined l seqno before c labels headers settled
+    leaves_weaker (IsPick a m a.held) (AreVolumes pool joined l seqno group a b)
+    (λ c pick before settled right. same_volume pool joined l seqno before c labels headers settled
     (λ d s below less. settled.only d s (c d s) below less (pick d s (live_first later (settled.told d s below less))))) (looks.keeps.stops traced)
 
 brings_images : {a m b : Seen} (pool text : List ℕ) (joined : ℕ) (l : Linear) (seqno : ℕ) (even : Bool) (group : Group) → HaveLabelsDecoded → HaveHeadersDecoded → OnlyReads a m → Stays m b
-    → Brings pool text joined even group m b → m.traced → Leaves m b (MeanStill pool joined l seqno group a b)
+    → Brings pool text joined even group m b → m.traced → Leaves m b (AreVolumes pool joined l seqno group a b)
 brings_images {a} {m} {b} pool text joined l seqno even group labels headers looks later (inl quiet) traced =
-    leaves_weaker (IsPick m b m.held) (MeanStill pool joined l seqno group a b)
+    leaves_weaker (IsPick m b m.held) (AreVolumes pool joined l seqno group a b)
     (λ c pick before settled right.
     let after = settled_after pool joined l seqno before looks later settled in
-    same_means pool joined l seqno before c labels headers settled (λ d s below less. after.only d s (c d s) below less (pick d s (after.told d s below less)))) (quiet.0.keeps.stops traced)
+    same_volume pool joined l seqno before c labels headers settled (λ d s below less. after.only d s (c d s) below less (pick d s (after.told d s below less)))) (quiet.0.keeps.stops traced)
 brings_images {a} {m} {b} pool text joined l seqno even group labels headers looks later (inr change) traced =
     let changes = change.1 in
     let all : Image → Type 0 = IsMix m b (IsPayload (new_targets pool m.sectors changes.starts text joined)) in
     let turn : Image → Type 0 = IsInTurn m b (targets_to (first_targets pool m.sectors changes.starts text) joined) (targets_to (header_target changes.starts text) joined) joined in
-    leaves_weaker (λ c. all c × turn c) (MeanStill pool joined l seqno group a b)
+    leaves_weaker (λ c. all c × turn c) (AreVolumes pool joined l seqno group a b)
     (λ c left before settled right.
     let sectors = sectors_same looks in
-    subst (λ (f : ℕ → ℕ). MeansVolume pool joined f l seqno c) sectors
-    (change_means pool text joined l seqno group before c change.0 changes change.2 (settled_after pool joined l seqno before looks later settled)
+    subst (λ (f : ℕ → ℕ). IsVolume pool joined l seqno f c) sectors
+    (change_volume pool text joined l seqno group before c change.0 changes change.2 (settled_after pool joined l seqno before looks later settled)
     (subst (λ (f : ℕ → ℕ). group_in before f joined ≡ Some group) (sym sectors) right) left.0 left.1))
     (leaves_both all turn (changes.puts.only.stops traced) (changes.stops traced))
 
@@ -315,7 +330,7 @@ opened {a} {m} {b} pool text extent joined l seqno even is =
         writes = only_then (IsBefore joined) (only_quiet (IsBefore joined) is.looks.stays is.looks.keeps) (brings_writes pool text joined even group is.brings);
         right = right;
         images = λ traced.
-            leaves_then (MeanStill pool joined l seqno group a b) (reading_images pool joined l seqno group is.labels is.headers is.looks is.later traced)
+            leaves_then (AreVolumes pool joined l seqno group a b) (reading_images pool joined l seqno group is.labels is.headers is.looks is.later traced)
             (brings_images pool text joined l seqno even group is.labels is.headers is.looks is.later is.brings (is.looks.stays.traced traced));
         even = λ before settled served few. brings_even pool text extent joined l seqno even before is opens refl is.brings settled (right before settled served) served few;
       },

@@ -14,6 +14,7 @@ pub mod Totals
 pub mod Found
 pub mod Below
 pub mod Counted
+pub mod Calls
 pub mod Passed
 pub mod Looking
 pub mod Rows

@@ -1,10 +1,12 @@
 -- What a stop in writing a new text leaves on the arrays, and what that means.
 use Rattle.std.proofs.Common.{◌≡◌, ◌⊎◌, ℕ, zero, suc, ◌*◌, ◌<◌, ◌≤◌, ◌==◌, ◌&&◌, Bool, true, false, List, [], ◌∷◌, ◌++◌, Option, Some, None, refl, sym, ap, ◌∙◌, inl, inr, arith, length}
-use Rattle.std.specs.Prelude.{is_some, unwrap_or}
+use Rattle.std.specs.Prelude.{is_some, nat_eq, slice_get, unwrap_or}
+use Rattle.std.specs.List.{starts_with}
 use Rattle.std.specs.Result.{result_ok}
 use Rattle.std.proofs.lemmas.Bool.{cases_lt, eq-eqb, eqb-true}
 use Rattle.lvm_label.specs.declared.header.Header.{Header}
-use Rattle.lvm_label.specs.Label.{label_bytes}
+use Rattle.lvm_label.specs.declared.label.Label.{Label}
+use Rattle.lvm_label.specs.Label.{HaveLabelsDecoded, IsLabel, label_bytes, label_word}
 use Rattle.lvm_label.specs.Header.{header_bytes, header_of}
 use Rattle.lvm_text.specs.declared.group.Group.{Group}
 use Rattle.rack.specs.Seen.{Image, Seen}
@@ -19,9 +21,9 @@ use Rattle.lvm_group.specs.Group.{has_own_label}
 use Rattle.lvm_group.specs.Ids.{label_id, pv_id}
 use Rattle.lvm_group.specs.Images.{HasOwnArea, HoldOnly}
 use Rattle.lvm_group.specs.Sequences.{AreTold}
-use Rattle.lvm_group.specs.Parts.{Array, has_bad_text, part_of}
+use Rattle.lvm_group.specs.Parts.{Array, has_bad_text, label_on, part_of}
 use Rattle.lvm_group.specs.Writing.{AreStarts, IsReadBack, blank_targets, first_targets, header_target, label_targets, new_targets, own_header, own_label, own_location, piece, place_at, start_at, targets_to, text_sectors, text_targets}
-use Rattle.lvm_group.proofs.KeptPart.{IsKept, IsOneOf, IsWriting, empty_there, header_on, kept_says, labelled_there}
+use Rattle.lvm_group.proofs.KeptPart.{IsKept, IsOneOf, IsWriting, area_kept, empty_there, header_on, kept_says, labelled_there}
 use Rattle.lvm_group.proofs.Mixed.{AreOneOf}
 use Rattle.lvm_group.proofs.NewTargets.{first_at, first_elsewhere, firsts_at, head_at, head_nowhere, headers_at, look_nowhere, look_other_disk, look_other_sector, place_bounds, text_behind, text_nowhere, first_text}
 use Rattle.lvm_group.proofs.OwnText.{same_bytes}
@@ -179,6 +181,18 @@ all_mixed {a} {b} {before} {c} pool text n joined starts new said is first all =
   | inr past ↦ past_array pool text n joined starts new is all d past inside
 ])
 
+-- and their areas stay the pool's
+pub areas_mixed : {a b : Seen} {before c : Image} (pool text : List ℕ) (n joined : ℕ) (starts : List TextStart) (new : Group) → IsChange pool text n joined starts new a b before
+    → IsMix a b (IsPayload (targets_to (first_targets pool a.sectors starts text) n)) c → IsMix a b (IsPayload (new_targets pool a.sectors starts text n)) c
+    → (d : ℕ) → d < joined → HasOwnArea (c d)
+areas_mixed {a} {b} {before} {c} pool text n joined starts new is first all d inside =
+    area_kept pool d (a.sectors d) text (before d) (c d)
+    (writing c pool text n joined starts new is d inside
+    (elim (cases_lt d n) [
+      | inl below ↦ mixed_array pool text n joined starts new is first d below
+      | inr past ↦ past_array pool text n joined starts new is all d past inside
+    ]))
+
 -- ---- and while they are
 
 -- a sector of a late image
@@ -245,6 +259,16 @@ ready {a} {b} {before} {c} pool text n joined starts new is late d below =
           let place = place_bounds start.sector k some inside (omega arith) in
           let least = place.0 in
           at (place_at start.sector k) (Some (piece text k)) place.1 (λ same. absurd (omega arith)) (first_text pool a.sectors starts text d k is.inside is.back.short less);
+    }
+
+-- its area is the pool's
+ready_area : (pool text : List ℕ) (d sectors first : ℕ) (x y : Array) → HaveLabelsDecoded → IsLabel (own_label pool d sectors) → HasOwnArea x → IsReady pool text d sectors first x y → HasOwnArea y
+ready_area pool text d sectors first x y labels is_label own is =
+    let free : starts_with nat_eq (y 0) label_word ≡ false = rw is.free own.free in
+    let found : label_on y ≡ Some (own_label pool d sectors) = rw (is.label, labels (own_label pool d sectors) (y 0) (y 2 ∷ y 3 ∷ []) is_label free) refl in
+    record {
+      free = free;
+      area = λ label at. let one : label ≡ own_label pool d sectors = cc in ap (λ (l : Label). slice_get l.metadata.items 0) one;
     }
 
 -- an array whose header has the new text
@@ -345,3 +369,13 @@ all_late {a} {b} {before} {c} pool text n joined starts new is late all = (
   ],
   λ d below. (late_one pool text n joined starts new is late d below).1,
 )
+
+-- their areas stay the pool's then too
+pub areas_late : {a b : Seen} {before c : Image} (pool text : List ℕ) (n joined : ℕ) (starts : List TextStart) (new : Group) → IsChange pool text n joined starts new a b before
+    → IsLate a b (targets_to (first_targets pool a.sectors starts text) n) (targets_to (header_target starts text) n) n c → IsMix a b (IsPayload (new_targets pool a.sectors starts text n)) c
+    → (d : ℕ) → d < joined → HasOwnArea (c d)
+areas_late {a} {b} {before} {c} pool text n joined starts new is late all d inside = elim (cases_lt d n) [
+  | inl below ↦
+      ready_area pool text d (a.sectors d) (start_at starts d).sector (before d) (c d) is.back.labels (is.back.label d below) (is.areas d inside) (ready pool text n joined starts new is late d below)
+  | inr past ↦ area_kept pool d (a.sectors d) text (before d) (c d) (writing c pool text n joined starts new is d inside (past_array pool text n joined starts new is all d past inside))
+]

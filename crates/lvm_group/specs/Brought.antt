@@ -8,7 +8,7 @@ use Rattle.lvm_text.specs.declared.group.Group.{Group}
 use Rattle.lvm_text.specs.Group.{group_of}
 use Rattle.lvm_group.specs.Changing.{Changes}
 use Rattle.lvm_group.specs.Group.{group_in}
-use Rattle.lvm_group.specs.Images.{HasOwnArea, HoldOnly, IsSettled, MeansVolume}
+use Rattle.lvm_group.specs.Images.{HasOwnArea, HoldOnly, IsSettled, IsVolume, MeansVolume}
 use Rattle.lvm_group.specs.Opening.{AreServed, says}
 use Rattle.lvm_group.specs.Parts.{part_of}
 use Rattle.lvm_group.specs.Runs.{Linear, data_start}
@@ -34,14 +34,14 @@ pub record IsEven (pool : List ℕ) (joined : ℕ) (l : Linear) (seqno : ℕ) (s
   pub means : MeansVolume pool joined sectors l seqno c
   pub even : (array : ℕ) → array < joined → says seqno (part_of (c array) (sectors array)) ≡ true
 
--- A volume was opened by this group. Where that is the group of the contents, each stop leaves the volume, and at the end all joined
--- arrays say the group's seqno, unless a call was refused.
+-- A volume was opened by this group. Where that is the group of the contents, each stop leaves the volume, with the pool's metadata areas, and at the end
+-- all joined arrays say the group's seqno, unless a call was refused.
 pub record BringsUp (pool : List ℕ) (joined : ℕ) (l : Linear) (seqno : ℕ) (group : Group) (a b : Seen) : Type 0 where
   pub writes : WritesOnly a b (IsBefore joined)
   pub right : (before : Image) → IsSettled pool joined l seqno a b before → AreServed a b a.disks → group_in before a.sectors joined ≡ Some group
   pub images :
       a.traced
-      → Leaves a b (λ c. (before : Image) → IsSettled pool joined l seqno a b before → group_in before a.sectors joined ≡ Some group → MeansVolume pool joined a.sectors l seqno c)
+      → Leaves a b (λ c. (before : Image) → IsSettled pool joined l seqno a b before → group_in before a.sectors joined ≡ Some group → IsVolume pool joined l seqno a.sectors c)
   pub even :
       (before : Image) → IsSettled pool joined l seqno a b before → AreServed a b a.disks → joined ≤ 16
       → (after : Image) × HoldOnly b joined after × IsEven pool joined l seqno a.sectors after

@@ -1,8 +1,9 @@
 //! Changing the group that stands in the arrays.
 
-ghost use Rattle.std.specs.Prelude.{◌≡◌, ◌↔◌, ◌<◌, ◌≤◌, ◌+◌, ℕ, IsTrue, length};
+ghost use Rattle.std.specs.Prelude.{◌≡◌, ◌↔◌, ◌<◌, ◌≤◌, ◌+◌, ◌*◌, ℕ, IsTrue, length};
 ghost use Rattle.std.specs.List.{AllByRecursion};
 ghost use Rattle.lvm_text.specs.Printed.{printed};
+ghost use Rattle.rack.specs.Several.{Several};
 ghost use Rattle.lvm_group.specs.Brought.{HaveAreas, Rewrites};
 ghost use Rattle.lvm_group.specs.Changing.{Changes};
 ghost use Rattle.lvm_group.specs.Extending.{next_seqno};
@@ -41,6 +42,7 @@ pub(crate) fn put_change<R: Rack>(
     requires short { length text.now ≤ 262144 }
     ensures changes { Changes pool.now.0 text.now arrays (R.seen rack.old) (R.seen rack.new) result }
     ensures runs { R.runs rack.old rack.new }
+    ensures several { Several R.once (518 * arrays) rack.old rack.new }
 {
     let starts = match read_starts(rack, arrays) {
         Ok(starts) => starts,
@@ -71,6 +73,7 @@ pub(crate) fn bring_up<R: Rack>(rack: &mut R, pool: &Id, arrays: u32, even: bool
     requires short { length text.now ≤ 262144 }
     ensures rewrites { Rewrites pool.now.0 text.now arrays even (R.seen rack.old) (R.seen rack.new) }
     ensures runs { R.runs rack.old rack.new }
+    ensures several { Several R.once (518 * arrays) rack.old rack.new }
 {
     if even || arrays > 16 || !have_areas(rack, arrays) {
         return;

@@ -1,8 +1,9 @@
 //! Finding the volume of a group that stands in arrays.
 
-ghost use Rattle.std.specs.Prelude.{◌≡◌, ◌≤◌, ◌<◌, ◌^◌, IfErr, IfOk, length, map, slice_index, option_copied, ◌+◌};
+ghost use Rattle.std.specs.Prelude.{◌≡◌, ◌≤◌, ◌<◌, ◌^◌, IfErr, IfOk, length, map, slice_index, option_copied, ◌+◌, ◌*◌};
 ghost use Rattle.std.specs.List.{list_all, range_with_len};
 ghost use Rattle.std.specs.Option.{option_map_or};
+ghost use Rattle.rack.specs.Several.{Several};
 ghost use Rattle.rack.specs.Sequences.{OnlyReads};
 ghost use Rattle.lvm_group.specs.Group.{ahead, has_own_label};
 ghost use Rattle.lvm_group.specs.Parts.{has_bad_text};
@@ -180,6 +181,7 @@ pub(crate) fn find_runs<R: Rack>(
     requires kept_room { 262144 ≤ length kept.old.bytes + kept.old.spare }
     ensures looks { OnlyReads (R.seen rack.old) (R.seen rack.new) }
     ensures kept { R.runs rack.old rack.new }
+    ensures several { Several R.once (521 * joined) rack.old rack.new }
     ensures unwritten { R.unwritten rack.old rack.new }
     ensures opens { IfOk result (λ opened. Finds pool.now.0 extent joined (R.seen rack.old) (R.seen rack.new)
         (record { extent = extent; arrays = joined; runs = opened.runs.items }) opened.seqno opened.even kept.new.bytes) }

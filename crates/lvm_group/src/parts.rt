@@ -1,8 +1,9 @@
 //! What stands in an array for its group, found by reading.
 
-ghost use Rattle.std.specs.Prelude.{◌≡◌, ◌<◌, ◌≤◌, ◌+◌, ◌++◌, ◌∷◌, ◌^◌, [], IfOk, IfSome, OnOk, Option, length, nat_lt, true};
+ghost use Rattle.std.specs.Prelude.{◌≡◌, ◌<◌, ◌≤◌, ◌+◌, ◌*◌, ◌++◌, ◌∷◌, ◌^◌, [], IfOk, IfSome, OnOk, Option, length, nat_lt, true};
 ghost use Rattle.std.specs.Option.{option_map_or};
 ghost use Rattle.lvm_group.specs.Parts.{Array, area_of, location_in};
+ghost use Rattle.rack.specs.Several.{Several};
 ghost use Rattle.rack.specs.Sequences.{OnlyReads};
 ghost use Rattle.lvm_group.specs.Reading.{IsNow, IsTextOf};
 ghost use Rattle.lvm_group.specs.Group.{newer, seqno_of};
@@ -72,6 +73,7 @@ fn read_in_area<R: Rack>(
     requires room { 262144 ≤ length into.old.bytes + into.old.spare }
     ensures looks { OnlyReads (R.seen rack.old) (R.seen rack.new) }
     ensures runs { R.runs rack.old rack.new }
+    ensures several { Several R.once 517 rack.old rack.new }
     ensures unwritten { R.unwritten rack.old rack.new }
     ensures found { IfOk result (λ found. (now : Array) → IsNow (R.seen rack.old) array now
         → IsInArea (R.seen rack.old) (R.seen rack.new) array now area found.header found.group) }
@@ -112,6 +114,7 @@ pub(crate) fn read_part<R: Rack>(
     requires room { 262144 ≤ length into.old.bytes + into.old.spare }
     ensures looks { OnlyReads (R.seen rack.old) (R.seen rack.new) }
     ensures runs { R.runs rack.old rack.new }
+    ensures several { Several R.once 521 rack.old rack.new }
     ensures unwritten { R.unwritten rack.old rack.new }
     ensures part { IfOk result (λ part. (now : Array) → IsNow (R.seen rack.old) array now
         → IsPart (R.seen rack.old) (R.seen rack.new) array now part) }
@@ -192,6 +195,7 @@ pub(crate) fn read_parts<R: Rack>(
     requires kept_room { 262144 ≤ length kept.old.bytes + kept.old.spare }
     ensures looks { OnlyReads (R.seen rack.old) (R.seen rack.new) }
     ensures runs { R.runs rack.old rack.new }
+    ensures several { Several R.once (521 * joined) rack.old rack.new }
     ensures unwritten { R.unwritten rack.old rack.new }
     ensures count { IfOk result (λ parts. length parts.items ≡ joined) }
     ensures said { IfOk result (λ parts. IfSome (group_by parts.items) (IsTextOf kept.new.bytes)) }

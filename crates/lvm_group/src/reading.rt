@@ -1,8 +1,9 @@
 //! Reading what stands in an array for its group.
 
-ghost use Rattle.std.specs.Prelude.{◌≡◌, ◌<◌, ◌≤◌, ◌+◌, ◌^◌, [], IfOk, IfSome, IsFalse, IsTrue, None, Some, length, replicate, unwrap_or};
+ghost use Rattle.std.specs.Prelude.{◌≡◌, ◌<◌, ◌≤◌, ◌+◌, ◌/◌, ◌^◌, [], IfOk, IfSome, IsFalse, IsTrue, None, Some, length, replicate, unwrap_or};
 ghost use Rattle.std.specs.Result.{result_ok};
 ghost use Rattle.lvm_group.specs.Parts.{Array, behind, group_at, is_inside, label_on, row_at, text_at};
+ghost use Rattle.rack.specs.Several.{Several};
 ghost use Rattle.rack.specs.Sequences.{OnlyReads};
 ghost use Rattle.lvm_group.specs.Reading.{AreRead, IsNow, IsRead, IsTextOf, held_on};
 ghost use Rattle.lvm_label.specs.Header.{header_of};
@@ -24,6 +25,7 @@ fn read_at<R: Rack>(rack: &mut R, array: u32, sector: u64) -> Option<[u8; 512]>
     requires array { array < (R.seen rack.old).disks }
     ensures looks { OnlyReads (R.seen rack.old) (R.seen rack.new) }
     ensures runs { R.runs rack.old rack.new }
+    ensures several { Several R.once 1 rack.old rack.new }
     ensures unwritten { R.unwritten rack.old rack.new }
     ensures value { (now : Array) → IsNow (R.seen rack.old) array now
         → IsRead (R.seen rack.old) (R.seen rack.new) array now sector (unwrap_or result []) }
@@ -52,6 +54,7 @@ pub(crate) fn read_label<R: Rack>(rack: &mut R, array: u32) -> Option<Label>
     requires array { array < (R.seen rack.old).disks }
     ensures looks { OnlyReads (R.seen rack.old) (R.seen rack.new) }
     ensures runs { R.runs rack.old rack.new }
+    ensures several { Several R.once 4 rack.old rack.new }
     ensures unwritten { R.unwritten rack.old rack.new }
     ensures value { (now : Array) → IsNow (R.seen rack.old) array now
         → (c : Array) × AreRead (R.seen rack.old) (R.seen rack.new) array now c × (result ≡ label_on c) }
@@ -75,6 +78,7 @@ pub(crate) fn read_header<R: Rack>(rack: &mut R, array: u32, sector: u64) -> Opt
     requires array { array < (R.seen rack.old).disks }
     ensures looks { OnlyReads (R.seen rack.old) (R.seen rack.new) }
     ensures runs { R.runs rack.old rack.new }
+    ensures several { Several R.once 1 rack.old rack.new }
     ensures unwritten { R.unwritten rack.old rack.new }
     ensures value { (now : Array) → IsNow (R.seen rack.old) array now
         → (c : Array) × AreRead (R.seen rack.old) (R.seen rack.new) array now c × (result ≡ result_ok (header_of (c sector))) }
@@ -94,6 +98,7 @@ fn read_row<R: Rack>(rack: &mut R, array: u32, from: u128, count: u64, into: &mu
     requires room { count ≤ into.old.spare }
     ensures looks { OnlyReads (R.seen rack.old) (R.seen rack.new) }
     ensures runs { R.runs rack.old rack.new }
+    ensures several { Several R.once (count / 512 + 2) rack.old rack.new }
     ensures unwritten { R.unwritten rack.old rack.new }
     ensures bytes { IsTrue result → (now : Array) → IsNow (R.seen rack.old) array now
         → behind into.old.bytes (row_at (held_on (R.seen rack.old) array now) from count) ≡ Some into.new.bytes }
@@ -136,6 +141,7 @@ fn read_text<R: Rack>(
     requires room { location.now.size ≤ length into.old.bytes + into.old.spare }
     ensures looks { OnlyReads (R.seen rack.old) (R.seen rack.new) }
     ensures runs { R.runs rack.old rack.new }
+    ensures several { Several R.once (location.now.size / 512 + 4) rack.old rack.new }
     ensures unwritten { R.unwritten rack.old rack.new }
     ensures text { IsTrue result → (now : Array) → IsNow (R.seen rack.old) array now
         → text_at (held_on (R.seen rack.old) array now) area.now location.now ≡ Some into.new.bytes }
@@ -192,6 +198,7 @@ pub(crate) fn read_group<R: Rack>(
     requires room { 262144 ≤ length into.old.bytes + into.old.spare }
     ensures looks { OnlyReads (R.seen rack.old) (R.seen rack.new) }
     ensures runs { R.runs rack.old rack.new }
+    ensures several { Several R.once 516 rack.old rack.new }
     ensures unwritten { R.unwritten rack.old rack.new }
     ensures group { IfOk result (λ found. (now : Array) → IsNow (R.seen rack.old) array now
         → (c : Array) × AreRead (R.seen rack.old) (R.seen rack.new) array now c × (found ≡ group_at c area.now location.now)) }

@@ -1,6 +1,7 @@
 //! Where the next text of an array begins.
 
 ghost use Rattle.std.specs.Prelude.{◌≡◌, ◌<◌, ◌≤◌, ℕ, IfErr, IfOk, length, true, false};
+ghost use Rattle.rack.specs.Several.{Several};
 ghost use Rattle.rack.specs.Seen.{Rose};
 ghost use Rattle.rack.specs.Sequences.{OnlyReads};
 ghost use Rattle.lvm_group.specs.Writing.{AreStarts, start_at};
@@ -84,6 +85,7 @@ fn read_start<R: Rack>(rack: &mut R, array: u32) -> Result<TextStart, Gone>
     ensures spent { (R.seen rack.old).steady → IfErr result (λ e. (R.seen rack.new).spent e.disk 8 ≡ true) }
     ensures unspent { IfOk result (λ start. (R.seen rack.new).spent array 8 ≡ false) }
     ensures runs { R.runs rack.old rack.new }
+    ensures several { Several R.once 1 rack.old rack.new }
 {
     let mut sector = [0; 512];
     match rack.read(array, 8, &mut sector) {
@@ -107,6 +109,7 @@ pub(crate) fn read_starts<R: Rack>(
     ensures gone { IfErr result (λ e. (e.disk < (R.seen rack.old).disks) × Rose ((R.seen rack.old).faults e.disk) ((R.seen rack.new).faults e.disk)) }
     ensures spent { (R.seen rack.old).steady → IfErr result (λ e. (R.seen rack.new).spent e.disk 8 ≡ true) }
     ensures runs { R.runs rack.old rack.new }
+    ensures several { Several R.once arrays rack.old rack.new }
 {
     let mut starts = ArrayVec::new();
     for array in 0..arrays {

@@ -135,6 +135,7 @@ impl<R: Rack> Volume<R> {
     ghost use Rattle.lvm_group.specs.Brought.{BringsUp};
     ghost use Rattle.lvm_group.specs.Images.{IsNew, IsOldOrNew};
     ghost use Rattle.rack.specs.Moments.{Leaves};
+    ghost use Rattle.rack.specs.Several.{Several};
     ghost use Rattle.lvm_group.specs.Made.{IsUnmade, Makes, made_targets, new_volume};
     ghost use Rattle.lvm_group.specs.Own.{HoldAll};
     ghost use Rattle.lvm_group.specs.Opening.{IsUnopened, Opens};
@@ -144,7 +145,7 @@ impl<R: Rack> Volume<R> {
     ghost use Rattle.std.specs.Borrow.{sem, Lends};
     ghost use Rattle.lvm_group.specs.contracts.volume.Volume.{the_row};
     ghost use Rattle.lvm_group.specs.Runs.{array_of, sector_of, sectors_in};
-    ghost use Rattle.lvm_group.specs.Volume.{below_of, linear, pool_of, seqno_of};
+    ghost use Rattle.lvm_group.specs.Volume.{below_of, linear, most_opened, pool_of, seqno_of};
 
     /// Makes a volume group on the first arrays of a rack, as many as there are numbers, and the volume of their
     /// first extents: as many of each array as its number says, array by array. An extent has so many sectors.
@@ -260,6 +261,7 @@ impl<R: Rack> Volume<R> {
         ensures looked { IfErr result (λ back. OnlyReads (R.seen rack) (R.seen back.rack)) }
         ensures unwritten { IfErr result (λ back. R.unwritten rack back.rack) }
         ensures kept { IfOk result (λ volume. R.runs rack volume.rack) }
+        ensures several { IfOk result (λ volume. Several R.once (most_opened joined) rack volume.rack) }
         ensures returned { IfErr result (λ back. R.runs rack back.rack) }
     {
         let Ok((room, kept)) = take_room_to_open(alloc) else {

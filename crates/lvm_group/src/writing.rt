@@ -4,6 +4,7 @@ ghost use Rattle.std.specs.Prelude.{◌≡◌, ◌<◌, ◌≤◌, ◌+◌, ◌*
 ghost use Rattle.lvm_label.specs.Fields.{padded};
 ghost use Rattle.lvm_label.specs.Header.{IsLocation, header_bytes};
 ghost use Rattle.lvm_label.specs.Label.{IsLabel, label_bytes};
+ghost use Rattle.rack.specs.Several.{Several};
 ghost use Rattle.rack.specs.Targets.{target};
 ghost use Rattle.lvm_group.specs.Sequences.{AreSingle};
 ghost use Rattle.rack.specs.Moments.{Leaves};
@@ -45,6 +46,7 @@ fn put<R: Rack>(rack: &mut R, array: u32, sector: u64, from: &[u8; 512]) -> Resu
     requires sector { sector < (R.seen rack.old).sectors array }
     ensures puts { Puts (R.seen rack.old) (R.seen rack.new) (target array sector from.now ∷ []) result }
     ensures runs { R.runs rack.old rack.new }
+    ensures several { Several R.once 1 rack.old rack.new }
 {
     rack.write(array, sector, from)
 }
@@ -101,6 +103,7 @@ fn put_text<R: Rack>(rack: &mut R, array: u32, first: u64, text: &[u8]) -> Resul
     requires short { length text.now ≤ 262144 }
     ensures puts { Puts (R.seen rack.old) (R.seen rack.new) (text_targets array first text.now) result }
     ensures runs { R.runs rack.old rack.new }
+    ensures several { Several R.once 512 rack.old rack.new }
 {
     let count = (text.len() + 511) / 512;
     for k in 0..count {
@@ -212,6 +215,7 @@ fn put_blank<R: Rack>(rack: &mut R, array: u32, blank: bool) -> Result<(), Gone>
     requires sectors { 8 < (R.seen rack.old).sectors array }
     ensures puts { Puts (R.seen rack.old) (R.seen rack.new) (blank_targets array blank) result }
     ensures runs { R.runs rack.old rack.new }
+    ensures several { Several R.once 1 rack.old rack.new }
 {
     if !blank {
         return Ok(());
@@ -235,6 +239,7 @@ fn put_first<R: Rack>(
     ensures puts { Puts (R.seen rack.old) (R.seen rack.new) (first_targets pool.now.0 (R.seen rack.old).sectors starts.now text.now array) result }
     ensures is_label { OnOk result (IsLabel (own_label pool.now.0 array ((R.seen rack.old).sectors array))) }
     ensures runs { R.runs rack.old rack.new }
+    ensures several { Several R.once 514 rack.old rack.new }
 {
     let sectors = rack.sectors(array);
     let start = start_at(starts, array);
@@ -263,6 +268,7 @@ fn put_firsts<R: Rack>(
     ensures puts { Puts (R.seen rack.old) (R.seen rack.new) (targets_to (first_targets pool.now.0 (R.seen rack.old).sectors starts.now text.now) arrays) result }
     ensures labels { OnOk result ((array : ℕ) → array < arrays → IsLabel (own_label pool.now.0 array ((R.seen rack.old).sectors array))) }
     ensures runs { R.runs rack.old rack.new }
+    ensures several { Several R.once (514 * arrays) rack.old rack.new }
 {
     for array in 0..arrays {
         if let Err(gone) = put_first(rack, pool, array, starts, text) {
@@ -286,6 +292,7 @@ fn put_headers<R: Rack>(
     ensures puts { Puts (R.seen rack.old) (R.seen rack.new) (targets_to (header_target starts.now text.now) arrays) result }
     ensures locations { OnOk result ((array : ℕ) → array < arrays → IsLocation (own_location (512 * (start_at starts.now array).sector) text.now)) }
     ensures runs { R.runs rack.old rack.new }
+    ensures several { Several R.once arrays rack.old rack.new }
 {
     for array in 0..arrays {
         let start = start_at(starts, array);
@@ -319,6 +326,7 @@ pub(crate) fn put_new<R: Rack>(
     ensures locations { OnOk result ((array : ℕ) → array < arrays → IsLocation (own_location (512 * (start_at starts.now array).sector) text.now)) }
     ensures single { OnOk result (AreSingle (R.seen rack.old) (R.seen rack.new) arrays) }
     ensures runs { R.runs rack.old rack.new }
+    ensures several { Several R.once (517 * arrays) rack.old rack.new }
 {
     if let Err(gone) = put_firsts(rack, pool, arrays, starts, text) {
         return Err(gone);

@@ -1,4 +1,4 @@
-use Rattle.std.proofs.Common.{◌≡◌, ℕ, ◌<◌, List, [], Ok, Err, true, sym, subst}
+use Rattle.std.proofs.Common.{◌≡◌, ℕ, ◌*◌, ◌<◌, List, [], Ok, Err, true, sym, subst, arith}
 use Rattle.rack.specs.declared.Gone.{Gone}
 use Rattle.rack.specs.Targets.{Target, look}
 use Rattle.rack.specs.Seen.{Seen, Rose}
@@ -8,6 +8,8 @@ use Rattle.rack.proofs.Writing.{only_quiet}
 use Rattle.lvm_group.specs.declared.starts.TextStart.{TextStart}
 use Rattle.lvm_group.specs.Writing.{AreStarts, Puts, first_targets, header_target, new_targets, targets_to}
 use Rattle.lvm_group.specs.Changing.{AreBehind, IsInTurn}
+use Rattle.rack.proofs.Calling.{several_fewer}
+use Rattle.lvm_group.proofs.Calls.{several_join}
 use Rattle.lvm_group.proofs.Putting.{puts_cut, puts_then, single_then}
 use Rattle.lvm_group.proofs.Turns.{turn_behind, turn_cut}
 use Rattle.lvm_group.proofs.TextStarts.{starts_behind, starts_in, starts_inside}
@@ -56,3 +58,11 @@ returns-clause-changes g c =
           (turn_behind (targets_to (first_targets c.args.pool.now.0 x.sectors starts c.args.text.now) n) (targets_to (header_target starts c.args.text.now) n) n looks c.put_new.ensures.puts.only.stays c.put_new.ensures.stops);
       single = single_then a x b n c.put_new.result looks.stays c.put_new.ensures.single;
     }
+
+pub returns-in-Err-clause-several : goal.returns-in-Err-clause-several
+returns-in-Err-clause-several g c =
+    several_fewer g.R.Rack.once c.args.arrays (518 * c.args.arrays) _ _ (omega arith) c.in-Err.ensures.several
+
+pub returns-clause-several : goal.returns-clause-several
+returns-clause-several g c =
+    several_join g.R.Rack.once c.args.arrays (517 * c.args.arrays) (518 * c.args.arrays) _ _ _ (omega arith) c.in-Ok.ensures.several c.put_new.ensures.several

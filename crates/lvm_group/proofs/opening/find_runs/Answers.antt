@@ -1,9 +1,10 @@
-use Rattle.std.proofs.Common.{◌∙◌, List, sym, ap, subst, length}
+use Rattle.std.proofs.Common.{◌*◌, ◌∙◌, List, sym, ap, subst, length}
 use Rattle.std.specs.List.{range_with_len}
 use Rattle.lvm_group.specs.declared.parts.Part.{Part}
 use Rattle.lvm_group.specs.Opening.{WereRead, group_by}
 use Rattle.lvm_group.specs.Reading.{IsTextOf}
 use Rattle.std.specs.Prelude.{IfSome}
+use Rattle.lvm_group.proofs.Calls.{several_same}
 use Rattle.lvm_group.proofs.Answered.{finds_result, refused_result}
 use Rattle.lvm_group.proofs.OwnText.{length_map}
 use Rattle.lvm_group.proofs.Written.{range_long}
@@ -28,3 +29,7 @@ returns-clause-refused g c =
     (subst (λ (parts : List Part). WereRead (g.R.Rack.seen c.args.rack.now) (g.R.Rack.seen c.read_parts.new.rack) c.args.joined parts) (sym c.as_slice-2.ensures.value)
     (record { count = c.in-Ok-read_parts.ensures.count; are = c.in-Ok-read_parts.ensures.parts }))
     c.runs_by.ensures.fault
+
+pub returns-in_default-clause-several : goal.returns-in_default-clause-several
+returns-in_default-clause-several g c =
+    several_same g.R.Rack.once (521 * c.args.joined) _

@@ -1,4 +1,6 @@
-use Rattle.std.proofs.Common.{◌∙◌, sym}
+use Rattle.std.proofs.Common.{◌∙◌, sym, arith}
+use Rattle.rack.proofs.Calling.{several_fewer}
+use Rattle.lvm_group.proofs.Calls.{several_join, several_same}
 use Rattle.lvm_group.proofs.Looking.{now_later}
 use Rattle.lvm_group.proofs.AreaRead.{no_area, odd_area, no_header_there, no_location, area_group}
 use Rattle.lvm_group.proofs.parts.read_in_area.Goals as goal
@@ -30,3 +32,27 @@ returns-clause-found g c now is =
     area_group c.args.array now read.0 group.0 c.args.area c.in-Some.area c.in-Some-read_header.header c.in-Some-location.location c.in_ok-found.field-0
     c.in-Some.is c.if-area-ne0.false looks c.in_ok-found.ensures.looks c.requires.fit read.1 group.1
     (sym c.in-Some-read_header.is ∙ read.2) (sym c.location_in-location.ensures ∙ c.in-Some-location.is) group.2
+
+pub returns-in_default-clause-several : goal.returns-in_default-clause-several
+returns-in_default-clause-several g c =
+    several_same g.R.Rack.once 517 _
+
+pub returns-then-area-ne0-clause-several : goal.returns-then-area-ne0-clause-several
+returns-then-area-ne0-clause-several g c =
+    several_same g.R.Rack.once 517 _
+
+pub returns-in_default-read_header-clause-several : goal.returns-in_default-read_header-clause-several
+returns-in_default-read_header-clause-several g c =
+    several_fewer g.R.Rack.once 1 517 _ _ (omega arith) c.read_header.ensures.several
+
+pub returns-in_default-location-clause-several : goal.returns-in_default-location-clause-several
+returns-in_default-location-clause-several g c =
+    several_fewer g.R.Rack.once 1 517 _ _ (omega arith) c.read_header.ensures.several
+
+pub returns-in_err-found-clause-several : goal.returns-in_err-found-clause-several
+returns-in_err-found-clause-several g c =
+    several_join g.R.Rack.once 1 516 517 _ _ _ (omega arith) c.read_header.ensures.several c.in_err-found.ensures.several
+
+pub returns-clause-several : goal.returns-clause-several
+returns-clause-several g c =
+    several_join g.R.Rack.once 1 516 517 _ _ _ (omega arith) c.read_header.ensures.several c.in_ok-found.ensures.several

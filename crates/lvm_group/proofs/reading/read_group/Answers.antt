@@ -1,11 +1,13 @@
-use Rattle.std.proofs.Common.{◌≡◌, ◌∙◌, true, false, sym, rules}
+use Rattle.std.proofs.Common.{◌≡◌, ◌+◌, ◌/◌, ◌∙◌, true, false, sym, rules, arith}
 use Rattle.std.specs.Prelude.{◌==◌}
 use Rattle.std.proofs.lemmas.Result.{IfOk-weaker}
 use Rattle.shr_base.specs.Crc.{lvm_crc_of}
 use Rattle.lvm_group.specs.Parts.{is_inside}
 use Rattle.lvm_group.specs.Reading.{held_on}
+use Rattle.rack.proofs.Calling.{several_fewer}
+use Rattle.lvm_group.proofs.Calls.{several_same}
 use Rattle.lvm_group.proofs.Looking.{held_read}
-use Rattle.lvm_group.proofs.GroupRead.{not_inside, no_text, other_sum, group_said}
+use Rattle.lvm_group.proofs.GroupRead.{group_said, inside_short, no_text, not_inside, other_sum}
 use Rattle.lvm_group.proofs.reading.read_group.Goals as goal
 
 pub returns-then-not-is_inside-clause-group : goal.returns-then-not-is_inside-clause-group
@@ -40,3 +42,25 @@ returns-clause-group g c =
       held_read a (g.R.Rack.seen c.read_text.new.rack) c.args.array now,
       is_said ∙ (search rules) ∙ sym (group_said held c.args.area.now c.args.location.now c.read_text.new.into.bytes inside text sum),
     )) c.group_of.ensures
+
+pub returns-then-not-is_inside-clause-several : goal.returns-then-not-is_inside-clause-several
+returns-then-not-is_inside-clause-several g c =
+    several_same g.R.Rack.once 516 _
+
+pub returns-then-not-read_text-clause-several : goal.returns-then-not-read_text-clause-several
+returns-then-not-read_text-clause-several g c =
+    let inside : is_inside c.args.area.now c.args.location.now ≡ true = search rules in
+    let short = inside_short c.args.area.now c.args.location.now inside in
+    several_fewer g.R.Rack.once (c.args.location.now.size / 512 + 4) 516 _ _ (omega (arith, short)) c.read_text.ensures.several
+
+pub returns-then-location-lvm_crc-clause-several : goal.returns-then-location-lvm_crc-clause-several
+returns-then-location-lvm_crc-clause-several g c =
+    let inside : is_inside c.args.area.now c.args.location.now ≡ true = search rules in
+    let short = inside_short c.args.area.now c.args.location.now inside in
+    several_fewer g.R.Rack.once (c.args.location.now.size / 512 + 4) 516 _ _ (omega (arith, short)) c.read_text.ensures.several
+
+pub returns-clause-several : goal.returns-clause-several
+returns-clause-several g c =
+    let inside : is_inside c.args.area.now c.args.location.now ≡ true = search rules in
+    let short = inside_short c.args.area.now c.args.location.now inside in
+    several_fewer g.R.Rack.once (c.args.location.now.size / 512 + 4) 516 _ _ (omega (arith, short)) c.read_text.ensures.several

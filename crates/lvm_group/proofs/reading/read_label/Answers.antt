@@ -1,6 +1,7 @@
-use Rattle.std.proofs.Common.{◌∙◌, ap, ◌∷◌, []}
+use Rattle.std.proofs.Common.{◌∙◌, ap, ◌∷◌, [], arith}
 use Rattle.std.specs.Result.{result_ok}
 use Rattle.lvm_label.specs.Label.{label_in}
+use Rattle.lvm_group.proofs.Calls.{several_join}
 use Rattle.lvm_group.proofs.Looking.{looks_then, now_later}
 use Rattle.lvm_group.proofs.LabelRead.{label_read}
 use Rattle.lvm_group.proofs.reading.read_label.Goals as goal
@@ -26,3 +27,8 @@ returns-clause-value g c now is =
       c.ok.ensures.value ∙ ap result_ok (c.decode_label.ensures
           ∙ (λ i. label_in 0 (c.or_zeros.ensures i ∷ c.or_zeros-2.ensures i ∷ c.or_zeros-3.ensures i ∷ c.or_zeros-4.ensures i ∷ []))) ∙ read.2,
     )
+
+pub returns-clause-several : goal.returns-clause-several
+returns-clause-several g c =
+    several_join g.R.Rack.once 2 2 4 _ _ _ (omega arith) (several_join g.R.Rack.once 1 1 2 _ _ _ (omega arith) c.read_at-first.ensures.several c.read_at-second.ensures.several)
+    (several_join g.R.Rack.once 1 1 2 _ _ _ (omega arith) c.read_at-third.ensures.several c.read_at-fourth.ensures.several)

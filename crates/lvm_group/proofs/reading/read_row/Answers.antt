@@ -1,6 +1,8 @@
-use Rattle.std.proofs.Common.{◌≡◌, ◌+◌, ◌-◌, ◌%◌, ◌++◌, ℕ, List, length, take, drop, length-append, ◌∙◌, ap, arith, sym}
+use Rattle.std.proofs.Common.{◌≡◌, ◌+◌, ◌-◌, ◌/◌, ◌%◌, ◌++◌, ℕ, List, length, take, drop, length-append, ◌∙◌, ap, arith, sym}
 use Rattle.lvm_group.specs.Parts.{behind, row_at}
 use Rattle.lvm_group.specs.Reading.{held_on}
+use Rattle.rack.proofs.Calling.{several_fewer}
+use Rattle.lvm_group.proofs.Calls.{several_join}
 use Rattle.lvm_group.proofs.Looking.{looks_then, now_later}
 use Rattle.lvm_group.proofs.RowRead.{row_past, row_refused, row_on, piece_long}
 use Rattle.lvm_group.proofs.reading.read_row.Goals as goal
@@ -14,6 +16,19 @@ returns-in_default-clause-none g c none now is =
     let before = c.loop-left.invariant.looks in
     row_refused c.args.array now c.args.from c.args.count c.loop-left.at before c.in_default.ensures.looks c.loop-left.invariant.starts (omega arith)
     (c.in_default.ensures.value now (now_later c.args.array now c.requires.array before is))
+
+pub returns-in_default-clause-several : goal.returns-in_default-clause-several
+returns-in_default-clause-several g c =
+    let some = c.loop-left-test.true in
+    let ends = c.loop-left.invariant.ends in
+    let starts = c.loop-left.invariant.starts in
+    several_join g.R.Rack.once (c.loop-left.at / 512 - c.args.from / 512) 1 (c.args.count / 512 + 2) _ _ _ (omega arith) (c.loop-left.invariant.passed some) c.in_default.ensures.several
+
+pub returns-clause-several : goal.returns-clause-several
+returns-clause-several g c =
+    let ends = c.loop-left.invariant.ends in
+    let starts = c.loop-left.invariant.starts in
+    several_fewer g.R.Rack.once (c.loop-left.at / 512 - c.args.from / 512 + 1) (c.args.count / 512 + 2) _ _ (omega arith) c.loop-left.invariant.several
 
 pub loop-left-preserved : goal.loop-left-preserved
 loop-left-preserved g c =
@@ -40,6 +55,10 @@ loop-left-preserved g c =
       looks = looks_then c.loop-left.invariant.looks c.in-Some.ensures.looks;
       runs = g.met.R.Rack.runs_then _ _ _ c.loop-left.invariant.runs c.in-Some.ensures.runs;
       unwritten = g.met.R.Rack.unwritten_then _ _ _ c.loop-left.invariant.unwritten c.in-Some.ensures.unwritten;
+      several = several_fewer g.R.Rack.once (at / 512 - c.args.from / 512 + 1) _ _ _ (omega arith)
+          (several_join g.R.Rack.once (at / 512 - c.args.from / 512) 1 (at / 512 - c.args.from / 512 + 1) _ _ _ (omega arith) (c.loop-left.invariant.passed some) c.in-Some.ensures.several);
+      passed = λ more.
+          several_join g.R.Rack.once (at / 512 - c.args.from / 512) 1 _ _ _ _ (omega (arith, more)) (c.loop-left.invariant.passed some) c.in-Some.ensures.several;
       starts = omega arith;
       ends = omega arith;
       inside = inside;

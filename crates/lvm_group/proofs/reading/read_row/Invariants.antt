@@ -1,5 +1,6 @@
-use Rattle.std.proofs.Common.{◌≡◌, ◌+◌, ◌*◌, ◌<◌, ◌≤◌, ◌^◌, length}
+use Rattle.std.proofs.Common.{◌≡◌, ◌+◌, ◌-◌, ◌*◌, ◌/◌, ◌<◌, ◌≤◌, ◌^◌, length}
 use Rattle.lvm_group.specs.Parts.{Array, behind, row_at}
+use Rattle.rack.specs.Several.{Several}
 use Rattle.rack.specs.Sequences.{OnlyReads}
 use Rattle.lvm_group.specs.Reading.{IsNow, held_on}
 use Rattle.lvm_group.proofs.reading.read_row.Given as goal
@@ -9,6 +10,9 @@ invariant-loop-left g l = record {
   looks : OnlyReads (g.R.Rack.seen l.fn.rack) (g.R.Rack.seen l.rack);
   runs : g.R.Rack.runs l.fn.rack l.rack;
   unwritten : g.R.Rack.unwritten l.fn.rack l.rack;
+  -- one call for each sector that was passed, and one for the last one
+  several : Several g.R.Rack.once (l.at / 512 - l.fn.from / 512 + 1) l.fn.rack l.rack;
+  passed : 0 < l.left → Several g.R.Rack.once (l.at / 512 - l.fn.from / 512) l.fn.rack l.rack;
   starts : l.fn.from ≤ l.at;
   ends : l.at + l.left ≡ l.fn.from + l.fn.count;
   inside : l.fn.from + l.fn.count ≤ 512 * (g.R.Rack.seen l.fn.rack).sectors l.fn.array;

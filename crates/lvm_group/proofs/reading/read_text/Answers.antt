@@ -1,7 +1,9 @@
-use Rattle.std.proofs.Common.{◌≡◌, ◌+◌, ◌-◌, ◌∙◌, ℕ, List, length, Some, ap, subst, arith}
+use Rattle.std.proofs.Common.{◌≡◌, ◌+◌, ◌-◌, ◌/◌, ◌∙◌, ℕ, List, length, Some, ap, subst, arith}
 use Rattle.std.specs.Prelude.{min}
 use Rattle.lvm_group.specs.Parts.{behind, row_at, before_end}
 use Rattle.lvm_group.specs.Reading.{held_on}
+use Rattle.rack.proofs.Calling.{several_fewer}
+use Rattle.lvm_group.proofs.Calls.{several_join}
 use Rattle.lvm_group.proofs.Looking.{looks_same, now_later, read_longer}
 use Rattle.lvm_group.proofs.TextRead.{same_held, text_given, first_lacks, second_lacks}
 use Rattle.lvm_group.proofs.reading.read_text.Goals as goal
@@ -53,3 +55,13 @@ returns-clause-none g c false now is =
       λ sector. read_longer c.args.array now sector (found.0 sector) looks end (found.1 sector),
       second_lacks found.0 area location c.min-front.result _ front_is again_is found.2,
     )
+
+pub returns-then-not-read_row-clause-several : goal.returns-then-not-read_row-clause-several
+returns-then-not-read_row-clause-several g c =
+    let least = c.min-front.ensures in
+    several_fewer g.R.Rack.once (c.min-front.result / 512 + 2) (c.args.location.now.size / 512 + 4) _ _ (omega arith) c.read_row.ensures.several
+
+pub returns-clause-several : goal.returns-clause-several
+returns-clause-several g c =
+    let least = c.min-front.ensures in
+    several_join g.R.Rack.once (c.min-front.result / 512 + 2) ((c.args.location.now.size - c.min-front.result) / 512 + 2) (c.args.location.now.size / 512 + 4) _ _ _ (omega arith) c.read_row.ensures.several c.read_row-2.ensures.several

@@ -1,10 +1,12 @@
-use Rattle.std.proofs.Common.{◌≡◌, ℕ, List, [], ◌∷◌, ◌++◌, Ok, Err, Result, ap, subst, ◌∙◌}
+use Rattle.std.proofs.Common.{◌≡◌, ℕ, List, [], ◌∷◌, ◌++◌, Ok, Err, Result, ap, subst, ◌∙◌, arith}
 use Rattle.lvm_label.specs.Label.{label_bytes}
 use Rattle.rack.specs.declared.Gone.{Gone}
 use Rattle.rack.specs.Seen.{Seen}
 use Rattle.rack.specs.Targets.{target}
 use Rattle.lvm_group.specs.declared.starts.TextStart.{TextStart}
 use Rattle.lvm_group.specs.Writing.{Puts, blank_targets, label_targets, own_label, start_at, text_targets}
+use Rattle.rack.proofs.Calling.{several_fewer}
+use Rattle.lvm_group.proofs.Calls.{several_join}
 use Rattle.lvm_group.proofs.Putting.{puts_cut, puts_then}
 use Rattle.lvm_group.proofs.writing.put_first.Goals as goal
 
@@ -48,3 +50,15 @@ returns-clause-puts g c =
     (label_put c.args.pool.now.0 c.label_sector.result c.args.array c.sectors-sectors.result (Ok tt) c.sectors-sectors.ensures.number c.label_sector.ensures.bytes c.in_default.ensures.puts)
     (blank_put c.args.array c.start_at-start.result c.args.starts.now (Ok tt) c.start_at-start.ensures c.in_default-put_blank.ensures.puts))
     (text_put c.args.array c.args.text.now c.start_at-start.result c.args.starts.now c.put_text.result c.start_at-start.ensures c.put_text.ensures.puts)
+
+pub returns-in-Err-clause-several : goal.returns-in-Err-clause-several
+returns-in-Err-clause-several g c =
+    several_fewer g.R.Rack.once 1 514 _ _ (omega arith) c.in-Err.ensures.several
+
+pub returns-in-Err-put_blank-clause-several : goal.returns-in-Err-put_blank-clause-several
+returns-in-Err-put_blank-clause-several g c =
+    several_join g.R.Rack.once 1 1 514 _ _ _ (omega arith) c.in_default.ensures.several c.in-Err-put_blank.ensures.several
+
+pub returns-clause-several : goal.returns-clause-several
+returns-clause-several g c =
+    several_join g.R.Rack.once 2 512 514 _ _ _ (omega arith) (several_join g.R.Rack.once 1 1 2 _ _ _ (omega arith) c.in_default.ensures.several c.in_default-put_blank.ensures.several) c.put_text.ensures.several

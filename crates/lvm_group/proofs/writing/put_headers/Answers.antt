@@ -4,6 +4,7 @@ use Rattle.lvm_label.specs.Header.{IsLocation, header_bytes}
 use Rattle.rack.specs.Targets.{target}
 use Rattle.lvm_group.specs.declared.starts.TextStart.{TextStart}
 use Rattle.lvm_group.specs.Writing.{header_target, own_header, own_location, start_at}
+use Rattle.lvm_group.proofs.Calls.{several_join, several_same}
 use Rattle.lvm_group.proofs.Putting.{puts_start, puts_more, puts_refused, puts_all}
 use Rattle.lvm_group.proofs.writing.put_headers.Goals as goal
 
@@ -26,6 +27,7 @@ pub loop-array-init : goal.loop-array-init
 loop-array-init g c = record {
   puts = puts_start (g.R.Rack.seen c.args.rack.now) (header_target c.args.starts.now c.args.text.now) c.requires.fit;
   locations = λ array below. absurd (omega arith);
+  several = several_same g.R.Rack.once 0 c.args.rack.now;
   runs = g.met.R.Rack.runs_same c.args.rack.now;
 }
 
@@ -40,8 +42,14 @@ loop-array-preserved g c = record {
       (is_target c.args.starts.now c.args.text.now c.text_header-header.result c.loop-array.array c.start_at-start.result c.start_at-start.ensures c.text_header-header.ensures.bytes) c.loop-array.invariant.puts
       c.in_default.ensures.puts;
   locations = λ array below. one_location c.args.starts.now c.args.text.now c.loop-array.array array c.start_at-start.result c.start_at-start.ensures c.loop-array.invariant.locations c.text_header-header.ensures.is_location below;
+  several = several_join g.R.Rack.once c.loop-array.array 1 (c.loop-array.array + 1) _ _ _ (omega arith) c.loop-array.invariant.several c.in_default.ensures.several;
   runs = g.met.R.Rack.runs_then _ _ _ c.loop-array.invariant.runs c.in_default.ensures.runs;
 }
 
 pub returns-clause-puts : goal.returns-clause-puts
 returns-clause-puts g c = puts_all (header_target c.args.starts.now c.args.text.now) c.loop-array.array c.args.arrays (let b = c.loop-array-test.false in omega arith) c.loop-array.invariant.puts
+
+pub returns-in-Err-clause-several : goal.returns-in-Err-clause-several
+returns-in-Err-clause-several g c =
+    let test = c.loop-array-test.true in
+    several_join g.R.Rack.once c.loop-array.array 1 c.args.arrays _ _ _ (omega arith) c.loop-array.invariant.several c.in-Err.ensures.several

@@ -1,7 +1,9 @@
-use Rattle.std.proofs.Common.{ℕ, List, ◌++◌, ◌≤◌, Ok, Err, subst, sym}
+use Rattle.std.proofs.Common.{ℕ, ◌*◌, List, ◌++◌, ◌≤◌, Ok, Err, subst, sym, arith}
 use Rattle.rack.specs.Targets.{Target}
 use Rattle.lvm_group.specs.declared.starts.TextStart.{TextStart}
 use Rattle.lvm_group.specs.Writing.{first_targets, header_target, targets_to}
+use Rattle.rack.proofs.Calling.{several_fewer}
+use Rattle.lvm_group.proofs.Calls.{several_join}
 use Rattle.lvm_group.proofs.Putting.{puts_cut, puts_quiet, puts_then, single_later, single_then}
 use Rattle.lvm_group.proofs.Turns.{turn_cut, turn_then}
 use Rattle.lvm_group.proofs.writing.put_new.Goals as goal
@@ -65,3 +67,22 @@ returns-clause-stops g c =
     turn_then {m = g.R.Rack.seen c.sync_first.new.rack} first (headers c.args.starts.now c.args.text.now c.args.arrays) c.args.arrays c.sync_first-2.result puts
     (single_later (g.R.Rack.seen c.args.rack.now) (g.R.Rack.seen c.put_firsts.new.rack) (g.R.Rack.seen c.sync_first.new.rack) c.args.arrays c.in_default.ensures.puts.only.stays c.in_default-sync_first.ensures.syncs.done)
     (puts_quiet (headers c.args.starts.now c.args.text.now c.args.arrays) c.args.arrays c.sync_first-2.result (subst (λ n. c.args.arrays ≤ n) (sym stays.disks) c.requires.arrays) c.in_default-put_headers.ensures.puts c.sync_first-2.ensures.syncs)
+
+pub returns-in-Err-clause-several : goal.returns-in-Err-clause-several
+returns-in-Err-clause-several g c =
+    several_fewer g.R.Rack.once (514 * c.args.arrays) (517 * c.args.arrays) _ _ (omega arith) c.in-Err.ensures.several
+
+pub returns-in-Err-sync_first-clause-several : goal.returns-in-Err-sync_first-clause-several
+returns-in-Err-sync_first-clause-several g c =
+    several_join g.R.Rack.once (514 * c.args.arrays) c.args.arrays (517 * c.args.arrays) _ _ _ (omega arith) c.in_default.ensures.several c.in-Err-sync_first.ensures.several
+
+pub returns-in-Err-put_headers-clause-several : goal.returns-in-Err-put_headers-clause-several
+returns-in-Err-put_headers-clause-several g c =
+    several_join g.R.Rack.once (515 * c.args.arrays) c.args.arrays (517 * c.args.arrays) _ _ _ (omega arith)
+    (several_join g.R.Rack.once (514 * c.args.arrays) c.args.arrays (515 * c.args.arrays) _ _ _ (omega arith) c.in_default.ensures.several c.in_default-sync_first.ensures.several) c.in-Err-put_headers.ensures.several
+
+pub returns-clause-several : goal.returns-clause-several
+returns-clause-several g c =
+    several_join g.R.Rack.once (516 * c.args.arrays) c.args.arrays (517 * c.args.arrays) _ _ _ (omega arith)
+    (several_join g.R.Rack.once (515 * c.args.arrays) c.args.arrays (516 * c.args.arrays) _ _ _ (omega arith)
+    (several_join g.R.Rack.once (514 * c.args.arrays) c.args.arrays (515 * c.args.arrays) _ _ _ (omega arith) c.in_default.ensures.several c.in_default-sync_first.ensures.several) c.in_default-put_headers.ensures.several) c.sync_first-2.ensures.several

@@ -1,4 +1,4 @@
-use Rattle.std.proofs.Common.{◌≡◌, ◌≤◌, true, List, ap, sym, subst, ◌∙◌, arith, length}
+use Rattle.std.proofs.Common.{◌≡◌, ◌*◌, ◌≤◌, true, List, ap, sym, subst, ◌∙◌, arith, length}
 use Rattle.lvm_group.specs.declared.runs.Run.{Run}
 use Rattle.lvm_group.specs.Runs.{IsOrderly, Linear, extents_of}
 use Rattle.lvm_group.specs.Group.{all_apart}
@@ -7,6 +7,7 @@ use Rattle.lvm_group.specs.Shown.{IsInside}
 use Rattle.lvm_group.specs.Brought.{BringsUp}
 use Rattle.lvm_group.specs.Opening.{Opens}
 use Rattle.rack.specs.Joins.{stays_then}
+use Rattle.lvm_group.proofs.Calls.{several_join}
 use Rattle.lvm_group.proofs.Brought.{brought, rewrites_stays}
 use Rattle.lvm_group.proofs.Below.{inside_still}
 use Rattle.lvm_group.proofs.Answered.{opened_apart, opened_few, opened_inside, opened_numbered, opened_orderly, opened_row, opened_small}
@@ -72,3 +73,7 @@ returns-in-Ok-find_runs-clause-opens g c =
     subst (λ (l : Linear). (opens : Opens c.args.pool.now.0 c.args.extent c.args.joined a b l seqno) × BringsUp c.args.pool.now.0 c.args.joined l seqno opens.runs.group a b) same
     (brought c.args.pool.now.0 c.as_slice.result.now c.find_runs.new.kept.bytes c.args.extent c.args.joined l seqno c.in-Ok-find_runs.opened.even c.encoded_labels_decode.ensures c.encoded_headers_decode.ensures
     c.in-Ok-find_runs.ensures.looks later c.as_slice.ensures c.in-Ok-find_runs.ensures.opens c.bring_up.ensures.rewrites)
+
+pub returns-in-Ok-find_runs-clause-several : goal.returns-in-Ok-find_runs-clause-several
+returns-in-Ok-find_runs-clause-several g c =
+    several_join g.R.Rack.once (521 * c.args.joined) (518 * c.args.joined) (1039 * c.args.joined) _ _ _ (omega arith) c.in-Ok-find_runs.ensures.several c.bring_up.ensures.several
