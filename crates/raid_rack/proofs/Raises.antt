@@ -1,13 +1,17 @@
 -- How far a call raises the numbers that end: those of the log, of states and of superblocks.
-use Rattle.std.proofs.Common.{◌≡◌, ℕ, ◌+◌, ◌-◌, ◌^◌, ◌<◌, ◌≤◌, Bool, if◌then◌else◌, sym, ap, subst, inl, inr, lt-ltb, le-ltb, arith}
+use Rattle.std.proofs.Common.{◌≡◌, ℕ, ◌+◌, ◌-◌, ◌*◌, ◌^◌, ◌<◌, ◌≤◌, Bool, if◌then◌else◌, List, [], ◌∷◌, length, sym, ap, subst, inl, inr, lt-ltb, le-ltb, arith}
 use Rattle.std.proofs.lemmas.Bool.{cases_eq, cases_lt}
 use Rattle.rack.specs.Seen.{Seen}
+use Rattle.rack.specs.Several.{Several, Through}
 use Rattle.array_model.specs.View.{View}
 use Rattle.array_model.specs.Members.{Notes}
 use Rattle.array_core.specs.Superblocks.{settled, raised}
 use Rattle.array_core.specs.Settling.{Cleans as ArrayCleans, Settles}
 use Rattle.array_core.specs.Writing.{WritesView, as_it_was, newly_marked}
+use Rattle.raid_rack.specs.declared.arrays.RaidRack.{RaidRack}
+use Rattle.raid_rack.specs.AllRuns.{IsOneCall}
 use Rattle.raid_rack.specs.Raid.{Raid}
+use Rattle.raid_rack.specs.RaidRack.{raid_in}
 use Rattle.raid_rack.specs.Moves.{RaisesBy}
 use Rattle.raid_rack.proofs.Changed.{called}
 
@@ -78,3 +82,22 @@ writes_raise v w a b (newly_marked whole fresh unmarked notes) =
     let e = ap (λ t. t.events) notes.same.truth in
     let up = raised_up v.truth.events in
     omega (arith, e, up)
+
+-- ---- single calls
+
+-- each raises by 18 at most
+through_raises : {R : Type 0} (x : RaidRack R) (calls : List (RaidRack R)) (y : RaidRack R)
+    → Through (λ a b. IsOneCall (raid_in a) (raid_in b)) x calls y
+    → RaisesBy (18 * length calls) (raid_in x) (raid_in y)
+through_raises x [] y same = subst (λ r. RaisesBy 0 (raid_in x) (raid_in r)) (sym same) (raises_none (raid_in x))
+through_raises x (z ∷ calls) y through =
+    let rest = through_raises z calls y through.1 in
+    raises_more (18 + 18 * length calls) (18 * length (z ∷ calls)) (raid_in x) (raid_in y) (omega arith)
+    (raises_then 18 (18 * length calls) (raid_in x) (raid_in z) (raid_in y) through.0.made through.0.raises rest)
+
+-- so many at most, in a row
+pub several_raise : {R : Type 0} (most k : ℕ) (x y : RaidRack R) → 18 * most ≤ k → Several (λ a b. IsOneCall (raid_in a) (raid_in b)) most x y
+    → RaisesBy k (raid_in x) (raid_in y)
+several_raise most k x y enough several =
+    let few = several.few in
+    raises_more (18 * length several.calls) k (raid_in x) (raid_in y) (omega (arith, few, enough)) (through_raises x several.calls y several.through)

@@ -171,6 +171,7 @@ impl<R: Rack> RaidRack<R> {
         ensures supers { (AreMarked (raid_in self.old) → ⊥) → MakesAgree (raid_in self.old) (raid_in self.new) (slices_seen R.seen self.old) (slices_seen R.seen self.new) }
         ensures truths { KeepsTruths (raid_in self.old) (raid_in self.new) (slices_seen R.seen self.old) (slices_seen R.seen self.new) }
         ensures makes { (AreMarked (raid_in self.old) → ⊥) → MakesTruths (raid_in self.old) (raid_in self.new) (slices_seen R.seen self.old) (slices_seen R.seen self.new) }
+        ensures raises { RaisesBy 17 (raid_in self.old) (raid_in self.new) }
         ensures fit { IsFit (arrays_in self.new) (slices_seen R.seen self.new) }
         ensures refused { (n : ℕ) → refused_in self.new n ≡ refused_in self.old n }
         ensures written { (n : ℕ) → written_in self.new n ≡ written_in self.old n }
