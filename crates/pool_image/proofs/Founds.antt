@@ -181,7 +181,7 @@ module _ (f g : Found) (same : IsSamePool f g) where
           ap₂ (λ (mem : ℕ → Bool) (own : ℕ → Option Super). list_all (λ n. not (mem n) || is_some (own n)) (arrays_of g)) members (λ i n. super_same n p i)
           ∙ ap (λ s. list_all (λ n. not (is_member f n p) || is_some (super_at f n p)) (range_with_len 0 s.made)) same.state
 
-  damage_same : (p : ℕ) → damage_of g p ≡ damage_of f p
+  pub damage_same : (p : ℕ) → damage_of g p ≡ damage_of f p
   unfolding damage_of
   damage_same p = ap (option_and_then (damage_on g p)) (same.seats p) ∙ of_seat (f.seats p) refl
     where

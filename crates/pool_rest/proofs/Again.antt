@@ -50,16 +50,16 @@ module _ {R : Type 0} (seen : R → Seen) (r0 ri rd rb : R) (same : ri ≡ r0) (
   free_second : IsUnfaulted (seen r0) (seen rb) → IsUnfaulted (seen rd) (seen rb)
   free_second free d rose = free d (rose_later (seen r0) (seen rd) (seen rb) d replay_only.stays rose)
 
-  pub again_replayed : (xs : List Target)
+  pub again_replayed : (xs : List Target) (number : ℕ)
       → (AllTold (seen ri) → IsLasting (seen ri) → IsUnfaulted (seen ri) (seen rd) → AreOf (disks_of (seen ri)) (identities_of (disks_of (seen ri)) (now_in (seen ri))) known
-      → list_all is_target xs ≡ true → IsReplayed (seen ri) (seen rd) before s xs)
+      → list_all is_target xs ≡ true → IsReplayed (seen ri) (seen rd) before s xs number)
       → AllTold (seen r0) → IsLasting (seen r0) → IsUnfaulted (seen r0) (seen rb) → AreOf (disks_of (seen r0)) (identities_of (disks_of (seen r0)) (now_in (seen r0))) known
-      → list_all is_target xs ≡ true → IsReplayed (seen r0) (seen rb) before s' xs
-  again_replayed xs replayed told lasts free are valid =
-      replayed_later (seen r0) (seen rd) (seen rb) before s' xs replay_only.stays reads told lasts
-      (subst (λ z. IsReplayed (seen r0) (seen rd) before z xs) seated
+      → list_all is_target xs ≡ true → IsReplayed (seen r0) (seen rb) before s' xs number
+  again_replayed xs number replayed told lasts free are valid =
+      replayed_later (seen r0) (seen rd) (seen rb) before s' xs number replay_only.stays reads told lasts
+      (subst (λ z. IsReplayed (seen r0) (seen rd) before z xs number) seated
       (subst (λ r. AllTold (seen r) → IsLasting (seen r) → IsUnfaulted (seen r) (seen rd) → AreOf (disks_of (seen r)) (identities_of (disks_of (seen r)) (now_in (seen r))) known
-      → list_all is_target xs ≡ true → IsReplayed (seen r) (seen rd) before s xs) same replayed told lasts (free_first free) are valid))
+      → list_all is_target xs ≡ true → IsReplayed (seen r) (seen rd) before s xs number) same replayed told lasts (free_first free) are valid))
 
   pub again_stands : (t : Slices) (state : State) (m : LogView) (is_pending : Bool) (damaged : Option ℕ)
       → (AllTold (seen rd) → IsUnfaulted (seen rd) (seen rb) → StandsAs (seen rd) state t m is_pending damaged)

@@ -11,7 +11,7 @@ use Rattle.rack.specs.Targets.{Target, look}
 use Rattle.pool_state.specs.declared.contents.State.{State}
 use Rattle.slice_rack.specs.Slices.{Slices}
 use Rattle.array_image.specs.Places.{place_of, slice_of, log_sectors, state_sector, arrays_first}
-use Rattle.array_image.specs.Record.{gate_of, pending_at, pending, damaged_log}
+use Rattle.array_image.specs.Record.{GateAt, gate_of, pending_at, pending, damaged_log}
 use Rattle.array_image.specs.States.{current_places}
 use Rattle.pool_image.specs.Disks.{Disks, Identity, Identities, disks_of, identities_of, seat_of}
 use Rattle.pool_image.specs.Replay.{Extent, Standing, log_extent, extent_by, logs_of, landed, standing, standing_by, written}
@@ -132,9 +132,9 @@ stands_now y b s t m is_pending damaged reads told lasts stands =
       damaged_is = stands.damaged_is lasts ∙ ap (damaged_log (current_places s)) (sym now);
     }
 
-pub replayed_later : (x y b : Seen) (before s : State) (xs : List Target) → Stays x y → OnlyReads y b → AllTold x → IsLasting x
-    → IsReplayed x y before s xs → IsReplayed x b before s xs
-replayed_later x y b before s xs stays reads told lasts is = record {
+pub replayed_later : (x y b : Seen) (before s : State) (xs : List Target) (number : ℕ) → Stays x y → OnlyReads y b → AllTold x → IsLasting x
+    → IsReplayed x y before s xs number → IsReplayed x b before s xs number
+replayed_later x y b before s xs number stays reads told lasts is = record {
   contents = λ d t disk sector no_gate. (kept d t disk sector).current ∙ is.contents d t disk sector no_gate;
   single = λ d t disk sector no_gate one v may. is.single d t disk sector no_gate one v ((kept d t disk sector).within v may) ∙ sym (kept d t disk sector).current;
   no_gate = is.no_gate;
@@ -149,6 +149,7 @@ replayed_later x y b before s xs stays reads told lasts is = record {
           gate = shut.gate;
           has = ap gate_of (kept d drive_gate disk sector).current ∙ shut.has;
           closed = shut.closed;
+          number_is = shut.number_is;
         })
   ];
   leaves = λ d disk sector. elim (is.leaves d disk sector) [
@@ -172,9 +173,11 @@ replayed_later x y b before s xs stays reads told lasts is = record {
 
 -- ---- since the start
 
-pub rests_by : (a x b : Seen) (s : State) (xs : List Target) → OnlyReads a x → AllTold a → IsLasting a → IsReplayed x b s (seated_state xs s) xs
-    → xs ≡ (standing_by (disks_of a) (now_in a) s).targets → Rests a b (standing_by (disks_of a) (now_in a) s)
-rests_by a x b s xs reads told lasts is targets = record {
+pub rests_by : (a x b : Seen) (s : State) (xs : List Target) (number : ℕ) → OnlyReads a x → AllTold a → IsLasting a → IsReplayed x b s (seated_state xs s) xs number
+    → xs ≡ (standing_by (disks_of a) (now_in a) s).targets
+    → (source : GateAt) → pending_at (current_places s) (standing_by (disks_of a) (now_in a) s).logs ≡ Some source → source.gate.number ≡ number
+    → Rests a b (standing_by (disks_of a) (now_in a) s)
+rests_by a x b s xs number reads told lasts is targets source pends same_number = record {
   contents = λ d t disk sector no_gate. is.contents d t (in_x d disk) (on_x d t sector) no_gate ∙ same d t disk sector;
   single = λ d t disk sector no_gate one. is.single d t (in_x d disk) (on_x d t sector) no_gate (single d t disk sector one);
   no_gate = λ d disk sector. sym (same d drive_gate disk sector) ∙ is.no_gate d (in_x d disk) (on_x d drive_gate sector) ∙ agree d drive_gate disk sector;
@@ -190,6 +193,9 @@ rests_by a x b s xs reads told lasts is targets = record {
           gate = shut.gate;
           has = shut.has;
           closed = shut.closed;
+          source = source;
+          pends = pends;
+          number_is = shut.number_is ∙ sym same_number;
         })
   ];
   leaves = λ d disk sector. elim (is.leaves d (in_x d disk) (on_x d drive_gate sector)) [

@@ -51,7 +51,7 @@ pub replayed_drives : {x w y : Seen} {known : List Known} {before s : State} {t 
     → AreOf (disks_of x) (identities_of (disks_of x) (now_in x)) known
     → list_all is_target l.pending ≡ true
     → ((p : ℕ) → names closing p ≡ true → (names on p ≡ true) × (seat_by before known p ≡ seat_by s known p))
-    → IsReplayed x y before s l.pending
+    → IsReplayed x y before s l.pending l.number
 replayed_drives {x} {w} {y} {known} {before} {s} {t} {u} {on} {unread} {closing} {lost} {l} parts told lasts free are valid closes = record {
   contents = λ d i disk sector no_gate.
       contents d i disk sector no_gate (look (filter_map (landing u) l.pending) d i) refl;
@@ -95,7 +95,7 @@ replayed_drives {x} {w} {y} {known} {before} {s} {t} {u} {on} {unread} {closing}
     no_one : lost ≡ []
     no_one = parts.call.gone.ordered ∙ none_listed (names lost) (range_with_len 0 16) (no_lost parts free)
 
-    gates : (d : ℕ) → d < x.disks → drive_gate < x.sectors d → Keeps (x.held d drive_gate) (y.held d drive_gate) ⊎ (IsClosedOn before s x y d × LeavesShut y d)
+    gates : (d : ℕ) → d < x.disks → drive_gate < x.sectors d → Keeps (x.held d drive_gate) (y.held d drive_gate) ⊎ (IsClosedOn before s x y l.number d × LeavesShut y d)
     gates d disk there = of_slice (sliced_or u d drive_gate (past_none parts))
       where
         here : IsLive x y d drive_gate
@@ -110,7 +110,7 @@ replayed_drives {x} {w} {y} {known} {before} {s} {t} {u} {on} {unread} {closing}
             (parts.reads.keeps.held d drive_gate (live_first parts.apart.stays here)) kept
 
         of_log : (is : IsSliced u d drive_gate []) → is.slice < 272 → slice_of is.slice ≡ 0 → is.at ≡ gate_sector
-            → Keeps (x.held d drive_gate) (y.held d drive_gate) ⊎ (IsClosedOn before s x y d × LeavesShut y d)
+            → Keeps (x.held d drive_gate) (y.held d drive_gate) ⊎ (IsClosedOn before s x y l.number d × LeavesShut y d)
         of_log is few log at = of_work (has_work_or l) (cases_Bool (names closing (place_of is.slice)))
           where
             slice : is.slice ≡ log_slice (place_of is.slice)
@@ -136,21 +136,28 @@ replayed_drives {x} {w} {y} {known} {before} {s} {t} {u} {on} {unread} {closing}
                 (subst (λ j. MayLeave ((slices_of u y).held is.slice j) v) at
                 (subst (λ j. MayLeave (y.held (disk_of u is.slice) j) v) is.sector_is (subst (λ e. MayLeave (y.held e drive_gate) v) is.disk_is may)))
 
+            live_gate : IsLive (slices_of u w) (slices_of u y) (log_slice (place_of is.slice)) gate_sector
+            live_gate =
+                subst (λ k. IsLive (slices_of u w) (slices_of u y) k gate_sector) slice
+                (subst (λ j. IsLive (slices_of u w) (slices_of u y) is.slice j) at (live_slice parts d drive_gate [] is few now))
+
+            numbered : HasWork l → names closing (place_of is.slice) ≡ true → (v : List ℕ) → MayLeave (y.held d drive_gate) v
+                → gate_of v ≡ Some (record { is_open = false; number = l.number })
+            numbered work named v may = parts.call.gates work no_one (place_of is.slice) v named live_gate (here_too v may)
+
             shut : HasWork l → names closing (place_of is.slice) ≡ true → LeavesShut y d
             shut work named =
-                let live = subst (λ k. IsLive (slices_of u w) (slices_of u y) k gate_sector) slice
-                (subst (λ j. IsLive (slices_of u w) (slices_of u y) is.slice j) at (live_slice parts d drive_gate [] is few now)) in
-                let durable = parts.call.durable work no_one (place_of is.slice) named live in
+                let durable = parts.call.durable work no_one (place_of is.slice) named live_gate in
                 let now_is = durable.0 (y.held d drive_gate).current (here_too (y.held d drive_gate).current (inl refl)) in
                 record {
                   number = l.number;
-                  each = λ v may. parts.call.gates work no_one (place_of is.slice) v named live (here_too v may);
+                  each = numbered work named;
                   single = λ v may. durable.0 v (here_too v may) ∙ sym now_is;
                   sized = subst IsSector (sym now_is) durable.1;
                 }
 
             of_work : HasWork l ⊎ (HasWork l → ⊥) → (names closing (place_of is.slice) ≡ true) ⊎ (names closing (place_of is.slice) ≡ false)
-                → Keeps (x.held d drive_gate) (y.held d drive_gate) ⊎ (IsClosedOn before s x y d × LeavesShut y d)
+                → Keeps (x.held d drive_gate) (y.held d drive_gate) ⊎ (IsClosedOn before s x y l.number d × LeavesShut y d)
             of_work (inr idle) named = inl (kept (λ shut. idle shut.work))
             of_work (inl work) (inr other) = inl (kept (λ shut. both_ways (names closing (place_of is.slice)) other shut.named))
             of_work (inl work) (inl named) =
@@ -162,22 +169,22 @@ replayed_drives {x} {w} {y} {known} {before} {s} {t} {u} {on} {unread} {closing}
                 let first : first_of u is.slice ≡ state_sector = log_first parts is.slice log (omega (arith, is.within)) in
                 let ends : first_of u is.slice + sectors_of u is.slice ≤ w.sectors (disk_of u is.slice) = parts.inside.slices is.slice (omega (arith, is.within)) in
                 let room : w.sectors (disk_of u is.slice) ≡ x.sectors d = parts.reads.stays.sectors (disk_of u is.slice) ∙ ap x.sectors (sym is.disk_is) in
-                let leaves : LeavesShut y d = shut work named in
                 inr (
                   record {
                     place = place;
                     was = sym (seat_by_is (disks_of x) ids known are before place) ∙ on_it.1 ∙ seat;
                     is = sym (seat_by_is (disks_of x) ids known are s place) ∙ seat;
                     room = omega (arith, ends, size, first, room);
-                    gate = record { is_open = false; number = leaves.number };
-                    has = leaves.each (now_in y d drive_gate) (inl refl);
+                    gate = record { is_open = false; number = l.number };
+                    has = numbered work named (now_in y d drive_gate) (inl refl);
                     closed = refl;
+                    number_is = refl;
                   },
-                  leaves,
+                  shut work named,
                 )
 
         of_slice : ((is : (v : List ℕ) → IsSliced u d drive_gate v) × ((v : List ℕ) → (is v).slice < 272)) ⊎ ((v : List ℕ) → IsSliced u d drive_gate v → ⊥)
-            → Keeps (x.held d drive_gate) (y.held d drive_gate) ⊎ (IsClosedOn before s x y d × LeavesShut y d)
+            → Keeps (x.held d drive_gate) (y.held d drive_gate) ⊎ (IsClosedOn before s x y l.number d × LeavesShut y d)
         of_slice (inr nowhere) = inl (later (parts.apart.others d drive_gate now nowhere))
         of_slice (inl some) =
             let is : IsSliced u d drive_gate [] = some.0 [] in

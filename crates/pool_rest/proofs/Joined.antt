@@ -17,7 +17,7 @@ use Rattle.pool_image.specs.Replay.{standing_by}
 use Rattle.pool_image.specs.Meaning.{has_other_pool}
 use Rattle.pool_image.specs.Alike.{MeansTheSame}
 use Rattle.commit_log.specs.View.{LogView, names}
-use Rattle.commit_log.proofs.Deciding.{names_either}
+use Rattle.commit_log.proofs.Deciding.{names_either, nothing_pending}
 use Rattle.commit_log.proofs.Undamaged.{whole_from}
 use Rattle.pool_scan.specs.declared.Known.{Known}
 use Rattle.pool_scan.specs.Scanning.{AllTold, IsScan, IsUnfaulted, now_in}
@@ -64,6 +64,14 @@ nonempty_whole ps c some =
         none_left true o none = refl
         none_left false o none = ap (λ (z : Option (List Target)). unwrap_or z []) none
 
+-- where a target is, a record is
+pub some_at : (ps : List ℕ) (c : Image) → (pending ps c ≡ [] → ⊥) → (a : GateAt) × (pending_at ps c ≡ Some a)
+some_at ps c some = of_pending (pending_at ps c) refl
+  where
+    of_pending : (o : Option GateAt) → pending_at ps c ≡ o → (a : GateAt) × (pending_at ps c ≡ Some a)
+    of_pending None is = absurd (some (nothing_pending c ps is))
+    of_pending (Some a) is = (a, is)
+
 pub no_elements : (xs : List Target) → length xs ≡ 0 → xs ≡ []
 no_elements [] none = refl
 no_elements (x ∷ xs) none = absurd (omega (arith, none))
@@ -107,23 +115,24 @@ module _ (a x b : Seen) (known : List Known) (st : State) (t : Slices) (m : LogV
   pub free_after : IsUnfaulted a b → IsUnfaulted x b
   free_after free d rose = free d (rose_later a x b d reads.stays rose)
 
-  pub since_rests : (AllTold x → IsLasting x → IsUnfaulted x b → AreOf (disks_of x) (identities_of (disks_of x) (now_in x)) known → list_all is_target m.pending ≡ true
-      → IsReplayed x b st (seated_state m.pending st) m.pending)
+  pub since_rests : (m.pending ≡ [] → ⊥) → (AllTold x → IsLasting x → IsUnfaulted x b → AreOf (disks_of x) (identities_of (disks_of x) (now_in x)) known → list_all is_target m.pending ≡ true
+      → IsReplayed x b st (seated_state m.pending st) m.pending m.number)
       → AllTold a → IsLasting a → IsUnfaulted a b → Rests a b (standing_by (disks_of a) (now_in a) st)
-  since_rests replayed told lasts free =
+  since_rests some replayed told lasts free =
       let stands = meant told (free_before free) in
-      rests_by a x b st m.pending reads told lasts
+      let source = some_at (current_places st) (standing_by (disks_of a) (now_in a) st).logs (λ none. some (stands.targets lasts ∙ none)) in
+      rests_by a x b st m.pending m.number reads told lasts
       (replayed (told_later a x reads.stays told) (lasting_later a x reads.stays lasts) (free_after free)
       (are_later a x known reads told lasts (scan_meant a x known scan told (free_before free))) (targets_valid a st m.pending (stands.targets lasts)))
-      (stands.targets lasts)
+      (stands.targets lasts) source.0 source.1 (stands.number lasts source.0 source.1)
 
-  pub since_so : (AllTold x → IsLasting x → IsUnfaulted x b → AreOf (disks_of x) (identities_of (disks_of x) (now_in x)) known → list_all is_target m.pending ≡ true
-      → IsReplayed x b st (seated_state m.pending st) m.pending)
+  pub since_so : (m.pending ≡ [] → ⊥) → (AllTold x → IsLasting x → IsUnfaulted x b → AreOf (disks_of x) (identities_of (disks_of x) (now_in x)) known → list_all is_target m.pending ≡ true
+      → IsReplayed x b st (seated_state m.pending st) m.pending m.number)
       → AllTold a → IsLasting a → IsUnfaulted a b → RestsSo a b
-  since_so replayed told lasts free = record {
+  since_so some replayed told lasts free = record {
     before = standing_by (disks_of a) (now_in a) st;
     stands = (meant told (free_before free)).stands;
-    rests = since_rests replayed told lasts free;
+    rests = since_rests some replayed told lasts free;
   }
 
   pub since_stands : (s : State) (l : LogView) (p : Bool) (d : Option ℕ) → (AllTold x → IsLasting x → IsUnfaulted x b → StandsNow b s l p d)
@@ -132,7 +141,7 @@ module _ (a x b : Seen) (known : List Known) (st : State) (t : Slices) (m : LogV
 
   pub since_means : (s : State) (l : LogView) (p : Bool) (d : Option ℕ) → (m.pending ≡ [] → ⊥)
       → (AllTold x → IsLasting x → IsUnfaulted x b → AreOf (disks_of x) (identities_of (disks_of x) (now_in x)) known → list_all is_target m.pending ≡ true
-      → IsReplayed x b st (seated_state m.pending st) m.pending)
+      → IsReplayed x b st (seated_state m.pending st) m.pending m.number)
       → (AllTold x → IsLasting x → IsUnfaulted x b → StandsNow b s l p d)
       → (AllTold a → IsUnfaulted a x → has_other_pool (disks_of a) (standing_by (disks_of a) (now_in a) st) ≡ false)
       → (AllTold a → IsLasting a → IsUnfaulted a b → has_other_pool (disks_of b) (standing_by (disks_of b) (now_in b) s) ≡ false)
@@ -142,7 +151,7 @@ module _ (a x b : Seen) (known : List Known) (st : State) (t : Slices) (m : LogV
       let stands = meant told (free_before free) in
       replayed_means a b st s l (stays_then reads.stays stays) stands.stands
       (nonempty_whole (current_places st) (standing_by (disks_of a) (now_in a) st).logs (λ none. some (stands.targets lasts ∙ none)))
-      (since_rests replayed told lasts free)
+      (since_rests some replayed told lasts free)
       (subst (λ e. StandsNow b s l false e) whole (subst (λ q. StandsNow b s l q d) idle (since_stands s l p d now told lasts free)))
       (one told (free_before free)) (still_one told lasts free)
 

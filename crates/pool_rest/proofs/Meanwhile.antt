@@ -91,8 +91,8 @@ StandsFound x y known st z m P =
     → list_all is_target m.pending ≡ true → Meanwhile x y known st z m P
 
 -- sectors have one value after a replay, as they had before it
-replayed_single : (a y : Seen) (st z : State) (xs : List Target) → Stays a y → IsReplayed a y st z xs → AreSingle a → (d t : ℕ) → d < y.disks → t < y.sectors d → IsSingle (y.held d t)
-replayed_single a y st z xs stays is single d t there within =
+replayed_single : (a y : Seen) (st z : State) (xs : List Target) (number : ℕ) → Stays a y → IsReplayed a y st z xs number → AreSingle a → (d t : ℕ) → d < y.disks → t < y.sectors d → IsSingle (y.held d t)
+replayed_single a y st z xs number stays is single d t there within =
     let disk : d < a.disks = subst (λ n. d < n) stays.disks there in
     let sector : t < a.sectors d = subst (λ n. t < n) (stays.sectors d) within in
     elim (cases_eq t drive_gate) [
@@ -108,7 +108,7 @@ replayed_single a y st z xs stays is single d t there within =
 pub again_stands : {R : Type 0} (seen : R → Seen) (r0 r1 rd rb : R) → r1 ≡ r0 → (known : List Known) (st z : State) (m : LogView) → z ≡ seated_state m.pending st
     → Stays (seen r1) (seen rd) → OnlyReads (seen rd) (seen rb)
     → (AllTold (seen r1) → IsLasting (seen r1) → IsUnfaulted (seen r1) (seen rd) → AreOf (disks_of (seen r1)) (identities_of (disks_of (seen r1)) (now_in (seen r1))) known
-    → list_all is_target m.pending ≡ true → IsReplayed (seen r1) (seen rd) st z m.pending)
+    → list_all is_target m.pending ≡ true → IsReplayed (seen r1) (seen rd) st z m.pending m.number)
     → StandsFound (seen r1) (seen rd) known st z m (StandsReplaying (disks_of (seen r1)) st z m.pending (now_in (seen r1)))
     → StandsFound (seen r0) (seen rb) known st (seated_state m.pending st) m
     (λ i. StandsReplaying (disks_of (seen r0)) st (seated_state m.pending st) m.pending (now_in (seen r0)) i ⊎ Agree (disks_of (seen r0)) i (now_in (seen rb)))
@@ -118,9 +118,9 @@ again_stands seen r0 r1 rd rb back known st z m seated stays reads replayed stan
     let b = seen rb in
     let early : Stays a y = subst (λ r. Stays (seen r) y) back stays in
     let quiet : IsUnfaulted a y = λ d rose. free d (rose_early a y b d reads.stays rose) in
-    let is : IsReplayed a y st z m.pending =
+    let is : IsReplayed a y st z m.pending m.number =
     subst (λ r. AllTold (seen r) → IsLasting (seen r) → IsUnfaulted (seen r) y → AreOf (disks_of (seen r)) (identities_of (disks_of (seen r)) (now_in (seen r))) known
-    → list_all is_target m.pending ≡ true → IsReplayed (seen r) y st z m.pending) back replayed told lasts quiet are valid in
+    → list_all is_target m.pending ≡ true → IsReplayed (seen r) y st z m.pending m.number) back replayed told lasts quiet are valid in
     let moved : StandsFound a y known st (seated_state m.pending st) m (StandsReplaying (disks_of a) st (seated_state m.pending st) m.pending (now_in a)) =
     subst (λ r. StandsFound (seen r) y known st (seated_state m.pending st) m (StandsReplaying (disks_of (seen r)) st (seated_state m.pending st) m.pending (now_in (seen r)))) back
     (subst (λ k. StandsFound (seen r1) y known st k m (StandsReplaying (disks_of (seen r1)) st k m.pending (now_in (seen r1)))) seated stands) in
@@ -130,6 +130,6 @@ again_stands seen r0 r1 rd rb back known st z m seated stays reads replayed stan
     (moved told lasts quiet single are valid t u on is_pending laid finds brings of state traced))
     (leaves_weaker (IsPick y b y.held) P
     (λ i pick. inr (λ d j there within.
-    reads_stop y b reads (told_later a y early told) (lasting_later a y early lasts) (replayed_single a y st z m.pending early is single) i pick d j
+    reads_stop y b reads (told_later a y early told) (lasting_later a y early lasts) (replayed_single a y st z m.pending m.number early is single) i pick d j
     (subst (λ n. d < n) (sym early.disks) there) (subst (λ n. j < n) (sym (early.sectors d)) within)))
     (reads.keeps.stops (early.traced traced)))

@@ -26,7 +26,8 @@ use Rattle.pool_rest.proofs.BroughtCopies.{newest_still as written_newest, no_co
 use Rattle.pool_rest.proofs.Landings.{where_landed}
 use Rattle.pool_rest.proofs.LaterCopies.{IsCopied, newest_latest, seats_still}
 use Rattle.pool_rest.proofs.Meant.{few_stood}
-use Rattle.pool_rest.proofs.Quiet.{none_brought, some_at}
+use Rattle.pool_rest.proofs.Joined.{some_at}
+use Rattle.pool_rest.proofs.Quiet.{none_brought}
 use Rattle.pool_rest.proofs.Settled.{newest_now}
 
 -- targets land where they do by tables and seats

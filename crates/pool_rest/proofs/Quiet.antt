@@ -27,7 +27,7 @@ use Rattle.pool_image.proofs.Rested.{stood_by}
 use Rattle.commit_log.specs.Saying.{PlaceJoins}
 use Rattle.commit_log.specs.View.{LogView, names}
 use Rattle.commit_log.proofs.Counting.{is_listed}
-use Rattle.commit_log.proofs.Deciding.{nothing_pending, record_pending}
+use Rattle.commit_log.proofs.Deciding.{record_pending}
 use Rattle.commit_log.proofs.Fewer.{current_of_all, names_filter}
 use Rattle.commit_log.proofs.Places.{joins_none, stays_same}
 use Rattle.commit_log.proofs.Replayable.{pending_named}
@@ -44,12 +44,13 @@ use Rattle.pool_rest.specs.declared.standing.FindFault.TheVariants.{NoPool, TwoP
 use Rattle.pool_rest.specs.Moments.{BringsNoState, BringsState, IsGateBelow, TakesLower}
 use Rattle.pool_rest.specs.Standing.{IsLaid, IsLasting, StandsAs, IsCause, since}
 use Rattle.pool_rest.specs.Resting.{AreShut, Rests, StandsNow, seated_state}
-use Rattle.pool_rest.specs.SoundLogs.{IsSoundLog, HasSoundLogs, IsSettled}
+use Rattle.pool_rest.specs.SoundLogs.{HadGate, IsSoundLog, HasSoundLogs, IsSettled}
 use Rattle.pool_rest.proofs.Agreeing.{disks_same, told_later, reads_agree, logs_agree}
 use Rattle.pool_rest.proofs.BroughtCopies.{other_still, tables}
+use Rattle.pool_rest.proofs.Joined.{some_at}
 use Rattle.pool_rest.proofs.Landings.{where_landed}
 use Rattle.pool_rest.proofs.Meant.{few_newest, pending_asked}
-use Rattle.pool_rest.proofs.Settled.{newest_now, none_now, seats_same, whole_now}
+use Rattle.pool_rest.proofs.Settled.{newest_now, none_now, seats_same, source_gate, whole_now}
 
 some_standing : (x y : Standing) → Some x ≡ Some y → x ≡ y
 some_standing x y same = (cc)
@@ -96,14 +97,6 @@ none_at ps c whole none = of_pending (pending_at ps c) refl
         let has = whole_record c ps whole a is in
         let empty : has.0 ≡ [] = sym (record_pending c ps a has.0 (λ p named. whole_gates c ps p whole named) is has.1) ∙ none in
         absurd (record_some a.gate.number (c (log_slice a.place)) (has.1 ∙ ap Some empty))
-
--- where a target is, a record is
-pub some_at : (ps : List ℕ) (c : Image) → (pending ps c ≡ [] → ⊥) → (a : GateAt) × (pending_at ps c ≡ Some a)
-some_at ps c some = of_pending (pending_at ps c) refl
-  where
-    of_pending : (o : Option GateAt) → pending_at ps c ≡ o → (a : GateAt) × (pending_at ps c ≡ Some a)
-    of_pending None is = absurd (some (nothing_pending c ps is))
-    of_pending (Some a) is = (a, is)
 
 -- ---- nobody was passed over
 
@@ -315,6 +308,30 @@ module _ (a x b : Seen) (known : List Known) (st : State) (m : LogView) (is_pend
         ap₂ (λ (dk : Disks) (z : State). damaged_log (current_places z) (standing_by dk e z).logs) (disks_same a b (stays_then reads.stays stays)) settled_state
         ∙ whole_now disks c e st brought newest_before log few_before late newest_late source.0 source.1 m.number (stands.number lasts source.0 source.1) closed kept
 
+    seats_after : (p : ℕ) → seat_of s (disks_of b) (identities_of (disks_of b) e) p ≡ seat_of brought disks (identities_of disks e) p
+    seats_after p = ap₂ (λ (dk : Disks) (z : State). seat_of z dk (identities_of dk e) p) (disks_same a b (stays_then reads.stays stays)) settled_state
+
+    -- gates were closed with the number of the one that the record was read from
+    numbers_after : (p d : ℕ) (g : Gate) → seat_of s (disks_of b) (identities_of (disks_of b) e) p ≡ Some d → drive_gate < b.sectors d → gate_of (e d drive_gate) ≡ Some g
+        → HadGate a b s g.number
+    numbers_after p d g seat within has =
+        elim (rests.gates d (seat_inside brought disks (identities_of disks e) p d (sym (seats_after p) ∙ seat))
+        (subst (λ n. drive_gate < n) ((stays_then reads.stays stays).sectors d) within)) [
+          | inl same ↦ record { place = p; disk = d; seat = seat; gate = g; has = ap gate_of (sym same) ∙ has; number_is = refl }
+          | inr shut ↦
+              let from = source_gate disks c e st brought newest_before log few_before late newest_late shut.source shut.pends in record {
+                place = shut.source.place;
+                disk = from.0;
+                seat = seats_after shut.source.place ∙ seats_now shut.source.place ∙ from.1;
+                gate = shut.source.gate;
+                has = from.2;
+                number_is = sym shut.number_is ∙ ap (λ (k : Gate). k.number) (some_gate shut.gate g (sym shut.has ∙ has));
+              }
+        ]
+      where
+        some_gate : (h k : Gate) → Some h ≡ Some k → h ≡ k
+        some_gate h k same = (cc)
+
     pub settled_after : (p_now ≡ false → d_now ≡ None → MeansTheSame (disks_of a) (now_in a) (now_in b)) → IsSettled a b s p_now d_now
     settled_after means = record {
       idle = idle;
@@ -322,6 +339,7 @@ module _ (a x b : Seen) (known : List Known) (st : State) (m : LogView) (is_pend
       state = λ y is. settled_state ∙ ap (λ (z : Standing). seated_state z.targets z.state) (some_standing before y (sym stands.stands ∙ is));
       none = none_after;
       means = means idle whole;
+      numbers = numbers_after;
     }
       where
         idle : p_now ≡ false
@@ -345,6 +363,17 @@ settled_idle a b st t m is_pending damaged reads told lasts stands now none soun
   state = λ y is. none_brought st ∙ ap (λ (xs : List Target). seated_state xs st) (sym empty) ∙ ap (λ (z : Standing). seated_state z.targets z.state) (some_standing before y (sym stands.stands ∙ is));
   none = none_after;
   means = means;
+  numbers = λ p d g seat within has. record {
+    place = p;
+    disk = d;
+    seat = seat;
+    gate = g;
+    has =
+        ap gate_of (sym (reads_agree a b reads told lasts d drive_gate
+        (subst (λ n. d < n) reads.stays.disks (seat_inside st (disks_of b) (identities_of (disks_of b) (now_in b)) p d seat))
+        (subst (λ n. drive_gate < n) (reads.stays.sectors d) within))) ∙ has;
+    number_is = refl;
+  };
 }
   where
     before : Standing

@@ -51,7 +51,7 @@ use Rattle.pool_rest.specs.Resting.{replayed_on}
 use Rattle.pool_rest.specs.SoundLogs.{IsSoundLog}
 use Rattle.pool_rest.proofs.BroughtCopies.{seats_still, newest_still, newest_later}
 use Rattle.pool_rest.proofs.LaterCopies.{newest_latest}
-use Rattle.pool_rest.proofs.SameMeaning.{log_read, log_gate}
+use Rattle.pool_rest.proofs.SameMeaning.{log_read, log_gate, seat_gate}
 
 -- ---- gates that decide
 
@@ -174,6 +174,14 @@ module _ (disks : Disks) (c e : Image) (st s : State)
 
   source_seat : seat_of s disks (identities_of disks c) a.place ≡ Some source_disk.0
   source_seat = sound.seats a.place source_stays ∙ source_disk.1
+
+  -- its gate is the one that the record is read from
+  pub source_gate : (d : ℕ) × (seat_of s disks (identities_of disks c) a.place ≡ Some d) × (gate_of (c d drive_gate) ≡ Some a.gate)
+  source_gate = (
+    source_disk.0,
+    source_seat,
+    ap gate_of (sym (seat_gate disks st (identities_of disks c) c a.place source_disk.0 source_disk.1 source_disk.2)) ∙ source_named.1,
+  )
 
   -- the state that the record brings is the newest then
   pub newest_now : newest disks (identities_of disks e) ≡ Some s

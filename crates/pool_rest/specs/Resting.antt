@@ -6,7 +6,7 @@ use Rattle.rack.specs.Seen.{Image, Seen, Rose}
 use Rattle.rack.specs.Targets.{Target, put}
 use Rattle.pool_state.specs.declared.contents.State.{State}
 use Rattle.array_image.specs.Places.{state_sector, arrays_first}
-use Rattle.array_image.specs.Record.{Gate, gate_of, pending_at, damaged_log}
+use Rattle.array_image.specs.Record.{Gate, GateAt, gate_of, pending_at, damaged_log}
 use Rattle.array_image.specs.States.{current_places}
 use Rattle.pool_image.specs.Disks.{Disks, disks_of, identities_of, seat_of}
 use Rattle.pool_image.specs.Replay.{Standing, standing, standing_by, brought_state, landed, written}
@@ -50,8 +50,8 @@ KeepsGate x y d = Keeps (x.held d drive_gate) (y.held d drive_gate) ⊎ LeavesSh
 abbrev pub replayed_on : Disks → State → List Target → Image → Image
 replayed_on disks s xs c = put disks.sectors (filter_map (landed disks (identities_of disks c) (seat_of s disks (identities_of disks c))) xs) c
 
--- a gate is as it was, or closed on a disk that has the same place by both states
-pub record IsClosedOn (before s : State) (x y : Seen) (d : ℕ) : Type 0 where
+-- a gate is closed with this number, on a disk that has the same place by both states
+pub record IsClosedOn (before s : State) (x y : Seen) (number d : ℕ) : Type 0 where
   pub place : ℕ
   pub was : seat_of before (disks_of x) (identities_of (disks_of x) (now_in x)) place ≡ Some d
   pub is : seat_of s (disks_of x) (identities_of (disks_of x) (now_in x)) place ≡ Some d
@@ -59,13 +59,14 @@ pub record IsClosedOn (before s : State) (x y : Seen) (d : ℕ) : Type 0 where
   pub gate : Gate
   pub has : gate_of (now_in y d drive_gate) ≡ Some gate
   pub closed : gate.is_open ≡ false
+  pub number_is : gate.number ≡ number
 
--- The targets are written where the drives have them, and all else is as it was but for gates.
-pub record IsReplayed (x y : Seen) (before s : State) (xs : List Target) : Type 0 where
+-- The targets are written where the drives have them, and all else is as it was but for gates, which may be closed with the log's number.
+pub record IsReplayed (x y : Seen) (before s : State) (xs : List Target) (number : ℕ) : Type 0 where
   pub contents : (d t : ℕ) → d < x.disks → t < x.sectors d → t ≢ drive_gate → now_in y d t ≡ replayed_on (disks_of x) s xs (now_in x) d t
   pub single : (d t : ℕ) → d < x.disks → t < x.sectors d → t ≢ drive_gate → IsSingle (x.held d t) → IsSingle (y.held d t)
   pub no_gate : (d : ℕ) → d < x.disks → drive_gate < x.sectors d → replayed_on (disks_of x) s xs (now_in x) d drive_gate ≡ now_in x d drive_gate
-  pub gates : (d : ℕ) → d < x.disks → drive_gate < x.sectors d → (now_in y d drive_gate ≡ now_in x d drive_gate) ⊎ IsClosedOn before s x y d
+  pub gates : (d : ℕ) → d < x.disks → drive_gate < x.sectors d → (now_in y d drive_gate ≡ now_in x d drive_gate) ⊎ IsClosedOn before s x y number d
   pub leaves : (d : ℕ) → d < x.disks → drive_gate < x.sectors d → KeepsGate x y d
 
 -- The gate of a place that has the same disk by two states is closed with this number, where the disk has a log slice.
@@ -90,7 +91,7 @@ HasDisk known s places d = (p : ℕ) × (names places p ≡ true) × (seat_by s 
 abbrev pub HasRefused : List Known → State → List ℕ → State → List ℕ → ℕ → Type 0
 HasRefused known before gone s lost d = IsFlagged known d ⊎ (HasDisk known before gone d ⊎ HasDisk known s lost d)
 
--- a gate was closed that had been well formed: it is that of a place of the state from before
+-- a gate was closed that had been well formed: it is that of a place of the state from before, and has the number of the gate that the pending record was read from
 pub record IsShutOn (before : Standing) (a b : Seen) (d : ℕ) : Type 0 where
   pub place : ℕ
   pub seat : seat_of before.state (disks_of a) before.identities place ≡ Some d
@@ -98,6 +99,9 @@ pub record IsShutOn (before : Standing) (a b : Seen) (d : ℕ) : Type 0 where
   pub gate : Gate
   pub has : gate_of (now_in b d drive_gate) ≡ Some gate
   pub closed : gate.is_open ≡ false
+  pub source : GateAt
+  pub pends : pending_at (current_places before.state) before.logs ≡ Some source
+  pub number_is : gate.number ≡ source.gate.number
 
 -- The disks hold what they held with the pending record written, but for gates: none of them was opened, and none was mended.
 pub record Rests (a b : Seen) (before : Standing) : Type 0 where

@@ -67,10 +67,23 @@ pub record ShowLogs (disks : Disks) (i c : Image) (s t : State) : Type 0 where
       (p d : ℕ) → PlaceJoins s t p → seat_of t disks (identities_of disks i) p ≡ Some d → arrays_first ≤ disks.sectors d
       → i d drive_gate ≡ c (log_slice p) gate_sector
 
--- Nothing is pending and no log is damaged: the state is the one that the record brought, and the disks mean what they meant.
+-- A drive had a gate of this number: one that a place of the state has now.
+pub record HadGate (a b : Seen) (s : State) (number : ℕ) : Type 0 where
+  pub place : ℕ
+  pub disk : ℕ
+  pub seat : seat_of s (disks_of b) (identities_of (disks_of b) (now_in b)) place ≡ Some disk
+  pub gate : Gate
+  pub has : gate_of (now_in a disk drive_gate) ≡ Some gate
+  pub number_is : gate.number ≡ number
+
+-- Nothing is pending and no log is damaged: the state is the one that the record brought, and the disks mean what they meant. The gates of the state's drives have
+-- no numbers but those that these drives' gates had.
 pub record IsSettled (a b : Seen) (s : State) (is_pending : Bool) (damaged : Option ℕ) : Type 0 where
   pub idle : is_pending ≡ false
   pub whole : damaged ≡ None
   pub state : (before : Standing) → standing (disks_of a) (now_in a) ≡ Some before → s ≡ seated_state before.targets before.state
   pub none : pending_at (current_places s) (standing_by (disks_of b) (now_in b) s).logs ≡ None
   pub means : MeansTheSame (disks_of a) (now_in a) (now_in b)
+  pub numbers :
+      (p d : ℕ) (g : Gate) → seat_of s (disks_of b) (identities_of (disks_of b) (now_in b)) p ≡ Some d → drive_gate < b.sectors d
+      → gate_of (now_in b d drive_gate) ≡ Some g → HadGate a b s g.number

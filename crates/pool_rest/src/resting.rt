@@ -280,7 +280,7 @@ pub(crate) fn replay_on<R: Rack>(
     ensures replayed { AllTold (R.seen rack) → IsLasting (R.seen rack) → IsUnfaulted (R.seen rack) (R.seen result.rack)
         → AreOf (disks_of (R.seen rack)) (identities_of (disks_of (R.seen rack)) (now_in (R.seen rack))) scan.now.disks.items
         → list_all is_target log.pending ≡ true
-        → IsReplayed (R.seen rack) (R.seen result.rack) before.now state.now log.pending }
+        → IsReplayed (R.seen rack) (R.seen result.rack) before.now state.now log.pending log.number }
     // Where no disk refused a call, gates of places that have the same disk by both states are closed.
     ensures shut { whole ≡ true → AllTold (R.seen rack) → IsLasting (R.seen rack) → IsUnfaulted (R.seen rack) (R.seen result.rack)
         → log.pending ≢ [] → AreShut (R.seen rack) (R.seen result.rack) scan.now.disks.items before.now state.now log.number }
@@ -388,7 +388,7 @@ fn replay_found<R: Rack>(found: Standing<R>, room: Scan) -> Result<AtRest<R>, Ba
         → IsUnfaulted (R.seen (below_of found.slices)) (R.seen (below_of r.slices))
         → AreOf (disks_of (R.seen (below_of found.slices))) (identities_of (disks_of (R.seen (below_of found.slices))) (now_in (R.seen (below_of found.slices)))) found.scan.disks.items
         → list_all is_target found.log.pending ≡ true
-        → IsReplayed (R.seen (below_of found.slices)) (R.seen (below_of r.slices)) found.state (seated_state found.log.pending found.state) found.log.pending) }
+        → IsReplayed (R.seen (below_of found.slices)) (R.seen (below_of r.slices)) found.state (seated_state found.log.pending found.state) found.log.pending found.log.number) }
     ensures stands { IfOk result (λ r. AllTold (R.seen (below_of found.slices)) → IsLasting (R.seen (below_of found.slices))
         → IsUnfaulted (R.seen (below_of found.slices)) (R.seen (below_of r.slices))
         → StandsNow (R.seen (below_of r.slices)) r.state r.log r.pending r.damaged) }
@@ -439,7 +439,7 @@ fn replay_found<R: Rack>(found: Standing<R>, room: Scan) -> Result<AtRest<R>, Ba
         → IsUnfaulted (R.seen (below_of found.slices)) (R.seen back.rack)
         → AreOf (disks_of (R.seen (below_of found.slices))) (identities_of (disks_of (R.seen (below_of found.slices))) (now_in (R.seen (below_of found.slices)))) found.scan.disks.items
         → list_all is_target found.log.pending ≡ true
-        → IsReplayed (R.seen (below_of found.slices)) (R.seen back.rack) found.state (seated_state found.log.pending found.state) found.log.pending) }
+        → IsReplayed (R.seen (below_of found.slices)) (R.seen back.rack) found.state (seated_state found.log.pending found.state) found.log.pending found.log.number) }
     ensures found { IfErr result (λ back. back.why ≢ FindFault.Memory) }
     ensures refused { IfErr result (λ back. AllTold (R.seen (below_of found.slices)) → IsLasting (R.seen (below_of found.slices))
         → IsCause (since (R.seen (below_of found.slices)) (R.seen back.rack)) (R.seen back.rack) back.why) }

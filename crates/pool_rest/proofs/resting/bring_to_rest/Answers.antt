@@ -76,7 +76,7 @@ returns-in-Ok-replay_found-clause-only g c =
 pub returns-in-Ok-replay_found-clause-rests : goal.returns-in-Ok-replay_found-clause-rests
 returns-in-Ok-replay_found-clause-rests g c =
     since_so (g.R.Rack.seen c.args.rack) (g.R.Rack.seen (below_of c.in-Ok-stand.found.slices)) (g.R.Rack.seen (below_of c.in-Ok-replay_found.rest.slices)) c.in-Ok-stand.found.scan.disks.items c.in-Ok-stand.found.state (tables c.in-Ok-stand.found.slices) c.in-Ok-stand.found.log c.in-Ok-stand.found.looked.pending c.in-Ok-stand.found.looked.damaged
-    c.in-Ok-stand.ensures.only c.in-Ok-replay_found.ensures.only.stays c.in-Ok-stand.ensures.newest.scan c.in-Ok-stand.ensures.meant c.in-Ok-replay_found.ensures.replayed
+    c.in-Ok-stand.ensures.only c.in-Ok-replay_found.ensures.only.stays c.in-Ok-stand.ensures.newest.scan c.in-Ok-stand.ensures.meant (λ none. c.if-pending_count-eq0.false (c.pending_count.ensures ∙ ap length none)) c.in-Ok-replay_found.ensures.replayed
 
 pub returns-in-Ok-replay_found-clause-stands : goal.returns-in-Ok-replay_found-clause-stands
 returns-in-Ok-replay_found-clause-stands g c =
@@ -121,7 +121,7 @@ returns-in-Ok-replay_found-clause-settled g c = λ told lasts free sound.
     settled_after (g.R.Rack.seen c.args.rack) (g.R.Rack.seen (below_of found.slices)) (g.R.Rack.seen (below_of rest.slices)) found.scan.disks.items found.state found.log found.looked.pending found.looked.damaged (tables found.slices)
     only stays c.in-Ok-stand.ensures.newest.scan (λ none. c.if-pending_count-eq0.false (c.pending_count.ensures ∙ ap length none)) told lasts early (c.in-Ok-stand.ensures.meant told early)
     (since_rests (g.R.Rack.seen c.args.rack) (g.R.Rack.seen (below_of found.slices)) (g.R.Rack.seen (below_of rest.slices)) found.scan.disks.items found.state (tables found.slices) found.log found.looked.pending found.looked.damaged
-    only stays c.in-Ok-stand.ensures.newest.scan c.in-Ok-stand.ensures.meant c.in-Ok-replay_found.ensures.replayed told lasts free)
+    only stays c.in-Ok-stand.ensures.newest.scan c.in-Ok-stand.ensures.meant (λ none. c.if-pending_count-eq0.false (c.pending_count.ensures ∙ ap length none)) c.in-Ok-replay_found.ensures.replayed told lasts free)
     sound rest.state rest.log rest.pending rest.damaged
     (c.in-Ok-replay_found.ensures.shut (none_flagged (g.R.Rack.seen c.args.rack) (g.R.Rack.seen (below_of found.slices)) found.scan.disks.items c.in-Ok-stand.ensures.newest.scan early)
     (gone_none (g.R.Rack.seen c.args.rack) (g.R.Rack.seen (below_of found.slices)) (tables found.slices) found.on.items found.looked.gone.items found.log found.looked.pending found.looked.damaged c.in-Ok-stand.ensures.looked early)
@@ -211,7 +211,7 @@ returns-in-Err-replay_found-clause-exact g c = λ told lasts free.
     meant_after (g.R.Rack.seen c.args.rack) (g.R.Rack.seen (below_of found.slices)) (g.R.Rack.seen c.in-Err-replay_found.back.rack) found.state only stays told free (c.in-Ok-stand.ensures.meant told early).stands
     (c.in-Ok-stand.ensures.single told early)
     (since_rests (g.R.Rack.seen c.args.rack) (g.R.Rack.seen (below_of found.slices)) (g.R.Rack.seen c.in-Err-replay_found.back.rack) found.scan.disks.items found.state (tables found.slices) found.log found.looked.pending found.looked.damaged
-    only stays c.in-Ok-stand.ensures.newest.scan c.in-Ok-stand.ensures.meant c.in-Err-replay_found.ensures.wrote told lasts free)
+    only stays c.in-Ok-stand.ensures.newest.scan c.in-Ok-stand.ensures.meant (λ none. c.if-pending_count-eq0.false (c.pending_count.ensures ∙ ap length none)) c.in-Err-replay_found.ensures.wrote told lasts free)
     c.in-Err-replay_found.back.why c.in-Err-replay_found.ensures.found
     (cause_from (g.R.Rack.seen c.args.rack) (g.R.Rack.seen (below_of found.slices)) (g.R.Rack.seen c.in-Err-replay_found.back.rack) c.in-Err-replay_found.back.why only.stays
     (c.in-Err-replay_found.ensures.refused
@@ -229,7 +229,7 @@ returns-in-Err-replay_found-clause-found g c = λ told lasts free sound.
     (no_cause (g.R.Rack.seen c.args.rack) (g.R.Rack.seen (below_of found.slices)) (g.R.Rack.seen c.in-Err-replay_found.back.rack) found.scan.disks.items found.state found.log found.looked.pending found.looked.damaged (tables found.slices)
     only stays c.in-Ok-stand.ensures.newest.scan (λ none. c.if-pending_count-eq0.false (c.pending_count.ensures ∙ ap length none)) told lasts early (c.in-Ok-stand.ensures.meant told early)
     (since_rests (g.R.Rack.seen c.args.rack) (g.R.Rack.seen (below_of found.slices)) (g.R.Rack.seen c.in-Err-replay_found.back.rack) found.scan.disks.items found.state (tables found.slices) found.log found.looked.pending found.looked.damaged
-    only stays c.in-Ok-stand.ensures.newest.scan c.in-Ok-stand.ensures.meant c.in-Err-replay_found.ensures.wrote told lasts free)
+    only stays c.in-Ok-stand.ensures.newest.scan c.in-Ok-stand.ensures.meant (λ none. c.if-pending_count-eq0.false (c.pending_count.ensures ∙ ap length none)) c.in-Err-replay_found.ensures.wrote told lasts free)
     sound c.in-Err-replay_found.back.why (c.in-Ok-stand.ensures.single told early) free c.in-Err-replay_found.ensures.found
     (cause_from (g.R.Rack.seen c.args.rack) (g.R.Rack.seen (below_of found.slices)) (g.R.Rack.seen c.in-Err-replay_found.back.rack) c.in-Err-replay_found.back.why only.stays
     (c.in-Err-replay_found.ensures.refused
@@ -341,7 +341,7 @@ returns-in-Ok-replay_found-clause-keeps g c = λ told lasts free sound brings si
     rest_keeps a x b found.scan.disks.items found.state found.log found.looked.pending found.looked.damaged (tables found.slices)
     only stays c.in-Ok-stand.ensures.newest.scan (λ none. c.if-pending_count-eq0.false (c.pending_count.ensures ∙ ap length none)) told lasts early stands
     (since_rests a x b found.scan.disks.items found.state (tables found.slices) found.log found.looked.pending found.looked.damaged
-    only stays c.in-Ok-stand.ensures.newest.scan c.in-Ok-stand.ensures.meant c.in-Ok-replay_found.ensures.replayed told lasts free)
+    only stays c.in-Ok-stand.ensures.newest.scan c.in-Ok-stand.ensures.meant (λ none. c.if-pending_count-eq0.false (c.pending_count.ensures ∙ ap length none)) c.in-Ok-replay_found.ensures.replayed told lasts free)
     sound single rest.state rest.scan.disks.items
     (scan_meant (since a b) b rest.scan.disks.items newest.scan (told_later a b (stays_then only.stays stays) told) free)
     (settled.state _ stands.stands)
@@ -369,7 +369,7 @@ returns-in-Ok-replay_found-clause-brought g c = λ told lasts free sound brings 
     rest_brought a x b found.scan.disks.items found.state found.log found.looked.pending found.looked.damaged (tables found.slices)
     only stays c.in-Ok-stand.ensures.newest.scan (λ none. c.if-pending_count-eq0.false (c.pending_count.ensures ∙ ap length none)) told lasts early stands
     (since_rests a x b found.scan.disks.items found.state (tables found.slices) found.log found.looked.pending found.looked.damaged
-    only stays c.in-Ok-stand.ensures.newest.scan c.in-Ok-stand.ensures.meant c.in-Ok-replay_found.ensures.replayed told lasts free)
+    only stays c.in-Ok-stand.ensures.newest.scan c.in-Ok-stand.ensures.meant (λ none. c.if-pending_count-eq0.false (c.pending_count.ensures ∙ ap length none)) c.in-Ok-replay_found.ensures.replayed told lasts free)
     sound single rest.state rest.scan.disks.items
     (scan_meant (since a b) b rest.scan.disks.items newest.scan (told_later a b (stays_then only.stays stays) told) free)
     (settled.state _ stands.stands)
@@ -411,7 +411,7 @@ returns-in-Ok-replay_found-clause-midway g c = λ told lasts free sound brings s
     rest_stands a x b found.scan.disks.items found.state found.log found.looked.pending found.looked.damaged (tables found.slices)
     only stays c.in-Ok-stand.ensures.newest.scan (λ none. c.if-pending_count-eq0.false (c.pending_count.ensures ∙ ap length none)) told lasts early stands
     (since_rests a x b found.scan.disks.items found.state (tables found.slices) found.log found.looked.pending found.looked.damaged
-    only stays c.in-Ok-stand.ensures.newest.scan c.in-Ok-stand.ensures.meant c.in-Ok-replay_found.ensures.replayed told lasts free)
+    only stays c.in-Ok-stand.ensures.newest.scan c.in-Ok-stand.ensures.meant (λ none. c.if-pending_count-eq0.false (c.pending_count.ensures ∙ ap length none)) c.in-Ok-replay_found.ensures.replayed told lasts free)
     sound single rest.state rest.scan.disks.items
     (scan_meant (since a b) b rest.scan.disks.items newest.scan (told_later a b (stays_then only.stays stays) told) free)
     (settled.state _ stands.stands)

@@ -43,10 +43,10 @@ returns-clause-replayed g c =
     → IsUnfaulted (g.R.Rack.seen (below_of c.args.found.slices)) (g.R.Rack.seen (below_of k))
     → AreOf (disks_of (g.R.Rack.seen (below_of c.args.found.slices))) (identities_of (disks_of (g.R.Rack.seen (below_of c.args.found.slices))) (now_in (g.R.Rack.seen (below_of c.args.found.slices)))) c.args.found.scan.disks.items
     → list_all is_target c.args.found.log.pending ≡ true
-    → IsReplayed (g.R.Rack.seen (below_of c.args.found.slices)) (g.R.Rack.seen (below_of k)) c.args.found.state (seated_state c.args.found.log.pending c.args.found.state) c.args.found.log.pending)
+    → IsReplayed (g.R.Rack.seen (below_of c.args.found.slices)) (g.R.Rack.seen (below_of k)) c.args.found.state (seated_state c.args.found.log.pending c.args.found.state) c.args.found.log.pending c.args.found.log.number)
     (sym c.as_it_stands-rest.ensures.slices)
     (again_replayed g.R.Rack.seen (below_of c.args.found.slices) c.into_inner.result c.replay_on-done.result.rack (below_of c.in-Ok.again.slices) c.into_inner.ensures c.args.found.scan.disks.items c.args.found.state
-    c.seated_by-seated.result (seated_state c.args.found.log.pending c.args.found.state) c.seated_by-seated.ensures c.replay_on-done.ensures.only c.in-Ok.ensures.only c.args.found.log.pending c.replay_on-done.ensures.replayed)
+    c.seated_by-seated.result (seated_state c.args.found.log.pending c.args.found.state) c.seated_by-seated.ensures c.replay_on-done.ensures.only c.in-Ok.ensures.only c.args.found.log.pending c.args.found.log.number c.replay_on-done.ensures.replayed)
 
 pub returns-clause-stands : goal.returns-clause-stands
 returns-clause-stands g c =
@@ -117,7 +117,7 @@ returns-clause-shut g c = λ there nobody told lasts free some.
 pub returns-in-Err-clause-wrote : goal.returns-in-Err-clause-wrote
 returns-in-Err-clause-wrote g c =
     again_replayed g.R.Rack.seen (below_of c.args.found.slices) c.into_inner.result c.replay_on-done.result.rack c.in-Err.back.rack c.into_inner.ensures c.args.found.scan.disks.items c.args.found.state
-    c.seated_by-seated.result (seated_state c.args.found.log.pending c.args.found.state) c.seated_by-seated.ensures c.replay_on-done.ensures.only c.in-Err.ensures.kept c.args.found.log.pending c.replay_on-done.ensures.replayed
+    c.seated_by-seated.result (seated_state c.args.found.log.pending c.args.found.state) c.seated_by-seated.ensures c.replay_on-done.ensures.only c.in-Err.ensures.kept c.args.found.log.pending c.args.found.log.number c.replay_on-done.ensures.replayed
 
 pub returns-clause-looked : goal.returns-clause-looked
 returns-clause-looked g c =
