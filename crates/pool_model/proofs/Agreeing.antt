@@ -1,5 +1,5 @@
 -- Contents that agree inside the disks with some that hold a pool as a stop inside an opening leaves it hold it too.
-use Rattle.std.proofs.Common.{◌≡◌, ℕ, Option, Some, None, option_map, refl, sym, ap, subst, ◌∙◌}
+use Rattle.std.proofs.Common.{◌≡◌, ℕ, Option, Some, None, option_map, refl, sym, ap, subst, ◌∙◌, inl, inr}
 use Rattle.std.specs.Option.{option_and_then}
 use Rattle.std.proofs.lemmas.Option.{none-some}
 use Rattle.rack.specs.Seen.{Image}
@@ -12,7 +12,7 @@ use Rattle.pool_image.specs.Disks.{Disks, identities_of, newest, seat_of}
 use Rattle.pool_image.specs.Drives.{Found, found, found_by}
 use Rattle.pool_image.specs.Replay.{Standing, standing, standing_by, written}
 use Rattle.pool_image.specs.Volumes.{Arrays}
-use Rattle.pool_image.proofs.Founds.{joined_same}
+use Rattle.pool_image.proofs.Founds.{damage_same, joined_same}
 use Rattle.pool_image.proofs.Rested.{stood_by}
 use Rattle.pool_rest.specs.SoundLogs.{HasSoundLogs}
 use Rattle.pool_rest.proofs.Unwritten.{agreeing_mean}
@@ -66,4 +66,10 @@ agree_opened f from c i holds agree =
       apart = again.apart;
       alone = again.alone;
       stops = subst (λ (k : Disks). MayReplay k i again.now) disks again.stops;
+      sectors = λ n low. ap (λ (k : Arrays). k.sectors n) (joined_same h again.now is) ∙ holds.sectors n low;
+      parts = λ p now none.
+          elim (holds.parts p (sym (ap (λ (z : State). is_current z p) is.state) ∙ now) none) [
+            | inl fine ↦ inl (damage_same h again.now is p ∙ fine)
+            | inr wants ↦ inr (damage_same h again.now is p ∙ wants)
+          ];
     }

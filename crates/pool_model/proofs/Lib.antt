@@ -86,3 +86,5 @@ pub mod Likewise
 pub mod Sectors
 pub mod Reopening
 pub mod ReopeningAmid
+pub mod ArraysMeant
+pub mod OpenedMeaning

@@ -1,5 +1,6 @@
 -- What holds a pool again as a stop inside an opening leaves it.
-use Rattle.std.proofs.Common.{◌≡◌, ℕ, ◌<◌, ◌≤◌, ◌&&◌, Bool, true, false, is_some, Option, Some, None, refl, sym, ap, ap₂, subst, ◌∙◌, inr, arith}
+use Rattle.std.proofs.Common.{◌≡◌, ◌⊎◌, ℕ, ◌<◌, ◌≤◌, ◌&&◌, Bool, true, false, not, if◌then◌else◌, is_some, Option, Some, None, refl, sym, ap, ap₂, subst, ◌∙◌, inl, inr, arith}
+use Rattle.std.specs.Option.{option_map_or}
 use Rattle.std.proofs.lemmas.Bool.{both_ways}
 use Rattle.rack.specs.Seen.{Image}
 use Rattle.slice_rack.specs.Slices.{Slices, sectors_of}
@@ -8,18 +9,24 @@ use Rattle.pool_state.specs.declared.contents.State.{State}
 use Rattle.array_image.specs.Arrays.{arrays_in, replayed}
 use Rattle.array_image.specs.States.{is_current}
 use Rattle.raid_rack.specs.Book.{IsAfter, after_then}
+use Rattle.raid_rack.specs.Since.{AreSince}
 use Rattle.pool_image.specs.Alike.{IsSamePool}
 use Rattle.pool_image.specs.Disks.{Disks}
 use Rattle.pool_image.specs.Drives.{Found, found}
-use Rattle.pool_image.specs.Meaning.{array_sectors, arrays_held}
+use Rattle.pool_image.specs.Meaning.{array_sectors, arrays_held, damage_of, has_supers, in_superblock, is_table}
 use Rattle.pool_image.specs.Volumes.{Arrays}
-use Rattle.pool_image.proofs.Founds.{joined_same}
+use Rattle.pool_image.proofs.Founds.{damage_same, joined_same}
 use Rattle.pool_rest.specs.SoundLogs.{HasSoundLogs}
+use Rattle.pool_model.specs.Left.{AreElsewhere}
 use Rattle.pool_model.specs.Openings.{HoldOpened, MayReplay}
+use Rattle.pool_model.specs.Pools.{AreSlicesOf}
 use Rattle.pool_model.specs.Stopped.{HoldBetween}
+use Rattle.pool_model.proofs.ReopeningAmid.{between_wants}
+use Rattle.pool_model.proofs.Said.{AreInside, slices_by}
+use Rattle.pool_model.proofs.Unrefused.{no_drive, undamaged}
 
 -- from a later sector on
-pub opened_from : (f : Found) (from later : ℕ) (i : Image) → from ≤ later → HoldOpened f from i → HoldOpened f later i
+unfoldable pub opened_from : (f : Found) (from later : ℕ) (i : Image) → from ≤ later → HoldOpened f from i → HoldOpened f later i
 opened_from f from later i before holds = record {
   now = holds.now;
   found_is = holds.found_is;
@@ -32,6 +39,8 @@ opened_from f from later i before holds = record {
   apart = holds.apart;
   alone = holds.alone;
   stops = holds.stops;
+  sectors = holds.sectors;
+  parts = holds.parts;
 }
 
 -- of the same pool, but for gates of its log
@@ -50,32 +59,55 @@ opened_same e f from i same holds = record {
   apart = holds.apart;
   alone = holds.alone;
   stops = subst (λ (d : Disks). MayReplay d i holds.now) same.disks holds.stops;
+  sectors = λ n low. holds.sectors n (subst (λ (s : State). n < s.made) (sym same.state) low) ∙ ap (λ (k : Arrays). k.sectors n) (joined_same e f same);
+  parts = λ p now none. holds.parts p now (damage_same e f same p ∙ none);
 }
 
 -- What a stop inside a call of a pool in service leaves does so, where just the places without a disk are marked by the call's end, and the replayed slices
--- give what the pool's arrays held.
+-- give what the pool's arrays held. Its disks have the drives' tables, and copies since the pool's state.
 pub amid_opened : (f : Found) (t : Slices) (s u : State) (from : ℕ) (i : Image) → IsAfter f.state s
     → ((p : ℕ) → is_current u p ≡ (is_current f.state p && is_some (f.seats p)))
     → ((n x : ℕ) → n < f.state.made → from ≤ x → x < array_sectors f n → arrays_in (replayed (sectors_of t) (sliced t i)) n x ≡ arrays_held f n x)
-    → HoldBetween f t s u i → HoldOpened f from i
-amid_opened f t s u from i begun marks values amid =
-    let still = amid.still in
-    record {
-      now = still.now;
-      found_is = still.found_is;
-      sound = still.sound;
-      logs = still.logs;
-      after = subst (λ (z : State). IsAfter f.state z) (sym still.state) (after_then f.state s amid.state begun amid.later);
-      marks = λ p counts past. none p counts (sym (ap (λ (z : State). is_current z p) still.state) ∙ past) (f.seats p) refl;
-      seats = λ p counts. still.seats p (sym (ap (λ (z : State). is_current z p) still.state) ∙ counts);
-      values = λ n x low behind inside. still.values n x low ∙ values n x low behind inside;
-      apart = amid.apart;
-      alone = still.alone;
-      stops = inr (amid.stood, amid.lower);
-    }
+    → AreSlicesOf f t → AreInside f t → AreElsewhere f i → AreSince s (sectors_of t) (sliced t i)
+    → (amid : HoldBetween f t s u i) → (holds : HoldOpened f from i) × (holds.now ≡ amid.still.now)
+amid_opened f t s u from i begun marks values slices inside elsewhere since amid =
+    let still = amid.still in (
+      record {
+        now = still.now;
+        found_is = still.found_is;
+        sound = still.sound;
+        logs = still.logs;
+        after = subst (λ (z : State). IsAfter f.state z) (sym still.state) (after_then f.state s amid.state begun amid.later);
+        marks = λ p counts past. none p counts (sym (ap (λ (z : State). is_current z p) still.state) ∙ past) (f.seats p) refl;
+        seats = λ p counts. still.seats p (current_now p counts);
+        values = λ n x low behind inside. still.values n x low ∙ values n x low behind inside;
+        apart = amid.apart;
+        alone = still.alone;
+        stops = inr (amid.stood, amid.lower);
+        sectors = still.sectors;
+        parts = λ p counts fine. parts p (current_now p counts) fine (f.seats p) refl;
+      },
+      refl,
+    )
   where
+    current_now : (p : ℕ) → is_current amid.still.now.state p ≡ true → is_current amid.state p ≡ true
+    current_now p counts = sym (ap (λ (z : State). is_current z p) amid.still.state) ∙ counts
+
     none : (p : ℕ) → is_current f.state p ≡ true → is_current amid.state p ≡ false → (o : Option ℕ) → f.seats p ≡ o → f.seats p ≡ None
     none p counts past None seat = seat
     none p counts past (Some d) seat =
         absurd (both_ways (is_current amid.state p) past
         (amid.sooner.current p (marks p ∙ ap₂ (λ (b : Bool) (o : Option ℕ). b && is_some o) counts seat)))
+
+    wants : (p : ℕ) (b : Bool) → damage_of amid.still.now p ≡ (if not b then Some in_superblock else None)
+        → (damage_of amid.still.now p ≡ None) ⊎ (damage_of amid.still.now p ≡ Some in_superblock)
+    wants p true is = inl is
+    wants p false is = inr is
+
+    parts : (p : ℕ) → is_current amid.state p ≡ true → damage_of f p ≡ None → (o : Option ℕ) → f.seats p ≡ o
+        → (damage_of amid.still.now p ≡ None) ⊎ (damage_of amid.still.now p ≡ Some in_superblock)
+    parts p counts fine None free = inl (no_drive amid.still.now p (amid.still.seats p counts ∙ free))
+    parts p counts fine (Some d) seat =
+        wants p (has_supers amid.still.now p)
+        (between_wants f t s u i begun (slices_by f t s slices) inside since amid p d counts seat
+        (ap (λ o. option_map_or (is_table f p (f.disks.sectors d)) o false) (elsewhere.tables p d seat) ∙ (undamaged f p d seat fine).table))

@@ -1,5 +1,5 @@
 -- A later opening of what a stop leaves finds the arrays of the run's book and means its volume, or refuses it for what the book says of an array or another pool's disk says.
-use Rattle.std.proofs.Common.{◌≡◌, ℕ, zero, suc, ◌+◌, ◌<◌, ◌≤◌, ◌/◌, ◌^◌, Bool, true, false, ◌||◌, not, is_some, nat_lt, if◌then◌else◌, [], ◌∷◌, map, count_by, length, Option, Some, None, option_map, refl, sym, ap, ap₂, subst, ◌∙◌, inl, inr, le-ltb, lt-ltb, ltb-true, arith}
+use Rattle.std.proofs.Common.{◌≡◌, ℕ, zero, suc, ◌+◌, ◌<◌, ◌≤◌, ◌/◌, ◌^◌, Bool, true, false, ◌||◌, not, is_some, nat_lt, if◌then◌else◌, [], map, count_by, length, Option, Some, None, refl, sym, ap, subst, ◌∙◌, inl, inr, le-ltb, lt-ltb, ltb-true, arith}
 use Rattle.std.specs.List.{range_with_len}
 use Rattle.std.specs.Option.{option_map_or}
 use Rattle.std.proofs.lemmas.Bool.{and_parts, cases_Bool}
@@ -21,39 +21,31 @@ use Rattle.array_core.proofs.Rules.{placed}
 use Rattle.array_core.proofs.Stripped.{some_same}
 use Rattle.array_model.specs.View.{IsArray, View, is_whole_array, is_whole_seat, member_on, rows_of, sectors_of as sectors_in, shape_of as shape_by_book}
 use Rattle.array_model.proofs.RowWrites.{whole_seat}
-use Rattle.lvm_text.specs.declared.group.Group.{Group}
-use Rattle.lvm_group.specs.Group.{first_bad as bad_in, linear_in}
 use Rattle.lvm_group.specs.Images.{IsVolume}
-use Rattle.lvm_group.specs.Runs.{Linear, data_start, sectors_in as sectors_along}
-use Rattle.lvm_group.specs.Shown.{contents_of}
-use Rattle.lvm_group.proofs.SameParts.{area_below}
+use Rattle.lvm_group.specs.Runs.{Linear, data_start}
 use Rattle.pool_image.specs.Disks.{Disks, Identities}
 use Rattle.pool_image.specs.Drives.{Found, slices_of}
-use Rattle.pool_image.specs.Meaning.{Refusal, array_sectors, arrays_held, damage_of, has_table, is_dirty_degraded, is_member, is_too_few, joined_arrays, lacking_of, meaning, refusal_of, shape_of, super_at, truth_of, volume_by, volumes_of}
+use Rattle.pool_image.specs.Meaning.{Refusal, array_sectors, damage_of, has_table, is_dirty_degraded, is_member, is_too_few, joined_arrays, lacking_of, refusal_of, shape_of, super_at, truth_of}
 use Rattle.pool_image.specs.Replay.{Standing}
-use Rattle.pool_image.specs.Sound.{AreSame}
-use Rattle.pool_image.specs.Volumes.{Arrays, first_bad, linear_of}
-use Rattle.pool_image.specs.Volumes as meant
-use Rattle.pool_image.proofs.Groups.{AreWholeArrays, bad_alike, group_alike}
-use Rattle.pool_image.proofs.Joined.{AreAlike, bad_kept, group_kept, volumes_kept}
-use Rattle.pool_image.proofs.Parts.{held_in}
-use Rattle.pool_scan.proofs.Valid.{valid_arrays}
+use Rattle.pool_image.specs.Volumes.{Arrays, first_bad}
+use Rattle.pool_image.proofs.Groups.{AreWholeArrays}
+use Rattle.pool_image.proofs.Joined.{AreAlike}
 use Rattle.raid_rack.specs.Agreeing.{HasOwnRows, SayTruth, SupersAgree}
 use Rattle.raid_rack.specs.Book.{IsAfter, after_same}
 use Rattle.raid_rack.specs.Raid.{IsTold, Raid, held_in as raid_held, is_over, spent_of}
 use Rattle.pool_model.specs.Absent.{volume_arrays}
 use Rattle.pool_model.specs.Alone.{AreTabled, HoldTabled}
-use Rattle.pool_model.specs.Grouped.{AreHeadsLive, HoldGroup, IsVolumeOf}
+use Rattle.pool_model.specs.Grouped.{AreHeadsLive, HoldGroup}
 use Rattle.pool_model.specs.InService.{InService, IsArranged}
 use Rattle.pool_model.specs.Left.{HoldStill}
 use Rattle.pool_model.specs.Reopening.{AreWholeSectors, HoldVolume, MayRefuseBy, Reopens}
 use Rattle.pool_model.specs.Taken.{LacksDrive}
+use Rattle.pool_model.proofs.ArraysMeant.{arrays_volume}
 use Rattle.pool_model.proofs.Again.{known_again, value_known}
 use Rattle.pool_model.proofs.Alone.{tabled_says}
 use Rattle.pool_model.proofs.Copies.{c, copy_pool, IsKnown, s, seat_there, seats_now}
 use Rattle.pool_model.proofs.Current.{array_current, shape_current, truth_current}
 use Rattle.pool_model.proofs.Extents.{is, is_is, made_same, truth_is}
-use Rattle.pool_model.proofs.Found.{found_is, valid}
 use Rattle.pool_model.proofs.InService.{service_known, vacant_known}
 use Rattle.pool_model.proofs.Known.{left, says, says_pool}
 use Rattle.pool_model.proofs.Refused.{all_range}
@@ -76,28 +68,15 @@ module _ (f : Found) (t : Slices) (s : State) (i : Image) (still : HoldStill f t
   abbrev h : Found
   h = still.now
 
-  abbrev a : Arrays
-  a = joined_arrays h
-
   -- the arrays as the slices hold them
   abbrev b : Arrays
   b = record { pool = s.pool.0; extent = s.extent; joined = s.joined; sectors = sectors; contents = arrays_in (replayed (sectors_of t) (sliced t i)) }
-
-  joined_is : h.state.joined ≡ s.joined
-  joined_is = ap (λ (z : State). z.joined) still.state
-
-  some : 0 < s.joined
-  some =
-      let good = valid h (found_is f.disks i h still.found_is).0 in
-      let one = (valid_arrays h.state good.0 good.1).2 in
-      let same = joined_is in
-      omega (arith, one, same)
 
   made : (n : ℕ) → n < s.joined → n < f.state.made
   made n low = omega (arith, low, few)
 
   made_now : (n : ℕ) → n < s.joined → n < h.state.made
-  made_now n low = (let all = still.joined in let same = joined_is in omega (arith, low, all, same))
+  made_now n low = (let all = still.joined in let same = ap (λ (z : State). z.joined) still.state in omega (arith, low, all, same))
 
   sectors_same : (n : ℕ) → n < s.joined → array_sectors h n ≡ sectors n
   sectors_same n low = still.sectors n (made n low) ∙ sym (sized n low)
@@ -116,68 +95,17 @@ module _ (f : Found) (t : Slices) (s : State) (i : Image) (still : HoldStill f t
     room = λ n low. let enough = room n low in omega (arith, enough);
   }
 
-  alike : AreAlike a b
+  alike : AreAlike (joined_arrays h) b
   alike = record {
     pool = ap (λ (z : State). z.pool.0) still.state;
     extent = ap (λ (z : State). z.extent) still.state;
-    joined = joined_is;
+    joined = ap (λ (z : State). z.joined) still.state;
     sectors = sectors_same;
     contents = λ n x low within. still.values n x (made n low);
   }
 
-  abbrev group : Group
-  group = lies.1.means.group
-
-  group_there : meant.group_in b ≡ Some group
-  group_there = sym (group_alike b are) ∙ lies.1.means.found
-
-  bad_there : meant.first_bad b ≡ None
-  bad_there = sym (bad_alike b are) ∙ ap (λ k. bad_in s.pool.0 k sectors s.joined (held_in b)) (sym extent) ∙ lies.1.means.sound
-
-  linear_there : l ≡ linear_of b group
-  linear_there = ap (λ k. record { extent = l.extent; arrays = k; runs = l.runs }) arrays ∙ lies.1.means.volume
-
-  volume_is : IsVolumeOf h l
-  volume_is = record {
-    group = group;
-    group_is = group_kept a b alike are ∙ group_there;
-    sound = bad_kept a b alike are ∙ bad_there;
-    linear = linear_there ∙ ap (λ k. linear_in k group) (sym joined_is);
-  }
-
-  volumes_now : volumes_of h ≡ volume_by l (arrays_held h) ∷ []
-  volumes_now =
-      ap (λ o. option_map_or (λ k. volume_by (linear_of a k) (arrays_held h) ∷ []) o []) volume_is.group_is
-      ∙ ap (λ k. volume_by k (arrays_held h) ∷ []) (sym volume_is.linear)
-
-  -- each of its sectors is on an array that is ready for it
-  values_now : (x : ℕ) → x < sectors_along l → contents_of l (arrays_held h) 0 x ≡ contents_of l b.contents 0 x
-  values_now x within =
-      let volumes_there : option_map_or (λ k. volume_by (linear_of b k) b.contents ∷ []) (meant.group_in b) [] ≡ volume_by l b.contents ∷ [] =
-      ap (λ o. option_map_or (λ k. volume_by (linear_of b k) b.contents ∷ []) o []) group_there ∙ ap (λ k. volume_by k b.contents ∷ []) (sym linear_there) in
-      let both : AreSame (volume_by l b.contents ∷ []) (volume_by l (arrays_held h) ∷ []) =
-      subst (AreSame (volume_by l b.contents ∷ [])) volumes_now
-      (subst (λ k. AreSame k (volumes_of h)) volumes_there (volumes_kept a b alike are some bad_there)) in
-      sym (both.0.1 x within)
-
-  meaning_now : refusal_of f.disks i ≡ None → meaning f.disks i ≡ Some (volume_by l (arrays_held h) ∷ [])
-  unfolding meaning
-  meaning_now none =
-      ap₂ (λ (why : Option Refusal) o. option_map_or (λ r. None) why (option_map volumes_of o)) none still.found_is ∙ ap Some volumes_now
-
   pub still_volume : HoldVolume f t l i
-  still_volume = record {
-    now = h;
-    found_is = still.found_is;
-    lies = volume_is;
-    areas = λ n low.
-        let less : n < s.joined = (let same = joined_is in omega (arith, low, same)) in
-        area_below (held_in b n) (arrays_held h n) (sectors n) (lies.1.areas n less)
-        (λ x first.
-        let enough = room n less in
-        still.values n x (made n less) ∙ sym (ap (λ (k : Bool). if k then b.contents n x else []) (lt-ltb x (sectors n) (omega (arith, first, enough)))));
-    means = λ none. (volume_by l (arrays_held h), meaning_now none, refl, values_now);
-  }
+  still_volume = arrays_volume f i h still.found_is b alike are room l extent arrays lies
 
 -- So they do where a run's book from before their state holds the group, and what they have before the first extents may be left by it.
 pub amid_volume : (f : Found) (t : Slices) (s : State) (i : Image) → HoldStill f t s i → AreInside f t
@@ -271,7 +199,7 @@ module _ (f : Found) (t : Slices) (v : Raid) (y : Seen) (i : Image) (known : IsK
 
   -- none of its arrays is bad
   pub sound_known : (l : Linear) → HoldGroup v l y → AreHeadsLive v → AreWholeSectors f.disks i → first_bad (joined_arrays g) ≡ None
-  unfolding known_again volume_known amid_volume still_volume
+  unfolding known_again volume_known amid_volume still_volume arrays_volume
   sound_known l holds heads whole = (volume_known l holds heads whole).lies.sound
 
   -- ---- its drives
@@ -366,7 +294,7 @@ module _ (f : Found) (t : Slices) (v : Raid) (y : Seen) (i : Image) (known : IsK
         ]
 
     pub known_reopens : (l : Linear) → HoldGroup v l y → AreHeadsLive v → AreWholeSectors f.disks i → Reopens f t l v i
-    unfolding known_again volume_known amid_volume still_volume
+    unfolding known_again volume_known amid_volume still_volume arrays_volume
     known_reopens l holds heads whole = record {
       volume = volume_known l holds heads whole;
       state = refl;

@@ -51,12 +51,12 @@ use Rattle.raid_rack.specs.Reach.{KeepsReach, ReachBetween}
 use Rattle.raid_rack.specs.Runs.{KeepsMoments}
 use Rattle.raid_rack.specs.Since.{AreSince, HasOwnSince}
 use Rattle.raid_rack.proofs.Added.{names_current}
-use Rattle.pool_model.specs.Alone.{AreTabled, HoldTabled}
+use Rattle.pool_model.specs.Alone.{AreTabled, HoldTabled, IsTabled}
 use Rattle.pool_model.specs.InService.{InService}
 use Rattle.pool_model.specs.Left.{HavePlaces, HaveSlices}
 use Rattle.pool_model.specs.Pools.{extent_in}
 use Rattle.pool_model.specs.Reopening.{HasEmptyMember, HoldVolume, MayRefuse, ReopensAmid}
-use Rattle.pool_model.specs.Stopped.{AreSlicesNow, HoldAmid}
+use Rattle.pool_model.specs.Stopped.{AreSlicesNow, HoldAmid, HoldBetween}
 use Rattle.pool_model.specs.Taken.{LacksDrive}
 use Rattle.pool_model.proofs.Amid.{moments_since, nothing_past, off_amid, off_more}
 use Rattle.pool_model.proofs.Away.{find_passes}
@@ -188,7 +188,6 @@ record IsNow (f : Found) (t : Slices) (v : State) (g : Found) : Type 0 where
   after : IsAfter v g.state
   seats : (p : ℕ) → is_current g.state p ≡ true → g.seats p ≡ f.seats p
   slices : HaveSlices g t
-  present : HavePlaces g.state g
 
 -- a slice of an array that is there has sectors
 some_sectors : (g : Found) (n : ℕ) (e : Extent) → extent_of g (suc n) ≡ Some e → 0 < e.sectors
@@ -206,7 +205,7 @@ some_sectors g n e is = of (first_of g n) is
     of (Some first) at = by first (truth_from g n first) at
 
 module _ (f : Found) (t : Slices) (v : State) (i : Image) (begun : IsAfter f.state v) (had : AreSlicesNow f t v) (inside : AreInside f t)
-    (tabled : AreTabled f (λ d. Unit {0}) v i) (since : AreSince v (sectors_of t) (sliced t i))
+    (since : AreSince v (sectors_of t) (sliced t i))
     (s0 : State) (stands : standing f.disks i ≡ Some (standing_by f.disks i s0)) (newest_is : newest f.disks (identities_of f.disks i) ≡ Some s0)
     (log : IsSoundLog f.disks i (standing_by f.disks i s0) (seated_state (standing_by f.disks i s0).targets s0)) where
   abbrev before : Standing
@@ -310,13 +309,13 @@ module _ (f : Found) (t : Slices) (v : State) (i : Image) (begun : IsAfter f.sta
               (let size = is.slices.others n p low_now none in
               let some = some_sectors f n (extent_in t (member_slice p n)) (had.members n p d low before_call seat_before was) in absurd (omega (arith, size, some)))
 
-      table_now : has_table g p d ≡ true
-      table_now =
+      table_now : IsTabled f p (f.disks.sectors d) (i d) → has_table g p d ≡ true
+      table_now tabled =
           ap (λ o. option_map_or (is_table g p (f.disks.sectors d)) o false)
           (tables_now f.disks i w s0 newest_is log (λ e k below within which none. others e k none) (λ e below within. copies e within) d there)
           ∙ table_alike f g p (f.disks.sectors d) (id_same f.state g.state (after_then f.state v g.state begun is.after).same p) made_same
           (λ table. wants_same table (f.disks.sectors d)) (the_table (f.disks.sectors d) (i d))
-          ∙ tabled p d seat_before (inl before_call)
+          ∙ tabled
 
       -- ---- its log
 
@@ -334,10 +333,15 @@ module _ (f : Found) (t : Slices) (v : State) (i : Image) (begun : IsAfter f.sta
       log_now : has_log g p ≡ true
       log_now = ap₂ (λ a b. not a && not b) gate_good (whole_early f.disks i i s0 newest_is log mid (λ e below within. refl) (λ e below within. refl) p)
 
-    wants_now : (p : ℕ) → is_current g.state p ≡ true → damage_of g p ≡ (if not (has_supers g p) then Some in_superblock else None)
-    wants_now p now =
-        let drive = is.present p now in
-        superblocks_alone g p drive.0 drive.1 (table_now p drive.0 now drive.1) (copied_now p drive.0 now drive.1) (log_now p drive.0 now drive.1)
+    wants_on : (p d : ℕ) → is_current g.state p ≡ true → g.seats p ≡ Some d → IsTabled f p (f.disks.sectors d) (i d)
+        → damage_of g p ≡ (if not (has_supers g p) then Some in_superblock else None)
+    wants_on p d now seat tabled = superblocks_alone g p d seat (table_now p d now seat tabled) (copied_now p d now seat) (log_now p d now seat)
+
+    wants_now : HavePlaces g.state g → AreTabled f (λ d. Unit {0}) v i → (p : ℕ) → is_current g.state p ≡ true
+        → damage_of g p ≡ (if not (has_supers g p) then Some in_superblock else None)
+    wants_now present tabled p now =
+        let drive = present p now in
+        wants_on p drive.0 now drive.1 (tabled p drive.0 (seat_before p drive.0 now drive.1) (inl (before_call p drive.0 now drive.1)))
 
     -- a drive's copy is of the pool
     own_pool : (p d : ℕ) (copy : Copied) → g.seats p ≡ Some d → (ids d).copied ≡ Some copy → copy.state.pool ≡ g.state.pool
@@ -348,14 +352,37 @@ module _ (f : Found) (t : Slices) (v : State) (i : Image) (begun : IsAfter f.sta
           ∙ (own p d now seat).after.same.pool ∙ sym is.after.same.pool
     ]
 
-    excused_now : (book : Raid) → ((p : ℕ) → is_current g.state p ≡ true → has_supers g p ≡ false → HasEmptyMember book p) → first_bad (joined_arrays g) ≡ None
+    excused_now : HavePlaces g.state g → AreTabled f (λ d. Unit {0}) v i → (book : Raid) → ((p : ℕ) → is_current g.state p ≡ true → has_supers g p ≡ false → HasEmptyMember book p) → first_bad (joined_arrays g) ≡ None
         → (why : Refusal) → refusal_of f.disks i ≡ Some why → MayRefuseAmid book g why
-    excused_now book empty good why at = elim (refused_so g (MayRefuse g) (λ other. other) (λ n low lacks. lacks) (λ n low lacks. lacks) (none_absent g is.present) good why i stands found_now log.pool own_pool at) [
+    excused_now present tabled book empty good why at = elim (refused_so g (MayRefuse g) (λ other. other) (λ n low lacks. lacks) (λ n low lacks. lacks) (none_absent g present) good why i stands found_now log.pool own_pool at) [
       | inl excused ↦ inl excused
-      | inr wants ↦ inr (first_wants book g wants_now empty why wants)
+      | inr wants ↦ inr (first_wants book g (wants_now present tabled) empty why wants)
     ]
 
 -- ---- a stop inside calls
+
+-- Where contents hold a pool still, between two states, the drive of a current place that has its table wants a superblock alone.
+pub between_wants : (f : Found) (t : Slices) (v u : State) (i : Image) → IsAfter f.state v → AreSlicesNow f t v → AreInside f t → AreSince v (sectors_of t) (sliced t i)
+    → (between : HoldBetween f t v u i) → (p d : ℕ) → is_current between.state p ≡ true → f.seats p ≡ Some d → IsTabled f p (f.disks.sectors d) (i d)
+    → damage_of between.still.now p ≡ (if not (has_supers between.still.now p) then Some in_superblock else None)
+between_wants f t v u i begun had inside since between p d counts seat tabled =
+    let still = between.still in
+    let by = stood_by f.disks i still.logs.before still.logs.stands in
+    let stands : standing f.disks i ≡ Some (standing_by f.disks i by.0) = still.logs.stands ∙ ap Some by.2 in
+    let log : IsSoundLog f.disks i (standing_by f.disks i by.0) (seated_state (standing_by f.disks i by.0).targets by.0) =
+    subst (λ (x : Standing). IsSoundLog f.disks i x (seated_state x.targets x.state)) by.2 still.logs.log in
+    let g : Found = was f.disks i i by.0 by.1 log (mid f t v i begun had inside since by.0 stands by.1 log) in
+    let found_g : found f.disks i ≡ Some g = found_now f t v i begun had inside since by.0 stands by.1 log in
+    let here : g ≡ still.now = some_same g still.now (sym found_g ∙ still.found_is) in
+    let is : IsNow f t v still.now = record {
+      after = subst (IsAfter v) (sym still.state) between.later;
+      seats = λ q now. still.seats q (subst (λ (z : State). is_current z q ≡ true) still.state now);
+      slices = still.slices;
+    } in
+    subst (λ (k : Found). damage_of k p ≡ (if not (has_supers k p) then Some in_superblock else None)) here
+    (wants_on f t v i begun had inside since by.0 stands by.1 log (subst (IsNow f t v) (sym here) is) p d
+    (subst (λ (k : Found). is_current k.state p ≡ true) (sym here) (ap (λ (z : State). is_current z p) still.state ∙ counts))
+    (subst (λ (k : Found). k.seats p ≡ Some d) (sym here) (still.seats p counts ∙ seat)) tabled)
 
 -- Contents that hold the pool still and mean a volume where they aren't refused, with copies since the calls began, members that count as far as between the books, and the tables of
 -- current places' drives.
@@ -369,16 +396,17 @@ amid_reopens f t v w l i begun had inside tabled since reach amid volume =
     let stands : standing f.disks i ≡ Some (standing_by f.disks i by.0) = still.logs.stands ∙ ap Some by.2 in
     let log : IsSoundLog f.disks i (standing_by f.disks i by.0) (seated_state (standing_by f.disks i by.0).targets by.0) =
     subst (λ (x : Standing). IsSoundLog f.disks i x (seated_state x.targets x.state)) by.2 still.logs.log in
-    let g : Found = was f.disks i i by.0 by.1 log (mid f t v.state i begun had inside tabled since by.0 stands by.1 log) in
-    let found_g : found f.disks i ≡ Some g = found_now f t v.state i begun had inside tabled since by.0 stands by.1 log in
+    let g : Found = was f.disks i i by.0 by.1 log (mid f t v.state i begun had inside since by.0 stands by.1 log) in
+    let found_g : found f.disks i ≡ Some g = found_now f t v.state i begun had inside since by.0 stands by.1 log in
     let here : still.now ≡ g = some_same still.now g (sym still.found_is ∙ found_g) in
     let is : IsNow f t v.state still.now = record {
       after = subst (IsAfter v.state) (sym still.state) amid.between.later;
       seats = λ p now. still.seats p (subst (λ (z : State). is_current z p ≡ true) still.state now);
       slices = still.slices;
-      present = λ p now. amid.present p (subst (λ (z : State). is_current z p ≡ true) still.state now);
     } in
     let is_now : IsNow f t v.state g = subst (IsNow f t v.state) here is in
+    let present : HavePlaces g.state g =
+    subst (λ (k : Found). HavePlaces k.state k) here (λ p now. amid.present p (subst (λ (z : State). is_current z p ≡ true) still.state now)) in
     let counts : CountsBetween v w g = subst (CountsBetween v w) here
     (λ n shape low at.
     let made = begun.same.made in
@@ -391,7 +419,7 @@ amid_reopens f t v w l i begun had inside tabled since reach amid volume =
       reach = subst (CountsBetween v w) same counts;
       excused =
           subst (λ (k : Found). (why : Refusal) → refusal_of f.disks i ≡ Some why → MayRefuseAmid v k why) same
-          (excused_now f t v.state i begun had inside tabled since by.0 stands by.1 log is_now v
+          (excused_now f t v.state i begun had inside since by.0 stands by.1 log is_now present tabled v
           (empty_member v w g (found_is f.disks i g found_g).0 is_now.after.same.made counts)
           (subst (λ (k : Found). first_bad (joined_arrays k) ≡ None) (sym same) volume.lies.sound));
     }

@@ -18,7 +18,7 @@ use Rattle.pool_image.specs.Drives.{Found, found}
 use Rattle.pool_image.specs.Meaning.{is_member}
 use Rattle.pool_image.specs.Replay.{Standing, extent_by, standing, standing_by, written}
 use Rattle.pool_image.specs.Volumes.{Arrays}
-use Rattle.pool_image.proofs.Founds.{joined_same, lies_same, truths_same}
+use Rattle.pool_image.proofs.Founds.{damage_same, joined_same, lies_same, truths_same}
 use Rattle.pool_image.proofs.Identities.{seat_inside}
 use Rattle.pool_image.proofs.Rested.{stood_by}
 use Rattle.pool_image.proofs.SoundSame.{sound_same}
@@ -71,6 +71,8 @@ same_holds disks i f g on found_now same sound logs apart alone may = record {
       own_alone f g same (subst (λ (s : State). s.made ≤ 16) same.state (some_made g (found_is disks i g found_now).0).1)
       (λ n low. let one = sound.rules.arrays n low in (one.0, one.1)) alone;
   stops = subst (λ (d : Disks). MayReplay d i g) (sym on) may;
+  sectors = λ n low. ap (λ (k : Arrays). k.sectors n) (joined_same f g same);
+  parts = λ p now none. inl (damage_same f g same p ∙ none);
 }
 
 -- ---- a replay

@@ -1,5 +1,5 @@
 -- Contents of a pool at rest that differ in sectors of partition tables alone, where each disk has the table that it had, hold the same pool.
-use Rattle.std.proofs.Common.{◌≡◌, ℕ, suc, ◌+◌, ◌<◌, ◌≤◌, Bool, true, false, nat_lt, if◌then◌else◌, List, [], Option, Some, None, option_map, refl, sym, ap, ap₂, subst, ◌∙◌, inl, inr, ltb-true, arith}
+use Rattle.std.proofs.Common.{◌≡◌, ℕ, suc, ◌+◌, ◌<◌, ◌≤◌, ◌&&◌, ◌||◌, not, Bool, true, false, nat_lt, if◌then◌else◌, is_some, List, [], Option, Some, None, option_map, refl, sym, ap, ap₂, subst, ◌∙◌, inl, inr, ltb-true, arith}
 use Rattle.std.specs.Option.{option_and_then, option_map_or}
 use Rattle.std.specs.Result.{result_ok}
 use Rattle.std.proofs.lemmas.Bool.{both_ways, cases_Bool}
@@ -14,20 +14,21 @@ use Rattle.pool_state.specs.Sector.{decoded}
 use Rattle.array_image.specs.Arrays.{Shape, sectors_by}
 use Rattle.array_image.specs.Foremost.{foremost}
 use Rattle.array_image.specs.Places.{arrays_first, data_sector, log_slice, member_slice, place_of, state_sector, super_sector}
-use Rattle.array_image.specs.Record.{damaged_log, pending}
+use Rattle.array_image.specs.Record.{damaged_log, is_bad_gate, is_bad_log, pending}
 use Rattle.array_image.specs.States.{current_places, is_current}
 use Rattle.array_image.specs.Supers.{super_in}
 use Rattle.array_image.proofs.Frames.{super_of_sector}
 use Rattle.array_core.proofs.Stripped.{some_same}
 use Rattle.raid_rack.specs.Book.{after_same}
 use Rattle.commit_log.proofs.Places.{joins_none}
+use Rattle.pool_image.specs.Alike.{drive_gate, is_bad_block}
 use Rattle.pool_image.specs.Disks.{Disks, Identity, identities_of, newest, seat_of}
 use Rattle.pool_image.specs.Drives.{Found, drive_sector, extent_of, found, found_by, slices_from, slices_of, truth_from}
-use Rattle.pool_image.specs.Meaning.{array_sectors, arrays_held, is_member, truth_of}
+use Rattle.pool_image.specs.Meaning.{array_sectors, arrays_held, damage_of, has_log, has_supers, has_table, is_member, is_table, super_at, truth_of}
 use Rattle.pool_image.specs.Replay.{Extent, Standing, extent_by, logs_of, standing, standing_by, written}
 use Rattle.pool_image.proofs.Founds.{first_behind}
 use Rattle.pool_image.proofs.Identities.{newest_same, seat_inside, seat_same}
-use Rattle.pool_image.proofs.Rested.{stood_by, written_none}
+use Rattle.pool_image.proofs.Rested.{gate_block, stood_by, written_none}
 use Rattle.pool_image.proofs.Truths.{extent_found, slice_of_member, slice_sector}
 use Rattle.pool_rest.specs.Resting.{seated_state}
 use Rattle.pool_rest.specs.SoundLogs.{HasSoundLogs, IsSoundLog}
@@ -42,6 +43,8 @@ use Rattle.pool_model.proofs.Layers.{IsLaid, laid, none_there}
 use Rattle.pool_model.proofs.NoSuper.{no_super_bare, no_super_in}
 use Rattle.pool_rest.proofs.SameLogs.{logs_same}
 use Rattle.pool_model.proofs.TableRoom.{log_room, member_room}
+use Rattle.pool_model.proofs.Undamaged.{all_below, members_alike}
+use Rattle.pool_model.proofs.Unrefused.{no_damage, no_drive, undamaged}
 
 -- the pool of contents in which nothing is pending
 abbrev pub pool_at : Disks → Image → State → Found
@@ -324,6 +327,41 @@ module _ (disks : Disks) (c i : Image) (s : State) (newest_is : newest disks (id
   alone_kept n p d first low seat none begins within =
       alone_now n p d first low (sym (seats_kept p) ∙ seat) (sym (member_kept n p low) ∙ none) (sym (first_same f g few has has_truths n (omega (arith, low))) ∙ begins) within
 
+  -- a drive that has all its parts keeps them
+  module _ (p d : ℕ) (counts : is_current s p ≡ true) (seat : f.seats p ≡ Some d) where
+    table_kept : has_table g p d ≡ has_table f p d
+    table_kept =
+        ap (λ (z : Identity). option_map_or (is_table g p (disks.sectors d)) z.table false) (ids d (below p d seat))
+        ∙ members_alike f g p (disks.sectors d) refl refl (λ n low. member_kept n p low) (λ n low. extent_now n low ∙ sym (extent_before n low)) (f.identities d).table
+
+    gate_kept : is_bad_gate (slices_of g) p ≡ is_bad_gate (slices_of f) p
+    gate_kept =
+        ap is_bad_block (gate_block g p ∙ drive_kept p drive_gate (omega arith)
+        (λ e there. let room = long p e there in omega (arith, room)) ∙ sym (gate_block f p))
+
+    log_kept : has_log g p ≡ has_log f p
+    log_kept = ap₂ (λ a (logs : Image). not a && not (is_bad_log (current_places s) logs p)) gate_kept logs_kept
+
+    supers_kept : has_supers g p ≡ has_supers f p
+    supers_kept =
+        all_below (λ n. not (is_member g n p) || is_some (super_at g n p)) (λ n. not (is_member f n p) || is_some (super_at f n p)) 0 f.state.made
+        (λ n low. ap₂ (λ a o. not a || is_some o) (member_kept n p (omega (arith, low))) (supers n (omega (arith, low)) p counts))
+
+    whole_kept : damage_of f p ≡ None → damage_of g p ≡ None
+    whole_kept none =
+        let fine = undamaged f p d seat none in
+        no_damage g p d (seats_kept p ∙ seat)
+        (record {
+          table = table_kept ∙ fine.table;
+          copy = ap is_some (copied d (below p d seat)) ∙ fine.copy;
+          log = log_kept ∙ fine.log;
+          supers = supers_kept ∙ fine.supers;
+        })
+
+  parts_kept : (p : ℕ) → is_current s p ≡ true → damage_of f p ≡ None → (o : Option ℕ) → f.seats p ≡ o → damage_of g p ≡ None
+  parts_kept p counts none None free = no_drive g p (seats_kept p ∙ free)
+  parts_kept p counts none (Some d) seat = whole_kept p d counts seat none
+
   pub tables_hold : HoldOpened f 0 i
   tables_hold = record {
     now = g;
@@ -337,6 +375,8 @@ module _ (disks : Disks) (c i : Image) (s : State) (newest_is : newest disks (id
     apart = apart_kept;
     alone = alone_kept;
     stops = inl idle_now;
+    sectors = sectors_kept;
+    parts = λ p counts none. inl (parts_kept p counts none (f.seats p) refl);
   }
 
 -- A pool that was found on the disks, with nothing pending and sound logs, is the one of these contents.

@@ -1,5 +1,5 @@
 -- What it says of contents that they aren't refused, and for what those are whose pool has its drives; and the disks of a whole pool without one are found by the same state.
-use Rattle.std.proofs.Common.{◌≡◌, ◌⊎◌, ℕ, zero, suc, ◌+◌, ◌<◌, ◌≤◌, ◌||◌, Bool, true, false, not, bytes_eq, nat_lt, if◌then◌else◌, is_none, is_some, find, Option, Some, None, option_map, refl, sym, ap, ap₂, subst, ◌∙◌, inl, inr, le-ltb, arith}
+use Rattle.std.proofs.Common.{◌≡◌, ◌⊎◌, ℕ, zero, suc, ◌+◌, ◌<◌, ◌≤◌, ◌||◌, Bool, true, false, not, bytes_eq, nat_lt, if◌then◌else◌, is_none, is_some, find, Option, Some, None, option_map, refl, sym, ap, ap₂, subst, ◌∙◌, inl, inr, le-ltb, lt-ltb, arith}
 use Rattle.std.specs.Option.{option_and_then, option_map_or, option_or}
 use Rattle.std.specs.List.{list_any, range_with_len}
 use Rattle.std.proofs.lemmas.Bool.{both_ways, cases_lt}
@@ -80,6 +80,11 @@ no_damage f p d seat fine =
     superblocks_alone f p d seat fine.table (some_copied (f.identities d).copied fine.copy) fine.log
     ∙ ap (λ s. if not s then Some in_superblock else None) fine.supers
 
+-- nor where there is no drive
+pub no_drive : (f : Found) (p : ℕ) → f.seats p ≡ None → damage_of f p ≡ None
+unfolding damage_of
+no_drive f p free = ap (option_and_then (damage_on f p)) free
+
 -- no place is damaged, or the first one is
 damage_none : (o : Option Part) → is_some o ≡ false → o ≡ None
 damage_none None is = refl
@@ -105,7 +110,39 @@ no_damages f none =
     (none_found (λ place. is_some (damage_of f place)) (current_places f.state)
     (λ p among. ap is_some (none p (sym (names_current f.state p) ∙ among))))
 
+-- the damage that is named is one of a current place
+pub first_damage : (f : Found) (why : Refusal) → first_damaged f ≡ Some why
+    → (p : ℕ) × (part : Part) × (is_current f.state p ≡ true) × (damage_of f p ≡ Some part) × (why ≡ damaged p part)
+first_damage f why is = of (find (λ place. is_some (damage_of f place)) (current_places f.state)) refl is
+  where
+    by : (p : ℕ) → is_current f.state p ≡ true → (o : Option Part) → damage_of f p ≡ o → option_map (damaged p) o ≡ Some why
+        → (p : ℕ) × (part : Part) × (is_current f.state p ≡ true) × (damage_of f p ≡ Some part) × (why ≡ damaged p part)
+    by p now None here at = absurd (none-some why at)
+    by p now (Some part) here at = (p, part, now, here, sym (some_same (damaged p part) why at))
+
+    of : (o : Option ℕ) → find (λ place. is_some (damage_of f place)) (current_places f.state) ≡ o
+        → option_and_then (λ place. option_map (damaged place) (damage_of f place)) o ≡ Some why
+        → (p : ℕ) × (part : Part) × (is_current f.state p ≡ true) × (damage_of f p ≡ Some part) × (why ≡ damaged p part)
+    of None lowest at = absurd (none-some why at)
+    of (Some p) lowest at =
+        by p (sym (names_current f.state p) ∙ (find_passes (λ place. is_some (damage_of f place)) (current_places f.state) p lowest).1) (damage_of f p) refl at
+
 -- ---- no refusal
+
+-- not many drives are wanting then
+pub unrefused_few : (f : Found) → refused_by f ≡ None → absent_count f ≤ 1
+unfolding refused_by
+unrefused_few f none = of (nat_lt 1 (absent_count f)) refl none
+  where
+    of : (b : Bool) → nat_lt 1 (absent_count f) ≡ b
+        → (if b then Some (absent (absent_count f)) else option_or (first_damaged f) (option_or (option_map too_few (find (is_too_few f) (arrays_of f)))
+        (option_or (option_map dirty_degraded (find (is_dirty_degraded f) (arrays_of f))) (option_map bad_volume (first_bad (joined_arrays f)))))) ≡ None
+        → absent_count f ≤ 1
+    of true many at = absurd (none-some (absent (absent_count f)) (sym at))
+    of false few at = elim (cases_lt 1 (absent_count f)) [
+      | inl more ↦ absurd (both_ways (nat_lt 1 (absent_count f)) few (lt-ltb 1 (absent_count f) more))
+      | inr least ↦ least
+    ]
 
 pub unrefused : (f : Found) → refused_by f ≡ None → (first_damaged f ≡ None) × (first_bad (joined_arrays f) ≡ None)
 unfolding refused_by
@@ -172,17 +209,16 @@ other_pool g same own other = of (find is_other (all_disks g.disks)) refl (any_f
         let low = range_below 0 g.disks.count d at.1 in
         by d (omega (arith, low)) (g.before.identities d).copied refl at.0
 
--- A pool whose drives are there and which has no bad array is refused for another pool's disk, for one of its arrays or for a damage.
-module _ (g : Found) (Excuse : Refusal → Type 0) (others : HasOtherPool g → Excuse two_pools)
-    (few : (n : ℕ) → n < g.state.made → is_too_few g n ≡ true → Excuse (too_few n))
+-- A pool that lacks no more than a drive and has no bad array is refused for one of its arrays or for a damage.
+module _ (g : Found) (Excuse : Refusal → Type 0) (few : (n : ℕ) → n < g.state.made → is_too_few g n ≡ true → Excuse (too_few n))
     (dirty : (n : ℕ) → n < g.state.made → is_dirty_degraded g n ≡ true → Excuse (dirty_degraded n))
-    (present : absent_count g ≡ 0) (good : first_bad (joined_arrays g) ≡ None) (why : Refusal) where
-  refused_or : refused_by g ≡ Some why → Excuse why ⊎ (first_damaged g ≡ Some why)
+    (present : absent_count g ≤ 1) (good : first_bad (joined_arrays g) ≡ None) (why : Refusal) where
+  pub refused_or : refused_by g ≡ Some why → Excuse why ⊎ (first_damaged g ≡ Some why)
   unfolding refused_by
   refused_or is =
       of (first_damaged g) (find (is_too_few g) (arrays_of g)) (find (is_dirty_degraded g) (arrays_of g)) refl refl refl
-      (sym (ap₂ (λ k o. if nat_lt 1 k then Some (absent k) else option_or (first_damaged g) (option_or (option_map too_few (find (is_too_few g) (arrays_of g)))
-      (option_or (option_map dirty_degraded (find (is_dirty_degraded g) (arrays_of g))) (option_map bad_volume o)))) present good)
+      (sym (ap₂ (λ b o. if b then Some (absent (absent_count g)) else option_or (first_damaged g) (option_or (option_map too_few (find (is_too_few g) (arrays_of g)))
+      (option_or (option_map dirty_degraded (find (is_dirty_degraded g) (arrays_of g))) (option_map bad_volume o)))) (le-ltb 1 (absent_count g) present) good)
       ∙ is)
     where
       below : (n : ℕ) → names (arrays_of g) n ≡ true → n < g.state.made
@@ -199,7 +235,11 @@ module _ (g : Found) (Excuse : Refusal → Type 0) (others : HasOtherPool g → 
           inl (subst Excuse (some_same (dirty_degraded n) why at) (dirty n (below n lacks.1) lacks.0))
       of None None None wants one two at = absurd (none-some why at)
 
-  -- So are contents that have such a pool, where the copies of its drives are of it.
+-- Where all its drives are there and their copies are of it, so are contents that have it, or for another pool's disk.
+module _ (g : Found) (Excuse : Refusal → Type 0) (others : HasOtherPool g → Excuse two_pools)
+    (few : (n : ℕ) → n < g.state.made → is_too_few g n ≡ true → Excuse (too_few n))
+    (dirty : (n : ℕ) → n < g.state.made → is_dirty_degraded g n ≡ true → Excuse (dirty_degraded n))
+    (present : absent_count g ≡ 0) (good : first_bad (joined_arrays g) ≡ None) (why : Refusal) where
   pub refused_so : (c : Image) → standing g.disks c ≡ Some g.before → found g.disks c ≡ Some g → g.state.pool ≡ g.before.state.pool
       → ((p d : ℕ) (copy : Copied) → g.seats p ≡ Some d → (g.before.identities d).copied ≡ Some copy → copy.state.pool ≡ g.state.pool)
       → refusal_of g.disks c ≡ Some why → Excuse why ⊎ (first_damaged g ≡ Some why)
@@ -210,7 +250,8 @@ module _ (g : Found) (Excuse : Refusal → Type 0) (others : HasOtherPool g → 
       of : (b : Bool) → has_other_pool g.disks g.before ≡ b → (if b then Some two_pools else option_map_or refused_by (found g.disks c) (Some no_pool)) ≡ Some why
           → Excuse why ⊎ (first_damaged g ≡ Some why)
       of true other at = inl (subst Excuse (some_same two_pools why at) (others (other_pool g same own other)))
-      of false none at = refused_or (sym (ap (λ o. option_map_or refused_by o (Some no_pool)) found_at) ∙ at)
+      of false none at =
+          refused_or g Excuse few dirty (let none = present in omega (arith, none)) good why (sym (ap (λ o. option_map_or refused_by o (Some no_pool)) found_at) ∙ at)
 
 -- ---- tables
 

@@ -5,7 +5,7 @@ use Rattle.gpt_table.specs.Changes.{the_table}
 use Rattle.array_image.specs.States.{is_current}
 use Rattle.pool_image.specs.Disks.{Disks}
 use Rattle.pool_image.specs.Drives.{Found, found}
-use Rattle.pool_image.specs.Meaning.{array_sectors, arrays_held, has_table}
+use Rattle.pool_image.specs.Meaning.{array_sectors, arrays_held, damage_of, has_table, in_superblock}
 use Rattle.pool_image.specs.Replay.{Standing, standing}
 use Rattle.pool_rest.specs.Moments.{TakesLowerIn}
 use Rattle.pool_rest.specs.SoundLogs.{HasSoundLogs}
@@ -43,7 +43,7 @@ abbrev pub MayReplay : Disks → Image → Found → Type 0
 MayReplay disks i g = IsIdleIn disks i ⊎ (StoodInLog g × TakesLowerIn disks i)
 
 -- Contents of the disks of a pool f, as a stop inside an opening leaves them, hold it still: they have a sound pool, whose logs are sound, by f's state or
--- one to which just marks of places have come that have no disk. Each place that is current by it has the disk that it had, and the arrays hold what they
+-- one to which just marks of places have come that have no disk. Each place that is current by it has the disk that it had, and the arrays have their sizes and hold what they
 -- held, from a sector of theirs on: from the first one up to when the volume's texts are brought up to date, from the first extent's on meanwhile. Targets
 -- land where its slices are by the drives' tables, no superblock of an array stands on a drive that is no member of it, and a record that is pending may be replayed.
 pub record HoldOpened (f : Found) (from : ℕ) (i : Image) : Type 0 where
@@ -58,3 +58,6 @@ pub record HoldOpened (f : Found) (from : ℕ) (i : Image) : Type 0 where
   pub apart : LieApart now
   pub alone : AreAlone now now.contents
   pub stops : MayReplay f.disks i now
+  pub sectors : (n : ℕ) → n < f.state.made → array_sectors now n ≡ array_sectors f n
+  -- the drive of a place that had all its parts keeps its table, its copy and its log
+  pub parts : (p : ℕ) → is_current now.state p ≡ true → damage_of f p ≡ None → (damage_of now p ≡ None) ⊎ (damage_of now p ≡ Some in_superblock)

@@ -16,7 +16,7 @@ use Rattle.lvm_group.specs.Runs.{Linear, sectors_in}
 use Rattle.lvm_group.specs.Shown.{contents_of}
 use Rattle.pool_image.specs.Disks.{Disks}
 use Rattle.pool_image.specs.Drives.{Found, found}
-use Rattle.pool_image.specs.Meaning.{Refusal, Volume, absent, bad_volume, damaged, dirty_degraded, in_superblock, is_dirty_degraded, is_too_few, lacking_of, meaning, no_pool, refusal_of, shape_of, too_few, truth_of, two_pools}
+use Rattle.pool_image.specs.Meaning.{Refusal, Volume, absent, arrays_held, bad_volume, damage_of, damaged, dirty_degraded, has_other_pool, in_superblock, is_dirty_degraded, is_too_few, lacking_of, meaning, no_pool, refusal_of, shape_of, too_few, truth_of, two_pools}
 use Rattle.pool_model.specs.Grouped.{HaveOwnAreas, IsVolumeOf}
 
 -- contents of disks in whole sectors
@@ -55,9 +55,8 @@ MayRefuseBy v f (dirty_degraded n) =
     (n < v.state.made) × (0 < lacking_of (shape_by_book (v.arrays n))) × ((v.arrays n).young ≡ false → (v.arrays n).resync < rows_of (v.arrays n))
 MayRefuseBy v f (bad_volume n) = ⊥
 
--- Contents of the disks of a pool have a pool whose volume lies so on its arrays; where they aren't refused they mean this volume, with what the slices hold once what is pending is
--- written.
-pub record HoldVolume (f : Found) (t : Slices) (l : Linear) (i : Image) : Type 0 where
+-- Contents of the disks of a pool have a pool whose volume lies so on its arrays; where they aren't refused they mean this volume, with what c has on the arrays.
+pub record HoldVolumeBy (f : Found) (c : Image) (l : Linear) (i : Image) : Type 0 where
   pub now : Found
   pub found_is : found f.disks i ≡ Some now
   pub lies : IsVolumeOf now l
@@ -65,7 +64,11 @@ pub record HoldVolume (f : Found) (t : Slices) (l : Linear) (i : Image) : Type 0
   pub means :
       refusal_of f.disks i ≡ None
       → (volume : Volume) × (meaning f.disks i ≡ Some (volume ∷ [])) × (volume.sectors ≡ sectors_in l)
-      × ((s : ℕ) → s < sectors_in l → volume.contents s ≡ contents_of l (arrays_in (replayed (sectors_of t) (sliced t i))) 0 s)
+      × ((s : ℕ) → s < sectors_in l → volume.contents s ≡ contents_of l c 0 s)
+
+-- They do so with what the slices hold once what is pending is written.
+abbrev pub HoldVolume : Found → Slices → Linear → Image → Type 0
+HoldVolume f t l i = HoldVolumeBy f (arrays_in (replayed (sectors_of t) (sliced t i))) l i
 
 -- By a book the member of an array on a place has no row that counts: it is to be rebuilt from its start.
 pub record HasEmptyMember (v : Raid) (place : ℕ) : Type 0 where
@@ -99,3 +102,20 @@ pub record Reopens (f : Found) (t : Slices) (l : Linear) (v : Raid) (i : Image) 
       (n : ℕ) (u : Super) → n < v.state.made → truth_of volume.now n ≡ Some u → (v.arrays n).young ≡ false → is_whole_array (v.arrays n) ≡ false
       → first_unsynced u ≡ (v.arrays n).resync
   pub excused : (why : Refusal) → refusal_of f.disks i ≡ Some why → MayRefuseBy v volume.now why
+
+-- Why contents may be refused that a stop inside an opening leaves: two disks were of two pools before the record was replayed, or a superblock wants on the drive of a current place,
+-- or an array lacks members by its superblocks and marks. No other part of a drive is damaged, no more drives are wanting than the opening could do without, and no array's part of the
+-- volume is bad.
+abbrev pub MayRefuseOpened : Found → Refusal → Type 0
+MayRefuseOpened f no_pool = ⊥
+MayRefuseOpened f two_pools = has_other_pool f.disks f.before ≡ true
+MayRefuseOpened f (absent count) = ⊥
+MayRefuseOpened f (damaged place part) = (part ≡ in_superblock) × (is_current f.state place ≡ true) × (damage_of f place ≡ Some in_superblock)
+MayRefuseOpened f (too_few n) = is_too_few f n ≡ true
+MayRefuseOpened f (dirty_degraded n) = is_dirty_degraded f n ≡ true
+MayRefuseOpened f (bad_volume n) = ⊥
+
+-- Contents that a stop inside the opening of a pool leaves on its disks mean the volume that lies so on its arrays, with what these hold, unless they are refused for such a reason.
+pub record HoldMeaning (f : Found) (l : Linear) (i : Image) : Type 0 where
+  pub volume : HoldVolumeBy f (arrays_held f) l i
+  pub excused : (why : Refusal) → refusal_of f.disks i ≡ Some why → MayRefuseOpened volume.now why
