@@ -21,7 +21,7 @@ use Rattle.pool_image.specs.Meaning.{array_sectors, arrays_held}
 use Rattle.pool_model.specs.Left.{AreAlone, AreAloneBy, IsPickOff}
 use Rattle.pool_model.specs.Openings.{HoldOpened}
 use Rattle.pool_model.specs.Stopped.{HaveTables, HoldBetween, LieByTables}
-use Rattle.pool_model.proofs.Amid.{IsReady, tables_amid, tables_lie}
+use Rattle.pool_model.proofs.Amid.{IsReady, inside_of, nothing_past, off_amid, tables_amid, tables_lie}
 use Rattle.pool_model.proofs.Found.{IsFound}
 use Rattle.pool_model.proofs.Marking.{marking_amid, parts_tell}
 use Rattle.pool_model.proofs.Openings.{amid_opened}
@@ -66,8 +66,10 @@ module _ (f : Found) (t : Slices) (v w : Raid) (x y : Seen) (spent : ℕ → ℕ
 
     opened : HoldOpened f 0 i
     opened =
-        amid_opened f t v.state w.state 0 i ready.after marks gives
-        (holds.new k i late early stop (lie.new k i late early stop) (λ n p d first low counts. lone.new k i late early stop n p d first low))
+        (amid_opened f t v.state w.state 0 i ready.after marks gives ready.slices (inside_of f t x ready.disks inside)
+        (ready.elsewhere i (off_amid t x y lasting only traced k i late early stop))
+        ((parts_tell f.state.made v w (slices_of t x) (slices_of t y) vals spent some parts amid copies since traced).since.new k (sliced t i) late early (i, stop, λ j u. refl) (nothing_past t i))
+        (holds.new k i late early stop (lie.new k i late early stop) (λ n p d first low counts. lone.new k i late early stop n p d first low))).0
 
   pub marking_leaves : Leaves x y (HoldOpened f 0)
   marking_leaves = record { later = holds.later; kept = holds.kept; past = holds.past; new = opened }

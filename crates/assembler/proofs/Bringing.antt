@@ -1,5 +1,6 @@
 -- While a volume is opened on a pool's arrays, and their texts are brought up to date, what a stop leaves holds the pool.
-use Rattle.std.proofs.Common.{◌≡◌, ℕ, ◌<◌, ◌≤◌, ◌&&◌, false, is_some, List, Some, inl, inr, refl, sym, ap, subst, ◌∙◌, arith}
+use Rattle.std.proofs.Common.{◌≡◌, ℕ, ◌<◌, ◌≤◌, ◌&&◌, false, is_some, length, List, Some, inl, inr, refl, sym, ap, subst, ◌∙◌, arith}
+use Rattle.rack.specs.Joins.{leaves_weaker}
 use Rattle.rack.specs.Moments.{Leaves}
 use Rattle.rack.specs.Seen.{Image, IsLive, Seen}
 use Rattle.rack.specs.Sequences.{WritesOnly}
@@ -24,17 +25,26 @@ use Rattle.raid_rack.specs.Laws.{live_parts}
 use Rattle.raid_rack.specs.Raid.{Raid, is_over}
 use Rattle.raid_rack.specs.RaidRack.{raid_in, raid_seen, slices_in, slices_seen as slices_shown}
 use Rattle.raid_rack.specs.Runs.{KeepsMoments}
+use Rattle.raid_rack.specs.Since.{AreSince}
 use Rattle.pool_model.specs.Left.{AreAlone, AreAloneBy, AreElsewhere, IsPickOff}
 use Rattle.pool_model.specs.Openings.{HoldOpened}
 use Rattle.pool_model.specs.Pools.{AreSlicesOf, IsSoundPool}
-use Rattle.pool_model.specs.Stopped.{HaveTables, HoldAmid, LieByTables}
-use Rattle.pool_model.proofs.Amid.{IsReady, ready_amid, tables_amid, tables_lie}
+use Rattle.pool_model.specs.Reopening.{AreWholeSectors}
+use Rattle.pool_model.specs.Stopped.{HaveTables, HoldAmid, HoldBetween, LieByTables}
+use Rattle.pool_model.proofs.Amid.{IsReady, inside_of, moments_since, nothing_past, off_amid, ready_amid, tables_amid, tables_lie}
 use Rattle.pool_model.proofs.Found.{found_is}
 use Rattle.pool_model.proofs.Openings.{amid_opened}
 use Rattle.pool_model.proofs.Outset.{outset_of}
+use Rattle.pool_model.proofs.Sectors.{still_sized}
 use Rattle.assembler.specs.Holding.{HoldsArrays}
 use Rattle.assembler.specs.Volume.{AllLive}
 use Rattle.assembler.proofs.Alone.{alone_stops}
+
+-- Contents hold the pool so, with what its slices give once the pending record is written, and in whole sectors where the disks' are.
+pub record GivesOpened (e : Found) (t : Slices) (from : ℕ) (i : Image) : Type 0 where
+  pub opened : HoldOpened e from i
+  pub gives : (n x : ℕ) → n < e.state.made → arrays_held opened.now n x ≡ arrays_in (replayed (sectors_of t) (sliced t i)) n x
+  pub whole : AreWholeSectors e.disks i → (n x : ℕ) → n < e.state.made → length (arrays_held opened.now n x) ≡ 512
 
 -- The arrays `raid` were made over the slices t of a pool e, which is f at rest, all of them ready for the volume; calls from then on write no sector of the
 -- arrays but before `from`, and in the end just the places without a disk are marked.
@@ -142,10 +152,37 @@ module _ {R : Type 0} (seen : R → Seen) (runs : R → R → Type 0) (e f : Fou
         ]
         ∙ ap (λ (k : Arrays). k.contents n x) (joined_same e f pool)
 
-    opened : HoldOpened e from i
+    between : HoldBetween e t v.state w.state i
+    between = (amid.new k i late early stop (lie.new k i late early stop) (λ n p d first low counts. lone.new k i late early stop n p d first low)).between
+
+    now_made : (n : ℕ) → n < e.state.made → n < between.still.now.state.made
+    now_made n low =
+        let same = ap (λ (s : State). s.made) between.still.state in
+        let later = between.later.same.made in
+        let made = begun.same.made in
+        omega (arith, low, same, later, made)
+
+    since : AreSince v.state (sectors_of t) (sliced t i)
+    since =
+        let first : 0 < e.state.made = (let least = is_ready.outset.made.0 in omega (arith, least)) in
+        ((moments_since v w (slices_of t z) (slices_of t y) moments (holds.told 0 (small 0 first)) (lasts 0 first)).leaves traced).new k (sliced t i) late early
+        (i, stop, λ j u. refl) (nothing_past t i)
+
+    opened : GivesOpened e t from i
     opened =
-        amid_opened e t v.state w.state from i begun marks (value_in t (sym there))
-        (amid.new k i late early stop (lie.new k i late early stop) (λ n p d first low counts. lone.new k i late early stop n p d first low)).between
+        let one =
+        amid_opened e t v.state w.state from i begun marks (value_in t (sym there)) slices (inside_of e t z is_ready.disks inside)
+        (elsewhere i (off_amid t z y lasting only traced k i late early stop)) since between in
+        record {
+          opened = one.0;
+          gives = λ n x low. ap (λ (h : Found). arrays_held h n x) one.1 ∙ between.still.values n x low;
+          whole = λ sized n x low.
+              ap (λ (h : Found). length (arrays_held h n x)) one.1
+              ∙ still_sized e t between.state i between.still (inside_of e t z is_ready.disks inside) sized n (now_made n low) x;
+        }
+
+  pub bringing_gives : Leaves z y (GivesOpened e t from)
+  bringing_gives = record { later = amid.later; kept = amid.kept; past = amid.past; new = opened }
 
   pub bringing_leaves : Leaves z y (HoldOpened e from)
-  bringing_leaves = record { later = amid.later; kept = amid.kept; past = amid.past; new = opened }
+  bringing_leaves = leaves_weaker (GivesOpened e t from) (HoldOpened e from) (λ i gives. gives.opened) bringing_gives

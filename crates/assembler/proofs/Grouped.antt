@@ -6,7 +6,7 @@ use Rattle.rack.specs.Moments.{Leaves}
 use Rattle.rack.specs.Seen.{Image, IsLive, IsPick, Seen}
 use Rattle.lvm_group.specs.Brought.{IsEven}
 use Rattle.lvm_group.specs.Group.{group_in}
-use Rattle.lvm_group.specs.Images.{HoldOnly, IsSettled, MeansVolume, over}
+use Rattle.lvm_group.specs.Images.{HoldOnly, IsSettled, IsVolume, MeansVolume, over}
 use Rattle.lvm_group.specs.Opening.{AreNow, AreServed, Means, within_sectors}
 use Rattle.lvm_group.specs.Runs.{Linear, data_start}
 use Rattle.lvm_group.proofs.OwnGroup.{own_sized}
@@ -82,12 +82,12 @@ module _ {R : Type 0} (seen : R → Seen) (runs : R → R → Type 0) (f : Found
   now : AreNow p joined (arrays_held f)
   now n low = now_held seen runs f a x holds fresh n (low_of n low)
 
-  extent_is : u.state.extent ≡ l.extent
+  pub extent_is : u.state.extent ≡ l.extent
   extent_is =
       let is = opens.opens.means (arrays_held f) served now in
       sym (ap (λ (k : Linear). k.extent) is.volume ∙ own_sized u.state.pool.0 u.state.extent joined p.sectors is.group is.own)
 
-  arrays_are : l.arrays ≡ joined
+  pub arrays_are : l.arrays ≡ joined
   arrays_are = ap (λ (k : Linear). k.arrays) (opens.opens.means (arrays_held f) served now).volume
 
   means : MeansVolume u.state.pool.0 joined p.sectors l seqno before
@@ -146,25 +146,28 @@ module _ {R : Type 0} (seen : R → Seen) (runs : R → R → Type 0) (f : Found
 
   -- ---- at each moment
 
-  -- contents that have the pool's own sectors before the first extents mean the volume, by the arrays' sizes
-  pub given_means : (c : Image) → ((n s : ℕ) → n < joined → s < data_start → c n s ≡ arrays_held f n s) → MeansVolume u.state.pool.0 joined p.sectors l seqno c
-  given_means c same = means_below u.state.pool.0 joined p.sectors l seqno before c settled.areas means (λ n s low first. same n s low first ∙ sym (reads n s low first))
+  -- contents that have the pool's own sectors before the first extents mean the volume, by the arrays' sizes, and have the pool's metadata areas
+  pub given_volume : (c : Image) → ((n s : ℕ) → n < joined → s < data_start → c n s ≡ arrays_held f n s) → IsVolume u.state.pool.0 joined l seqno p.sectors c
+  given_volume c same = record {
+    areas = λ n low. area_below (arrays_held f n) (c n) (sectors_of (u.arrays n)) (own n (low_of n low)) (λ s first. same n s low first);
+    means = means_below u.state.pool.0 joined p.sectors l seqno before c settled.areas means (λ n s low first. same n s low first ∙ sym (reads n s low first));
+  }
 
   -- texts are brought up to date
-  mid_means : p.traced → Leaves p q (MeansVolume u.state.pool.0 joined p.sectors l seqno)
-  mid_means traced =
+  mid_volume : p.traced → Leaves p q (IsVolume u.state.pool.0 joined l seqno p.sectors)
+  mid_volume traced =
       let right = opens.brings.right before settled (λ n low. served n (subst (λ k. n < k) (sym all) low)) in
       leaves_weaker
-      (λ c. (k : Image) → IsSettled u.state.pool.0 joined l seqno p q k → group_in k p.sectors joined ≡ Some opens.opens.runs.group → MeansVolume u.state.pool.0 joined p.sectors l seqno c)
-      (MeansVolume u.state.pool.0 joined p.sectors l seqno) (λ c means. means before settled right) (opens.brings.images traced)
+      (λ c. (k : Image) → IsSettled u.state.pool.0 joined l seqno p q k → group_in k p.sectors joined ≡ Some opens.opens.runs.group → IsVolume u.state.pool.0 joined l seqno p.sectors c)
+      (IsVolume u.state.pool.0 joined l seqno p.sectors) (λ c means. means before settled right) (opens.brings.images traced)
 
   -- and then superblocks are made to agree
-  last_means : q.traced → Leaves q (raid_seen seen y) (MeansVolume u.state.pool.0 joined p.sectors l seqno)
-  last_means traced =
-      leaves_weaker (IsPick q (raid_seen seen y) q.held) (MeansVolume u.state.pool.0 joined p.sectors l seqno)
+  last_volume : q.traced → Leaves q (raid_seen seen y) (IsVolume u.state.pool.0 joined l seqno p.sectors)
+  last_volume traced =
+      leaves_weaker (IsPick q (raid_seen seen y) q.held) (IsVolume u.state.pool.0 joined l seqno p.sectors)
       (λ c pick.
-      means_below u.state.pool.0 joined p.sectors l seqno brought.0 c brought.2.areas brought.2.means
-      (λ n s low first.
+      let same : (n s : ℕ) → n < joined → s < data_start → c n s ≡ brought.0 n s =
+      λ n s low first.
       let enough = room n low in
       let size = kept.2.sectors n in
       brought.1 n s (c n s) low first (pick n s (record {
@@ -172,9 +175,13 @@ module _ {R : Type 0} (seen : R → Seen) (runs : R → R → Type 0) (f : Found
         sector = omega (arith, first, enough, size);
         is_told = early.1.moments.told n (holds.told n (low_of n low));
         unspent = alive n s (let same = kept.1.book.same.joined in omega (arith, low, same)) (omega (arith, first, enough, size));
-      }))))
+      })) in
+      record {
+        areas = λ n low. area_below (brought.0 n) (c n) (sectors_of (u.arrays n)) (brought.2.areas n low) (λ s first. same n s low first);
+        means = means_below u.state.pool.0 joined p.sectors l seqno brought.0 c brought.2.areas brought.2.means same;
+      })
       (opens.agrees.values.keeps.stops traced)
 
-  pub brought_means : p.traced → Leaves p (raid_seen seen y) (MeansVolume u.state.pool.0 joined p.sectors l seqno)
-  brought_means traced =
-      leaves_then (MeansVolume u.state.pool.0 joined p.sectors l seqno) (mid_means traced) (last_means (opens.brings.writes.stays.traced traced))
+  pub brought_volume : p.traced → Leaves p (raid_seen seen y) (IsVolume u.state.pool.0 joined l seqno p.sectors)
+  brought_volume traced =
+      leaves_then (IsVolume u.state.pool.0 joined l seqno p.sectors) (mid_volume traced) (last_volume (opens.brings.writes.stays.traced traced))

@@ -35,6 +35,23 @@ use Rattle.assembler.specs.Volume.{AllLive, OpensVolume}
 use Rattle.assembler.proofs.Volumes.{opened_writes}
 use Rattle.assembler.proofs.Moments.{GivesArrays, alike_values, brought_leave, e, gives_volume, made_leave, read_leave}
 
+-- What holds of the arrays' contents at each moment from one rack of arrays to another holds of what the disks below give.
+pub brought_says : {R : Type 0} (seen : R → Seen) (raid last : RaidRack R) (P : Image → Type 0) (later : ℕ → ℕ → List ℕ → Type 0)
+    → Leaves (raid_seen seen raid) (raid_seen seen last) P → WritesOnly (seen (below_of (slices_in raid))) (seen (below_of (slices_in last))) later
+    → (seen (below_of (slices_in raid))).traced
+    → Leaves (seen (below_of (slices_in raid))) (seen (below_of (slices_in last)))
+    (λ i. P (arrays_in (replayed (sectors_of (tables (slices_in last))) (sliced (tables (slices_in last)) i))))
+brought_says seen raid last P later late written traced =
+    let stops = written.stops traced in
+    record {
+      later = stops.later;
+      kept = stops.kept;
+      past = stops.past;
+      new = λ k i since until stop.
+          late.new k (arrays_in (replayed (sectors_of (tables (slices_in last))) (sliced (tables (slices_in last)) i))) since until
+          (sliced (tables (slices_in last)) i, (i, stop, λ j u. refl), λ j u. refl);
+    }
+
 module _ (f : Found) (t : Slices) (y : Seen) (checked : Checked) (absent : List ℕ) (orderly : IsOrderly t)
     (m : AreMembers f.state t y checked absent) (steady : AreSteady y) (pool : IsPoolOn f.state t y f)
     (found : IsChecked (is_well None) f checked) (sound : IsSoundPool f) (log : LogView) (idle : IsIdle f.state t y log) where
@@ -89,7 +106,6 @@ module _ (f : Found) (t : Slices) (y : Seen) (checked : Checked) (absent : List 
       let z : Seen = seen (below_of (slices_in raid)) in
       let w : Seen = seen (below_of (slices_in last)) in
       let says : Slices → Image → Type 0 = λ u i. P (arrays_in (replayed (sectors_of u) (sliced u i))) in
-      let stops = written.stops after in
       let one : Leaves a y (says t) =
       leaves_weaker IsAsRead (says t)
       (λ i alike.
@@ -101,15 +117,7 @@ module _ (f : Found) (t : Slices) (y : Seen) (checked : Checked) (absent : List 
       given (arrays_in (replayed (sectors_of t) (sliced t i)))
       (λ n s joined first. gives n s joined (let room = holds.room n joined in let size = holds.sectors n joined in omega (arith, room, size, first))))
       (made_leave f v t y z may (subst (λ u. HoldsArrays f v (slices_seen t y) (slices_seen u z)) same holds) made writes traced) in
-      let three : Leaves z w (says (tables (slices_in last))) =
-      record {
-        later = stops.later;
-        kept = stops.kept;
-        past = stops.past;
-        new = λ k i since until stop.
-            late.new k (arrays_in (replayed (sectors_of (tables (slices_in last))) (sliced (tables (slices_in last)) i))) since until
-            (sliced (tables (slices_in last)) i, (i, stop, λ j u. refl), λ j u. refl);
-      } in
+      let three : Leaves z w (says (tables (slices_in last))) = brought_says seen raid last P later late written after in
       leaves_then (says (tables (slices_in last))) (subst (λ u. Leaves a z (says u)) (sym there) (leaves_then (says t) one two)) three
 
   -- and where an array is bad, and nothing is written any more, the arrays

@@ -25,6 +25,7 @@ mod Marks
 mod Meaning
 mod Mended
 mod Moments
+mod Numbered
 mod Refusals
 mod Rest
 mod Roles
@@ -55,3 +56,5 @@ pub mod Gates
 pub mod Marked
 pub mod Stopping
 pub mod Rested
+mod Reopening
+mod Raised

@@ -4,6 +4,7 @@ pub mod Marking
 pub mod Members
 pub mod Mending
 pub mod Moments
+pub mod Raising
 pub mod Refusing
 pub mod Rested
 pub mod Sound

@@ -1,5 +1,5 @@
 -- Drives that an opening marks missing, each with its cause.
-use Rattle.std.specs.Prelude.{◌≡◌, ◌⊎◌, ℕ, true, false, List, None}
+use Rattle.std.specs.Prelude.{◌≡◌, ◌⊎◌, ℕ, ◌+◌, ◌≤◌, true, false, List, None}
 use Rattle.rack.specs.Seen.{Seen}
 use Rattle.pool_state.specs.declared.contents.State.{State}
 use Rattle.array_image.specs.States.{is_current}
@@ -10,6 +10,7 @@ use Rattle.pool_scan.specs.Scanning.{AllTold}
 use Rattle.pool_rest.specs.Standing.{IsLasting, IsNewest, IsOnePool, since}
 use Rattle.pool_check.specs.Drives.{Goes}
 use Rattle.raid_rack.specs.Book.{IsAfter}
+use Rattle.assembler.specs.Raising.{most_opening}
 
 -- Each place that is current in state s, and in state t isn't any more, had no disk, or its disk refused a call between x and y.
 abbrev pub AreMarkedFor : Seen → Seen → Seats → State → State → Type 0
@@ -26,3 +27,5 @@ pub record MarksDrives {R : Type 0} (seen : R → Seen) (runs : R → R → Type
   pub one : IsOnePool known state
   pub after : IsAfter state now
   pub marks : AreMarkedFor (seen rack) (seen back) (seat_by state known) state now
+  -- each commit of marks is one epoch more, and so is one that makes superblocks agree
+  pub epoch : now.epoch ≤ state.epoch + most_opening

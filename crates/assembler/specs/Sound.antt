@@ -1,16 +1,18 @@
 -- Disks from which a pool is opened, and what an opening answers by what they mean.
-use Rattle.std.specs.Prelude.{◌≡◌, ◌⊎◌, ◌<◌, ◌&&◌, ℕ, ◌∷◌, [], Some, is_some}
+use Rattle.std.specs.Prelude.{◌≡◌, ◌⊎◌, ◌+◌, ◌<◌, ◌≤◌, ◌&&◌, ℕ, ◌∷◌, [], Some, is_some}
 use Rattle.rack.specs.Seen.{Image, IsPick, Seen}
 use Rattle.rack.specs.Moments.{Leaves}
 use Rattle.slice_rack.specs.Slices.{Slices}
 use Rattle.slice_rack.specs.SliceRack.{below_of, tables}
 use Rattle.pool_state.specs.declared.contents.Copied.{Copied}
 use Rattle.array_image.specs.Left.{IsLeft}
+use Rattle.array_image.specs.Record.{Gate, gate_of}
 use Rattle.array_image.specs.States.{is_current}
 use Rattle.md_super.specs.declared.superblock.Super.{Super}
 use Rattle.pool_state.specs.declared.contents.State.{State}
 use Rattle.lvm_group.specs.Runs.{Linear}
 use Rattle.lvm_group.specs.Shown.{volume_of}
+use Rattle.pool_image.specs.Alike.{drive_gate}
 use Rattle.pool_image.specs.Disks.{disks_of}
 use Rattle.pool_image.specs.Drives.{Found, found}
 use Rattle.pool_image.specs.Meaning.{Volume, meaning, refusal_of, truth_of}
@@ -33,11 +35,13 @@ pub use Rattle.pool_model.specs.Left.{AreAlone}
 use Rattle.pool_model.specs.Left.{AreElsewhere, HoldSame, IsPickOff}
 use Rattle.pool_model.specs.Openings.{HoldOpened, MayReplay}
 use Rattle.pool_model.specs.Pools.{AreSlicesOf, IsSoundPool}
+use Rattle.pool_model.specs.Reopening.{AreWholeSectors, HoldMeaning}
 pub use Rattle.pool_model.specs.Stopped.{HaveStood, LieApart}
 use Rattle.pool_model.specs.Stopped.{HaveTables}
 use Rattle.assembler.specs.Holding.{AreSteady, IsArrayOf}
 use Rattle.assembler.specs.Refusing.{meant_by}
 use Rattle.assembler.specs.Moments.{GivesPool, HoldsAt, SaysVolume}
+use Rattle.assembler.specs.Raising.{most_opening}
 use Rattle.assembler.specs.Volume.{AllLive, HoldsVolume}
 
 -- Disks that hold a sound pool: they are told, each sector of them has one value, and by these the pool's logs, states and
@@ -69,9 +73,19 @@ StopsHold x y f from =
     MayReplay (disks_of x) (now_in x) f → TargetsLand f → f.state.joined ≡ f.state.made → AreAlone f f.contents → x.traced
     → Leaves x y (HoldOpened f from)
 
+-- And where the arrays have the pool's metadata areas it means the volume that lies so on them, with what they hold, unless it is refused for a named reason: where it is in whole sectors.
+abbrev pub StopsMean : Seen → Seen → Found → Linear → Type 0
+StopsMean x y f l =
+    f.state.joined ≡ f.state.made → HaveOwnAreas f → MayReplay (disks_of x) (now_in x) f → TargetsLand f → AreAlone f f.contents → x.traced
+    → Leaves x y (λ i. AreWholeSectors f.disks i → HoldMeaning f l i)
+
 -- no disk had the state of another pool, once the pending record was replayed
 abbrev pub HaveOnePool : Found → Type 0
 HaveOnePool f = (d : ℕ) (copy : Copied) → d < f.disks.count → (f.identities d).copied ≡ Some copy → copy.state.pool ≡ f.state.pool
+
+-- a bound of the numbers of gates that a pool's drives have
+abbrev pub HaveGatesUpTo : Seen → Found → ℕ → Type 0
+HaveGatesUpTo x f most = (p d : ℕ) (g : Gate) → f.seats p ≡ Some d → gate_of (now_in x d drive_gate) ≡ Some g → g.number ≤ most
 
 -- A volume that was opened means what the disks x do: it is the volume of the group of their pool, over the slices of its drives. Marks
 -- alone have come to the pool's state; each array that is ready for the volume is told, and the one of the pool's superblocks, and no
@@ -103,6 +117,13 @@ pub record IsMeantBy {R : Type 0} (seen : R → Seen) (x : Seen) (f : Found) (ra
   pub says :
       f.state.joined ≡ f.state.made → HaveOwnAreas f → MayStop x f → x.traced
       → Leaves x (seen (below_of (slices_in rack))) (SaysVolume (raid_in rack) (tables (slices_in rack)) l)
+  -- what a stop leaves inside the opening means that volume by its own pool, as a later opening finds it
+  pub reopens : StopsMean x (seen (below_of (slices_in rack))) f l
+  -- the numbers that end rise by a bounded number
+  pub epoch : (raid_in rack).state.epoch ≤ f.state.epoch + most_opening
+  pub events : (n : ℕ) (t : Super) → n < f.state.joined → truth_of f n ≡ Some t → ((raid_in rack).arrays n).truth.events ≤ t.events + most_opening
+  -- the log's above those of the gates that the drives had before
+  pub number : (most : ℕ) → HaveGatesUpTo x f most → (raid_in rack).number ≤ most + most_opening
 
 -- The superblocks of each array that is ready for the volume agree by this state, durably: in whatever a stop leaves of the slices, once it
 -- is replayed.

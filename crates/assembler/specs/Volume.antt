@@ -1,5 +1,5 @@
 -- The volume that is opened on the arrays of a pool.
-use Rattle.std.specs.Prelude.{◌≡◌, ◌⊎◌, ◌&&◌, ℕ, ◌<◌, true, false, not, List}
+use Rattle.std.specs.Prelude.{◌≡◌, ◌⊎◌, ◌&&◌, ℕ, ◌+◌, ◌*◌, ◌<◌, true, false, not, List}
 use Rattle.rack.specs.Values.{MayLeave}
 use Rattle.rack.specs.Seen.{Seen}
 use Rattle.rack.specs.Sequences.{OnlyReads}
@@ -9,12 +9,14 @@ use Rattle.commit_log.specs.View.{names}
 use Rattle.lvm_group.specs.Brought.{BringsUp}
 use Rattle.lvm_group.specs.Opening.{IsBadVolume, Opens}
 use Rattle.lvm_group.specs.Runs.{Linear}
+use Rattle.lvm_group.specs.Volume.{most_opened}
 use Rattle.pool_image.specs.Meaning.{Volume}
 use Rattle.raid_rack.specs.declared.arrays.RaidRack.{RaidRack}
 use Rattle.array_model.specs.View.{sectors_of}
 use Rattle.raid_rack.specs.Raid.{Raid, is_used_up, live_of}
 use Rattle.raid_rack.specs.AllRuns.{AreCalls, AreRuns, Spares}
 use Rattle.raid_rack.specs.Agreeing.{MakesAgree}
+use Rattle.raid_rack.specs.Moves.{RaisesBy}
 use Rattle.raid_rack.specs.RaidRack.{IsFit, KeepsRack, arrays_in, raid_in, raid_seen, slices_in, slices_seen, written_in}
 use Rattle.slice_rack.specs.SliceRack.{below_of}
 use Rattle.assembler.specs.declared.refusal.Refusal.{Refusal}
@@ -25,6 +27,7 @@ pub record Agrees {R : Type 0} (seen : R → Seen) (runs : R → R → Type 0) (
   pub kept : AreCalls seen runs x y
   pub values : KeepsRack (raid_seen seen x) (raid_seen seen y)
   pub supers : ((y ≡ x) × ((n : ℕ) → written_in x n ≡ false)) ⊎ MakesAgree (raid_in x) (raid_in y) (slices_seen seen x) (slices_seen seen y)
+  pub raises : RaisesBy 18 (raid_in x) (raid_in y)
 
 -- A volume was opened on these arrays, by what was read of them, and their texts were brought up to it: the arrays were `mid` then. After
 -- that their superblocks were made to agree.
@@ -37,6 +40,8 @@ pub record OpensVolume {R : Type 0} (seen : R → Seen) (runs : R → R → Type
   pub agrees : Agrees seen runs mid y
   pub kept : AreCalls seen runs x y
   pub unused : is_used_up (raid_in y) ≡ false
+  -- each call of an array raises its numbers by 18 at most, and so does the making agree
+  pub raises : RaisesBy (18 * (most_opened (raid_in x).state.joined + 1)) (raid_in x) (raid_in y)
 
 -- Nothing was written on arrays, which were y then, and numbers aren't used up. Where no drive refused a call, the slices of those that hadn't
 -- been written hold what they held.

@@ -14,7 +14,7 @@
 //! they mean, over the slices of their pool's drives (`IsMeantBy`), and they are refused only as their meaning is (`IsMeantRefusal`), or for
 //! want of memory; both copies of each drive's partition table are the table that its disk had, and the superblocks of each array agree,
 //! durably (`HaveAgreed`). In all, only drives are written (`WritesPool` of specs/Writing.antt). At each moment of it what a stop leaves holds the pool still, so that
-//! it may be opened again (`StopsHold`, `HoldOpened` of pool_model), and says its volume (`IsMeantBy.says`). Targets land in that pool as they did in the one that there was, so
+//! it may be opened again (`StopsHold`, `HoldOpened` of pool_model), says its volume (`IsMeantBy.says`), and means it again (`StopsMean`, `HoldMeaning` of pool_model). Targets land in that pool as they did in the one that there was, so
 //! the next opening tells of its stops too, however often openings are stopped (`holds_opened`, `holds_left`, proofs/Again.antt; `holds_amid` for a call that was stopped,
 //! `holds_landing` for what a pool leaves between its calls).
 //!
@@ -26,6 +26,8 @@
 //! drive has its partition table, and in the end the disks hold a sound pool again, with the same group, shapes of arrays, bad arrays and volumes, are refused as they were, and targets land there as before (`KeepsPool`).
 //! After want of memory it is one or the other, unless numbers are used up (`LeavesPool` of
 //! specs/Wanting.antt). Whoever goes, a drive is marked missing only where it had no disk, or that refused a call (`MarksDrives` of specs/Marking.antt).
+//! The pool's epoch, the events of its arrays and the log's number rise by a bounded number (`most_opening` of specs/Raising.antt; `IsMeantBy.epoch`,
+//! `IsMeantBy.events`, `IsMeantBy.number`, `MarksDrives.epoch`): making the rack counts its commits, and opening the volume its calls.
 //!
 //! Inside the crate the arrays are those of the superblocks that were read, over the slices of the drives (`AreMembers` of
 //! specs/Members.antt), and they hold what the pool's contents give (`HoldsArrays` of specs/Holding.antt). While they are made of disks at rest

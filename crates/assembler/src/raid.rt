@@ -13,7 +13,7 @@ ghost use Rattle.lvm_group.specs.Shown.{total};
 ghost use Rattle.raid_rack.specs.Agreeing.{MakesAgree};
 ghost use Rattle.raid_rack.specs.Truths.{KeepsTruths, MakesTruths};
 ghost use Rattle.raid_rack.specs.Book.{IsAfter};
-ghost use Rattle.raid_rack.specs.Moves.{AreMarked, Mends};
+ghost use Rattle.raid_rack.specs.Moves.{AreMarked, Mends, RaisesBy};
 ghost use Rattle.raid_rack.specs.RaidRack.{IsFit, IsRunning, SliceRuns, arrays_in, raid_in, raid_seen, refused_in, slices_in, slices_seen, written_in};
 ghost use Rattle.commit_log.specs.Opening.{ReplayCall};
 ghost use Rattle.pool_image.specs.Drives.{Found};
@@ -25,6 +25,7 @@ ghost use Rattle.pool_check.specs.Refusing.{is_well};
 ghost use Rattle.assembler.specs.Holding.{HoldPool, HoldsArrays};
 ghost use Rattle.assembler.specs.Marking.{AreMarkedFor};
 ghost use Rattle.assembler.specs.Members.{AreMembers};
+ghost use Rattle.assembler.specs.Raising.{RaisesOver};
 ghost use Rattle.assembler.specs.Rested.{HoldRested};
 ghost use Rattle.assembler.specs.Volume.{AllLive, MarksAbsent};
 ghost use Rattle.assembler.specs.Writing.{IsSlicedOrTable};
@@ -92,6 +93,7 @@ fn mark_gone<R: Rack>(raid: &mut RaidRack<R>, is_stale: bool)
     ensures makes { (is_stale ≡ true) ⊎ (AreMarked (raid_in raid.old) → ⊥)
         → MakesTruths (raid_in raid.old) (raid_in raid.new) (slices_seen R.seen raid.old) (slices_seen R.seen raid.new) }
     ensures truths { is_stale ≡ false → KeepsTruths (raid_in raid.old) (raid_in raid.new) (slices_seen R.seen raid.old) (slices_seen R.seen raid.new) }
+    ensures raises { RaisesBy 35 (raid_in raid.old) (raid_in raid.new) }
     ensures idle { is_stale ≡ false → AreMarked (raid_in raid.old)
         → (slices_in raid.new ≡ slices_in raid.old) × ((raid_in raid.new).state ≡ (raid_in raid.old).state) }
     ensures fit { IsFit (arrays_in raid.new) (slices_seen R.seen raid.new) }
@@ -123,6 +125,8 @@ pub(crate) fn make_rack<R: Rack>(members: Members<R>, seconds: u64) -> RaidRack<
     ensures joined { (raid_in result).state.joined ≡ members.state.joined }
     ensures extent { (raid_in result).state.extent ≡ members.state.extent }
     ensures book { IsAfter members.state (raid_in result).state }
+    // Its numbers rise by a bounded number: marks are one commit, and one more for each drive that goes meanwhile, and a last one is for stale superblocks.
+    ensures raises { RaisesOver 35 members.state members.log.number members.checked.arrays.items (raid_in result) }
     // The arrays are those that were opened, whomever they have lost.
     ensures arrays { (n : ℕ) (v : View) → slice_get members.checked.arrays.items n ≡ Some v → IsSameArray v ((raid_in result).arrays n) }
     ensures small { total (λ n. sectors_of ((raid_in result).arrays n)) members.state.made < 2 ^ 52 }

@@ -1,8 +1,9 @@
-use Rattle.std.proofs.Common.{refl, inl, inr}
+use Rattle.std.proofs.Common.{refl, inl, inr, arith}
 use Rattle.rack.proofs.Reading.{only_reads_start}
 use Rattle.slice_rack.specs.SliceRack.{below_of}
 use Rattle.raid_rack.specs.AllRuns.{calls_same}
-use Rattle.raid_rack.specs.RaidRack.{raid_seen, slices_in}
+use Rattle.raid_rack.specs.RaidRack.{raid_in, raid_seen, slices_in}
+use Rattle.raid_rack.proofs.Raises.{raises_more, raises_none}
 use Rattle.assembler.proofs.opening.agree.Goals as goal
 
 pub returns-then-has_written : goal.returns-then-has_written
@@ -17,6 +18,7 @@ returns-then-has_written g c =
         );
         values = said.keeps;
         supers = inr said.supers;
+        raises = said.raises;
       };
     }
 
@@ -30,5 +32,6 @@ returns-else-has_written g c =
         kept = calls_same seen g.R.Rack.runs x (g.met.R.Rack.runs_same (below_of (slices_in x)));
         values = record { stays = none.stays; keeps = none.keeps };
         supers = inl (refl, c.has_written.ensures.none c.if-has_written.false);
+        raises = raises_more 0 18 (raid_in x) (raid_in x) (omega arith) (raises_none (raid_in x));
       };
     }

@@ -5,7 +5,7 @@ use Rattle.slice_rack.specs.SliceRack.{below_of, tables}
 use Rattle.slice_rack.specs.Sliced.{slices_of}
 use Rattle.raid_rack.specs.RaidRack.{raid_in, slices_in, slices_seen, written_in}
 use Rattle.pool_state.specs.declared.contents.State.{State}
-use Rattle.std.proofs.Common.{◌≡◌, ◌<◌, ℕ, List, arith, false, Some, option_map, inl, inr, sym, ap, subst, ◌∙◌}
+use Rattle.std.proofs.Common.{◌≡◌, ◌+◌, ◌<◌, ◌≤◌, ℕ, List, arith, false, Some, option_map, inl, inr, sym, ap, subst, ◌∙◌}
 use Rattle.std.proofs.lemmas.Bool.{both_ways}
 use Rattle.std.proofs.lemmas.Slice.Eq.{bytes_eq-Decides}
 use Rattle.shr_base.specs.declared.Id.{Id}
@@ -29,9 +29,11 @@ use Rattle.raid_rack.specs.Laws.{live_parts}
 use Rattle.raid_rack.specs.Raid.{is_over}
 use Rattle.array_model.specs.View.{sectors_of}
 use Rattle.assembler.specs.Marking.{AreMarkedFor}
+use Rattle.assembler.specs.Raising.{most_opening}
 use Rattle.assembler.specs.Refusing.{is_early, meant_by}
 use Rattle.pool_model.specs.Left.{IsPickOff}
 use Rattle.pool_model.specs.Pools.{AreSlicesOf}
+use Rattle.pool_model.proofs.Unrefused.{unrefused_by}
 use Rattle.assembler.proofs.Agreed.{agree_opened}
 use Rattle.assembler.proofs.Apart.{lands_apart}
 use Rattle.assembler.proofs.Grouped.{group_opened}
@@ -49,8 +51,9 @@ use Rattle.assembler.proofs.Meaning.{check_fails}
 use Rattle.assembler.proofs.Mended.{opening_settled}
 use Rattle.assembler.proofs.Volumes.{volume_opened, volume_refused}
 use Rattle.assembler.proofs.Lies.{slices_same, volume_same}
-use Rattle.assembler.proofs.opening.assemble.Answers.Assembling.{a, x, y, z, t, known, ax, ay, yz, says_so, ready, marked, drives_only, tables_kept, from_y, rested, f, same, checked, state, members, holds, lie, passes, early, arrays, made, opened, texts, own_texts, first_quiet, nobody_failed, live_first, live_last, marks_made, off_alone, off_slices, landing}
-use Rattle.assembler.proofs.opening.assemble.Answers.Stopping.{checked_leaves, marks_last, opened_leaves, opened_says, refused_leaves}
+use Rattle.assembler.proofs.Raised.{raises_truth}
+use Rattle.assembler.proofs.opening.assemble.Answers.Assembling.{a, x, y, z, t, known, ax, ay, yz, says_so, ready, marked, drives_only, tables_kept, from_y, rested, f, same, checked, state, members, holds, lie, passes, early, arrays, made, opened, texts, own_texts, first_quiet, nobody_failed, live_first, live_last, marks_made, off_alone, off_slices, landing, number_read, raised}
+use Rattle.assembler.proofs.opening.assemble.Answers.Stopping.{checked_leaves, marks_last, opened_leaves, opened_reopens, opened_says, refused_leaves}
 use Rattle.assembler.proofs.opening.assemble.Answers.Unopened.{built, own_calls, arrays_for, pool_for, made_quiet, live_still, numbers_ended, pool_kept}
 use Rattle.assembler.proofs.opening.assemble.Goals as goal
 
@@ -147,12 +150,25 @@ returns-in-Ok-open_volume-clause-meant g c e sound quiet =
           off_alone g k before e sound alone (seen (below_of (slices_in (rack_in volume)))) (own_texts g c) i
           (subst (λ (u : Slices). IsPickOff u (seen (below_of (slices_in (rack_in volume)))) i) (opens.kept.0.tables ∙ c.make_rack.ensures.tables) off);
       says = λ all own calm traced. opened_says g c quiet e sound all own calm traced;
+      reopens = opened_reopens g c quiet e sound
+          (unrefused_by (disks_of (a g k)) (now_in (a g k)) e sound.found_is
+          (refusal_entry seen (a g k) c.in-Ok.rest e sound (rested g k before e sound) ∙ passes g k before e sound ∙ ap (option_map bad_volume) held.0.sound));
       moments = λ calm traced.
           let later = (ay g k).traced traced in
           opening_leaves pool (t g k) (y g k) m.checked m.absent.items m.slices.orderly (members g k before e sound) has.steady has.pool (checked g k before e sound).1 has.sound
           m.log has.log seen g.R.Rack.runs (a g k) raid (rack_in volume) (linear volume) (seqno_of volume) held.0 _ (IsSliced (tables (slices_in raid)))
           (early g k before e sound calm traced) held_arrays (live_first g c quiet) alive c.make_rack.ensures.tables c.make_rack.ensures.only later
           opens volume.orderly c.in-Ok-open_volume.ensures.fit.1 (texts g c) ((yz g k).traced later);
+      epoch = subst (λ (s : State). (raid_in (rack_in volume)).state.epoch ≤ s.epoch + most_opening) (sym (state g k before e sound) ∙ same_pool.state) (raised g c).epoch;
+      events = λ n z low truth.
+          let less = small n low in
+          let most = (valid_arrays m.state 0 c.in-Ok-check.ensures.members.valid).3 in
+          let is = state g k before e sound in
+          let joined = ap (λ (s : State). s.joined) is in
+          let made_is = ap (λ (s : State). s.made) is in
+          raises_truth most_opening pool m.checked m.state m.log.number (raid_in (rack_in volume)) (checked g k before e sound).1.opened (raised g c) n z
+          (omega (arith, less, most, joined, made_is)) (truths_same e pool same_pool n ∙ truth);
+      number = λ most bound. let up = (raised g c).number in let low = number_read g k before e sound most bound in omega (arith, up, low);
     }
 
 pub returns-in-Err-clause-exact : goal.returns-in-Err-clause-exact
@@ -254,6 +270,7 @@ returns-in-Ok-open_volume-clause-caused g c =
           (subst (λ (u : Slices). AreMarkedFor (z g k) (opened g c) (seat_of u) (raid_in raid).state (raid_in last).state) c.make_rack.ensures.tables
           (marked_calls (written_in raid) (written_in last) (raid_in raid) (raid_in last) (tables (slices_in raid)) (tables (slices_in last)) (z g k) (opened g c)
           kept.0.tables kept.1 c.make_rack.ensures.fit.heeded)));
+      epoch = subst (λ (s : State). (raid_in last).state.epoch ≤ s.epoch + most_opening) c.in-Ok-check.ensures.state (raised g c).epoch;
     }
 
 pub returns-in-Ok-open_volume-clause-mended : goal.returns-in-Ok-open_volume-clause-mended

@@ -8,6 +8,7 @@ use Rattle.lvm_group.specs.Volume.{below_of as rack_in, linear, seqno_of}
 use Rattle.raid_rack.specs.AllRuns.{calls_then}
 use Rattle.raid_rack.specs.RaidRack.{raid_seen, slices_in}
 use Rattle.assembler.specs.Volume.{OpensVolume}
+use Rattle.assembler.proofs.Raised.{raises_opening}
 use Rattle.assembler.proofs.Volumes.{unopened_cause}
 use Rattle.assembler.proofs.opening.open_volume.Goals as goal
 
@@ -35,6 +36,7 @@ returns-in-Ok-keep_volume-clause-opens g c =
       agrees = said.agrees;
       kept = calls_then seen runs x mid (rack_in last) (g.met.R.Rack.runs_then _ _ _) (kept.0, kept.1, kept.2) said.agrees.kept;
       unused = said.unused;
+      raises = raises_opening x mid (rack_in last) _ c.state-state.ensures kept.1.book.same.made c.in-Ok.ensures.several said.agrees.raises;
     } in
     subst (λ n. OpensVolume seen runs x (rack_in last) (linear last) n) (sym said.same.1)
     (subst (λ (l : Linear). OpensVolume seen runs x (rack_in last) l (seqno_of first)) (sym said.same.0) opens)

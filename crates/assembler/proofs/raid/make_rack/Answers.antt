@@ -31,6 +31,7 @@ use Rattle.assembler.proofs.Making.{by_list, keeps, marked as making_marked, mar
 use Rattle.assembler.proofs.Mended.{absent_still, closed_members, marking_so, mended_members, mended_reads, mended_so, rack_writes, reads_agree, reads_makes, reads_mend, reads_move}
 use Rattle.assembler.proofs.Entry.{quiet_last}
 use Rattle.assembler.proofs.Marks.{all_marked, marked_for, some_unmarked}
+use Rattle.assembler.proofs.Raised.{raises_made}
 use Rattle.assembler.proofs.Running.{array_now, current_logs, rack_running, twice}
 use Rattle.assembler.proofs.Sizes.{total_small}
 use Rattle.assembler.proofs.Stopping.{making_leaves}
@@ -375,6 +376,20 @@ returns-clause-arrays g c n u at =
     let count = c.requires.members.founded.count in
     let made = ap (λ (s : State). s.made) c.new-raid.ensures.state in omega (arith, below, count, made)) in
     made_array places u (raid.arrays n) ((raid_in c.mark_gone.new.raid).arrays n) is (c.mark_gone.ensures.mends.moves.arrays n low)
+
+pub returns-clause-raises : goal.returns-clause-raises
+returns-clause-raises g c =
+    let m = c.args.members in
+    let places = c.mend_tables-left_out.result.items in
+    let first = (each_items m.checked.arrays c.as_mut_slice.result.now c.restart_rebuilds.new.arrays restarted c.as_mut_slice.ensures.value c.restart_rebuilds.ensures).0 in
+    let second = (each_items (with_items m.checked.arrays c.restart_rebuilds.new.arrays) c.as_mut_slice-2.result.now c.note_gone.new.arrays (gone places) c.as_mut_slice-2.ensures.value c.note_gone.ensures).0 in
+    raises_made 35 m.state m.log.number m.checked.arrays.items places (raid_in c.new-raid.result) (raid_in c.mark_gone.new.raid) c.new-raid.ensures.state
+    (c.new-raid.ensures.number ∙ c.close_gates-gone.ensures.number) c.requires.members.founded.count
+    (λ n u at.
+    get_or_from_slice_get c.new-raid.result.arrays.all.items n (gone places (restarted u)) no_array
+    (ap (λ xs. slice_get xs n) c.new-raid.ensures.arrays ∙ second n ∙ ap (option_map (gone places)) (first n)
+    ∙ twice places (slice_get m.checked.arrays.items n) ∙ ap (option_map (λ v. gone places (restarted v))) at))
+    c.mark_gone.ensures.raises
 
 pub returns-clause-caused : goal.returns-clause-caused
 returns-clause-caused g c =

@@ -1,9 +1,10 @@
-use Rattle.std.proofs.Common.{◌∙◌, inl, inr}
+use Rattle.std.proofs.Common.{◌∙◌, inl, inr, arith}
 use Rattle.std.proofs.lemmas.Bool.{both_ways}
 use Rattle.slice_rack.specs.SliceRack.{below_of, tables}
 use Rattle.slice_rack.specs.Runs.{runs_join}
 use Rattle.raid_rack.specs.RaidRack.{raid_in, slices_in, slices_seen}
 use Rattle.raid_rack.proofs.Agreeing.{agree_then}
+use Rattle.raid_rack.proofs.Raises.{raises_more, raises_then}
 use Rattle.raid_rack.proofs.Truths.{makes_after}
 use Rattle.assembler.proofs.Mended.{mends_then}
 use Rattle.assembler.proofs.raid.mark_gone.Goals as goal
@@ -62,3 +63,11 @@ returns-else-is_stale-clause-makes g c why =
       | inl stale ↦ absurd (both_ways c.args.is_stale c.if-is_stale.false stale)
       | inr some ↦ c.mark_gone.ensures.makes some
     ]
+
+pub returns-then-is_stale-clause-raises : goal.returns-then-is_stale-clause-raises
+returns-then-is_stale-clause-raises g c =
+    raises_then 17 18 (raid_in c.args.raid.now) (raid_in c.mark_gone.new.self) (raid_in c.restate.new.self) c.mark_gone.ensures.mends.moves.book.same.made c.mark_gone.ensures.raises
+    c.restate.ensures.raises
+
+pub returns-else-is_stale-clause-raises : goal.returns-else-is_stale-clause-raises
+returns-else-is_stale-clause-raises g c = raises_more 17 35 (raid_in c.args.raid.now) (raid_in c.mark_gone.new.self) (omega arith) c.mark_gone.ensures.raises

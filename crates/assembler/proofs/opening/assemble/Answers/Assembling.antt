@@ -5,14 +5,14 @@ use Rattle.raid_rack.specs.RaidRack.{raid_in, slices_in, slices_seen}
 use Rattle.array_image.specs.States.{is_current}
 use Rattle.commit_log.specs.View.{names}
 use Rattle.pool_state.specs.declared.contents.State.{State}
-use Rattle.std.proofs.Common.{◌≡◌, ◌<◌, ◌≤◌, ◌&&◌, ℕ, is_none, is_some, List, Option, Some, None, option_map, sym, ap, ap₂, subst, ◌∙◌, arith}
+use Rattle.std.proofs.Common.{◌≡◌, ◌+◌, ◌*◌, ◌<◌, ◌≤◌, ◌&&◌, ℕ, is_none, is_some, List, Option, Some, None, option_map, sym, ap, ap₂, subst, ◌∙◌, arith}
 use Rattle.rack.specs.Seen.{Image, Rose, Seen, Stays}
 use Rattle.rack.specs.Moments.{Leaves}
 use Rattle.rack.specs.Joins.{stays_then}
 use Rattle.rack.specs.Sequences.{WritesOnly}
 use Rattle.slice_rack.specs.Runs.{IsSliced}
 use Rattle.slice_rack.specs.Slices.{Slices, disk_of, seat_of}
-use Rattle.lvm_group.specs.Volume.{below_of as rack_in}
+use Rattle.lvm_group.specs.Volume.{below_of as rack_in, most_opened}
 use Rattle.md_super.specs.declared.superblock.Super.{Super}
 use Rattle.pool_image.specs.Alike.{IsSamePool}
 use Rattle.pool_image.specs.Disks.{disks_of}
@@ -38,7 +38,8 @@ use Rattle.pool_model.specs.Pools.{AreSlicesOf}
 use Rattle.pool_model.specs.Stopped.{HaveTables}
 use Rattle.pool_model.proofs.Found.{found_is, some_made}
 use Rattle.pool_model.proofs.SameAlone.{alone_same, same_back}
-use Rattle.assembler.specs.Sound.{HoldSound, MayStop, TargetsLand}
+use Rattle.assembler.specs.Raising.{RaisesOver, most_opening}
+use Rattle.assembler.specs.Sound.{HaveGatesUpTo, HoldSound, MayStop, TargetsLand}
 use Rattle.assembler.specs.Volume.{AllLive}
 use Rattle.assembler.specs.Writing.{IsDriveOrTable}
 use Rattle.assembler.proofs.Alone.{alone_off, unsliced}
@@ -56,6 +57,8 @@ use Rattle.assembler.proofs.Meaning.{check_passes}
 use Rattle.assembler.proofs.Mended.{opening_keeps}
 use Rattle.assembler.proofs.Volumes.{live_later}
 use Rattle.assembler.proofs.Lies.{slices_lie}
+use Rattle.assembler.proofs.Numbered.{number_found}
+use Rattle.assembler.proofs.Raised.{opening_few, raises_later}
 use Rattle.assembler.proofs.Written.{rack_then}
 use Rattle.assembler.proofs.opening.assemble.Given.{Over}
 use Rattle.assembler.proofs.opening.assemble.Goals.{After-make_rack, In-Ok-open_volume}
@@ -210,6 +213,18 @@ module _ (g : Over) (c : After-make_rack g) where
           checked.1 (found_is (disks_of x) (now_in x) f (rest_found g.R.Rack.seen a c.in-Ok.rest e sound rested).found_is).0 e same
           (lands_apart (disks_of a) (now_in a) e sound.found_is lands)
 
+      -- the log's number is one that a gate of its drives had
+      pub number_read : (most : ℕ) → HaveGatesUpTo a e most → c.in-Ok-check.members.log.number ≤ most
+      number_read =
+          let rest = c.in-Ok.rest in
+          let found = rest_found g.R.Rack.seen a rest e sound rested in
+          number_found f t y c.in-Ok-check.members.checked c.in-Ok-check.members.absent.items c.in-Ok-check.members.slices.orderly members c.in-Ok-check.members.log holds
+          a x rest.state rest.pending rest.damaged e rested.settled c.in-Ok-check.ensures.only found.steady.told found.steady.lasts
+          (λ p.
+          sym (holds.pool.seats p)
+          ∙ ap (λ (j : Found). j.seats p) (sym (found_by_rest x rest.scan.disks.items rest.state (tables rest.slices) rest.on.items rest.log rest.pending rest.damaged f found)))
+          (λ p. sym (same.seats p) ∙ holds.pool.seats p)
+
       pub arrays : HoldsArrays f (raid_in c.make_rack.result) (slices_of t y) (slices_seen g.R.Rack.seen c.make_rack.result)
       arrays = c.make_rack.ensures.holds f checked.0 checked.1 from_y
 
@@ -257,6 +272,15 @@ module _ (g : Over) (c : In-Ok-open_volume g) where
 
   abbrev pub opened : Seen
   opened = g.R.Rack.seen (below_of (slices_in (rack_in c.in-Ok-open_volume.volume)))
+
+  -- the numbers rose by a bounded number, over what was read
+  pub raised : RaisesOver most_opening c.in-Ok-check.members.state c.in-Ok-check.members.log.number c.in-Ok-check.members.checked.arrays.items (raid_in (rack_in c.in-Ok-open_volume.volume))
+  raised =
+      let m = c.in-Ok-check.members in
+      let raid = raid_in c.make_rack.result in
+      let few = opening_few raid.state.joined raid.state.made (ready g made) c.make_rack.ensures.fit.running.set.most in
+      raises_later 35 (18 * (most_opened raid.state.joined + 1)) most_opening m.state m.log.number m.checked.arrays.items raid (raid_in (rack_in c.in-Ok-open_volume.volume))
+      (c.in-Ok-check.ensures.members.founded.count ∙ sym c.make_rack.ensures.made) few c.make_rack.ensures.raises c.in-Ok-open_volume.ensures.opens.raises
 
   pub texts : WritesOnly (z g made) opened (IsSliced (tables (slices_in c.make_rack.result)))
   texts = (let inside = c.make_rack.ensures.fit.running.set.fit in c.in-Ok-open_volume.ensures.opens.kept.0.apart inside.0 inside.1)

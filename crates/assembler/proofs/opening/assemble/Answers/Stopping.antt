@@ -6,7 +6,7 @@ use Rattle.array_image.specs.Arrays.{arrays_in, replayed}
 use Rattle.array_image.specs.States.{is_current}
 use Rattle.pool_state.specs.declared.contents.State.{State}
 use Rattle.shr_base.specs.declared.Id.{Id}
-use Rattle.std.proofs.Common.{◌≡◌, ◌<◌, ◌≤◌, ◌&&◌, ℕ, is_some, Some, sym, ap, subst, ◌∙◌, arith}
+use Rattle.std.proofs.Common.{◌≡◌, ◌<◌, ◌≤◌, ◌&&◌, ℕ, is_some, None, Some, sym, ap, subst, ◌∙◌, arith}
 use Rattle.rack.specs.Joins.{leaves_then, leaves_weaker, stays_then}
 use Rattle.rack.specs.Moments.{Leaves}
 use Rattle.rack.specs.Seen.{Image}
@@ -14,11 +14,12 @@ use Rattle.rack.specs.Sequences.{WritesOnly}
 use Rattle.rack.proofs.Writing.{only_none, only_quiet}
 use Rattle.slice_rack.specs.Runs.{IsSliced}
 use Rattle.slice_rack.specs.Slices.{Slices, sectors_of}
-use Rattle.lvm_group.specs.Images.{HasOwnArea, MeansVolume}
+use Rattle.lvm_group.specs.Images.{HasOwnArea, IsVolume, MeansVolume}
 use Rattle.lvm_group.specs.Runs.{data_start}
 use Rattle.lvm_group.specs.Volume.{below_of as rack_in, linear, seqno_of}
 use Rattle.pool_image.specs.Disks.{Disks, disks_of}
 use Rattle.pool_image.specs.Drives.{Found, found}
+use Rattle.pool_image.specs.Meaning.{refused_by}
 use Rattle.pool_image.specs.Volumes.{Arrays}
 use Rattle.pool_image.proofs.Founds.{joined_same}
 use Rattle.pool_scan.specs.Scanning.{IsUnfaulted, now_in}
@@ -26,22 +27,24 @@ use Rattle.pool_model.specs.Grouped.{HaveOwnAreas}
 use Rattle.pool_model.specs.Left.{AreAlone, AreElsewhere, IsPickOff}
 use Rattle.pool_model.specs.Openings.{HoldOpened, MayReplay}
 use Rattle.pool_model.specs.Pools.{AreSlicesOf}
+use Rattle.pool_model.specs.Reopening.{AreWholeSectors, HoldMeaning}
 use Rattle.pool_model.specs.Stopped.{LieApart}
 use Rattle.pool_model.proofs.Found.{found_is}
 use Rattle.pool_model.proofs.Openings.{opened_from, opened_same}
 use Rattle.pool_model.proofs.Refused.{table_there}
 use Rattle.assembler.specs.Moments.{SaysVolume}
-use Rattle.assembler.specs.Sound.{HoldSound, MayStop, TargetsLand}
+use Rattle.assembler.specs.Sound.{HoldSound, MayStop, StopsMean, TargetsLand}
 use Rattle.assembler.specs.Rested.{HoldRested}
 use Rattle.assembler.specs.Volume.{AllLive, AreStill}
 use Rattle.assembler.proofs.Apart.{lands_apart, slices_landed}
 use Rattle.assembler.proofs.AtRest.{pool_alone, rest_alone, rest_idle, rest_sound, until_read}
-use Rattle.assembler.proofs.Bringing.{bringing_leaves}
+use Rattle.assembler.proofs.Bringing.{GivesOpened, bringing_gives, bringing_leaves}
 use Rattle.assembler.proofs.Entry.{quiet_first, rested_so}
-use Rattle.assembler.proofs.Grouped.{brought_means, given_means}
-use Rattle.assembler.proofs.Leaving.{saying_leaves}
+use Rattle.assembler.proofs.Grouped.{brought_volume, given_volume}
+use Rattle.assembler.proofs.Leaving.{brought_says, saying_leaves}
 use Rattle.assembler.proofs.Lies.{slices_same}
 use Rattle.assembler.proofs.Marks.{marks_still}
+use Rattle.assembler.proofs.Reopening.{brought_meaning, own_rested, still_meaning}
 use Rattle.assembler.proofs.Replaying.{replaying_leaves}
 use Rattle.assembler.proofs.Rested.{rested_reads}
 use Rattle.assembler.proofs.Volumes.{live_before, opened_writes}
@@ -154,9 +157,10 @@ module _ (g : Over) (c : In-Ok-open_volume g) (quiet : IsUnfaulted (a g (made g 
       c.in-Ok-open_volume.ensures.opens.kept.1 c.make_rack.ensures.fit.heeded c.in-Ok-open_volume.ensures.fit.0.heeded (nobody_failed g c quiet) p
       ∙ marks_made g (made g c) (first_quiet g c quiet) e sound p
 
-  pub opened_leaves : MayReplay (disks_of (a g (made g c))) (now_in (a g (made g c))) e → TargetsLand e → e.state.joined ≡ e.state.made → AreAlone e e.contents → (a g (made g c)).traced
-      → Leaves (a g (made g c)) (opened g c) (HoldOpened e data_start)
-  opened_leaves may lands all alone traced =
+  -- texts are brought up to date
+  opened_brings : MayReplay (disks_of (a g (made g c))) (now_in (a g (made g c))) e → TargetsLand e → e.state.joined ≡ e.state.made → AreAlone e e.contents → (a g (made g c)).traced
+      → Leaves (z g (made g c)) (opened g c) (GivesOpened e (tables (slices_in c.make_rack.result)) data_start)
+  opened_brings may lands all alone traced =
       let k = made g c in
       let alive = live_first g c quiet in
       let before = first_quiet g c quiet in
@@ -165,13 +169,18 @@ module _ (g : Over) (c : In-Ok-open_volume g) (quiet : IsUnfaulted (a g (made g 
       let volume = c.in-Ok-open_volume.volume in
       let opens = c.in-Ok-open_volume.ensures.opens in
       let whole = stays_then (ay g k) (yz g k) in
-      leaves_then (HoldOpened e data_start) (made_from g k before e sound may lands all alone alive traced data_start)
-      (bringing_leaves seen g.R.Rack.runs e (f g k before e sound) (same g k before e sound) (slices_of (t g k) (y g k)) raid (rack_in volume) (arrays g k before e sound)
+      bringing_gives seen g.R.Rack.runs e (f g k before e sound) (same g k before e sound) (slices_of (t g k) (y g k)) raid (rack_in volume) (arrays g k before e sound)
       (live_last g c quiet) opens.kept data_start _ (opened_writes seen g.R.Rack.runs raid (rack_in volume) (linear volume) (seqno_of volume) opens) (λ n s v early. early.1)
       (ready g k) all (now_in (a g k)) (began g k before e sound may lands all alone alive traced) sound.sound (own_slices g k before e sound may lands all alone alive traced)
       (landing g k before e sound lands) (own_elsewhere g k before e sound may lands all alone alive traced)
       (own_alone g k before e sound may lands all alone alive traced) marks_last (slices_in raid).orderly c.make_rack.ensures.fit.running.set.fit.1
-      (whole.lasting sound.steady.lasts.lasting) (texts g c) (whole.traced traced))
+      (whole.lasting sound.steady.lasts.lasting) (texts g c) (whole.traced traced)
+
+  pub opened_leaves : MayReplay (disks_of (a g (made g c))) (now_in (a g (made g c))) e → TargetsLand e → e.state.joined ≡ e.state.made → AreAlone e e.contents → (a g (made g c)).traced
+      → Leaves (a g (made g c)) (opened g c) (HoldOpened e data_start)
+  opened_leaves may lands all alone traced =
+      leaves_then (HoldOpened e data_start) (made_from g (made g c) (first_quiet g c quiet) e sound may lands all alone (live_first g c quiet) traced data_start)
+      (leaves_weaker (GivesOpened e (tables (slices_in c.make_rack.result)) data_start) (HoldOpened e data_start) (λ i gives. gives.opened) (opened_brings may lands all alone traced))
 
   -- and the arrays say the volume
   pub opened_says : e.state.joined ≡ e.state.made → HaveOwnAreas e → MayStop (a g (made g c)) e → (a g (made g c)).traced
@@ -201,29 +210,71 @@ module _ (g : Over) (c : In-Ok-open_volume g) (quiet : IsUnfaulted (a g (made g 
       λ n low.
       subst (λ (h : Image). HasOwnArea (h n)) (sym (ap (λ (j : Arrays). j.contents) (joined_same e pool is)))
       (own n (subst (λ (s : State). n < s.joined) is.state low)) in
-      let P : Image → Type 0 = MeansVolume (raid_in raid).state.pool.0 (raid_in raid).state.joined (raid_seen seen raid).sectors (linear volume) (seqno_of volume) in
+      let P : Image → Type 0 = IsVolume (raid_in raid).state.pool.0 (raid_in raid).state.joined (linear volume) (seqno_of volume) (raid_seen seen raid).sectors in
       let whole = stays_then (ay g k) (yz g k) in
       let all_says =
       saying_leaves pool (t g k) (y g k) m.checked m.absent.items m.slices.orderly (members g k before e sound) has.steady has.pool (checked g k before e sound).1 has.sound
       m.log has.log seen (a g k) raid last P _ (IsSliced (tables (slices_in raid))) (early g k before e sound calm traced) held (live_first g c quiet)
       c.make_rack.ensures.tables (opens.kept.0.tables ∙ c.make_rack.ensures.tables) c.make_rack.ensures.only ((ay g k).traced traced)
       (λ i same_low.
-      given_means seen runs pool (slices_of (t g k) (y g k)) raid last held c.make_rack.ensures.fresh (linear volume) (seqno_of volume) opens alive few both areas i
+      given_volume seen runs pool (slices_of (t g k) (y g k)) raid last held c.make_rack.ensures.fresh (linear volume) (seqno_of volume) opens alive few both areas i
       (λ n s low first. same_low n s (let equal = joined in omega (arith, low, equal)) first))
-      (brought_means seen runs pool (slices_of (t g k) (y g k)) raid last held c.make_rack.ensures.fresh (linear volume) (seqno_of volume) opens alive few both areas (whole.traced traced))
+      (brought_volume seen runs pool (slices_of (t g k) (y g k)) raid last held c.make_rack.ensures.fresh (linear volume) (seqno_of volume) opens alive few both areas (whole.traced traced))
       (texts g c) (whole.traced traced) in
       let book = opens.kept.1.book.same in
       leaves_weaker (λ i. P (arrays_in (replayed (sectors_of (tables (slices_in last))) (sliced (tables (slices_in last)) i))))
       (SaysVolume (raid_in last) (tables (slices_in last)) (linear volume))
-      (λ i means. (
+      (λ i lies. (
         seqno_of volume,
         subst (λ (sectors : ℕ → ℕ). MeansVolume (raid_in last).state.pool.0 (raid_in last).state.joined sectors (linear volume) (seqno_of volume) (arrays_in (replayed (sectors_of (tables (slices_in last))) (sliced (tables (slices_in last)) i))))
             (λ j n. sym (opens.kept.2.sectors n) j)
             (subst (λ h. MeansVolume (raid_in last).state.pool.0 h (raid_seen seen raid).sectors (linear volume) (seqno_of volume) (arrays_in (replayed (sectors_of (tables (slices_in last))) (sliced (tables (slices_in last)) i))))
             (sym book.joined)
             (subst (λ (id : Id). MeansVolume id.0 (raid_in raid).state.joined (raid_seen seen raid).sectors (linear volume) (seqno_of volume) (arrays_in (replayed (sectors_of (tables (slices_in last))) (sliced (tables (slices_in last)) i))))
-            (sym book.pool) means)),
+            (sym book.pool) lies.means)),
       )) all_says
+
+  -- They mean it, where they aren't refused, also with the sectors before their first extents.
+  pub opened_reopens : refused_by e ≡ None → StopsMean (a g (made g c)) (opened g c) e (linear c.in-Ok-open_volume.volume)
+  opened_reopens none all own may lands alone traced =
+      let k = made g c in
+      let before = first_quiet g c quiet in
+      let seen = g.R.Rack.seen in
+      let runs = g.R.Rack.runs in
+      let raid = c.make_rack.result in
+      let volume = c.in-Ok-open_volume.volume in
+      let last = rack_in volume in
+      let opens = c.in-Ok-open_volume.ensures.opens in
+      let is = same g k before e sound in
+      let held = arrays g k before e sound in
+      let alive = live_last g c quiet in
+      let joined = held.after.same.joined in
+      let few : (raid_in raid).state.joined ≤ 16 = (let most = c.make_rack.ensures.fit.running.set.most in let ready_is = ready g k in omega (arith, most, ready_is)) in
+      let both : (raid_in raid).state.joined ≡ (raid_in raid).state.made =
+      joined ∙ ap (λ (s : State). s.joined) is.state ∙ all ∙ sym (ap (λ (s : State). s.made) is.state) ∙ sym held.after.same.made in
+      let P : Image → Type 0 = λ i. AreWholeSectors e.disks i → HoldMeaning e (linear volume) i in
+      let V : Image → Type 0 = IsVolume (raid_in raid).state.pool.0 (raid_in raid).state.joined (linear volume) (seqno_of volume) (raid_seen seen raid).sectors in
+      let whole = stays_then (ay g k) (yz g k) in
+      let pool = f g k before e sound in
+      let gives = opened_brings may lands all alone traced in
+      let says =
+      brought_says seen raid last V _
+      (brought_volume seen runs pool (slices_of (t g k) (y g k)) raid last held c.make_rack.ensures.fresh (linear volume) (seqno_of volume) opens alive few both
+      (own_rested seen runs e pool is (slices_of (t g k) (y g k)) raid last held c.make_rack.ensures.fresh (linear volume) (seqno_of volume) opens alive few both all own none) (whole.traced traced))
+      (texts g c) (whole.traced traced) in
+      leaves_then P
+      (leaves_weaker (HoldOpened e 0) P
+      (λ i still wholes. still_meaning seen runs e pool is (slices_of (t g k) (y g k)) raid last held c.make_rack.ensures.fresh (linear volume) (seqno_of volume) opens alive few both all own none i still)
+      (made_leaves g k before e sound may lands all alone (live_first g c quiet) traced))
+      (record {
+        later = gives.later;
+        kept = gives.kept;
+        past = gives.past;
+        new = λ n i since until stop wholes.
+            brought_meaning seen runs e pool is (slices_of (t g k) (y g k)) raid last held c.make_rack.ensures.fresh (linear volume) (seqno_of volume) opens alive few both all own none
+            (tables (slices_in raid)) i (gives.new n i since until stop)
+            (subst (λ (u : Slices). V (arrays_in (replayed (sectors_of u) (sliced u i)))) opens.kept.0.tables (says.new n i since until stop)) wholes;
+      })
 
 -- ---- none was
 
