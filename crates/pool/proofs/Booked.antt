@@ -1,10 +1,9 @@
 -- What calls keep of a pool's book.
 use Rattle.std.specs.Prelude.{unwrap_or}
 use Rattle.std.specs.Option.{option_map_or}
-use Rattle.std.proofs.Common.{◌≡◌, ◌⊎◌, ℕ, ◌+◌, ◌*◌, ◌<◌, ◌≤◌, ◌==◌, ◌&&◌, not, Bool, true, false, if◌then◌else◌, List, [], ◌∷◌, length, slice_get, Option, Some, None, option_map, refl, sym, ap, ap₂, subst, ◌∙◌, inl, inr, arith, eqb-true, lt-ltb}
+use Rattle.std.proofs.Common.{◌≡◌, ◌⊎◌, ℕ, ◌*◌, ◌<◌, ◌≤◌, ◌==◌, ◌&&◌, not, Bool, true, false, if◌then◌else◌, List, [], slice_get, Option, Some, None, option_map, refl, sym, ap, ap₂, subst, ◌∙◌, inl, inr, arith, eqb-true, lt-ltb}
 use Rattle.std.proofs.lemmas.Bool.{and_parts, both_ways, cases_Bool, cases_eq}
 use Rattle.arrayvec.specs.ArrayVec.{ArrayVec}
-use Rattle.rack.specs.Several.{Several, Through}
 use Rattle.rack.specs.Seen.{Seen}
 use Rattle.array_image.specs.Arrays.{place_with}
 use Rattle.array_image.specs.States.{is_current}
@@ -17,15 +16,12 @@ use Rattle.array_sync.proofs.Rebuilt.{other_member, own_reach, place_found, reac
 use Rattle.pool_state.specs.declared.contents.State.{State}
 use Rattle.pool_state.specs.declared.contents.Work.{Work}
 use Rattle.pool_state.specs.declared.contents.Work.TheVariants.{Resync, Rebuild, TakeOver, Begin, Reshape, Finish, Make, Zero, Ready, Extend, Close}
-use Rattle.raid_rack.specs.AllRuns.{IsOneCall}
 use Rattle.raid_rack.specs.Book.{IsAfter}
 use Rattle.raid_rack.specs.Losing.{geometry_then, only_then}
-use Rattle.raid_rack.specs.Moves.{IsHeeded, IsSeated, IsSet, KeepsArrays, LosesOnly, RaisesBy, noted_at}
+use Rattle.raid_rack.specs.Moves.{IsHeeded, IsSeated, IsSet, KeepsArrays, LosesOnly, noted_at}
 use Rattle.raid_rack.specs.Raid.{Raid}
-use Rattle.raid_rack.specs.RaidRack.{raid_in}
 use Rattle.raid_rack.specs.Works.{Does, is_due, is_rebuilding_seat, is_whole_row, stepped}
-use Rattle.raid_rack.specs.declared.arrays.RaidRack.{RaidRack}
-use Rattle.raid_rack.proofs.Raises.{raises_more, raises_none, raises_then}
+use Rattle.raid_rack.proofs.Raises.{raises_more, raises_none}
 use Rattle.raid_rack.proofs.Rebuilt.{row_left}
 use Rattle.raid_rack.proofs.Seated.{gone_lost}
 use Rattle.pool.specs.View.{View, book}
@@ -208,22 +204,6 @@ book_worked Close v w x y answered before set heeded due does =
     book_lost v w y set heeded does.1.brings.book.same.made does.1.arrays
 
 -- ---- numbers
-
--- single calls of the arrays, so many at most
-through_raises : {R : Type 0} (x : RaidRack R) (calls : List (RaidRack R)) (y : RaidRack R)
-    → Through (λ a b. IsOneCall (raid_in a) (raid_in b)) x calls y
-    → RaisesBy (18 * length calls) (raid_in x) (raid_in y)
-through_raises x [] y same = subst (λ r. RaisesBy 0 (raid_in x) (raid_in r)) (sym same) (raises_none (raid_in x))
-through_raises x (z ∷ calls) y through =
-    let rest = through_raises z calls y through.1 in
-    raises_more (18 + 18 * length calls) (18 * length (z ∷ calls)) (raid_in x) (raid_in y) (omega arith)
-    (raises_then 18 (18 * length calls) (raid_in x) (raid_in z) (raid_in y) through.0.made through.0.raises rest)
-
-pub several_raise : {R : Type 0} (most k : ℕ) (x y : RaidRack R) → 18 * most ≤ k → Several (λ a b. IsOneCall (raid_in a) (raid_in b)) most x y
-    → RaisesBy k (raid_in x) (raid_in y)
-several_raise most k x y enough several =
-    let few = several.few in
-    raises_more (18 * length several.calls) k (raid_in x) (raid_in y) (omega (arith, few, enough)) (through_raises x several.calls y several.through)
 
 pub raises_fewer : (least most : ℕ) (x y : View) → least ≤ most → Raises least x y → Raises most x y
 raises_fewer least most x y fewer raises = raises_more (most_raised * least) (most_raised * most) (book x) (book y) (omega (arith, fewer)) raises

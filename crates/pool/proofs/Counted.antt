@@ -1,6 +1,6 @@
 -- What is left after a work that is done where no drive is lost.
 use Rattle.std.specs.List.{range_with_len}
-use Rattle.std.proofs.Common.{◌≡◌, ℕ, ◌+◌, ◌-◌, ◌<◌, ◌^◌, ◌==◌, ◌&&◌, nat_lt, Bool, true, false, if◌then◌else◌, List, [], ◌∷◌, drop, length, map, slice_get, Option, Some, IfSome, option_map, inl, inr, refl, sym, ap, subst, ◌∙◌, arith, eq-eqb, ne_eqb, lt-ltb, eqb-true, ltb-true}
+use Rattle.std.proofs.Common.{◌≡◌, ℕ, ◌-◌, ◌<◌, ◌^◌, ◌==◌, ◌&&◌, nat_lt, Bool, true, false, if◌then◌else◌, List, [], drop, length, map, slice_get, Option, Some, IfSome, option_map, inl, inr, refl, sym, ap, subst, ◌∙◌, arith, eq-eqb, ne_eqb, lt-ltb, eqb-true, ltb-true}
 use Rattle.std.proofs.lemmas.Bool.{both_ways, and_parts, cases_eq}
 use Rattle.std.proofs.lemmas.List.{length-map}
 use Rattle.std.proofs.lemmas.Option.{slice_get_within}
@@ -29,16 +29,11 @@ use Rattle.raid_rack.specs.Raid.{Raid}
 use Rattle.raid_rack.specs.RaidRack.{no_super}
 use Rattle.raid_rack.specs.Works.{ClosesPlan, Does, RebuildsOne, ResyncsOne, StepsOne, is_due, is_whole_row, stepped}
 use Rattle.raid_rack.proofs.Rebuilt.{next_rebuilt, row_left}
-use Rattle.pool.specs.Works.{array_now, arrays_now, is_rebuilding_on, left_by, progress_by, works_by, HasRowsAlone}
+use Rattle.pool.specs.Works.{array_now, arrays_now, is_rebuilding_on, progress_by, works_by, HasRowsAlone}
 use Rattle.pool.proofs.Books.{is_book}
 use Rattle.pool.proofs.Counting.{none_changed, now_resynced, now_same, one_changed}
 use Rattle.pool.proofs.Quiet.{is_missing, seats_same, state_same}
 use Rattle.pool.proofs.Rebuilding.{now_rebuilt, was_rebuilt}
-
--- a list without its first work
-one_less : (works : List Work) (work : Work) → slice_get works 0 ≡ Some work → length (drop 1 works) + 1 ≡ length works
-one_less [] work here = cc
-one_less (x ∷ works) work here = grind arith
 
 -- ---- members
 
@@ -117,16 +112,16 @@ module _ (l : Linear) (v w : Raid) (a b : Seen) (before : IsSet v a) (after_set 
 
 -- ---- a work that is done
 
--- what it leaves: one work less, and no other kind of work of the arrays
+-- what it leaves: the other works, and no other kind of work of the arrays
 pub record IsOneLess (l : Linear) (v w : Raid) : Type 0 where
-  pub less : left_by l w + 1 ≡ left_by l v
+  pub rest : works_by l w ≡ drop 1 (works_by l v)
   pub alone : HasRowsAlone w
 
 -- the book after it has the rest of the works left
 rest_left : (l : Linear) (v w : Raid) (a : Seen) (work : Work) → IsSet v a → 0 < length v.state.drives.items → extents_of l.runs < 2 ^ 52
     → IsSameBook v.state w.state → slice_get (works_by l v) 0 ≡ Some work → is_of_layer work ≡ false
     → works_left w.state (progress_by l w) ≡ works_left (after work v.state (progress_by l v)).state (after work v.state (progress_by l v)).progress
-    → left_by l w + 1 ≡ left_by l v
+    → works_by l w ≡ drop 1 (works_by l v)
 rest_left l v w a work set some small same first other is =
     let p = progress_by l v in
     let listed = lt-ltb 0 (length v.state.drives.items) some in
@@ -140,8 +135,7 @@ rest_left l v w a work set some small same first other is =
     let done = subst (λ (o : Option Work). IfSome o (λ work. (is_of_layer work ≡ true → HasOneLayer v.state p.arrays.items)
     → works_left (after work v.state p).state (after work v.state p).progress ≡ drop 1 (works_left v.state p)))
     head (first_done v.state p (is_book l v a set some small)) in
-    ap (λ (ws : List Work). length ws + 1) (new ∙ is ∙ done (λ of. absurd (both_ways (is_of_layer work) other of)))
-    ∙ one_less (works_left v.state p) work head ∙ ap length (sym own)
+    new ∙ is ∙ done (λ of. absurd (both_ways (is_of_layer work) other of)) ∙ ap (drop 1) (sym own)
 
 -- an array of a step, by its number
 stepped_at : (v : Raid) (m : ℕ) (next : View → View) (n : ℕ) → stepped v m (next (v.arrays m)) true n ≡ (if n == m then (next (v.arrays n)) else v.arrays n)
@@ -209,7 +203,7 @@ module _ (l : Linear) (v w : Raid) (a b : Seen) (work : Work) (m : ℕ) (next : 
       (λ n low is. at n low ∙ ap (array_now v.state.extent) (here n is) ∙ now ∙ ap (λ k. to (array_now v.state.extent (v.arrays k))) (sym is))
       (λ n low not. at n low ∙ ap (array_now v.state.extent) (other n not)) in
       record {
-        less = rest_left l v w a work set some small same first plain
+        rest = rest_left l v w a work set some small same first plain
             (left_as l v w a b set steps.brings.set heeded steps.heeded same marks alone made only roles_at disks_at missing_at less_at young_at
             (change m to (arrays_now v)) v.state.plan steps.plan changed
             ∙ ap (λ (k : Book). works_left k.state k.progress) (sym book));
@@ -255,7 +249,7 @@ close_counted l v w a b set heeded some small alone first marks does =
     let now = now_at l v w a b set does.brings.set heeded does.heeded same marks alone v.arrays does.arrays (λ n. refl) (λ n. refl) (λ n k low gone. gone) (λ n p low is. is)
     (λ n. refl) in
     record {
-      less = rest_left l v w a Close set some small same first refl
+      rest = rest_left l v w a Close set some small same first refl
           (left_as l v w a b set does.brings.set heeded does.heeded same marks alone v.arrays does.arrays (λ n. refl) (λ n. refl) (λ n k low gone. gone) (λ n p low is. is)
           (λ n. refl)
           (arrays_now v) Nothing does.plan

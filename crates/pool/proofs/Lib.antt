@@ -25,6 +25,7 @@ mod Ways
 mod Cleaning
 mod NewPools
 mod OwnAreas
+mod Closing
 mod Working
 mod Rooms
 mod Books

@@ -29,8 +29,8 @@ use Rattle.pool.specs.View.{View, arrays_of, bay_in, book, view, volume}
 use Rattle.pool.specs.Volume.{is_spent, size_of}
 use Rattle.pool.specs.Keeping.{KeepsBook, KeepsWorks, Raises, most_raised}
 use Rattle.pool.specs.Calls.{Flushes, HasFault, Marks, Passes, ReadsSector, WritesSector}
-use Rattle.raid_rack.proofs.Raises.{raises_more, raises_none}
-use Rattle.pool.proofs.Booked.{book_lost, several_raise}
+use Rattle.raid_rack.proofs.Raises.{raises_more, raises_none, several_raise}
+use Rattle.pool.proofs.Booked.{book_lost}
 use Rattle.pool.proofs.Keeping.{marks_of, marks_same, passes_of, passes_same}
 use Rattle.pool.proofs.Doing.{does_flush, does_kept, does_none, does_refused, does_write}
 

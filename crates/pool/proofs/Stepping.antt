@@ -1,7 +1,9 @@
 -- What a work says of what is left, and works in a row.
 use Rattle.std.specs.Prelude.{IfErr, OnOk, Result, is_ok}
-use Rattle.std.proofs.Common.{◌≡◌, ℕ, ◌+◌, ◌<◌, nat_lt, Bool, true, false, if◌then◌else◌, not, List, [], ◌∷◌, length, slice_get, Some, None, Ok, Err, refl, sym, ap, subst, ◌∙◌, inl, inr, arith, ltb-true}
+use Rattle.std.specs.Prelude.{min}
+use Rattle.std.proofs.Common.{◌≡◌, ℕ, ◌+◌, ◌<◌, nat_le, nat_lt, Bool, true, false, if◌then◌else◌, not, List, [], ◌∷◌, drop, length, slice_get, Some, None, Ok, Err, refl, sym, ap, subst, ◌∙◌, inl, inr, arith, leb-true, leb-false, ltb-true}
 use Rattle.std.proofs.lemmas.Bool.{both_ways, cases_Bool}
+use Rattle.std.proofs.lemmas.List.{drop-drop, drop_all}
 use Rattle.rack.specs.Joins.{rose_before, rose_since}
 use Rattle.rack.specs.Seen.{Seen}
 use Rattle.rack.specs.Shelf.{Shelf}
@@ -12,6 +14,8 @@ use Rattle.lvm_group.specs.Runs.{Linear}
 use Rattle.lvm_group.specs.Volume.{linear}
 use Rattle.pool_state.specs.declared.contents.Work.{Work}
 use Rattle.pool_state.specs.declared.contents.Work.TheVariants.{Resync, Rebuild, TakeOver, Begin, Reshape, Finish, Make, Zero, Ready, Extend, Close}
+use Rattle.raid_rack.specs.Losing.{only_same}
+use Rattle.raid_rack.specs.Moves.{LosesOnly}
 use Rattle.raid_rack.specs.Raid.{Raid}
 use Rattle.raid_rack.specs.RaidRack.{IsFit, arrays_in, raid_in, raid_seen, slices_seen}
 use Rattle.raid_rack.specs.Works.{Does, array_of, is_due, is_stuck}
@@ -19,10 +23,11 @@ use Rattle.raid_rack.specs.declared.arrays.RaidRack.{RaidRack}
 use Rattle.raid_rack.specs.declared.works.Stuck.{Stuck}
 use Rattle.pool.specs.declared.Pool.{Pool}
 use Rattle.pool.specs.View.{View, arrays_of, book, view, volume}
-use Rattle.pool.specs.Works.{HasRowsAlone, IsStuck, IsWorked, LacksRow, left_of, progress_by, works_by, works_of}
+use Rattle.pool.specs.Works.{IsStuck, IsWorked, KeepsAllMembers, KeepsPlan, LacksRow, left_of, progress_by, works_by, works_of}
 use Rattle.pool.specs.Keeping.{KeepsBook}
-use Rattle.pool.specs.Calls.{IsOneFewer, IsQuiet, Marks, Passes}
+use Rattle.pool.specs.Calls.{DoesFirst, IsQuiet, Marks, Passes}
 use Rattle.pool.proofs.Booked.{book_same, book_worked}
+use Rattle.pool.proofs.Closing.{members_same, members_worked, others_stuck, plan_worked}
 use Rattle.pool.proofs.Counted.{work_counted}
 use Rattle.pool.proofs.Reached.{with_arrays}
 use Rattle.pool.proofs.Serving.{KeepNames, Laws}
@@ -48,10 +53,10 @@ quiet_marks x y passes marks quiet p =
 
 -- ---- a work
 
--- no first work, no work
-pub none_left : (works : List Work) → slice_get works 0 ≡ None → 0 < length works → ⊥
-none_left [] none some = omega (arith, some)
-none_left (work ∷ works) none some = cc none
+-- where there is no first work none comes after it
+pub none_left : (works : List Work) → slice_get works 0 ≡ None → works ≡ drop 1 works
+none_left [] none = refl
+none_left (work ∷ works) none = cc none
 
 -- only a list of drives that has one has works
 some_drive : (l : Linear) (v : Raid) (work : Work) → slice_get (works_by l v) 0 ≡ Some work → 0 < length v.state.drives.items
@@ -100,13 +105,32 @@ work_book seen shelf p new work fit r after says =
       | inr idle ↦ subst (λ (k : RaidRack _). KeepsBook v (raid_in k)) (sym (says.idle idle).1) (book_same v)
     ]
 
+-- and of its members and its plan
+pub work_plan : {R : Type 0} (seen : R → Seen) (shelf : R → Shelf) (p : Pool R) (new : RaidRack R) (work : Work) → (volume (view seen shelf p)).fit → (r : Result (Unit {0}) Stuck)
+    → slice_get (works_of (view seen shelf p)) 0 ≡ Some work → KeepsBook (raid_in (arrays_of p)) (raid_in new) → SaysOf seen work r (arrays_of p) new
+    → KeepsAllMembers (raid_in (arrays_of p)) (raid_in new) × KeepsPlan (linear p.volume) (raid_in (arrays_of p)) (raid_in new)
+work_plan seen shelf p new work fit r first keeps says =
+    let v = raid_in (arrays_of p) in
+    let w = raid_in new in
+    let a = slices_seen seen (arrays_of p) in
+    let b = slices_seen seen new in
+    elim (cases_Bool (is_due v work)) [
+      | inl due ↦ (
+        members_worked work v w a b (is_ok r) fit.0.running.set due (says.does due),
+        plan_worked (linear p.volume) work v w a b (is_ok r) fit.0.running.set fit.0.heeded first keeps (says.does due),
+      )
+      | inr idle ↦
+          let still = ap raid_in (says.idle idle).1 in
+          (subst (KeepsAllMembers v) (sym still) (members_same v), inl (ap (λ (k : Raid). k.state.plan) still))
+    ]
+
 module _ {R : Type 0} (seen : R → Seen) (shelf : R → Shelf) (runs : R → R → Type 0) (laws : Laws seen) (names : KeepNames shelf runs) (p : Pool R) (new : RaidRack R) (work : Work)
     (fit : (volume (view seen shelf p)).fit) (first : slice_get (works_of (view seen shelf p)) 0 ≡ Some work) where
-  -- it is one less
-  pub one_fewer : (r : Result (Unit {0}) Stuck) → IsWorked seen runs 1 p (with_arrays p new) → SaysOf seen work r (arrays_of p) new
-      → OnOk r (IsOneFewer (view seen shelf p) (view seen shelf (with_arrays p new)))
-  one_fewer (Err e) worked says = tt
-  one_fewer (Ok u) worked says =
+  -- it was the first one
+  pub first_done : (r : Result (Unit {0}) Stuck) → IsWorked seen runs 1 p (with_arrays p new) → SaysOf seen work r (arrays_of p) new
+      → OnOk r (DoesFirst 1 (view seen shelf p) (view seen shelf (with_arrays p new)))
+  first_done (Err e) worked says = tt
+  first_done (Ok u) worked says =
       λ quiet alone.
       let x = view seen shelf p in
       let y = view seen shelf (with_arrays p new) in
@@ -117,7 +141,7 @@ module _ {R : Type 0} (seen : R → Seen) (shelf : R → Shelf) (runs : R → R 
             fit.0.heeded (some_drive (linear p.volume) (book x) work first)
             (small_extents (linear p.volume) (raid_seen seen (arrays_of p)) p.volume.orderly fit.1) alone first
             (quiet_marks x y call.passes call.marks quiet) due (says.does due) in
-            (one.alone, λ some. one.less)
+            (one.alone, subst (λ k. works_by k (book y) ≡ drop 1 (works_of x)) (sym worked.linear) one.rest)
         | inr idle ↦ absurd (both_ways true (says.idle idle).0 refl)
       ]
 
@@ -127,30 +151,50 @@ module _ {R : Type 0} (seen : R → Seen) (shelf : R → Shelf) (runs : R → R 
   is_stuck_at (Ok u) says = tt
   is_stuck_at (Err e) says =
       let v = raid_in (arrays_of p) in
+      let w = raid_in new in
+      let a = slices_seen seen (arrays_of p) in
+      let b = slices_seen seen new in
+      let left : ((n : ℕ) → n < v.state.made → (n ≡ array_of work → ⊥) → LosesOnly (v.arrays n) (w.arrays n)) × (w.state.plan ≡ v.state.plan) =
+      elim (cases_Bool (is_due v work)) [
+        | inl due ↦ others_stuck work v w a b (says.does due)
+        | inr idle ↦
+            let still = ap raid_in (says.idle idle).1 in
+            (λ n low other. only_same (v.arrays n) (w.arrays n) (ap (λ (k : Raid). k.arrays n) still), ap (λ (k : Raid). k.state.plan) still)
+      ] in
       record {
         work = work;
         first = first;
         named = says.named;
         why = elim (cases_Bool (is_due v work)) [
-          | inl due ↦ inr (lacks_row v (raid_in new) (slices_seen seen (arrays_of p)) (slices_seen seen new) work (says.does due))
+          | inl due ↦ inr (lacks_row v w a b work (says.does due))
           | inr idle ↦ inl (idle, ap raid_in (says.idle idle).1)
         ];
+        others = λ n low other. left.0 n low (λ is. other (is ∙ sym says.named));
+        plan = left.1;
       }
 
 -- ---- works in a row
 
--- so many fewer are left, where no disk's faults rose
-abbrev pub IsFewerBy : View → View → ℕ → Type 0
-IsFewerBy x y n = IsQuiet x y → HasRowsAlone (book x) → HasRowsAlone (book y) × (left_of y + n ≡ left_of x)
+pub does_none : (x : View) → DoesFirst 0 x x
+does_none x = λ quiet alone. (alone, refl)
 
-pub fewer_none : (x : View) → IsFewerBy x x 0
-fewer_none x = λ quiet alone. (alone, omega arith)
-
-pub fewer_then : (x y z : View) (n : ℕ) → Passes x y → Passes y z → n < left_of x → IsFewerBy x y n → IsOneFewer y z → IsFewerBy x z (n + 1)
-fewer_then x y z n one two low before more =
+pub does_then : (x y z : View) (n : ℕ) → Passes x y → Passes y z → DoesFirst n x y → DoesFirst 1 y z → DoesFirst (n + 1) x z
+does_then x y z n one two before more =
     λ quiet alone.
     let early = before (λ d rose. quiet d (rose_before (two.apart.stays.faults d) rose)) alone in
     let late = more (λ d rose. quiet d (rose_since (one.apart.stays.faults d) rose)) early.0 in
-    let most = early.1 in
-    let last = late.1 (omega (arith, low, most)) in
-    (late.0, omega (arith, last, most))
+    (late.0, late.1 ∙ ap (drop 1) early.1 ∙ drop-drop 1 n (works_of x))
+
+-- all of them are, where more were asked for
+pub does_all : (x y : View) (n count : ℕ) → min count (left_of x) ≡ n → DoesFirst n x y → DoesFirst count x y
+does_all x y n count least does =
+    λ quiet alone.
+    let done = does quiet alone in (
+      done.0,
+      done.1 ∙ elim (cases_Bool (nat_le count (left_of x))) [
+        | inl few ↦ ap (λ k. drop k (works_of x)) (let asked = leb-true count (left_of x) few in omega (arith, least, asked))
+        | inr many ↦
+            let past = leb-false count (left_of x) many in
+            drop_all n (works_of x) (omega (arith, least, past)) ∙ sym (drop_all count (works_of x) (omega (arith, past)))
+      ],
+    )

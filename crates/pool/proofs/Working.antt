@@ -1,5 +1,5 @@
 -- Works of maintenance in a row, and what they are to the volume.
-use Rattle.std.proofs.Common.{◌≡◌, ℕ, ◌+◌, ◌*◌, refl, sym, subst, ◌∙◌, arith}
+use Rattle.std.proofs.Common.{◌≡◌, ℕ, ◌+◌, ◌*◌, refl, sym, subst, ◌∙◌, inl, arith}
 use Rattle.rack.proofs.Writing.{only_quiet}
 use Rattle.rack.specs.Seen.{IsPick, Seen, Stays}
 use Rattle.rack.specs.Shelf.{Shelf}
@@ -19,10 +19,11 @@ use Rattle.raid_rack.specs.declared.arrays.RaidRack.{RaidRack}
 use Rattle.pool.specs.declared.Pool.{Pool}
 use Rattle.pool.specs.View.{arrays_of, bay_in, view, volume}
 use Rattle.pool.specs.Keeping.{KeepsBook, most_raised}
-use Rattle.pool.specs.Works.{IsWorked}
+use Rattle.pool.specs.Works.{IsWorked, KeepsAllMembers, KeepsPlan}
 use Rattle.pool.specs.Volume.{Does, unchanged}
 use Rattle.raid_rack.proofs.Raises.{raises_more, raises_none, raises_then}
 use Rattle.pool.proofs.Booked.{book_same, book_then}
+use Rattle.pool.proofs.Closing.{all_members_then, members_same, plan_then}
 use Rattle.pool.proofs.Doing.{does_kept}
 use Rattle.pool.proofs.Reached.{with_arrays}
 use Rattle.pool.proofs.Serving.{IsCall, KeepNames, Laws, is_call}
@@ -38,6 +39,8 @@ module _ {R : Type 0} (seen : R → Seen) (shelf : R → Shelf) (runs : R → R 
         ran = runs_none (tables (slices_in raid)) (seen (bay_in p)) (runs (bay_in p) (bay_in p)) (same (bay_in p));
         book = raid_runs_same (written_in raid) (raid_in raid) (slices_seen seen raid);
         arrays = book_same (raid_in raid);
+        members = members_same (raid_in raid);
+        plan = inl refl;
         raises = raises_none (raid_in raid);
       }
 
@@ -49,6 +52,8 @@ module _ {R : Type 0} (seen : R → Seen) (shelf : R → Shelf) (runs : R → R 
     ran = worked.ran;
     book = worked.book;
     arrays = worked.arrays;
+    members = worked.members;
+    plan = worked.plan;
     raises = raises_more 0 (most_raised * count) (raid_in (arrays_of p)) (raid_in (arrays_of q)) (omega arith) worked.raises;
   }
 
@@ -56,14 +61,17 @@ module _ {R : Type 0} (seen : R → Seen) (shelf : R → Shelf) (runs : R → R 
   pub worked_by : (p : Pool R) (old new : RaidRack R) → old ≡ arrays_of p → KeepsRack (raid_seen seen old) (raid_seen seen new)
       → SliceRuns seen runs (slices_in old) (slices_in new)
       → RaidRuns (written_in old) (written_in new) (raid_in old) (raid_in new) (slices_seen seen old) (slices_seen seen new)
-      → KeepsBook (raid_in (arrays_of p)) (raid_in new) → RaisesBy 18 (raid_in old) (raid_in new)
+      → KeepsBook (raid_in (arrays_of p)) (raid_in new) → KeepsAllMembers (raid_in (arrays_of p)) (raid_in new)
+      → KeepsPlan (linear p.volume) (raid_in (arrays_of p)) (raid_in new) → RaisesBy 18 (raid_in old) (raid_in new)
       → IsWorked seen runs 1 p (with_arrays p new)
-  worked_by p old new same keeps ran book arrays raises = record {
+  worked_by p old new same keeps ran book arrays members plan raises = record {
     linear = refl;
     keeps = subst (λ (r : RaidRack R). KeepsRack (raid_seen seen r) (raid_seen seen new)) same keeps;
     ran = subst (λ (r : RaidRack R). SliceRuns seen runs (slices_in r) (slices_in new)) same ran;
     book = subst (λ (r : RaidRack R). RaidRuns (written_in r) (written_in new) (raid_in r) (raid_in new) (slices_seen seen r) (slices_seen seen new)) same book;
     arrays = arrays;
+    members = members;
+    plan = plan;
     raises = raises_more 18 most_raised (raid_in (arrays_of p)) (raid_in new) (omega arith)
         (subst (λ (r : RaidRack R). RaisesBy 18 (raid_in r) (raid_in new)) same raises);
   }
@@ -87,6 +95,9 @@ module _ {R : Type 0} (seen : R → Seen) (shelf : R → Shelf) (runs : R → R 
         book = raid_runs_then (written_in a) (written_in b) (written_in c) (raid_in a) (raid_in b) (raid_in c)
             (slices_seen seen a) (slices_seen seen b) (slices_seen seen c) one.book two.book;
         arrays = book_then (raid_in a) (raid_in b) (raid_in c) one.book.book.same.made two.book.book one.arrays two.arrays;
+        members = all_members_then (raid_in a) (raid_in b) (raid_in c) one.book.book.same.made one.members two.members;
+        plan = plan_then (linear p.volume) (raid_in a) (raid_in b) (raid_in c) one.book.book two.book.book one.arrays two.arrays one.members one.plan
+            (subst (λ (l : Linear). KeepsPlan l (raid_in b) (raid_in c)) one.linear two.plan);
         raises = raises_more (most_raised * count + most_raised) (most_raised * (count + 1)) (raid_in a) (raid_in c) (omega arith)
             (raises_then (most_raised * count) most_raised (raid_in a) (raid_in b) (raid_in c) one.book.book.same.made one.raises two.raises);
       }

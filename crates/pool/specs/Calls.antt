@@ -1,5 +1,5 @@
 -- What each call of a pool does.
-use Rattle.std.specs.Prelude.{◌≡◌, ◌⊎◌, ◌↔◌, ℕ, ◌<◌, ◌≤◌, ◌+◌, min, true, false, List, Some, Result, Err, IfErr, IfOk, OnOk, OnErr}
+use Rattle.std.specs.Prelude.{◌≡◌, ◌⊎◌, ◌↔◌, ℕ, ◌<◌, ◌≤◌, true, false, List, drop, Some, Result, Err, IfErr, IfOk, OnOk, OnErr}
 use Rattle.rack.specs.Seen.{Image, Rose, Stays}
 use Rattle.rack.specs.Sequences.{WritesOnly}
 use Rattle.rack.specs.Shelf.{KeepsShelf}
@@ -28,7 +28,7 @@ use Rattle.pool.specs.declared.calls.SectorFault.TheVariants.{Range, Spent}
 use Rattle.pool.specs.View.{View, arrays_shown, book, slices_shown, volume}
 use Rattle.raid_rack.specs.declared.works.Stuck.{Stuck}
 use Rattle.pool.specs.Keeping.{KeepsBook, KeepsWorks, Raises}
-use Rattle.pool.specs.Works.{HasRowsAlone, StopsStuck, left_of}
+use Rattle.pool.specs.Works.{HasRowsAlone, KeepsAllMembers, KeepsPlan, StopsStuck, left_of, works_of}
 use Rattle.pool.specs.Volume.{Does, Holds, is_spent, size_of, unchanged}
 
 -- What each call keeps: the volume stays where it is, marks alone come to the state, or the end of its plan, arrays lose whom these marks
@@ -136,19 +136,21 @@ pub record Ends (x y : View) : Type 0 where
 abbrev pub IsQuiet : View → View → Type 0
 IsQuiet x y = (d : ℕ) → Rose (x.bay.faults d) (y.bay.faults d) → ⊥
 
--- a work is done, or none was left
-abbrev pub IsOneFewer : View → View → Type 0
-IsOneFewer x y =
-    IsQuiet x y → HasRowsAlone (book x) → HasRowsAlone (book y) × (0 < left_of x → left_of y + 1 ≡ left_of x)
+-- Where no disk's faults rose and only rows to resync and to rebuild were left of the arrays, the first works that were left are done, so many or all of
+-- them, and the others are left.
+abbrev pub DoesFirst : ℕ → View → View → Type 0
+DoesFirst count x y =
+    IsQuiet x y → HasRowsAlone (book x) → HasRowsAlone (book y) × (works_of y ≡ drop count (works_of x))
 
--- Works of maintenance are done. No value moves, and what is answered is left. Where no disk's faults rose and only rows to resync and to
--- rebuild were left of the arrays, as many fewer are left as were asked for, or none. Else an array can't do a work that was left.
+-- Works of maintenance are done, in their order. No value moves, what is answered is left, members stay but for losses and rebuilds, and a plan goes on, or has ended as the last
+-- work. Else an array can't do a work that was left.
 pub record Steps (x y : View) (count : ℕ) (result : Result ℕ Stuck) : Type 0 where
   pub passes : Passes x y
   pub raises : Raises count x y
   pub marks : Marks x y
   pub does : Does x y unchanged unchanged
+  pub members : KeepsAllMembers (book x) (book y)
+  pub plan : KeepsPlan x.linear (book x) (book y)
   pub left : IfOk result (λ left. left ≡ left_of y)
-  pub progress :
-      OnOk result (IsQuiet x y → HasRowsAlone (book x) → HasRowsAlone (book y) × (left_of y + min count (left_of x) ≡ left_of x))
+  pub progress : OnOk result (DoesFirst count x y)
   pub stuck : IfErr result (λ e. StopsStuck (IsQuiet x y) y.linear count (book x) (book y) e.array)

@@ -1,13 +1,15 @@
 -- The works of maintenance that a pool has left, by its arrays and its volume.
-use Rattle.std.specs.Prelude.{◌≡◌, ℕ, ◌+◌, ◌-◌, ◌*◌, ◌/◌, ◌⊎◌, ◌||◌, not, ◌<◌, Bool, true, false, nat_lt, if◌then◌else◌, List, [], find, length, map, slice_get, Option, Some}
+use Rattle.std.specs.Prelude.{◌≡◌, ◌≢◌, ℕ, ◌-◌, ◌*◌, ◌/◌, ◌⊎◌, ◌||◌, not, ◌<◌, Bool, true, false, nat_lt, if◌then◌else◌, List, [], ◌∷◌, drop, find, length, map, slice_get, Option, Some}
 use Rattle.std.specs.List.{range_with_len}
 use Rattle.std.specs.Option.{option_map_or}
 use Rattle.array_image.specs.SoundArray.{first_unsynced}
 use Rattle.array_image.specs.Supers.{is_reshaping, named_places, new_row}
 use Rattle.array_model.specs.View.{View as ArrayView, rows_of}
+use Rattle.array_model.specs.declared.Seat.TheVariants.{Missing}
 use Rattle.array_core.specs.Seats.{seat_of}
 use Rattle.array_sync.specs.Rows.{others_give}
 use Rattle.array_sync.specs.Steps.{reach_on}
+use Rattle.pool_state.specs.declared.contents.Plan.TheVariants.{Nothing}
 use Rattle.pool_state.specs.declared.contents.Work.{Work}
 use Rattle.pool_state.specs.declared.contents.Work.TheVariants.{Resync, Rebuild, TakeOver, Begin, Reshape, Finish, Make, Zero, Ready, Extend, Close}
 use Rattle.growth_plan.specs.declared.ArrayNow.{ArrayNow}
@@ -16,14 +18,14 @@ use Rattle.growth_plan.specs.Works.{works_left}
 use Rattle.lvm_group.specs.Runs.{Linear, extents_of}
 use Rattle.lvm_group.specs.Volume.{linear as linear_of}
 use Rattle.rack.specs.Seen.{Seen}
-use Rattle.raid_rack.specs.Moves.{RaisesBy}
+use Rattle.raid_rack.specs.Moves.{LosesOnly, RaisesBy}
 use Rattle.raid_rack.specs.Raid.{Raid, is_over}
 use Rattle.raid_rack.specs.RaidRack.{KeepsRack, SliceRuns, raid_in, raid_seen, slices_in, slices_seen, written_in}
 use Rattle.raid_rack.specs.Runs.{RaidRuns}
 use Rattle.raid_rack.specs.Book.{IsAfter}
 use Rattle.raid_rack.specs.Works.{array_of, is_due, is_rebuilding_seat, is_stuck, next_row}
 use Rattle.pool.specs.declared.Pool.{Pool}
-use Rattle.pool.specs.Keeping.{KeepsBook, most_raised}
+use Rattle.pool.specs.Keeping.{HasMarkedSeats, KeepsBook, most_raised}
 use Rattle.pool.specs.View.{View, arrays_of, book}
 
 -- ---- how an array stands
@@ -97,6 +99,38 @@ pub record HasRowsAlone (v : Raid) : Type 0 where
   pub grown : (n : ℕ) → n < v.state.made → (v.arrays n).young ≡ false
   pub one : (n : ℕ) → n < v.state.made → IsOneRebuilt (v.arrays n)
 
+-- ---- a plan
+
+-- Works leave an array's members so: each has its id, and it stays as it was or is missing, unless it was being rebuilt.
+pub record KeepsMembers (u w : ArrayView) : Type 0 where
+  pub devices : w.devices ≡ u.devices
+  pub seats :
+      (k : ℕ)
+      → (slice_get w.seats k ≡ slice_get u.seats k) ⊎ (slice_get w.seats k ≡ Some Missing)
+      ⊎ (option_map_or is_rebuilding_seat (slice_get u.seats k) false ≡ true)
+
+-- those of each array
+abbrev pub KeepsAllMembers : Raid → Raid → Type 0
+KeepsAllMembers v w = (n : ℕ) → n < v.state.made → KeepsMembers (v.arrays n) (w.arrays n)
+
+-- A plan has ended as the last work that was left by a book between two: nothing else was left then, no row to resync or to rebuild. In that book just those members are
+-- missing whose drives are marked, and none is being rebuilt that wasn't.
+pub record EndsPlan (l : Linear) (v w : Raid) : Type 0 where
+  pub mid : Raid
+  pub marks : IsAfter v.state mid.state
+  pub done : KeepsBook v mid
+  pub members : KeepsAllMembers v mid
+  pub seated : HasMarkedSeats mid
+  pub before : mid.state.plan ≡ v.state.plan
+  pub last : works_by l mid ≡ Close ∷ []
+  pub losses : IsAfter mid.state w.state
+  pub left : KeepsBook mid w
+  pub ended : w.state.plan ≡ Nothing
+
+-- a plan goes on, or has ended so
+abbrev pub KeepsPlan : Linear → Raid → Raid → Type 0
+KeepsPlan l v w = (w.state.plan ≡ v.state.plan) ⊎ EndsPlan l v w
+
 -- ---- works that can't be done
 
 -- The next row of a work of the book v can't be had by the book w: that of a resync, or what the others give of the member that is rebuilt.
@@ -114,29 +148,34 @@ LacksRow v w Extend = ⊥
 LacksRow v w Close = ⊥
 
 -- The first of the works that the book v has left can't be done, which is one of this array: it isn't due, and nothing was called; or its next row can't be had by the
--- book w, which has the losses that were met in the try.
+-- book w, which has the losses that were met in the try. Of the other arrays nothing has changed but whom they lost, and a plan goes on.
 pub record IsStuck (l : Linear) (v w : Raid) (array : ℕ) : Type 0 where
   pub work : Work
   pub first : slice_get (works_by l v) 0 ≡ Some work
   pub named : array ≡ array_of work
   pub why : ((is_due v work ≡ false) × (w ≡ v)) ⊎ LacksRow v w work
+  pub others : (n : ℕ) → n < v.state.made → n ≢ array → LosesOnly (v.arrays n) (w.arrays n)
+  pub plan : w.state.plan ≡ v.state.plan
 
--- So it is by a book between two. Up to it fewer works than were asked for were done; where no disk's faults rose (`Quiet`) and only rows to resync and to rebuild were left of the
--- arrays, each left one fewer. From it to the last book there is what a try does.
+-- So it is by a book between two. Up to it fewer works than were asked for were done, and a plan went on or ended; where no disk's faults rose (`Quiet`) and only rows to
+-- resync and to rebuild were left of the arrays, these were the first works that were left. From it to the last book there is what a try does.
 pub record StopsStuck (Quiet : Type 0) (l : Linear) (count : ℕ) (v w : Raid) (array : ℕ) : Type 0 where
   pub mid : Raid
   pub marks : IsAfter v.state mid.state
   pub done : KeepsBook v mid
   pub works : ℕ
   pub few : works < count
-  pub fewer : Quiet → HasRowsAlone v → left_by l mid + works ≡ left_by l v
+  pub rest : Quiet → HasRowsAlone v → works_by l mid ≡ drop works (works_by l v)
+  pub plan : KeepsPlan l v mid
   pub losses : IsAfter mid.state w.state
   pub left : KeepsBook mid w
+  pub members : KeepsAllMembers v w
   pub stuck : IsStuck l mid w array
 
 -- ---- works that are done
 
--- So many works in a row: the volume lies where it lay, its arrays keep their values and their members, and they run on the slices below.
+-- So many works in a row: the volume lies where it lay, its arrays keep their values and their members, they run on the slices below, and a plan goes on, or has ended as
+-- the last work.
 pub record IsWorked {R : Type 0} (seen : R → Seen) (runs : R → R → Type 0) (count : ℕ) (p q : Pool R) : Type 0 where
   pub linear : linear_of q.volume ≡ linear_of p.volume
   pub keeps : KeepsRack (raid_seen seen (arrays_of p)) (raid_seen seen (arrays_of q))
@@ -145,4 +184,6 @@ pub record IsWorked {R : Type 0} (seen : R → Seen) (runs : R → R → Type 0)
       RaidRuns (written_in (arrays_of p)) (written_in (arrays_of q)) (raid_in (arrays_of p)) (raid_in (arrays_of q))
       (slices_seen seen (arrays_of p)) (slices_seen seen (arrays_of q))
   pub arrays : KeepsBook (raid_in (arrays_of p)) (raid_in (arrays_of q))
+  pub members : KeepsAllMembers (raid_in (arrays_of p)) (raid_in (arrays_of q))
+  pub plan : KeepsPlan (linear_of p.volume) (raid_in (arrays_of p)) (raid_in (arrays_of q))
   pub raises : RaisesBy (most_raised * count) (raid_in (arrays_of p)) (raid_in (arrays_of q))

@@ -4,7 +4,7 @@ ghost use Rattle.std.specs.Prelude.{◌≡◌, ◌<◌, nat_lt, length, slice_ge
 ghost use Rattle.growth_plan.specs.Book.{IsBook};
 ghost use Rattle.pool.specs.View.{bay_in, book, view, volume};
 ghost use Rattle.pool.specs.Works.{IsStuck, IsWorked, left_of, progress_by, works_of};
-ghost use Rattle.pool.specs.Calls.{IsOneFewer, Steps};
+ghost use Rattle.pool.specs.Calls.{DoesFirst, Steps};
 
 use crate::Pool;
 use crate::standing::array_now;
@@ -71,7 +71,7 @@ impl<R: Bay> Pool<R> {
     fn advance(&mut self) -> Result<(), Stuck>
         requires { (volume (view R.seen R.shelf self.old)).fit }
         ensures worked { IsWorked R.seen R.runs 1 self.old self.new }
-        ensures counted { OnOk result (IsOneFewer (view R.seen R.shelf self.old) (view R.seen R.shelf self.new)) }
+        ensures done { OnOk result (DoesFirst 1 (view R.seen R.shelf self.old) (view R.seen R.shelf self.new)) }
         ensures stuck { IfErr result
             (λ e. IsStuck (view R.seen R.shelf self.new).linear (book (view R.seen R.shelf self.old)) (book (view R.seen R.shelf self.new)) e.array) }
     {

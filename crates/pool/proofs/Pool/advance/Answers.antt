@@ -2,7 +2,7 @@ use Rattle.std.proofs.Common.{◌≡◌, Some, slice_get, sym, subst}
 use Rattle.raid_rack.specs.RaidRack.{IsFit, KeepsRack, arrays_in, raid_seen, slices_seen}
 use Rattle.pool.specs.View.{arrays_of, view}
 use Rattle.pool.specs.Works.{works_of}
-use Rattle.pool.proofs.Stepping.{SaysOf, is_stuck_at, none_left, one_fewer, work_book}
+use Rattle.pool.proofs.Stepping.{SaysOf, first_done, is_stuck_at, none_left, work_book, work_plan}
 use Rattle.pool.proofs.Working.{worked_by, worked_more, worked_none}
 use Rattle.pool.proofs.Pool.advance.Goals as goal
 
@@ -19,11 +19,13 @@ returns-in-Some g c =
     let first : slice_get (works_of (view seen shelf p)) 0 ≡ Some c.in-Some.work = sym c.in-Some.ensures.first in
     let says : SaysOf seen c.in-Some.work c.work.result (arrays_of p) new =
     subst (λ old. SaysOf seen c.in-Some.work c.work.result old new) c.inner.ensures.value (record { idle = own.idle; does = own.does; named = own.named }) in
-    let worked = worked_by seen shelf g.R.Rack.runs p _ new c.inner.ensures.value own.keeps own.runs own.book
-    (work_book seen shelf p new c.in-Some.work c.requires c.work.result (subst (λ old. KeepsRack (raid_seen seen old) (raid_seen seen new)) c.inner.ensures.value own.keeps).stays.fit says) own.raises in
+    let after = (subst (λ old. KeepsRack (raid_seen seen old) (raid_seen seen new)) c.inner.ensures.value own.keeps).stays.fit in
+    let book = work_book seen shelf p new c.in-Some.work c.requires c.work.result after says in
+    let plan = work_plan seen shelf p new c.in-Some.work c.requires c.work.result first book says in
+    let worked = worked_by seen shelf g.R.Rack.runs p _ new c.inner.ensures.value own.keeps own.runs own.book book plan.0 plan.1 own.raises in
     record {
       worked = worked;
-      counted = one_fewer seen shelf g.R.Rack.runs g.met.R.Rack.sound g.met.R.Bay.runs_shelf p new c.in-Some.work c.requires first c.work.result worked says;
+      done = first_done seen shelf g.R.Rack.runs g.met.R.Rack.sound g.met.R.Bay.runs_shelf p new c.in-Some.work c.requires first c.work.result worked says;
       stuck = is_stuck_at seen shelf g.R.Rack.runs g.met.R.Rack.sound g.met.R.Bay.runs_shelf p new c.in-Some.work c.requires first c.work.result says;
     }
 
@@ -32,6 +34,6 @@ returns-in-None g c =
     let p = c.args.self.now in
     record {
       worked = worked_more g.R.Rack.seen g.R.Bay.shelf g.R.Rack.runs 1 p p (worked_none g.R.Rack.seen g.R.Bay.shelf g.R.Rack.runs g.met.R.Rack.runs_same p c.requires);
-      counted = λ quiet alone. (alone, λ some. absurd (none_left (works_of (view g.R.Rack.seen g.R.Bay.shelf p)) (sym c.in-None.ensures.first) some));
+      done = λ quiet alone. (alone, none_left (works_of (view g.R.Rack.seen g.R.Bay.shelf p)) (sym c.in-None.ensures.first));
       stuck = tt;
     }

@@ -1,10 +1,10 @@
 use Rattle.pool.specs.View.{view}
 use Rattle.pool.specs.Works.{IsWorked}
-use Rattle.pool.proofs.Stepping.{IsFewerBy}
+use Rattle.pool.specs.Calls.{DoesFirst}
 use Rattle.pool.proofs.Pool.step.Given as goal
 
 abbrev pub invariant-loop-turn : goal.invariant-loop-turn
 invariant-loop-turn g l = record {
   worked : IsWorked g.R.Rack.seen g.R.Rack.runs l._turn l.fn.self l.self;
-  fewer : IsFewerBy (view g.R.Rack.seen g.R.Bay.shelf l.fn.self) (view g.R.Rack.seen g.R.Bay.shelf l.self) l._turn;
+  done : DoesFirst l._turn (view g.R.Rack.seen g.R.Bay.shelf l.fn.self) (view g.R.Rack.seen g.R.Bay.shelf l.self);
 }
