@@ -1,12 +1,11 @@
 -- Works of maintenance answer a line as its event has it.
-use Rattle.std.proofs.Common.{◌≡◌, ℕ, ◌+◌, true, false, List, Result, Ok, Err, refl, ◌∙◌, ap, subst, inl}
-use Rattle.std.specs.Prelude.{min}
+use Rattle.std.proofs.Common.{◌≡◌, ℕ, true, false, List, Result, Ok, Err, refl, sym, ◌∙◌, ap, subst, inl}
 use Rattle.std.proofs.lemmas.Bool.{both_ways}
 use Rattle.shr_script.specs.Reply.{left_line}
 use Rattle.pool.specs.View.{View, book}
 use Rattle.pool.specs.Volume.{unchanged}
 use Rattle.pool.specs.Calls.{IsQuiet, Steps}
-use Rattle.pool.specs.Works.{StopsStuck, left_by, left_of}
+use Rattle.pool.specs.Works.{StopsStuck, left_by, works_by}
 use Rattle.raid_rack.specs.declared.works.Stuck.{Stuck}
 use Rattle.shr_tool.specs.Events.{stuck_line}
 use Rattle.shr_tool.specs.Events.Event.{stepped, stuck}
@@ -26,8 +25,10 @@ step_done x y count left text r is_ok is steps_r =
     (record {
       left_is = subst (λ l. left ≡ left_by l (book y)) steps.passes.linear steps.left;
       progress = λ quiet alone.
-          let fewer = steps.progress quiet alone in
-          (fewer.0, ap (λ n. n + min count (left_of x)) steps.left ∙ fewer.1);
+          let done = steps.progress quiet alone in
+          (done.0, sym (ap (λ l. works_by l (book y)) steps.passes.linear) ∙ done.1);
+      members = steps.members;
+      plan = steps.plan;
     })
     (marks_for x y _ steps.passes steps.marks)
     (λ a holds. is)

@@ -153,6 +153,7 @@ module _ {R B : Type 0} (shown : B → Seen) (runs : R → R → Type 0) (does :
     one = marks.one;
     after = marks.after;
     marks = marks.marks;
+    epoch = marks.epoch;
   }
 
 -- values of which a stop can leave one alone
@@ -215,7 +216,7 @@ pub opened_as :
     → IsOpenedAs f (view shown shelf pool).bay (ground_of (view shown shelf pool)) (moment_of (view shown shelf pool))
 opened_as pool shown shelf x opens marks f sound unfaulted =
     let by = opens f sound unfaulted in
-    record { lies = by.lies; slices = by.slices; after = by.after; plan = by.plan; told = by.told; arrays = by.arrays; live = by.live; group = by.group; elsewhere = by.elsewhere; landing = by.landing; marks = marks f sound unfaulted }
+    record { lies = by.lies; slices = by.slices; after = by.after; plan = by.plan; told = by.told; arrays = by.arrays; live = by.live; group = by.group; elsewhere = by.elsewhere; landing = by.landing; marks = marks f sound unfaulted; epoch = by.epoch; events = by.events }
 
 -- contents that mean volumes aren't refused
 meant_unrefused : (disks : Disks) (c : Image) (volumes : List Volume) → meaning disks c ≡ Some volumes → refusal_of disks c ≡ None

@@ -1,5 +1,5 @@
 -- How the opening of a pool on attached disks, and the task on it, came out.
-use Rattle.std.specs.Prelude.{◌≡◌, ◌≢◌, ◌⊎◌, ◌&&◌, ◌<◌, ℕ, true, is_some, List, [], ◌∷◌, Some}
+use Rattle.std.specs.Prelude.{◌≡◌, ◌≢◌, ◌⊎◌, ◌&&◌, ◌+◌, ◌<◌, ◌≤◌, ℕ, true, is_some, List, [], ◌∷◌, Some}
 use Rattle.rack.specs.Seen.{Image, Seen}
 use Rattle.rack.specs.Moments.{Leaves}
 use Rattle.rack.specs.Sequences.{OnlyReads}
@@ -22,13 +22,14 @@ use Rattle.assembler.specs.declared.refusal.Refusal.TheVariants.{BadVolume, Memo
 use Rattle.assembler.specs.Causes.{HasRefusalCause}
 use Rattle.assembler.specs.Holding.{IsArrayOf}
 use Rattle.assembler.specs.Marking.{MarksDrives}
+use Rattle.assembler.specs.Raising.{most_opening}
 use Rattle.assembler.specs.Refusing.{is_early}
 use Rattle.pool_model.specs.Grouped.{HaveOwnAreas, HoldGroup, IsVolumeOf}
 use Rattle.pool_model.specs.Left.{AreAlone, AreElsewhere, IsPickOff}
 use Rattle.pool_model.specs.Pools.{AreSlicesOf}
 use Rattle.pool_model.specs.Stopped.{HaveTables}
 use Rattle.assembler.specs.Moments.{SaysVolume}
-use Rattle.assembler.specs.Sound.{HaveAgreed, HoldSound, IsMeantRefusal, KeepsPool, MayStop, SayTruths, StopsHold, TargetsLand}
+use Rattle.assembler.specs.Sound.{HaveAgreed, HaveGatesUpTo, HoldSound, IsMeantRefusal, KeepsPool, MayStop, SayTruths, StopsHold, StopsMean, TargetsLand}
 use Rattle.assembler.specs.Volume.{AllLive}
 use Rattle.assembler.specs.Wanting.{HasUsedUp, LeavesPool}
 use Rattle.assembler.specs.Writing.{WritesPool}
@@ -86,6 +87,9 @@ pub record IsOpenedAs (f : Found) (y : Seen) (g : Ground) (from : Moment) : Type
   pub landing : TargetsLand f → HaveTables f
   -- just those drives are marked missing that were, or that have no disk
   pub marks : (p : ℕ) → is_current from.book.state p ≡ (is_current f.state p && is_some (f.seats p))
+  -- and the numbers that end have risen by a bounded number: the epoch, and the events of each array's superblocks
+  pub epoch : from.book.state.epoch ≤ f.state.epoch + most_opening
+  pub events : (n : ℕ) (t : Super) → n < f.state.joined → truth_of f n ≡ Some t → (from.book.arrays n).truth.events ≤ t.events + most_opening
 
 -- The array that disks meant when a pool was opened on them: they held a sound pool, and none refused a call. `opened` is what they
 -- show after the opening.
@@ -121,6 +125,10 @@ pub record OpenedOn {R : Type 0} (seen : R → Seen) (shelf : R → Shelf) (runs
   pub caused : MarksDrives seen runs bay opened from.book.state
   -- it is opened as disks have it that held a sound pool and refused no call
   pub meant : (f : Found) → HoldSound (seen bay) f → IsUnfaulted (seen bay) (seen opened) → IsOpenedAs f (seen opened) ground from
+  -- the log's number has risen by a bounded number above those of the gates that the pool's drives had
+  pub number :
+      (f : Found) → HoldSound (seen bay) f → IsUnfaulted (seen bay) (seen opened) → (most : ℕ) → HaveGatesUpTo (seen bay) f most
+      → from.book.number ≤ most + most_opening
   -- then both copies of each drive's partition table are the table that its disk had, durably
   pub tables :
       (f : Found) → HoldSound (seen bay) f → IsUnfaulted (seen bay) (seen opened) → (p d : ℕ) → f.seats p ≡ Some d → IsSettled (seen bay) (seen opened) d
@@ -142,6 +150,9 @@ pub record OpenedOn {R : Type 0} (seen : R → Seen) (shelf : R → Shelf) (runs
   -- just marks of places have come that have no disk, with the same disks for its places, and its arrays hold what they held from their first extents on.
   pub stops :
       (f : Found) → HoldSound (seen bay) f → IsUnfaulted (seen bay) (seen opened) → StopsHold (seen bay) (seen opened) f data_start
+  -- A later opening of it means the run's volume again, with what its arrays held, or refuses it for a named reason, so that the two runs are told as one.
+  pub reopens :
+      (f : Found) → HoldSound (seen bay) f → IsUnfaulted (seen bay) (seen opened) → StopsMean (seen bay) (seen opened) f ground.linear
   -- The run is one on that pool, where all its arrays are ready for the volume and on its disks no superblock of an array stood where a drive that is
   -- no member of it would have its slice.
   pub run_on :

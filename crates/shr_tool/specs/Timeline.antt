@@ -1,5 +1,5 @@
 -- A run as a list of events at moments that never fall.
-use Rattle.std.specs.Prelude.{◌≡◌, ◌⊎◌, ℕ, ◌+◌, ◌*◌, ◌<◌, ◌≤◌, min, true, false, List, [], ◌∷◌, Some, None, Ok, Err}
+use Rattle.std.specs.Prelude.{◌≡◌, ◌⊎◌, ℕ, ◌+◌, ◌*◌, ◌<◌, ◌≤◌, true, false, List, [], ◌∷◌, drop, Some, None, Ok, Err}
 use Rattle.rack.specs.Seen.{Image, Rose}
 use Rattle.rack.specs.Values.{Keeps}
 use Rattle.shr_script.specs.declared.Command.TheVariants.{Lose}
@@ -22,7 +22,7 @@ use Rattle.pool.specs.Entering.{StaysStill}
 use Rattle.pool.specs.Naming.{EntersNamed, LeavesNamed}
 use Rattle.pool.specs.Replaced.{ChangesDrive, DriveWentFrom, HasGrowCause, HasTable, IsDeclined, IsReplaced, LeavesNew, TakesImage, is_vacant}
 use Rattle.pool.specs.View.{View, book, contents_in, spent_by}
-use Rattle.pool.specs.Works.{HasRowsAlone, StopsStuck, left_by}
+use Rattle.pool.specs.Works.{HasRowsAlone, KeepsAllMembers, KeepsPlan, StopsStuck, left_by, works_by}
 use Rattle.pool.specs.Volume.{Holds, Means, PicksLive}
 use Rattle.shr_tool.specs.Events.{Event, IsOfArray, Takes, Touches, TouchesLast, becomes, calls_in, calls_none, line_of, takes_disk, text_of, works_on}
 use Rattle.shr_tool.specs.StatusText.{status_text}
@@ -40,12 +40,14 @@ abbrev pub MeansAt : Ground → Moment → FlatArray → Image → Type 0
 MeansAt g q a disks = PicksLive (spent_by g.linear q.book) a (contents_in q.slices g.linear disks)
 
 -- Steps of maintenance: so many works are left by the book at their end. Where no disk's faults rose, and only rows to resync and to rebuild
--- were left of the arrays, these are as many fewer as were asked for, or none.
+-- were left of the arrays, these are the works that were left, but for the first ones, as many as were asked for, or none. Members stay but for losses and rebuilds, and a plan goes on, or has ended as the last work.
 pub record HasSteps (g : Ground) (p q : Moment) (count left : ℕ) : Type 0 where
   pub left_is : left ≡ left_by g.linear q.book
   pub progress :
       ((d : ℕ) → Rose (p.faults d) (q.faults d) → ⊥) → HasRowsAlone p.book
-      → HasRowsAlone q.book × (left + min count (left_by g.linear p.book) ≡ left_by g.linear p.book)
+      → HasRowsAlone q.book × (works_by g.linear q.book ≡ drop count (works_by g.linear p.book))
+  pub members : KeepsAllMembers p.book q.book
+  pub plan : KeepsPlan g.linear p.book q.book
 
 -- Why an event was answered so: the sector that it refuses is spent at its end, and those that it served weren't before, nor is the last
 -- one at its end; a drive that is lost was current, and another one is left; a drive is replaced, or isn't for a reason; works of
@@ -172,7 +174,7 @@ pub record Happens (Traced : Type 0) (stops : ℕ → Image → Type 0) (g : Gro
   pub slices : takes_disk event ≡ false → KeepsSlices p q
   pub marks : takes_disk event ≡ false → MarksFor p q event
   pub stands : KeepsStanding (KeepsBookIn event) (calls_in (line_of event)) p q
-  -- but for a step, and where a drive is replaced, works are left as they were, but for losses
+  -- an event that does no works of maintenance and replaces no drive changes nothing of the works that are left, but that members are lost
   pub works : works_on event ≡ false → KeepsWorks p.book q.book
   pub during :
       Traced → (k : ℕ) (i : Image) → p.clock < k → k ≤ q.clock → stops k i

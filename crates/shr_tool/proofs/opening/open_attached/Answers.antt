@@ -49,12 +49,14 @@ returns-in-Ok-clause-outcome g c =
       seated = book_seated (book (view (λ r. seen r.now) (λ r. shelf r.now) pool)) (slices_shown (view (λ r. seen r.now) (λ r. shelf r.now) pool)) opens.fit.0.running.set opens.fit.0.heeded;
       caused = marks_through seen _ runs (λ r. r.now) (λ r s ran. ran.1) _ (bay_in pool) _ opens.caused;
       meant = opened_as pool (λ r. seen r.now) (λ r. shelf r.now) _ opens.meant opens.marks;
+      number = λ f sound quiet. (opens.meant f sound quiet).number;
       tables = opens.mended;
       agreed = opens.agreed;
       truths = opens.truths;
       moments = λ a meant calm traced. stops_mean pool (λ r. seen r.now) (λ r. shelf r.now) _ a opens.meant meant calm traced;
       says = λ f sound quiet. (opens.meant f sound quiet).says;
       stops = opens.stops;
+      reopens = λ f sound quiet. (opens.meant f sound quiet).reopens;
       run_on = λ f sound quiet joined alone.
           runs_on _ _ _ _ f sound (opened_as pool (λ r. seen r.now) (λ r. shelf r.now) _ opens.meant opens.marks f sound quiet)
           _ (opens.meant f sound quiet).meant (opens.meant f sound quiet).one_pool (opens.truths f sound quiet) (stays_then opens.drives.early.only.stays opens.drives.late.stays) joined (slices_in (arrays_of pool)).orderly
