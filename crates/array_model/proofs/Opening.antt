@@ -95,7 +95,7 @@ module _ (s : State) (v : View) (x : Seen) (opens : OpensOn s v x) where
       rebuilt = λ p t none. absurd none;
     }
 
-    truth_now : truth_in s r n ≡ Some v.truth
+    pub truth_now : truth_in s r n ≡ Some v.truth
     truth_now = elim (new_truth s n e r v.truth (record v.truth { events = suc v.truth.events }) (λ p t. ⊥) opens.truth_is newer renews) [
       | old now same ↦ now
       | renewed t p now current none ↦ absurd none
