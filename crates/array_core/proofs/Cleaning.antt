@@ -142,7 +142,7 @@ renew_then s v u a b lasting stays is_array now notes fresh may =
 -- ---- settled members
 
 -- rows that agree in what settled members hold agree in contents of a moment that wrote no data
-even_settled : (v : View) (x : View) (a b : Seen) (c : Image) → a.lasting → Stays a b → v.number < 16
+pub even_settled : (v : View) (x : View) (a b : Seen) (c : Image) → a.lasting → Stays a b → v.number < 16
     → ((m : Member) (i : ℕ) → Among m (shape_of v).members → i < m.reach → IsLive a a (member_slice m.place v.number) (data_sector + i))
     → IsClosed v.number a → IsSettled (shape_of v) v.number a.held
     → AreEven (shape_of v) v.number v.resync (current_in a.held)
@@ -174,7 +174,7 @@ even_settled v x a b c lasting stays few opened closed settled even inside mix n
 
 -- ---- the clause
 
-left_offset_rows : (v : View) → is_settled v ≡ false → (left_offset v ≡ 2 ^ 64 - 1) ⊎ (left_offset v % 128 ≡ 0)
+pub left_offset_rows : (v : View) → is_settled v ≡ false → (left_offset v ≡ 2 ^ 64 - 1) ⊎ (left_offset v % 128 ≡ 0)
 left_offset_rows v unsettled = by v.young (is_unclean v.truth) refl refl
   where
     by : (young unclean : Bool) → v.young ≡ young → is_unclean v.truth ≡ unclean → (left_offset v ≡ 2 ^ 64 - 1) ⊎ (left_offset v % 128 ≡ 0)

@@ -36,6 +36,7 @@ use Rattle.array_core.specs.Superblocks.{member_super, rebuilt_to, IsSectorOf}
 use Rattle.array_core.specs.Stands.{IsSlot}
 use Rattle.array_core.specs.Staging.{HasRowRebuilds}
 use Rattle.array_core.specs.Settling.{IsOwnSector, IsNewSuper}
+use Rattle.array_core.specs.TruthLeft.{HasTruthOf}
 use Rattle.array_core.proofs.Truths.{rule_holds}
 use Rattle.array_core.proofs.Rules.{get_map, get_range, zero_more}
 use Rattle.array_core.proofs.SlotMembers.{member_at}
@@ -355,6 +356,14 @@ module _ (s : State) (v : View) (e o : ℕ) (m : Bool) (a b : Seen)
                 let here : x ≡ t = some_same x t (sym now ∙ is) in
                 subst (λ (y : Super). IsEarlier y u.truth) here
                 (record { fields = strip_new p x new; events = let same : x.events ≡ e = ap (λ (y : Super). y.events) new.truth in omega (arith, same) })
+          ]
+
+      -- it is the one of before, or has the new array's fields
+      pub moment_new : HasTruthOf s v.number a (λ t. array_fields t ≡ array_fields u.truth) r
+      moment_new t is =
+          elim which [
+            | old now same ↦ inl (q, left, truth_there.is ∙ sym now ∙ is)
+            | renewed x p now current new ↦ inr (ap array_fields (some_same t x (sym is ∙ now)) ∙ newer.fields p x new)
           ]
 
       -- where one current place has a new superblock, it is the truth

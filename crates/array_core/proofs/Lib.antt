@@ -26,6 +26,7 @@ pub mod RowTargets
 pub mod RowCommits
 pub mod RowLists
 pub mod RowOwed
+pub mod SupersLeft
 pub mod RowLogged
 pub mod LogWrites
 pub mod WriteCalls
@@ -33,3 +34,4 @@ pub mod Elsewhere
 pub mod TruthHeld
 pub mod TruthStaged
 pub mod TruthValid
+pub mod TruthLeft

@@ -28,9 +28,11 @@ use Rattle.array_model.proofs.RowWrites.{gone_none, holds_values, is_spent, same
 use Rattle.array_model.proofs.Views.{loses_then, same_view_then}
 use Rattle.array_core.specs.Logging.{HasAll, StagedRow, Stages, is_due}
 use Rattle.array_core.specs.Pool.{Goes, MayLog}
+use Rattle.array_core.specs.TruthLeft.{LeavesSupers}
 use Rattle.array_core.specs.Writing.{Base}
-use Rattle.array_core.proofs.RowLogged.{log_kept, logged_row, nobody}
+use Rattle.array_core.proofs.RowLogged.{log_decides, log_kept, log_own, log_quiet, log_ready, logged_row, nobody}
 use Rattle.array_core.proofs.RowOwed.{RowList, row_list}
+use Rattle.array_core.proofs.SupersLeft.{supers_commit, supers_reads, supers_then}
 
 -- ---- lists of places
 
@@ -136,6 +138,17 @@ module _ (s : State) (all : Bool) (v u z w : View) (a b c : Seen) (l : LogView) 
   commit_kept =
       kept_more s (next_number l.number) (gone_with nobody lost) (has_gone w) c (λ place is. loses_w.went place ∙ ap (λ (b : Bool). b || has_gone z place) is)
       (log_kept s all v u w a b c l on lost base is_array lasting reads (row_list all u z a x from l.added is_array low wide unspent row) commit may left_w)
+
+  -- its superblocks stay
+  pub commit_left : LeavesSupers v.number a c
+  commit_left =
+      let list = row_list all u z a x from l.added is_array low wide unspent row in
+      supers_then v.number a b c reads.stays (supers_reads v.number a b lasting reads)
+      (supers_commit v.number b c l on lost base.is_array.few commit
+      (log_ready s all v u w a b c l on lost base is_array lasting reads list commit may left_w)
+      (log_decides s all v u w a b c l on lost base is_array lasting reads list commit may left_w)
+      (log_quiet s all v u w a b c l on lost base is_array lasting reads list commit may left_w)
+      (log_own s all v u w a b c l on lost base is_array lasting reads list commit may left_w))
 
 -- where a sector was found spent nothing was written
 pub refused_moves : (s : State) (all : Bool) (v u w : View) (a b : Seen) (x : ℕ) (from : List ℕ) → a.lasting → OnlyReads a b → Notes u w a b → spent_in w x ≡ true

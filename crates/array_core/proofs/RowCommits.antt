@@ -91,7 +91,7 @@ put_is : (sectors : ℕ → ℕ) (xs : List Target) (c : Image) (d t : ℕ) (o :
 put_is sectors xs c d t o inside is =
     ap (λ (b : Bool). if b then unwrap_or (look xs d t) (c d t) else c d t) (lt-ltb t (sectors d) inside) ∙ ap (λ (p : Option (List ℕ)). unwrap_or p (c d t)) is
 
-put_none : (sectors : ℕ → ℕ) (xs : List Target) (c : Image) (d t : ℕ) → look xs d t ≡ None → put sectors xs c d t ≡ c d t
+pub put_none : (sectors : ℕ → ℕ) (xs : List Target) (c : Image) (d t : ℕ) → look xs d t ≡ None → put sectors xs c d t ≡ c d t
 put_none sectors xs c d t is =
     ap (λ (p : Option (List ℕ)). if nat_lt t (sectors d) then unwrap_or p (c d t) else c d t) is ∙ same (nat_lt t (sectors d))
   where

@@ -4,7 +4,7 @@ use Rattle.std.proofs.lemmas.Bool.{both_ways}
 use Rattle.rack.specs.Values.{Values}
 use Rattle.rack.specs.Seen.{Image, Seen, Stays}
 use Rattle.rack.specs.Joins.{keeps_then, leaves_weaker, live_first, live_second, stays_same, stays_then}
-use Rattle.rack.specs.Sequences.{IsMix, WritesOnly}
+use Rattle.rack.specs.Sequences.{IsMix, OnlyReads, WritesOnly}
 use Rattle.md_super.specs.declared.superblock.Super.{Super}
 use Rattle.pool_state.specs.declared.contents.State.{State}
 use Rattle.array_image.specs.Places.{data_sector, log_slice}
@@ -28,12 +28,14 @@ use Rattle.array_core.specs.Logging.{HasAll, is_due}
 use Rattle.array_core.specs.Pool.{Goes, MayCommit, MayLog}
 use Rattle.array_core.specs.Settling.{Marks, Readies, unsynced, was_marked, now_marked, lost_one, not_whole}
 use Rattle.array_core.specs.Superblocks.{raised}
+use Rattle.array_core.specs.TruthLeft.{LeavesSupers}
 use Rattle.array_core.specs.Writing.{Base, WritesView, as_it_was, newly_marked}
 use Rattle.array_core.proofs.Cleaning.{noted_restated, raised_more}
 use Rattle.array_core.proofs.LogFrames.{kept_logs}
 use Rattle.array_core.proofs.LogWrites.{reads_goes}
 use Rattle.array_core.proofs.Marking.{mark_all, mark_moves, mark_notes, mark_whole, marked_by, notes_whole, restated_array, restated_shape, says_appended, supers_others}
 use Rattle.array_core.proofs.RowLogged.{nobody}
+use Rattle.array_core.proofs.SupersLeft.{supers_reads, supers_then}
 
 -- ---- the frame
 
@@ -303,3 +305,22 @@ logged_acts s v u w number on a b c x from is_array slices many readies may note
     based.same (logged base based.is_base based.may)) in
     acts_of s v w spent a c (shape_of v) vals P (shape_of v) (appended_at x from vals)
     (moves_then n a b c H Middle Q P slices.lasting (ready_others v u a b false is_array.few readies) first second) noted
+
+-- ---- superblocks of an array that isn't whole
+
+pub ready_whole : (v u : View) (a b : Seen) → Readies v u a b true → is_whole_array v ≡ true
+ready_whole v u a b (was_marked whole fresh marked same reads) = whole
+ready_whole v u a b (now_marked whole fresh unmarked marked marks) = whole
+
+ready_reads : (v u : View) (a b : Seen) → is_whole_array v ≡ false → Readies v u a b false → OnlyReads a b
+ready_reads v u a b lacks (lost_one whole fresh unmarked lost marks) = absurd (both_ways (is_whole_array v) lacks whole)
+ready_reads v u a b lacks (not_whole same reads why) = reads
+
+pub logged_left : (s : State) (v u w : View) (number : ℕ) (on : List ℕ) (a b c : Seen) → IsArray v → HasSlices v a → is_alone v ≡ false → is_whole_array v ≡ false
+    → Readies v u a b false → MayCommit s v w number on a
+    → ((base : View) → Base (is_whole_array v) base u → MayLog s base w number on b → LeavesSupers base.number b c) → LeavesSupers v.number a c
+logged_left s v u w number on a b c is_array slices many lacks readies may logged =
+    let based = ready_based s v u w number on a b is_array slices many readies may in
+    let reads = ready_reads v u a b lacks readies in
+    supers_then v.number a b c reads.stays (supers_reads v.number a b slices.lasting reads)
+    (subst (λ k. LeavesSupers k b c) based.same (logged based.base based.is_base based.may))

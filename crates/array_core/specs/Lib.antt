@@ -13,3 +13,4 @@ pub mod Logging
 pub mod Writing
 pub mod Blank
 pub mod TruthHeld
+pub mod TruthLeft

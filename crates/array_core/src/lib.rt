@@ -24,7 +24,9 @@
 //! **Writes.** [`Array::write`] is one such record too, under the pool's premises (`MayCommit` of `specs/Pool.antt`): images go by the
 //! run's marks, nobody went since they were last heeded, and the log is kept. A whole array is marked first, once, and its rows go
 //! past the log; so does a mirror with one member. Any other row is one commit of the log: copies, or a sector and its parity, on the
-//! members that counted there when the call began, whoever went since. The log is kept for the next commit.
+//! members that counted there when the call began, whoever went since. The log is kept for the next commit. In no image that a stop
+//! leaves does a write change the truth of an array that isn't whole; [`Array::clean`] leaves the old truth, or the one with the
+//! rows to resync that are left in this run (`LeavesTruth` of `specs/TruthLeft.antt`).
 #![tactic(auto)]
 
 mod blank;

@@ -20,6 +20,7 @@ ghost use Rattle.array_core.specs.Stands.{IsStand, layout_of};
 ghost use Rattle.array_core.specs.Pool.{Goes, MayLog};
 ghost use Rattle.array_core.specs.Writing.{Base, KeepsElsewhere};
 ghost use Rattle.array_core.specs.TruthHeld.{KeepsSupers};
+ghost use Rattle.array_core.specs.TruthLeft.{LeavesSupers};
 ghost use Rattle.array_core.specs.Logging.{HasAll, MakesParity, Stages, StagesChange, due_copies, is_due, one_if, sector_target};
 
 use crate::members::{Spread, Stand};
@@ -248,6 +249,8 @@ impl Array {
         ensures notes { Notes self.old self.new (R.seen rack.old) (R.seen rack.new) }
         ensures elsewhere { KeepsElsewhere all self.old on.now.items (R.seen rack.old) (R.seen rack.new) }
         ensures supers { KeepsSupers (R.seen rack.old) (R.seen rack.new) }
+        ensures leaves { (s : State) (v : View) → Base all v self.old → MayLog s v self.new log.old.number on.now.items (R.seen rack.old)
+            → LeavesSupers v.number (R.seen rack.old) (R.seen rack.new) }
         ensures goes { Goes (R.seen rack.old) (R.seen rack.new) }
         ensures log { (log.new ≡ log.old) ⊎ (log.new ≡ committed log.old) }
         ensures runs { R.runs rack.old rack.new }

@@ -6,6 +6,7 @@ ghost use Rattle.rack.specs.Sequences.{OnlyReads};
 ghost use Rattle.pool_state.specs.declared.contents.State.{State};
 ghost use Rattle.array_image.specs.Arrays.{Shape};
 ghost use Rattle.array_image.specs.Held.{IsSettled};
+ghost use Rattle.array_image.specs.SoundArray.{array_fields};
 ghost use Rattle.commit_log.specs.Kept.{LogKept};
 ghost use Rattle.array_model.specs.View.{IsNoted, shape_of};
 ghost use Rattle.array_model.specs.ArrayCalls.{Covers, Keeping, SyncsArray};
@@ -15,7 +16,9 @@ ghost use Rattle.commit_log.specs.View.{most_sectors};
 ghost use Rattle.array_core.specs.Settling.{Cleans, IsOwnSector, KeepsOthers, Settles, WritesSuper, WritesSupers};
 ghost use Rattle.array_core.specs.Pool.{Goes, MayRenew};
 ghost use Rattle.array_core.specs.Staging.{AddsSupersOf};
+ghost use Rattle.array_core.specs.Superblocks.{settled};
 ghost use Rattle.array_core.specs.TruthHeld.{HoldTruth};
+ghost use Rattle.array_core.specs.TruthLeft.{LeavesTruth};
 ghost use Rattle.array_core.specs.Writing.{KeepsElsewhere};
 
 use crate::Array;
@@ -58,6 +61,11 @@ impl Array {
 
         // Superblocks that said the array's truth do so after it.
         ensures truth { HoldTruth self.old (R.seen rack.old) → HoldTruth self.new (R.seen rack.new) }
+
+        // What stops leave has the truth that it had, or the one that leaves the rows to resync that are left in this run.
+        ensures leaves { (s : State) (vals : ℕ → Values) (spent : ℕ → Bool) → Covers self.new spent → MayRenew s self.old (R.seen rack.old)
+            → LeavesTruth s self.old.number (λ t. array_fields t ≡ array_fields (settled self.old).truth)
+            (Holds s (shape_of self.old) self.old vals spent (R.seen rack.old)) (R.seen rack.old) (R.seen rack.new) }
 
         // No other sectors than those of superblocks are written, and whoever is left has one value in each sector.
         ensures others { KeepsOthers (R.seen rack.old) (R.seen rack.new) }

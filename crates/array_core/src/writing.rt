@@ -12,6 +12,7 @@ ghost use Rattle.array_image.specs.Arrays.{final_layout};
 ghost use Rattle.array_image.specs.Spent.{wanting, spent_with};
 ghost use Rattle.array_model.specs.View.{has_gone, is_alone, is_whole_array, member_on, place_at, sectors_of, shape_of, spent_in};
 ghost use Rattle.array_model.specs.ArrayCalls.{Covers, WritesArray};
+ghost use Rattle.array_model.specs.Says.{Holds};
 ghost use Rattle.array_model.specs.Members.{HasSlices, IsKept, Notes, Works, members_of, slice_on};
 ghost use Rattle.array_model.specs.Rows.{Wrote, copies};
 ghost use Rattle.array_model.proofs.Moves.{KeepsOthers};
@@ -24,6 +25,7 @@ ghost use Rattle.array_core.specs.Writing.{KeepsElsewhere, WritesView};
 ghost use Rattle.array_core.specs.Parities.{FoundParity};
 ghost use Rattle.array_core.specs.Settling.{Marks, Readies};
 ghost use Rattle.array_core.specs.TruthHeld.{HoldTruth, KeepsSupers};
+ghost use Rattle.array_core.specs.TruthLeft.{LeavesSupers, LeavesTruth};
 
 use crate::members::{Spread, Stand};
 use crate::reading::DATA_SECTOR;
@@ -217,6 +219,7 @@ impl Array {
         ensures others { KeepsOthers self.old.number (R.seen rack.old) (R.seen rack.new) }
         ensures elsewhere { (on : List ℕ) → KeepsElsewhere false self.old on (R.seen rack.old) (R.seen rack.new) }
         ensures supers { KeepsSupers (R.seen rack.old) (R.seen rack.new) }
+        ensures leaves { LeavesSupers self.old.number (R.seen rack.old) (R.seen rack.new) }
         ensures goes { Goes (R.seen rack.old) (R.seen rack.new) }
         ensures runs { R.runs rack.old rack.new }
         ensures served { OnOk result (spent_in self.new sector ≡ false) }
@@ -282,6 +285,11 @@ impl Array {
 
         // Superblocks that said the array's truth do so after it.
         ensures truth { HoldTruth self.old (R.seen rack.old) → HoldTruth self.new (R.seen rack.new) }
+
+        // Where the array isn't whole, its truth stays in whatever a stop leaves.
+        ensures leaves { (s : State) (vals : ℕ → Values) (spent : ℕ → Bool) → Covers self.new spent
+            → MayCommit s self.old self.new log.old.number on.now.items (R.seen rack.old) → is_whole_array self.old ≡ false
+            → LeavesTruth s self.old.number (λ t. ⊥) (Holds s (shape_of self.old) self.old vals spent (R.seen rack.old)) (R.seen rack.old) (R.seen rack.new) }
         ensures goes { Goes (R.seen rack.old) (R.seen rack.new) }
         ensures log { (log.new ≡ log.old) ⊎ (log.new ≡ committed log.old) }
         ensures runs { R.runs rack.old rack.new }

@@ -8,6 +8,8 @@ use Rattle.array_core.proofs.Elsewhere.{clean_elsewhere, reads_elsewhere}
 use Rattle.array_core.specs.Superblocks.{left_offset, raised, settled}
 use Rattle.array_core.specs.TruthHeld.{HasFewBits}
 use Rattle.array_core.proofs.TruthHeld.{few_bits, hold_noted, hold_tells, hold_written, reads_supers}
+use Rattle.array_core.proofs.SupersLeft.{supers_reads, supers_truth}
+use Rattle.array_core.proofs.TruthLeft.{clean_truth}
 use Rattle.array_core.proofs.Array.clean.Goals as goal
 
 pub returns-then-has_lost-clause-cleans : goal.returns-then-has_lost-clause-cleans
@@ -105,3 +107,21 @@ returns-clause-noted g c =
     let writes = subst (λ (w : View). WritesSupers w c.renew_supers.new.self b d w.truth.raid_disks) c.settle_truth.ensures c.renew_supers.ensures.writes in
     noted_restated c.args.self.now u c.renew_supers.new.self (raised u.truth.events) (left_offset u) false (g.R.Rack.seen c.args.rack.now) b d
     c.sync.ensures.reads.stays writes.only.stays c.sync.ensures.notes writes.notes
+
+pub returns-then-has_lost-clause-leaves : goal.returns-then-has_lost-clause-leaves
+returns-then-has_lost-clause-leaves g c = λ s vals spent covers may.
+    let n = c.args.self.now.number in
+    let a = g.R.Rack.seen c.args.rack.now in
+    let b = g.R.Rack.seen c.sync.new.rack in
+    supers_truth s n _ _ a b (supers_reads n a b c.requires.slices.lasting c.sync.ensures.reads)
+
+pub returns-clause-leaves : goal.returns-clause-leaves
+returns-clause-leaves g c =
+    let b = g.R.Rack.seen c.sync.new.rack in
+    let d = g.R.Rack.seen c.renew_supers.new.rack in
+    let at = c.settle_truth.ensures in
+    clean_truth c.args.self.now c.sync.new.self c.renew_supers.new.self (g.R.Rack.seen c.args.rack.now) b d c.requires.slices.lasting
+    c.rules.ensures c.rules-2.ensures c.sync.ensures.reads c.sync.ensures.notes c.sync.ensures.syncs
+    (c.has_lost.ensures.none c.if-has_lost.false) (sym c.is_settled.ensures ∙ c.if-is_settled.false)
+    (subst (λ (w : View). first_unsynced w.truth ≤ w.resync) at c.unsynced_rows.ensures) c.settle_truth.new.self.truth.raid_disks
+    (subst (λ (w : View). WritesSupers w c.renew_supers.new.self b d c.settle_truth.new.self.truth.raid_disks) at c.renew_supers.ensures.writes)

@@ -1,14 +1,16 @@
 use Rattle.std.proofs.Common.{false, refl, ℕ, ◌<◌, ◌∙◌, Bool, sym, subst, inl}
 use Rattle.std.proofs.lemmas.Bool.{both_ways}
 use Rattle.commit_log.specs.Phases.{AreLogs}
+use Rattle.array_model.specs.View.{is_whole_array}
 use Rattle.array_model.proofs.Alone.{alone_lacks}
 use Rattle.array_core.specs.Settling.{Readies}
 use Rattle.array_core.specs.Writing.{Base, as_it_was}
 use Rattle.array_core.proofs.Elsewhere.{write_elsewhere}
 use Rattle.array_core.proofs.LogWrites.{goes_then}
 use Rattle.array_core.proofs.Marking.{ready_writes}
+use Rattle.array_core.proofs.SupersLeft.{supers_truth}
 use Rattle.array_core.proofs.TruthHeld.{few_bits, hold_noted, hold_write}
-use Rattle.array_core.proofs.WriteCalls.{logged_acts, past_kept, ready_all, ready_based, ready_goes, ready_kept, ready_now, ready_sectors, ready_slices, view_noted, view_then}
+use Rattle.array_core.proofs.WriteCalls.{logged_acts, logged_left, past_kept, ready_all, ready_based, ready_goes, ready_kept, ready_now, ready_sectors, ready_slices, ready_whole, view_noted, view_then}
 use Rattle.array_core.proofs.Array.write.Goals as goal
 
 pub returns-then-is_alone-clause-writes : goal.returns-then-is_alone-clause-writes
@@ -191,3 +193,27 @@ returns-clause-truth g c =
     hold_write v u c.write_logged.new.self a b (g.R.Rack.seen c.write_logged.new.rack) c.is_ready-ready.result c.requires.slices.lasting c.rules.ensures.few c.rules-2.ensures.few
     (few_bits v.truth c.truth_rules.ensures) (ready_goes v u a b c.is_ready-ready.result c.is_ready-ready.ensures.ready).stays c.write_logged.ensures.goes.stays
     c.is_ready-ready.ensures.ready c.write_logged.ensures.notes c.write_logged.ensures.supers
+
+pub returns-then-is_alone-clause-leaves : goal.returns-then-is_alone-clause-leaves
+returns-then-is_alone-clause-leaves g c = λ s vals spent covers may lacks.
+    supers_truth s c.args.self.now.number _ _ (g.R.Rack.seen c.args.rack.now) (g.R.Rack.seen c.write_alone.new.rack) c.write_alone.ensures.leaves
+
+pub returns-then-ready-clause-leaves : goal.returns-then-ready-clause-leaves
+returns-then-ready-clause-leaves g c = λ s vals spent covers may lacks.
+    let v = c.args.self.now in
+    let u = c.is_ready-ready.new.self in
+    let a = g.R.Rack.seen c.args.rack.now in
+    let b = g.R.Rack.seen c.is_ready-ready.new.rack in
+    absurd (both_ways (is_whole_array v) lacks (ready_whole v u a b (subst (λ (r : Bool). Readies v u a b r) c.if-ready.true c.is_ready-ready.ensures.ready)))
+
+pub returns-clause-leaves : goal.returns-clause-leaves
+returns-clause-leaves g c = λ s vals spent covers may lacks.
+    let v = c.args.self.now in
+    let u = c.is_ready-ready.new.self in
+    let a = g.R.Rack.seen c.args.rack.now in
+    let b = g.R.Rack.seen c.is_ready-ready.new.rack in
+    let d = g.R.Rack.seen c.write_logged.new.rack in
+    supers_truth s v.number _ _ a d
+    (logged_left s v u c.write_logged.new.self c.args.log.now.number c.args.on.now.items a b d c.rules.ensures c.requires.slices (sym c.is_alone.ensures ∙ c.if-is_alone.false) lacks
+    (subst (λ (r : Bool). Readies v u a b r) c.if-ready.false c.is_ready-ready.ensures.ready) may
+    (λ base is. c.write_logged.ensures.leaves s base (subst (λ (all : Bool). Base all base u) (sym c.is_whole-whole.ensures) is)))

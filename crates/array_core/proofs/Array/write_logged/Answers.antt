@@ -5,8 +5,9 @@ use Rattle.commit_log.specs.Kept.{LogKept}
 use Rattle.array_model.specs.View.{has_gone}
 use Rattle.array_model.proofs.Views.{notes_then}
 use Rattle.array_core.specs.Pool.{MayLog}
-use Rattle.array_core.proofs.LogWrites.{few_in_order, staged_list, staged_row, staged_spent, row_had, reads_goes, goes_then, commit_notes, commit_moves, commit_kept, refused_moves, refused_kept}
+use Rattle.array_core.proofs.LogWrites.{few_in_order, staged_list, staged_row, staged_spent, row_had, reads_goes, goes_then, commit_notes, commit_moves, commit_kept, commit_left, refused_moves, refused_kept}
 use Rattle.array_core.proofs.Elsewhere.{commit_elsewhere, elsewhere_then, reads_elsewhere}
+use Rattle.array_core.proofs.SupersLeft.{supers_reads}
 use Rattle.array_core.proofs.TruthHeld.{commit_supers, reads_supers, supers_then}
 use Rattle.array_core.proofs.Array.write_logged.Goals as goal
 
@@ -113,3 +114,15 @@ returns-clause-supers g c =
     (commit_supers c.args.all c.args.self.now c.stage_unspent.new.log c.args.on.now.items c.commit-lost.result.items b d
     (staged_list _ _ _ _ _ _ _ _ _ c.rules.ensures c.requires.sector c.told-from c.stage_unspent.ensures.unspent c.stage_unspent.ensures.staged c.if-not-stage_unspent.false)
     c.commit-lost.ensures.commits)
+
+pub returns-then-not-stage_unspent-clause-leaves : goal.returns-then-not-stage_unspent-clause-leaves
+returns-then-not-stage_unspent-clause-leaves g c = λ s v base may.
+    supers_reads v.number (g.R.Rack.seen c.args.rack.now) (g.R.Rack.seen c.stage_unspent.new.rack) c.requires.slices.lasting c.stage_unspent.ensures.staged.reads
+
+pub returns-clause-leaves : goal.returns-clause-leaves
+returns-clause-leaves g c = λ s v base may.
+    commit_left s c.args.all v c.args.self.now c.stage_unspent.new.self c.note_all.new.self (g.R.Rack.seen c.args.rack.now) (g.R.Rack.seen c.stage_unspent.new.rack) (g.R.Rack.seen c.commit-lost.new.rack)
+    c.stage_unspent.new.log c.args.on.now.items c.commit-lost.result.items c.args.x c.args.from.now c.rules.ensures c.requires.slices.lasting c.requires.sector c.told-from
+    (c.stage_unspent.ensures.unspent c.if-not-stage_unspent.false) c.stage_unspent.ensures.staged.reads c.stage_unspent.ensures.staged.notes
+    (staged_row _ _ _ _ _ _ _ _ _ c.stage_unspent.ensures.staged c.if-not-stage_unspent.false) c.commit-lost.ensures.commits c.note_all.ensures.same c.note_all.ensures.loses base
+    (subst (λ (l : LogView). MayLog s v c.note_all.new.self l.number c.args.on.now.items (g.R.Rack.seen c.args.rack.now)) (sym c.stage_unspent.ensures.log) may)
