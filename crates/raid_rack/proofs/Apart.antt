@@ -28,6 +28,7 @@ use Rattle.raid_rack.proofs.Moving.{moves_bring, moves_then}
 use Rattle.raid_rack.proofs.Over.{someone_left}
 use Rattle.raid_rack.proofs.Reading.{part_unread}
 use Rattle.raid_rack.proofs.Rows.{clear_same, rows_read}
+use Rattle.raid_rack.proofs.LackingRows.{lacking_read}
 use Rattle.raid_rack.proofs.Serving.{moments_call}
 use Rattle.raid_rack.specs.Truths.{KeepsTruths}
 use Rattle.raid_rack.specs.Unlost.{KeepsUnlost}
@@ -126,6 +127,7 @@ moves_quiet v a b set reads =
             part = part_unread v.state amid.durable vals spent (gone_in v) (gone_in v) v v a b n set.lasting reads refl refl (λ p is. is) (someone_left v n goes);
           });
       rows = λ n vals spent joined made goes covers amid rows. rows_read v v a b n set.lasting reads (clear_same (v.arrays n) (v.arrays n) refl) rows;
+      lacking = λ n vals spent joined made goes covers amid leaves. lacking_read v v a b n set.lasting reads (clear_same (v.arrays n) (v.arrays n) refl) leaves;
     }
 
 -- what stops leave meanwhile, of calls on the slices by one table

@@ -22,6 +22,7 @@ use Rattle.raid_rack.specs.Moves.{IsOfPool, IsSet, PartOf, Moves}
 use Rattle.raid_rack.proofs.Changed.{LosesOne, ViewsOne, further, keeps_arrays, marked_before, more_gone, same_shape, left_before, caused, part_if, views_counted, views_sectors, views_set, views_spent}
 use Rattle.raid_rack.proofs.Views.{MayRestate, views_notes}
 use Rattle.raid_rack.proofs.Rows.{KeepsClear, clear_same, clear_seats, clear_settled, left_old, rows_read, settled_just}
+use Rattle.raid_rack.proofs.LackingRows.{lacking_read}
 use Rattle.raid_rack.proofs.Over.{someone_left, over_still}
 use Rattle.raid_rack.proofs.Reading.{part_read, part_unread}
 use Rattle.raid_rack.proofs.Seated.{view_with}
@@ -67,6 +68,12 @@ module _ (v : Raid) (f : ℕ → View) (m : ℕ) (a b : Seen) (set : IsSet v a) 
         ];
       })
 
+  each_clear : (n : ℕ) → KeepsClear (v.arrays n) (f n)
+  each_clear n = elim (cases_eq n m) [
+    | inl same ↦ subst (λ k. KeepsClear (v.arrays k) (f k)) (sym same) call.clear
+    | inr apart ↦ clear_same (v.arrays n) (f n) (views.others n apart)
+  ]
+
   pub moves_read : Moves v (with_arrays v f) a b
   moves_read =
       record {
@@ -87,12 +94,8 @@ module _ (v : Raid) (f : ℕ → View) (m : ℕ) (a b : Seen) (set : IsSet v a) 
         unwritten = λ d t live gone. call.reads.keeps.held d t live;
         kept = λ d t live apart other. call.reads.keeps.held d t live;
         parts = λ n vals spent joined low goes covers. read_part n vals spent low goes covers;
-        rows = λ n vals spent joined low goes covers amid rows.
-            rows_read v (with_arrays v f) a b n set.lasting call.reads
-            (elim (cases_eq n m) [
-              | inl same ↦ subst (λ k. KeepsClear (v.arrays k) (f k)) (sym same) call.clear
-              | inr apart ↦ clear_same (v.arrays n) (f n) (views.others n apart)
-            ]) rows;
+        rows = λ n vals spent joined low goes covers amid rows. rows_read v (with_arrays v f) a b n set.lasting call.reads (each_clear n) rows;
+        lacking = λ n vals spent joined low goes covers amid leaves. lacking_read v (with_arrays v f) a b n set.lasting call.reads (each_clear n) leaves;
       }
 
 pub reads_notes : (v : Raid) (f : ℕ → View) (m : ℕ) (a b : Seen) → IsSet v a → m < v.state.made → OnlyReads a b

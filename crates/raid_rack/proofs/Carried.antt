@@ -23,8 +23,8 @@ use Rattle.array_model.proofs.Noting.{laid_out, unspent_then}
 use Rattle.raid_rack.specs.Raid.{Raid, gone_in, is_left, is_over}
 use Rattle.raid_rack.specs.Losses.{AddsCopies}
 use Rattle.array_model.specs.Says.{HoldsShape}
-use Rattle.raid_rack.specs.Rows.{KeepsRows, LeavesRows}
-use Rattle.raid_rack.proofs.MarkedRows.{marks_rows}
+use Rattle.raid_rack.specs.Rows.{KeepsLacking, KeepsRows, LeavesLacking, LeavesRows}
+use Rattle.raid_rack.proofs.MarkedRows.{marks_lacking, marks_rows}
 use Rattle.raid_rack.proofs.Rows.{clear_same}
 use Rattle.raid_rack.specs.Marking.{Restates, Part}
 use Rattle.raid_rack.specs.Reach.{reach_fewer}
@@ -152,6 +152,14 @@ module _ (v : Raid) (lost on gone : List ℕ) (l : LogView) (xs : List Target) (
       marks_rows v.state (state_after v lost) amid.durable (shape_of (v.arrays n)) (v.arrays n) vals spent (gone_in v) v (raid_after v lost (next_number l.number) f) l on gone b c n
       small marks_call restates amid.stood (gone_with (gone_in v) gone) (part.holds amid.stood) seated.is_array (clear_same (v.arrays n) (v.arrays n) refl) (noted_clear gone (v.arrays n) (f n) (commit.arrays n low))
       rows
+
+  -- and so it does where a member is lacking, since the array is settled by it
+  pub commit_lacking : LeavesLacking v b n → KeepsLacking v (raid_after v lost (next_number l.number) f) b c n
+  commit_lacking leaves =
+      let rows = (commit.marking.staged.each n low).unmarked.rows leaves.young in
+      marks_lacking v.state (state_after v lost) amid.durable (shape_of (v.arrays n)) (v.arrays n) vals spent (gone_in v) v (raid_after v lost (next_number l.number) f) l on gone b c n
+      small marks_call restates amid.stood (gone_with (gone_in v) gone) (part.holds amid.stood) (omega (arith, rows))
+      (noted_clear gone (v.arrays n) (f n) (commit.arrays n low)) leaves
 
   -- whoever is left has the array's superblock, so they agree
   pub commit_agrees : (r : Image) → IsLeft c r → SupersAgree (state_after v lost) r n

@@ -4,9 +4,11 @@ use Rattle.std.proofs.lemmas.Bool.{cases_Bool, cases_eq, both_ways}
 use Rattle.rack.specs.Values.{Values, MayLeave, Keeps}
 use Rattle.rack.specs.Seen.{Seen, IsLive, Stays}
 use Rattle.array_image.specs.Places.{member_slice, slice_of, super_sector}
+use Rattle.md_super.specs.declared.superblock.Super.{Super}
 use Rattle.array_image.specs.Arrays.{Shape}
 use Rattle.array_image.specs.States.{is_current}
 use Rattle.array_image.specs.Held.{IsSettled}
+use Rattle.array_image.specs.SoundArray.{array_fields}
 use Rattle.commit_log.specs.Kept.{LogKept}
 use Rattle.commit_log.specs.View.{names}
 use Rattle.commit_log.proofs.KeptAfter.{kept_more}
@@ -21,6 +23,7 @@ use Rattle.array_core.specs.Seats.{heeded}
 use Rattle.array_core.specs.Superblocks.{is_settled, settled, left_offset, raised}
 use Rattle.array_core.specs.Settling.{Cleans as ArrayCleans, IsOwnSector, KeepsOthers}
 use Rattle.array_core.specs.Pool.{Goes, MayRenew}
+use Rattle.array_core.specs.TruthLeft.{LeavesTruth}
 use Rattle.array_core.specs.Writing.{KeepsElsewhere}
 use Rattle.raid_rack.specs.Book.{after_same}
 use Rattle.raid_rack.specs.Raid.{Raid, gone_in, is_over}
@@ -36,9 +39,10 @@ use Rattle.raid_rack.proofs.Over.{over_still}
 use Rattle.raid_rack.proofs.Seated.{none_listed, view_with}
 use Rattle.raid_rack.proofs.Whole.{heeded_gone}
 use Rattle.raid_rack.proofs.Frames.{geometry_frame}
-use Rattle.raid_rack.proofs.Written.{ActsOne, may_renew, one_still, one_unwritten, other_part, other_rows, own_part}
-use Rattle.raid_rack.specs.Rows.{KeepsRows, LeavesRows}
-use Rattle.raid_rack.proofs.Rows.{KeepsClear, clear_seats, rows_read}
+use Rattle.raid_rack.proofs.Written.{ActsOne, may_renew, one_still, one_unwritten, other_lacking, other_part, other_rows, own_part}
+use Rattle.raid_rack.specs.Rows.{KeepsLacking, KeepsRows, LeavesLacking, LeavesRows}
+use Rattle.raid_rack.proofs.LackingCalls.{left_lacking}
+use Rattle.raid_rack.proofs.Rows.{KeepsClear, clear_seats, left_rows, rows_read}
 
 -- ---- what it makes of the array
 
@@ -132,6 +136,11 @@ pub record CleanCall (v : Raid) (f : ℕ → View) (m : ℕ) (a b : Seen) : Type
   pub cleans :
       (vals : ℕ → Values) (spent : ℕ → Bool) → Covers (f m) spent → MayRenew v.state (v.arrays m) a
       → Keeping v.state (v.arrays m) (f m) spent a b (shape_of (v.arrays m)) vals
+  -- images have the truth from before, or the one that leaves the rows that are left
+  pub truths :
+      (vals : ℕ → Values) (spent : ℕ → Bool) → Covers (f m) spent → MayRenew v.state (v.arrays m) a
+      → LeavesTruth v.state (v.arrays m).number (λ t. array_fields t ≡ array_fields (settled (v.arrays m)).truth)
+      (Holds v.state (shape_of (v.arrays m)) (v.arrays m) vals spent a) a b
   pub kept : LogKept v.state v.number (λ place. false) a → LogKept v.state v.number (λ place. false) b
   pub elsewhere : KeepsElsewhere false (v.arrays m) [] a b
   pub supers : KeepsOthers a b
@@ -177,6 +186,16 @@ module _ (v : Raid) (f : ℕ → View) (m : ℕ) (a b : Seen) (set : IsSet v a) 
         | inr now ↦ absurd (both_ways (is_settled u) (sym (settled_same u z call.view.notes.same) ∙ now.open_rows) rows.settled)
       ]
 
+  own_lacking : (vals : ℕ → Values) (spent : ℕ → Bool) → is_over (called v f v.number) m ≡ false → Covers (f m) spent
+      → IsAmid v a m vals spent → LeavesLacking v a m → KeepsLacking v (called v f v.number) a b m
+  own_lacking vals spent goes covers amid leaves =
+      let u = v.arrays m in
+      let able = acts.able m vals spent call.low goes amid in
+      let standing = (own_part v f v.number m a b (λ k. k) (shape_of (v.arrays m)) (MayRenew v.state (v.arrays m) a) set acts vals spent goes covers).holds amid in
+      left_lacking v f v.number m a b vals vals spent set call.heeded call.low amid standing (call.cleans vals spent covers able)
+      (λ t. array_fields t ≡ array_fields (settled (v.arrays m)).truth) (call.truths vals spent covers able)
+      (λ t fields. left_rows u t (set.arrays m call.low).is_array leaves.young (ap (λ (z : Super). z.resync_offset) fields) (ap (λ (z : Super). z.size) fields)) leaves
+
   pub moves_clean : Moves v (called v f v.number) a b
   moves_clean =
       record {
@@ -209,6 +228,14 @@ module _ (v : Raid) (f : ℕ → View) (m : ℕ) (a b : Seen) (set : IsSet v a) 
               | inl same ↦
                   subst (λ k. LeavesRows v a k → KeepsRows v (called v f v.number) a b k) (sym same) own_rows rows
               | inr apart ↦ other_rows v f v.number m a b (λ vals. vals) (shape_of (v.arrays m)) (MayRenew v.state (v.arrays m) a) set acts n vals spent apart low goes amid rows
+            ];
+        lacking = λ n vals spent joined low goes covers amid leaves.
+            elim (cases_eq n m) [
+              | inl same ↦
+                  subst (λ k. is_over (called v f v.number) k ≡ false → Covers (f k) spent → IsAmid v a k vals spent → LeavesLacking v a k → KeepsLacking v (called v f v.number) a b k)
+                  (sym same) (own_lacking vals spent) goes covers amid leaves
+              | inr apart ↦
+                  other_lacking v f v.number m a b (λ vals. vals) (shape_of (v.arrays m)) (MayRenew v.state (v.arrays m) a) set acts n vals spent apart low goes amid leaves
             ];
       }
 

@@ -9,15 +9,17 @@ use Rattle.pool_state.specs.declared.contents.State.{State}
 use Rattle.array_image.specs.Places.{slice_of, super_sector}
 use Rattle.array_image.specs.Arrays.{Shape}
 use Rattle.array_image.specs.Held.{IsSettled}
+use Rattle.array_image.specs.SoundArray.{array_fields}
 use Rattle.commit_log.specs.Kept.{LogKept}
 use Rattle.array_model.specs.View.{View, place_at, shape_of}
 use Rattle.array_model.specs.Says.{Holds}
 use Rattle.array_model.specs.ArrayCalls.{Covers, Keeping}
 use Rattle.array_model.specs.Members.{slice_on}
 use Rattle.array_model.proofs.Views.{fault_early, fault_later}
-use Rattle.array_core.specs.Superblocks.{is_settled}
+use Rattle.array_core.specs.Superblocks.{is_settled, settled}
 use Rattle.array_core.specs.Settling.{Cleans as ArrayCleans, KeepsOthers}
 use Rattle.array_core.specs.Pool.{Goes, MayRenew}
+use Rattle.array_core.specs.TruthLeft.{LeavesTruth}
 use Rattle.array_core.specs.Writing.{KeepsElsewhere}
 use Rattle.raid_rack.specs.declared.arrays.Arrays.{Arrays}
 use Rattle.raid_rack.specs.Raid.{Raid}
@@ -211,6 +213,9 @@ cleans_all v w a b k past cleans =
 pub record CleansArray (old u : View) (x y : Seen) : Type 0 where
   pub cleans :
       (s : State) (vals : ℕ → Values) (spent : ℕ → Bool) → Covers u spent → MayRenew s old x → Keeping s old u spent x y (shape_of old) vals
+  pub truths :
+      (s : State) (vals : ℕ → Values) (spent : ℕ → Bool) → Covers u spent → MayRenew s old x
+      → LeavesTruth s old.number (λ t. array_fields t ≡ array_fields (settled old).truth) (Holds s (shape_of old) old vals spent x) x y
   pub view : ArrayCleans old u x y
   pub goes : Goes x y
   pub elsewhere : (on : List ℕ) → KeepsElsewhere false old on x y
@@ -237,6 +242,7 @@ clean_call a all x y n old u running heeded low old_is all_is cleaned =
       goes = at.goes;
       view = at.view;
       cleans = λ vals spent covers may. at.cleans a.state vals spent covers may;
+      truths = λ vals spent covers may. at.truths a.state vals spent covers may;
       kept = λ log. at.kept a.state a.log.number log;
       elsewhere = at.elsewhere [];
       supers = at.supers;

@@ -10,11 +10,11 @@ use Rattle.pool_state.specs.declared.contents.State.{State}
 use Rattle.array_image.specs.Places.{log_slice, member_slice, super_sector}
 use Rattle.array_image.specs.States.{is_current, state_in}
 use Rattle.array_image.specs.Supers.{truth_in}
-use Rattle.array_image.specs.Arrays.{Shape, replayed, value_by}
+use Rattle.array_image.specs.Arrays.{Shape, replayed, shape_in, value_by}
 use Rattle.array_image.specs.Held.{current_in}
 use Rattle.array_image.specs.Left.{IsClosed, IsInside, IsLeft, LogsInside, Picks}
 use Rattle.array_image.specs.Marks.{lowered}
-use Rattle.array_image.proofs.Frames.{Agree, state_same, supers_same, truth_by_supers}
+use Rattle.array_image.proofs.Frames.{Agree, shape_same, state_same, supers_same, truth_by_supers}
 use Rattle.commit_log.specs.View.{LogView, names, next_number}
 use Rattle.commit_log.specs.Commits.{Commits}
 use Rattle.commit_log.specs.Kept.{AreLeft, LogKept, Brings as BringsState}
@@ -28,7 +28,6 @@ use Rattle.array_model.proofs.Keeping.{KeepsData, even_kept, held_kept, inside_b
 use Rattle.array_model.proofs.Losses.{IsLosing, losing_holds}
 use Rattle.array_model.proofs.Noting.{laid_out, unspent_then}
 use Rattle.array_model.proofs.Spared.{lost_value}
-use Rattle.array_core.specs.Superblocks.{is_settled}
 use Rattle.raid_rack.specs.Book.{IsAfter, after_same}
 use Rattle.raid_rack.specs.Raid.{Raid, gone_in, is_over, IsWritten, Stood}
 use Rattle.raid_rack.specs.Frames.{Frame, HasFrame, frame_of}
@@ -36,10 +35,10 @@ use Rattle.raid_rack.specs.Laws.{stood_left}
 use Rattle.raid_rack.specs.Marking.{Part, TiedBetween}
 use Rattle.raid_rack.specs.Reach.{reach_same}
 use Rattle.raid_rack.specs.Moves.{AreMarked, Brings, IsAmid, IsSeated, KeepsArrays}
-use Rattle.raid_rack.specs.Rows.{KeepsRows, LeavesFrom, LeavesRows}
+use Rattle.raid_rack.specs.Rows.{KeepsLacking, KeepsRows, LackingFrom, LeavesFrom, LeavesLacking, LeavesRows}
 use Rattle.raid_rack.specs.Works.{closed}
 use Rattle.raid_rack.proofs.Changed.{PartAmid, lowered_none, part_if}
-use Rattle.raid_rack.proofs.ClosedSays.{says_closed, truth_closed}
+use Rattle.raid_rack.proofs.ClosedSays.{says_closed, shape_closed, truth_closed}
 use Rattle.raid_rack.proofs.Closing.{IsClosing, after_closed, closed_raid, closing_brings, closing_current, closing_data, closing_few, closing_further, closing_losing, closing_named, closing_none, closing_set, closing_target, closing_unwritten, closing_went}
 use Rattle.raid_rack.proofs.Brought.{copies_own}
 use Rattle.raid_rack.proofs.Committed.{next_later, raised_more, raised_range}
@@ -48,10 +47,12 @@ use Rattle.raid_rack.proofs.Frames.{frame_same, known_frame, left_frame}
 use Rattle.raid_rack.proofs.Losing.{only_gone}
 use Rattle.raid_rack.proofs.Marking.{MarksCall, alike_agree, alike_state, closed_after, data_kept, logs_commit, still_after}
 use Rattle.raid_rack.proofs.Own.{look_nothing}
-use Rattle.raid_rack.proofs.Noted.{idle_now, left_reach, losing_spent}
+use Rattle.raid_rack.proofs.Noted.{idle_now, left_reach, losing_spent, noted_clear}
 use Rattle.raid_rack.proofs.Over.{number_room, over_still, someone_left}
 use Rattle.raid_rack.proofs.Own.{says_same}
-use Rattle.raid_rack.proofs.Rows.{from_same}
+use Rattle.raid_rack.proofs.EachImage.{GoesBy, HasBefore, HasEach}
+use Rattle.raid_rack.proofs.LackingRows.{lacking_by, lacking_same}
+use Rattle.raid_rack.proofs.Rows.{from_same, rows_by}
 use Rattle.raid_rack.proofs.Seated.{names_joined, none_listed}
 use Rattle.raid_rack.proofs.Whole.{heeded_gone}
 use Rattle.array_core.specs.TruthHeld.{HoldTruth}
@@ -389,45 +390,55 @@ module _ (v : Raid) (on gone : List ℕ) (l : LogView) (f : ℕ → View) (b c :
             | inr none ↦ none
           ]
 
-  -- contents with the new state leave the rows that those before it left
-  closed_rows : LeavesRows v b n → (r e : Image) → IsLeft b e → Agree n r e → state_in r ≡ Some (closed v.state) → LeavesFrom (v.arrays n).resync n r
-  closed_rows rows r e left agree state s u is truth =
-      let same : s ≡ closed v.state = ap (λ (o : Option State). unwrap_or o s) (sym is ∙ state) in
-      rows.images e left v.state u (state_before e left) (truth_before r e u agree (subst (λ k. truth_in k r n ≡ Some u) same truth))
-
-  pub close_rows : LeavesRows v b n → KeepsRows v (closed_raid v (next_number l.number) f) b c n
-  close_rows rows =
-      let arrays = commit.arrays n low in
-      record {
-        later = let rows_same = ap (λ (u : View). u.resync) arrays in omega (arith, rows_same);
-        leaves = λ traced.
-            leaves_weaker (λ i. LogsInside b.sectors i → Commits l.added b i)
-            (λ i. IsInside b.sectors i → LeavesFrom (v.arrays n).resync n (replayed b.sectors i))
-            (λ i commits inside. at_moment i inside (commits (λ place u out. inside (log_slice place) u out)))
-            (commit.call.stops traced marks_call.ready marks_call.decides);
-        after = record {
-          settled = ap is_settled arrays ∙ rows.settled;
-          young = ap (λ (u : View). u.young) arrays ∙ rows.young;
-          images = λ r left.
-              let at = earlier r left in
-              let state = state_same r (replayed c.sectors left.0) (λ place. left.2 (log_slice place) 0)
-              ∙ (stood_left (closed v.state) (shape_of (v.arrays n)) vals spent (gone_in (closed_raid v (next_number l.number) f)) (closed_raid v (next_number l.number) f) c n left.0 stood_after left.1).0 in
-              subst (λ k. LeavesFrom k n r) (sym (ap (λ (u : View). u.resync) arrays)) (closed_rows rows r at.e at.left at.agree state);
-        };
-      }
+  -- what images had before it they have after it, where those with the new state have what those before it had
+  close_each : (P : Image → Type 0) → GoesBy n P → HasBefore P b → ((r e : Image) → IsLeft b e → Agree n r e → state_in r ≡ Some (closed v.state) → P e → P r) → HasEach P b c
+  close_each P by images fresh = record {
+    leaves = λ traced.
+        leaves_weaker (λ i. LogsInside b.sectors i → Commits l.added b i) (λ i. IsInside b.sectors i → P (replayed b.sectors i))
+        (λ i commits inside. at_moment i inside (commits (λ place u out. inside (log_slice place) u out)))
+        (commit.call.stops traced marks_call.ready marks_call.decides);
+    after = λ r left.
+        let at = earlier r left in
+        let state = state_same r (replayed c.sectors left.0) (λ place. left.2 (log_slice place) 0)
+        ∙ (stood_left (closed v.state) (shape_of (v.arrays n)) vals spent (gone_in (closed_raid v (next_number l.number) f)) (closed_raid v (next_number l.number) f) c n left.0 stood_after left.1).0 in
+        fresh r at.e at.left at.agree state (images at.e at.left);
+  }
     where
-      at_moment : (i : Image) → IsInside b.sectors i → Commits l.added b i → LeavesFrom (v.arrays n).resync n (replayed b.sectors i)
+      at_moment : (i : Image) → IsInside b.sectors i → Commits l.added b i → P (replayed b.sectors i)
       at_moment i inside commits =
           let before = commits.before in
           let picks = before_inside l.added b i before inside commits.stands commits.either in
           let r : Image = replayed b.sectors i in
           let e : Image = replayed b.sectors before in
+          let left : IsLeft b e = (before, picks, λ d u. refl) in
           elim commits.either [
-            | inl old ↦ from_same (v.arrays n).resync n r e (alike_state r e old) (alike_agree n r e small old) (rows.images e (before, picks, λ d u. refl))
+            | inl old ↦ by r e (alike_state r e old) (alike_agree n r e small old) (images e left)
             | inr new ↦
-                closed_rows rows r e (before, picks, λ d u. refl) (put_agree before r picks (alike_agree n r (put b.sectors l.added before) small new))
-                (brought before r picks new)
+                fresh r e left (put_agree before r picks (alike_agree n r (put b.sectors l.added before) small new)) (brought before r picks new) (images e left)
           ]
+
+  is_closed : (s : State) (r : Image) → state_in r ≡ Some s → state_in r ≡ Some (closed v.state) → s ≡ closed v.state
+  is_closed s r is state = ap (λ (o : Option State). unwrap_or o s) (sym is ∙ state)
+
+  pub close_rows : LeavesRows v b n → KeepsRows v (closed_raid v (next_number l.number) f) b c n
+  close_rows rows =
+      let row = (v.arrays n).resync in
+      rows_by v (closed_raid v (next_number l.number) f) b c n (noted_clear gone (v.arrays n) (f n) (commit.arrays n low)) rows
+      (close_each (LeavesFrom row n) (from_same row n) rows.images
+      (λ r e left agree state from s u is truth.
+      from v.state u (state_before e left) (truth_before r e u agree (subst (λ k. truth_in k r n ≡ Some u) (is_closed s r is state) truth))))
+
+  pub close_lacking : LeavesLacking v b n → KeepsLacking v (closed_raid v (next_number l.number) f) b c n
+  close_lacking leaves =
+      let row = (v.arrays n).resync in
+      let clear = noted_clear gone (v.arrays n) (f n) (commit.arrays n low) in
+      lacking_by v (closed_raid v (next_number l.number) f) b c n clear.resync clear.young leaves
+      (close_each (LackingFrom row n) (lacking_same row n) leaves.images
+      (λ r e left agree state from s shape u is shaped lacks truth.
+      let same = is_closed s r is state in
+      from v.state shape u (state_before e left)
+      (sym (shape_same v.state r e n agree) ∙ sym (shape_closed v.state r n) ∙ subst (λ k. shape_in k r n ≡ Some shape) same shaped) lacks
+      (truth_before r e u agree (subst (λ k. truth_in k r n ≡ Some u) same truth))))
 
 -- ---- the part for all
 
@@ -452,6 +463,7 @@ close_brings v on gone l f b c commit =
           part_if v w b c n vals vals spent commit.call.stays commit.set.lasting commit.call.leaves
           (λ amid. close_part v on gone l f b c commit n vals spent low goes covers amid);
       rows = λ n vals spent unwritten joined low goes covers amid rows. close_rows v on gone l f b c commit n vals spent low goes covers amid rows;
+      lacking = λ n vals spent joined low goes covers amid leaves. close_lacking v on gone l f b c commit n vals spent low goes covers amid leaves;
     }
 
 pub close_arrays : (v : Raid) (on gone : List ℕ) (l : LogView) (f : ℕ → View) (b c : Seen) → IsClosing v on gone l f b c

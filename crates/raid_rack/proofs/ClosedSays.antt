@@ -15,7 +15,7 @@ pub truth_closed : (s : State) (r : Image) (n : ℕ) → truth_in (closed s) r n
 unfolding truth_in current_places
 truth_closed s r n = refl
 
-shape_closed : (s : State) (r : Image) (n : ℕ) → shape_in (closed s) r n ≡ shape_in s r n
+pub shape_closed : (s : State) (r : Image) (n : ℕ) → shape_in (closed s) r n ≡ shape_in s r n
 unfolding truth_in current_places shape_by
 shape_closed s r n = refl
 

@@ -6,7 +6,10 @@ pub mod Raid
 mod Ranges
 pub mod Dropped
 pub mod Synced
+pub mod EachImage
 pub mod Rows
+pub mod LackingRows
+pub mod LackingCalls
 pub mod Raises
 pub mod RaisedCalls
 pub mod Rounds

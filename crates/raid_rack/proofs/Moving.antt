@@ -21,7 +21,8 @@ use Rattle.raid_rack.specs.Reach.{KeepsReach, reach_same, reach_then}
 use Rattle.raid_rack.proofs.Frames.{frame_still, frame_then}
 use Rattle.raid_rack.proofs.Logs.{logs_still, logs_then}
 use Rattle.raid_rack.proofs.Rows.{clear_same, rows_still}
-use Rattle.raid_rack.specs.Rows.{rows_then}
+use Rattle.raid_rack.proofs.LackingRows.{lacking_still}
+use Rattle.raid_rack.specs.Rows.{lacking_then, rows_then}
 use Rattle.raid_rack.specs.Losing.{arrays_then, only_same}
 use Rattle.raid_rack.specs.Moves.{IsSet, IsAmid, KeepsMarked, PartOf, AreCaused, Brings, Moves}
 
@@ -151,6 +152,7 @@ moves_same v x set =
       kept = λ d t live apart other. keeps_same (x.held d t);
       parts = λ n vals spent joined made goes covers. part_still v v x n vals spent refl refl (λ amid. amid) (λ amid. refl);
       rows = λ n vals spent joined made goes covers amid rows. rows_still v v x n (clear_same (v.arrays n) (v.arrays n) refl) rows;
+      lacking = λ n vals spent joined made goes covers amid leaves. lacking_still v v x n (clear_same (v.arrays n) (v.arrays n) refl) leaves;
     }
 
 pub moves_then : (v w z : Raid) (a b c : Seen) → Moves v w a b → Moves w z b c → Moves v z a c
@@ -184,6 +186,13 @@ moves_then v w z a b c one two =
           let first = one.rows n vals spent joined made goes_w covered amid rows in
           rows_then v w z a b c n one.stays.sectors one.stays.traced first
           (two.rows n vals spent (subst (λ k. n < k) (sym one.book.same.joined) joined) (still_made n made) goes covers
+          ((one.parts n vals spent joined made goes_w covered).holds amid) first.after);
+      lacking = λ n vals spent joined made goes covers amid leaves.
+          let goes_w = two.still n (still_made n made) goes in
+          let covered : Covers (w.arrays n) spent = λ y alive. two.spent n y (still_made n made) (covers y alive) in
+          let first = one.lacking n vals spent joined made goes_w covered amid leaves in
+          lacking_then v w z a b c n one.stays.sectors one.stays.traced first
+          (two.lacking n vals spent (subst (λ k. n < k) (sym one.book.same.joined) joined) (still_made n made) goes covers
           ((one.parts n vals spent joined made goes_w covered).holds amid) first.after);
     }
   where
@@ -219,6 +228,7 @@ moves_bring v w a b moves =
       spent = moves.spent;
       parts = moves.parts;
       rows = λ n vals spent unwritten joined made goes covers amid rows. moves.rows n vals spent joined made goes covers amid rows;
+      lacking = moves.lacking;
     }
 
 -- a write, and what moves no value after it
@@ -245,6 +255,13 @@ brings_then v w z a b c now one two =
           let first = one.rows n vals spent unwritten joined made goes_w covered amid rows in
           rows_then v w z a b c n one.stays.sectors one.stays.traced first
           (two.rows n (now n vals) spent (subst (λ k. n < k) (sym one.book.same.joined) joined) (still_made n made) goes covers
+          ((one.parts n vals spent joined made goes_w covered).holds amid) first.after);
+      lacking = λ n vals spent joined made goes covers amid leaves.
+          let goes_w = two.still n (still_made n made) goes in
+          let covered : Covers (w.arrays n) spent = λ y alive. two.spent n y (still_made n made) (covers y alive) in
+          let first = one.lacking n vals spent joined made goes_w covered amid leaves in
+          lacking_then v w z a b c n one.stays.sectors one.stays.traced first
+          (two.lacking n (now n vals) spent (subst (λ k. n < k) (sym one.book.same.joined) joined) (still_made n made) goes covers
           ((one.parts n vals spent joined made goes_w covered).holds amid) first.after);
     }
   where

@@ -42,6 +42,7 @@ use Rattle.raid_rack.proofs.Reading.{stood_noted, stood_heeded}
 use Rattle.raid_rack.proofs.Losing.{only_gone, only_heeded}
 use Rattle.raid_rack.proofs.Moving.{part_still}
 use Rattle.raid_rack.proofs.Rows.{KeepsClear, rows_still}
+use Rattle.raid_rack.proofs.LackingRows.{lacking_still}
 use Rattle.raid_rack.proofs.Seated.{names_joined, or_last, gone_losing, gone_fewer, gone_seated, heeded_seated}
 
 -- ---- places that went
@@ -276,6 +277,7 @@ moves_noted lost v f x set noting went sectors =
       parts = λ n vals spent joined low goes covers. part_still v (with_arrays v f) x n vals spent refl (ap (λ (u : View). frame_of u.truth) (noting.arrays n low)) (noted_amid lost v f x n vals spent set noting low goes covers)
           (λ amid. refl);
       rows = λ n vals spent joined low goes covers amid rows. rows_still v (with_arrays v f) x n (noted_clear lost (v.arrays n) (f n) (noting.arrays n low)) rows;
+      lacking = λ n vals spent joined low goes covers amid leaves. lacking_still v (with_arrays v f) x n (noted_clear lost (v.arrays n) (f n) (noting.arrays n low)) leaves;
     }
 
 -- so they move no value
@@ -305,6 +307,7 @@ noted_brings lost v f x set noting sectors =
       parts = λ n vals spent joined low goes covers. part_still v (with_arrays v f) x n vals spent refl (ap (λ (u : View). frame_of u.truth) (noting.arrays n low)) (noted_amid lost v f x n vals spent set noting low goes covers)
           (λ amid. refl);
       rows = λ n vals spent unwritten joined low goes covers amid rows. rows_still v (with_arrays v f) x n (noted_clear lost (v.arrays n) (f n) (noting.arrays n low)) rows;
+      lacking = λ n vals spent joined low goes covers amid leaves. lacking_still v (with_arrays v f) x n (noted_clear lost (v.arrays n) (f n) (noting.arrays n low)) leaves;
     }
 
 -- ---- they are heeded
@@ -438,4 +441,5 @@ moves_heeded v f x set arrays sectors are =
       parts = λ n vals spent joined low goes covers. part_still v (with_arrays v f) x n vals spent refl (ap (λ (u : View). frame_of u.truth) (arrays n low)) (heeded_amid v f x n vals spent set arrays are low)
           (λ amid. refl);
       rows = λ n vals spent joined low goes covers amid rows. rows_still v (with_arrays v f) x n (heeded_clear (v.arrays n) (f n) (arrays n low)) rows;
+      lacking = λ n vals spent joined low goes covers amid leaves. lacking_still v (with_arrays v f) x n (heeded_clear (v.arrays n) (f n) (arrays n low)) leaves;
     }

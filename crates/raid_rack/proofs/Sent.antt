@@ -10,9 +10,11 @@ use Rattle.array_image.specs.States.{current_places}
 use Rattle.commit_log.specs.View.{LogView, committed}
 use Rattle.commit_log.specs.Kept.{LogKept}
 use Rattle.array_model.specs.View.{View, has_gone, is_whole_array, shape_of}
+use Rattle.array_model.specs.Says.{Holds}
 use Rattle.array_model.specs.ArrayCalls.{Covers, WritesArray}
 use Rattle.array_core.specs.Pool.{Goes, MayCommit}
 use Rattle.array_core.specs.Superblocks.{raised}
+use Rattle.array_core.specs.TruthLeft.{LeavesTruth}
 use Rattle.array_core.specs.Writing.{KeepsElsewhere, WritesView, as_it_was, newly_marked}
 use Rattle.raid_rack.specs.declared.arrays.Arrays.{Arrays}
 use Rattle.raid_rack.specs.Raid.{Raid}
@@ -67,6 +69,9 @@ pub record WroteArray (old u : View) (number late : ℕ) (on : List ℕ) (x y : 
       (s : State) (vals : ℕ → Values) (spent : ℕ → Bool) → Covers u spent → MayCommit s old u number on x
       → WritesArray s old u spent x y (shape_of old) vals sector from
   pub kept : (s : State) → MayCommit s old u number on x → LogKept s late (has_gone u) y
+  pub truths :
+      (s : State) (vals : ℕ → Values) (spent : ℕ → Bool) → Covers u spent → MayCommit s old u number on x → is_whole_array old ≡ false
+      → LeavesTruth s old.number (λ t. ⊥) (Holds s (shape_of old) old vals spent x) x y
   pub view : WritesView old u x y
   pub elsewhere : KeepsElsewhere false old on x y
 
@@ -103,6 +108,7 @@ has_written a all log x y n sector from on number old u running heeded low old_i
       few = λ p is. low_named u.went p few (sym (ap (λ (z : View). has_gone z p) own) ∙ is);
       writes = λ vals spent covers may. at.writes a.state vals spent covers may;
       kept = λ may. at.kept a.state may;
+      truths = λ vals spent covers may part. at.truths a.state vals spent covers may part;
       elsewhere = at.elsewhere;
     } in
     let brings = write_brings v f log.number n x y on sector from running.set call in

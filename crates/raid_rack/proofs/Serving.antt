@@ -247,6 +247,9 @@ moments_call a b x y now fit after inside brings =
           };
       reached = λ n told goes.
           ends_by v w x y vals call (KeepsReach w.state) n told goes ((call.parts n told.joined goes).reach (before_amid v w x y vals call n told goes));
+      lacking = λ n told goes.
+          brings.lacking n (held_in v x n) (spent_of w n) told.joined (made_by a b n after.running.count brings.book.same.made goes) goes
+          (λ z unspent. (live_parts w n z unspent).1) (before_amid v w x y vals call n told goes);
     }
 
 pub lose_moments : (a b : Arrays) (place : ℕ) (x y : Seen) → IsFit a x → IsFit b y → StopsInside y → is_current a.state place ≡ true

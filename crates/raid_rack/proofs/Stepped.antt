@@ -1,6 +1,6 @@
 -- A step of maintenance of one array, as a part of a call of all.
 use Rattle.std.proofs.Common.{◌≡◌, ◌⊎◌, ℕ, ◌-◌, ◌%◌, ◌^◌, ◌<◌, ◌≤◌, Bool, true, false, ◌==◌, ◌&&◌, if◌then◌else◌, List, Option, Some, unwrap_or, refl, sym, ap, subst, ◌∙◌, inl, inr, eq-eqb, ne_eqb, arith}
-use Rattle.std.proofs.lemmas.Bool.{cases_Bool, cases_eq}
+use Rattle.std.proofs.lemmas.Bool.{both_ways, cases_Bool, cases_eq}
 use Rattle.rack.specs.Values.{Values}
 use Rattle.rack.specs.Seen.{Image, Seen}
 use Rattle.rack.specs.Joins.{leaves_weaker}
@@ -11,13 +11,13 @@ use Rattle.array_image.specs.Places.{log_slice, member_slice, super_sector}
 use Rattle.array_image.specs.States.{current_places, is_current, state_in}
 use Rattle.array_image.specs.Supers.{truth_in}
 use Rattle.array_image.specs.SoundArray.{first_unsynced}
-use Rattle.array_image.specs.Arrays.{Shape, replayed}
+use Rattle.array_image.specs.Arrays.{Shape, replayed, shape_in}
 use Rattle.array_image.specs.Left.{IsInside, IsLeft}
 use Rattle.array_image.proofs.Frames.{state_same, super_of_sector, truth_by_supers}
 use Rattle.commit_log.specs.Kept.{LogKept}
 use Rattle.commit_log.specs.View.{names}
 use Rattle.commit_log.proofs.KeptAfter.{kept_more}
-use Rattle.array_model.specs.View.{View, has_gone, shape_of}
+use Rattle.array_model.specs.View.{View, has_gone, is_whole_array, shape_of}
 use Rattle.array_model.specs.Says.{Holds, IsOpen, Says}
 use Rattle.array_model.specs.Members.{Notes}
 use Rattle.array_model.specs.ArrayCalls.{Covers, HasFields, KeepsSupers, Turns}
@@ -31,7 +31,7 @@ use Rattle.raid_rack.specs.Raid.{Raid, gone_in, is_left, is_over}
 use Rattle.raid_rack.specs.Reach.{KeepsReach, KeepsReachOn, reach_same}
 use Rattle.raid_rack.specs.Laws.{stood_left}
 use Rattle.raid_rack.specs.Moves.{AreMarked, Brings, IsAmid, IsHeeded, IsSet, LosesOnly}
-use Rattle.raid_rack.specs.Rows.{KeepsRows, LeavesFrom, LeavesRows, from_lower}
+use Rattle.raid_rack.specs.Rows.{KeepsLacking, KeepsRows, LackingFrom, LeavesFrom, LeavesLacking, LeavesRows, from_lower}
 use Rattle.raid_rack.specs.Works.{stepped}
 use Rattle.raid_rack.proofs.Added.{names_current}
 use Rattle.raid_rack.proofs.Changed.{ViewsOne, called}
@@ -39,6 +39,7 @@ use Rattle.raid_rack.specs.Losing.{only_same}
 use Rattle.raid_rack.proofs.Losing.{only_notes}
 use Rattle.raid_rack.proofs.Noted.{gone_from, left_reach}
 use Rattle.raid_rack.proofs.Parts.{SaysSome, acts_some, turned_state}
+use Rattle.raid_rack.proofs.LackingRows.{lacking_all, lacking_read, lacking_supers, lacking_whole}
 use Rattle.raid_rack.proofs.Rows.{clear_seats, rows_read, settled_rows}
 use Rattle.raid_rack.proofs.Views.{IsNext, next_same, next_shape, views_next}
 use Rattle.raid_rack.proofs.Whole.{heeded_gone}
@@ -304,6 +305,82 @@ module _ (v : Raid) (f : ℕ → View) (next : View) (number m : ℕ) (a b : See
             }
       ]
 
+  -- ---- where a member is lacking
+
+  -- Contents that have the shape and the truth of the array once it is done: no member is lacking in it, or its truth leaves just the
+  -- rows that are left in it.
+  next_lacking : (row : ℕ) (r : Image) → row ≤ next.resync → next.young ≡ false → state_in r ≡ Some v.state → shape_in v.state r m ≡ Some (shape_of next)
+      → HasFields v.state m next.truth r → LackingFrom row m r
+  next_lacking row r less young state shape fields =
+      elim (cases_Bool (is_whole_array next)) [
+        | inl whole ↦ lacking_whole row m v.state next r call.is_next.seated.is_array whole state shape
+        | inr part ↦
+            elim (call.is_next.seated.is_of_pool.synced young part) [
+              | inl rows ↦ lacking_all row m r (from_fields v.state row m next.truth r state (omega (arith, less, rows)) fields)
+              | inr some ↦
+                  absurd (both_ways (has_gone next some.0) (ap (λ ps. names ps some.0) (call.is_next.went ∙ call.heeded m call.low)) some.2)
+            ]
+      ]
+
+  moment_lacking : (vals : ℕ → Values) (spent : ℕ → Bool) → IsAmid v a m vals spent → LeavesLacking v a m → (c : Image)
+      → Turns (v.arrays m).number a b (λ r. Held vals spent → Either vals spent r) c
+      → LackingFrom (v.arrays m).resync m (replayed a.sectors c)
+  moment_lacking vals spent amid leaves c turns =
+      let number_is = (set.arrays m call.low).number in
+      let r : Image = replayed a.sectors c in
+      let state = turned_state v.state amid.durable vals spent (gone_in v) v a b m (v.arrays m).number (λ i. Held vals spent → Either vals spent i) c amid.stood turns in
+      elim (turns.own (held_before vals spent amid)) [
+        | inl old ↦
+            let early = old.1 in
+            lacking_supers (v.arrays m).resync m r early.0 (state ∙ sym (state_before m vals spent early.0 amid early.1))
+            (λ s place.
+            super_of_sector s r early.0 m place
+            (subst (λ k. (place : ℕ) → r (member_slice place k) super_sector ≡ early.0 (member_slice place k) super_sector) number_is early.2 place))
+            (leaves.images early.0 early.1)
+        | inr new ↦
+            next_lacking (v.arrays m).resync r call.rows (call.young ∙ leaves.young) state
+            (subst (λ k. shape_in v.state r k ≡ Some (shape_of next)) number_is new.0.shape_is)
+            (subst (λ k. HasFields v.state k next.truth r) number_is new.1)
+      ]
+
+  own_lacking : (vals : ℕ → Values) (spent : ℕ → Bool) → is_over (called v f number) m ≡ false → Covers (f m) spent
+      → IsAmid v a m vals spent → LeavesLacking v a m → KeepsLacking v (called v f number) a b m
+  own_lacking vals spent goes covers amid leaves =
+      elim (cases_Bool call.steps.is_done) [
+        | inr not_done ↦
+            let noted : Notes (v.arrays m) (f m) a b = subst (λ (d : Bool). Notes (if_done d (v.arrays m) next) (f m) a b) not_done notes in
+            lacking_read v (called v f number) a b m set.lasting (call.steps.idle not_done) (clear_seats (v.arrays m) (f m) noted.same) leaves
+        | inl is_done ↦
+            let noted : Notes next (f m) a b = subst (λ (d : Bool). Notes (if_done d (v.arrays m) next) (f m) a b) is_done notes in
+            let young = call.young ∙ leaves.young in
+            let able = may_step m vals spent call.low goes amid in
+            let moving = call.steps.moving v.state vals spent covers able in
+            let holds = held_before vals spent amid in
+            let now = (own_part v f number m a b (λ k. k) after (MayStep v.state (v.arrays m) next (f m) v.number on a) set acts vals spent goes covers).holds amid in
+            record {
+              later = let more = call.rows in let same = noted.same.resync in omega (arith, more, same);
+              leaves = λ traced.
+                  leaves_weaker
+                  (λ c. IsInside a.sectors c → Turns (v.arrays m).number a b (λ r. Held vals spent → Either vals spent r) c)
+                  (λ c. IsInside a.sectors c → LackingFrom (v.arrays m).resync m (replayed a.sectors c))
+                  (λ c turn inside. moment_lacking vals spent amid leaves c (turn inside))
+                  (moving.leaves traced);
+              after = record {
+                young = noted.same.young ∙ young;
+                images = λ r left.
+                    let state = state_same r (replayed b.sectors left.0) (λ place. left.2 (log_slice place) 0)
+                    ∙ (stood_left v.state now.durable vals spent (gone_in (called v f number)) (called v f number) b m left.0 now.stood left.1).0 in
+                    let shaped = subst (λ k. shape_in v.state r k ≡ Some (if_done call.steps.is_done (shape_of (v.arrays m)) (shape_of next))) now.stood.number
+                    ((moving.holds holds).shape.says r left).shape_is in
+                    subst (λ k. LackingFrom k m r) (sym noted.same.resync)
+                    (next_lacking next.resync r (omega arith) young state
+                    (subst (λ (d : Bool). shape_in v.state r m ≡ Some (if_done d (shape_of (v.arrays m)) (shape_of next))) is_done shaped)
+                    (subst (λ k. HasFields v.state k next.truth r) (set.arrays m call.low).number
+                    (call.steps.durable is_done v.state vals spent covers able holds r left)));
+              };
+            }
+      ]
+
   -- ---- the part
 
   -- values as they were, whichever array they are of
@@ -318,7 +395,7 @@ module _ (v : Raid) (f : ℕ → View) (next : View) (number m : ℕ) (a b : See
   step_brings =
       subst (Brings v (called v f number) a b) (λ i n vals. same_values n vals i)
       (one_brings v f number m a b (λ vals. vals) after (MayStep v.state (v.arrays m) next (f m) v.number on a) set acts
-      (λ same vals spent goes covers amid rows. own_rows vals spent goes covers amid rows))
+      (λ same vals spent goes covers amid rows. own_rows vals spent goes covers amid rows) own_lacking)
 
   -- no array has changed but by the step and its losses
   pub step_arrays : (n : ℕ) → n < v.state.made → LosesOnly (stepped v m next call.steps.is_done n) (f n)

@@ -180,6 +180,7 @@ moves_emptied v lost x set lost_is noted nobody unmarked =
       kept = λ d t live apart other. keeps_same (x.held d t);
       parts = λ n vals spent joined low goes covers. absurd (over n goes);
       rows = λ n vals spent joined low goes covers amid rows. absurd (over n goes);
+      lacking = λ n vals spent joined low goes covers amid leaves. absurd (over n goes);
     }
   where
     and_none : (b : Bool) → (b && false) ≡ false

@@ -27,8 +27,8 @@ use Rattle.raid_rack.proofs.Noted.{gone_some, losing_spent}
 use Rattle.raid_rack.proofs.Elements.{look_lacks}
 use Rattle.raid_rack.proofs.Adding.{which, current_is}
 use Rattle.raid_rack.proofs.Committed.{IsCommit, commit_unwritten, raid_after, after_gone, after_new, gone_current, after_set, after_left, after_cause, after_further, after_marked, commit_losing, next_later}
-use Rattle.raid_rack.proofs.Carried.{commit_agrees, commit_left, commit_part, commit_rows}
-use Rattle.raid_rack.specs.Rows.{rows_then}
+use Rattle.raid_rack.proofs.Carried.{commit_agrees, commit_left, commit_lacking, commit_part, commit_rows}
+use Rattle.raid_rack.specs.Rows.{lacking_then, rows_then}
 
 pub moves_commit : (u v : Raid) (lost on gone : List ℕ) (l : LogView) (xs : List Target) (f : ℕ → View) (a b c : Seen)
     → SettlesTo u v a b v.state.made xs → IsCommit v lost on gone l xs f b c
@@ -101,6 +101,15 @@ moves_commit u v lost on gone l xs f a b c settles commit =
           let first = one.rows n vals spent joined made mid_goes covered amid rows in
           rows_then u v w a b c n one.stays.sectors one.stays.traced first
           (commit_rows v lost on gone l xs f b c commit n vals spent (subst (λ k. n < k) (sym one.book.same.joined) joined) low goes covers
+          ((one.parts n vals spent joined made mid_goes covered).holds amid) (settles.settled n vals spent low joined mid_goes covered amid) first.after);
+      lacking = λ n vals spent joined made goes covers amid leaves.
+          let low = made_still n made in
+          let mid_goes = over_still v w (after_further v lost on gone l xs f b c commit) n low goes in
+          let covered : Covers (v.arrays n) spent = λ y alive.
+          losing_spent (v.arrays n) (f n) (names gone) (commit.marking.set.arrays n low).is_array (commit_losing v lost on gone l xs f b c commit n low) y (covers y alive) in
+          let first = one.lacking n vals spent joined made mid_goes covered amid leaves in
+          lacking_then u v w a b c n one.stays.sectors one.stays.traced first
+          (commit_lacking v lost on gone l xs f b c commit n vals spent (subst (λ k. n < k) (sym one.book.same.joined) joined) low goes covers
           ((one.parts n vals spent joined made mid_goes covered).holds amid) (settles.settled n vals spent low joined mid_goes covered amid) first.after);
     }
 

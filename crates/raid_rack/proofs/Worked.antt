@@ -123,6 +123,7 @@ emptied_brings v x set heeded nobody =
       spent = λ n y low alive. alive;
       parts = λ n vals spent joined low goes covers. absurd (over n goes);
       rows = λ n vals spent unwritten joined low goes covers amid rows. absurd (over n goes);
+      lacking = λ n vals spent joined low goes covers amid leaves. absurd (over n goes);
     }
   where
     all_none : (f : ℕ → Bool) (a k : ℕ) → ((p : ℕ) → f p ≡ false) → list_any f (range_with_len a k) ≡ false

@@ -1,6 +1,6 @@
 -- A call that may write to one array, as a part of a call of all.
 use Rattle.std.proofs.Common.{◌≡◌, ◌≢◌, ℕ, ◌+◌, ◌<◌, ◌≤◌, Bool, true, false, ◌==◌, ◌&&◌, not, if◌then◌else◌, List, [], ◌∷◌, ◌++◌, length, length-append, slice_get, Option, Some, None, refl, sym, ap, subst, ◌∙◌, inl, inr, eq-eqb, ne_eqb, arith}
-use Rattle.std.proofs.lemmas.Bool.{both_ways, cases_eq}
+use Rattle.std.proofs.lemmas.Bool.{both_ways, cases_Bool, cases_eq}
 use Rattle.std.specs.Option.{option_map_or}
 use Rattle.rack.specs.Values.{Values, append}
 use Rattle.rack.specs.Seen.{Image, Seen, IsLive}
@@ -13,13 +13,14 @@ use Rattle.commit_log.specs.View.{names}
 use Rattle.commit_log.proofs.KeptAfter.{kept_more}
 use Rattle.array_model.specs.declared.Seat.{Seat}
 use Rattle.array_model.specs.declared.Seat.TheVariants.{Whole, Missing, Rebuilding}
-use Rattle.array_model.specs.View.{View, has_gone, is_missing_seat, member_on, place_at, seat_reach, shape_of, spent_in}
+use Rattle.array_model.specs.View.{View, has_gone, is_missing_seat, is_whole_array, member_on, place_at, seat_reach, shape_of, spent_in}
 use Rattle.array_model.specs.Says.{Holds, IsOpen}
 use Rattle.array_model.specs.Stages.{IsStateOf}
 use Rattle.array_model.specs.ArrayCalls.{Covers, WritesArray, appended_at}
 use Rattle.array_model.proofs.Firsts.{position_of}
 use Rattle.array_model.proofs.Moves.{Moves as CallMoves}
 use Rattle.array_core.specs.Pool.{Goes, MayCommit, MayRenew}
+use Rattle.array_core.specs.TruthLeft.{LeavesTruth}
 use Rattle.array_core.specs.Writing.{IsElsewhere, KeepsElsewhere}
 use Rattle.raid_rack.specs.Book.{after_same}
 use Rattle.raid_rack.specs.Marking.{Part}
@@ -35,7 +36,9 @@ use Rattle.raid_rack.specs.Frames.{frame_of}
 use Rattle.raid_rack.proofs.Frames.{geometry_frame, view_frame}
 use Rattle.raid_rack.proofs.Logs.{kept_calm, logs_call}
 use Rattle.raid_rack.proofs.Parts.{SaysSome, acts_some, frame_by, part_by, part_other}
-use Rattle.raid_rack.specs.Rows.{KeepsRows, LeavesRows}
+use Rattle.raid_rack.specs.Rows.{KeepsLacking, KeepsRows, LeavesLacking, LeavesRows}
+use Rattle.raid_rack.proofs.LackingRows.{lacking_other}
+use Rattle.raid_rack.proofs.LackingCalls.{left_lacking, whole_lacking}
 use Rattle.raid_rack.proofs.Rows.{rows_other}
 use Rattle.raid_rack.proofs.Seated.{missing_of, place_few}
 use Rattle.raid_rack.proofs.Whole.{heeded_gone, heeded_whole}
@@ -228,8 +231,25 @@ module _ (v : Raid) (f : ℕ → View) (number m : ℕ) (a b : Seen) (now : (ℕ
       ((was : ℕ → Values) → now was ≡ was) → (vals : ℕ → Values) (spent : ℕ → Bool) → is_over (called v f number) m ≡ false → Covers (f m) spent
       → IsAmid v a m vals spent → LeavesRows v a m → KeepsRows v (called v f number) a b m
 
-  pub one_brings : OwnRows → Brings v (called v f number) a b (λ n vals. if n == m then now vals else vals)
-  one_brings own_rows =
+  -- and of an array that isn't called whatever it left where a member is lacking
+  pub other_lacking : (n : ℕ) (vals : ℕ → Values) (spent : ℕ → Bool) → (n ≡ m → ⊥) → n < v.state.made → is_over (called v f number) n ≡ false
+      → IsAmid v a n vals spent → LeavesLacking v a n → KeepsLacking v (called v f number) a b n
+  other_lacking n vals spent apart low goes amid leaves =
+      let able = call.able n vals spent low goes amid in
+      let own = held_in v a m in
+      lacking_other v (called v f number) a b n m (OwnBefore own) (OwnAfter own) (OwnDuring own)
+      (small m call.views.low) (small n low) apart (set.arrays m call.views.low).number (call.views.others n apart) set.lasting
+      (call.acts own (spent_in (f m)) (λ y alive. alive) able)
+      (kept_calm v.state v.number (gone_in v) a (v.arrays m).number amid.stood.log marked) leaves
+
+  -- what they leave of its own is to be shown too
+  abbrev pub OwnLacking : Type 0
+  OwnLacking =
+      (vals : ℕ → Values) (spent : ℕ → Bool) → is_over (called v f number) m ≡ false → Covers (f m) spent
+      → IsAmid v a m vals spent → LeavesLacking v a m → KeepsLacking v (called v f number) a b m
+
+  pub one_brings : OwnRows → OwnLacking → Brings v (called v f number) a b (λ n vals. if n == m then now vals else vals)
+  one_brings own_rows own_lacking =
       record {
         stays = call.goes.stays;
         set = views_set v f m a b set call.views number;
@@ -257,6 +277,13 @@ module _ (v : Raid) (f : ℕ → View) (number m : ℕ) (a b : Seen) (now : (ℕ
                   (sym same)
                   (own_rows (λ was. sym (ap (λ (t : Bool). if t then now was else was) (eq-eqb n m same)) ∙ unwritten was) vals spent) goes covers amid rows
               | inr apart ↦ other_rows n vals spent apart low goes amid rows
+            ];
+        lacking = λ n vals spent joined low goes covers amid leaves.
+            elim (cases_eq n m) [
+              | inl same ↦
+                  subst (λ k. is_over (called v f number) k ≡ false → Covers (f k) spent → IsAmid v a k vals spent → LeavesLacking v a k → KeepsLacking v (called v f number) a b k)
+                  (sym same) (own_lacking vals spent) goes covers amid leaves
+              | inr apart ↦ other_lacking n vals spent apart low goes amid leaves
             ];
       }
 
@@ -296,39 +323,62 @@ pub record WriteCall (v : Raid) (f : ℕ → View) (number m : ℕ) (a b : Seen)
   pub writes :
       (vals : ℕ → Values) (spent : ℕ → Bool) → Covers (f m) spent → MayCommit v.state (v.arrays m) (f m) v.number on a
       → WritesArray v.state (v.arrays m) (f m) spent a b (shape_of (v.arrays m)) vals sector from
+  -- where the array isn't whole, its truth stays
+  pub truths :
+      (vals : ℕ → Values) (spent : ℕ → Bool) → Covers (f m) spent → MayCommit v.state (v.arrays m) (f m) v.number on a → is_whole_array (v.arrays m) ≡ false
+      → LeavesTruth v.state (v.arrays m).number (λ t. ⊥) (Holds v.state (shape_of (v.arrays m)) (v.arrays m) vals spent a) a b
   pub kept : MayCommit v.state (v.arrays m) (f m) v.number on a → LogKept v.state number (has_gone (f m)) b
   pub elsewhere : KeepsElsewhere false (v.arrays m) on a b
 
-pub write_brings : (v : Raid) (f : ℕ → View) (number m : ℕ) (a b : Seen) (on : List ℕ) (sector : ℕ) (from : List ℕ) → IsSet v a
-    → WriteCall v f number m a b on sector from → Brings v (called v f number) a b (written_at m sector from)
-write_brings v f number m a b on sector from set call =
-    one_brings v f number m a b (appended_at sector from) (shape_of (v.arrays m)) (MayCommit v.state (v.arrays m) (f m) v.number on a) set
-    (record {
-      heeded = call.heeded;
-      views = call.views;
-      shape = call.loses.shape;
-      grows = reach_same (is_current v.state) (shape_of (v.arrays m));
-      noted = left_reach (called v f number) m (v.arrays m) b call.views.low call.views.seated call.loses.only;
-      frame = geometry_frame (v.arrays m).truth (f m).truth call.loses.only.same.geometry;
-      goes = call.goes;
-      later = call.later;
-      able = λ n vals spent below goes amid.
-          may_commit v f number m n a b on set call.heeded call.views call.later call.on_is below goes amid.slices
-          (subst (λ g. LogKept v.state v.number g a) (λ i p. heeded_gone v call.heeded p i) amid.stood.log);
-      acts = λ vals spent covers given.
-          acts_some v.state (v.arrays m) (f m) spent a b (shape_of (v.arrays m)) vals (appended_at sector from vals) (call.writes vals spent covers given);
-      kept = λ given log.
-          kept_more v.state number (has_gone (f m)) (gone_in (called v f number)) b
-          (λ p is. gone_from (called v f number) p m (call.few p is) call.views.low is) (call.kept given);
-      elsewhere = (on, λ p gone. ap (λ ps. names ps p) call.on_is ∙ names_current v.state p ∙ gone, call.elsewhere);
-    })
-    (λ same vals spent goes covers amid rows.
-    absurd (longer (vals sector) (sym (ap (λ (t : Bool). if t then append (vals sector) from else vals sector) (eq-eqb sector sector refl)) ∙ ap (λ (h : ℕ → Values). h sector) (same vals))))
-  where
-    length_more : (xs ys : List (List ℕ)) → xs ≡ xs ++ ys → length ys ≡ 0
-    length_more xs ys same = let sum = ap length same ∙ length-append xs ys in omega (arith, sum)
+module _ (v : Raid) (f : ℕ → View) (number m : ℕ) (a b : Seen) (on : List ℕ) (sector : ℕ) (from : List ℕ) (set : IsSet v a) (call : WriteCall v f number m a b on sector from) where
+  write_acts : ActsOne v f number m a b (appended_at sector from) (shape_of (v.arrays m)) (MayCommit v.state (v.arrays m) (f m) v.number on a)
+  write_acts = record {
+    heeded = call.heeded;
+    views = call.views;
+    shape = call.loses.shape;
+    grows = reach_same (is_current v.state) (shape_of (v.arrays m));
+    noted = left_reach (called v f number) m (v.arrays m) b call.views.low call.views.seated call.loses.only;
+    frame = geometry_frame (v.arrays m).truth (f m).truth call.loses.only.same.geometry;
+    goes = call.goes;
+    later = call.later;
+    able = λ n vals spent below goes amid.
+        may_commit v f number m n a b on set call.heeded call.views call.later call.on_is below goes amid.slices
+        (subst (λ g. LogKept v.state v.number g a) (λ i p. heeded_gone v call.heeded p i) amid.stood.log);
+    acts = λ vals spent covers given.
+        acts_some v.state (v.arrays m) (f m) spent a b (shape_of (v.arrays m)) vals (appended_at sector from vals) (call.writes vals spent covers given);
+    kept = λ given log.
+        kept_more v.state number (has_gone (f m)) (gone_in (called v f number)) b
+        (λ p is. gone_from (called v f number) p m (call.few p is) call.views.low is) (call.kept given);
+    elsewhere = (on, λ p gone. ap (λ ps. names ps p) call.on_is ∙ names_current v.state p ∙ gone, call.elsewhere);
+  }
 
-    longer : (h : Values) → append h from ≡ h → ⊥
-    longer h same =
-        let none = length_more h.older (h.current ∷ []) (sym (ap (λ (k : Values). k.older) same)) in
-        absurd (omega (arith, none))
+  -- a value more isn't as before
+  length_more : (xs ys : List (List ℕ)) → xs ≡ xs ++ ys → length ys ≡ 0
+  length_more xs ys same = let sum = ap length same ∙ length-append xs ys in omega (arith, sum)
+
+  longer : (h : Values) → append h from ≡ h → ⊥
+  longer h same =
+      let none = length_more h.older (h.current ∷ []) (sym (ap (λ (k : Values). k.older) same)) in
+      absurd (omega (arith, none))
+
+  -- no member of a whole array is lacking, and the truth of others stays
+  write_lacking : (vals : ℕ → Values) (spent : ℕ → Bool) → is_over (called v f number) m ≡ false → Covers (f m) spent
+      → IsAmid v a m vals spent → LeavesLacking v a m → KeepsLacking v (called v f number) a b m
+  write_lacking vals spent goes covers amid leaves =
+      let now = appended_at sector from vals in
+      let able = write_acts.able m vals spent call.views.low goes amid in
+      let standing = (own_part v f number m a b (appended_at sector from) (shape_of (v.arrays m)) (MayCommit v.state (v.arrays m) (f m) v.number on a) set write_acts vals spent goes covers).holds amid in
+      let writes = call.writes vals spent covers able in
+      elim (cases_Bool (is_whole_array (v.arrays m))) [
+        | inl whole ↦ whole_lacking v f number m a b vals now spent set call.heeded call.views.low amid standing writes whole leaves
+        | inr part ↦
+            left_lacking v f number m a b vals now spent set call.heeded call.views.low amid standing writes (λ t. ⊥)
+            (call.truths vals spent covers able part) (λ t none. absurd none) leaves
+      ]
+
+  pub write_brings : Brings v (called v f number) a b (written_at m sector from)
+  write_brings =
+      one_brings v f number m a b (appended_at sector from) (shape_of (v.arrays m)) (MayCommit v.state (v.arrays m) (f m) v.number on a) set write_acts
+      (λ same vals spent goes covers amid rows.
+      absurd (longer (vals sector) (sym (ap (λ (t : Bool). if t then append (vals sector) from else vals sector) (eq-eqb sector sector refl)) ∙ ap (λ (h : ℕ → Values). h sector) (same vals))))
+      write_lacking

@@ -1,6 +1,6 @@
 -- The book of a pool, as calls of a rack of arrays change it: marks are added, a plan ends, and nothing else.
 use Rattle.std.specs.Prelude.{◌≡◌, ◌⊎◌, ℕ, ◌-◌, ◌<◌, ◌≤◌, ◌^◌, true, List, map, refl}
-use Rattle.std.proofs.Common.{◌∙◌, inl, inr, arith}
+use Rattle.std.proofs.Common.{◌∙◌, inl, inr, sym, arith}
 use Rattle.pool_state.specs.declared.contents.Drive.{Drive}
 use Rattle.pool_state.specs.declared.contents.Plan.TheVariants.{Nothing}
 use Rattle.pool_state.specs.declared.contents.State.{State}
@@ -76,3 +76,10 @@ after_then p q r one two =
       raised = raised_then p q r one two;
       current = λ place is. one.current place (two.current place is);
     }
+
+-- between books of one plan it is that plan
+pub plan_between : (p q r : State) → IsAfter p q → IsAfter q r → r.plan ≡ p.plan → q.plan ≡ p.plan
+plan_between p q r one two same = elim one.same.plan [
+  | inl kept ↦ kept
+  | inr ended ↦ elim two.same.plan [ inl kept ↦ sym kept ∙ same | inr gone ↦ ended ∙ sym gone ∙ same ]
+]

@@ -27,7 +27,7 @@ use Rattle.raid_rack.specs.Frames.{Frame, KeepsFrame, frame_of}
 use Rattle.raid_rack.specs.Logs.{KeepsLogs}
 use Rattle.raid_rack.specs.Marking.{TiedBetween}
 use Rattle.raid_rack.specs.Reach.{KeepsReach, KeepsReachOn}
-use Rattle.raid_rack.specs.Rows.{KeepsRows, LeavesRows}
+use Rattle.raid_rack.specs.Rows.{KeepsLacking, KeepsRows, LeavesLacking, LeavesRows}
 
 -- ---- what holds at each point of a call, whatever the rack below tells
 
@@ -48,7 +48,7 @@ pub record IsOfPool (s : State) (v : View) : Type 0 where
   pub zeroed : v.young ≡ true → rows_of v ≤ v.resync
   pub rows : HasRowRebuilds v
 
--- No write of this run has marked an array, and its superblocks leave just the rows to resync that are left in it, unless it is young.
+-- No mark of this run's writes stands on an array, and its superblocks leave just the rows to resync that are left in it, unless it is young.
 pub record IsUnmarked (v : View) : Type 0 where
   pub mark : v.marked ≡ false
   pub rows : v.young ≡ false → first_unsynced v.truth ≡ v.resync
@@ -98,7 +98,7 @@ pub record IsAmid (v : Raid) (x : Seen) (n : ℕ) (vals : ℕ → Values) (spent
   pub stood : Stood v.state durable vals spent (gone_in v) v x n
   pub slices : AreLive v.state.made x
   pub marked : AreMarked v → durable ≡ shape_of (v.arrays n)
-  -- and members on places that are left count in the run at least as far
+  -- and members on places that are left count by the run at least as far as by the shape that images go by
   pub noted : KeepsReachOn (is_left v) durable (shape_of (v.arrays n))
 
 -- A part of a call, seen from an array: it gives its values at each moment, and stands after it with these.
@@ -157,6 +157,9 @@ pub record Moves (v w : Raid) (a b : Seen) : Type 0 where
   pub rows :
       (n : ℕ) (vals : ℕ → Values) (spent : ℕ → Bool) → n < v.state.joined → n < v.state.made → is_over w n ≡ false → Covers (w.arrays n) spent
       → IsAmid v a n vals spent → LeavesRows v a n → KeepsRows v w a b n
+  pub lacking :
+      (n : ℕ) (vals : ℕ → Values) (spent : ℕ → Bool) → n < v.state.joined → n < v.state.made → is_over w n ≡ false → Covers (w.arrays n) spent
+      → IsAmid v a n vals spent → LeavesLacking v a n → KeepsLacking v w a b n
 
 -- the log's number, the epoch and each array's events rise by so many at most
 pub record RaisesBy (k : ℕ) (v w : Raid) : Type 0 where
@@ -206,6 +209,10 @@ pub record Brings (v w : Raid) (a b : Seen) (now : ℕ → (ℕ → Values) → 
   pub rows :
       (n : ℕ) (vals : ℕ → Values) (spent : ℕ → Bool) → ((was : ℕ → Values) → now n was ≡ was) → n < v.state.joined → n < v.state.made → is_over w n ≡ false
       → Covers (w.arrays n) spent → IsAmid v a n vals spent → LeavesRows v a n → KeepsRows v w a b n
+  -- and all of them, where a member is lacking
+  pub lacking :
+      (n : ℕ) (vals : ℕ → Values) (spent : ℕ → Bool) → n < v.state.joined → n < v.state.made → is_over w n ≡ false → Covers (w.arrays n) spent
+      → IsAmid v a n vals spent → LeavesLacking v a n → KeepsLacking v w a b n
 
 -- whoever isn't left any more has a fault
 pub record AreCaused (v w : Raid) (a b : Seen) : Type 0 where

@@ -21,7 +21,7 @@ use Rattle.raid_rack.specs.Moves.{AreCaused, KeepsMarked}
 use Rattle.raid_rack.specs.Reach.{KeepsReach, ReachBetween, reach_same, reach_then}
 use Rattle.raid_rack.specs.Raid.{Raid, is_left, is_over, IsTold}
 use Rattle.raid_rack.specs.Truths.{KeepsTruths}
-use Rattle.raid_rack.specs.Rows.{KeepsRows, LeavesFrom, LeavesRows, rows_then}
+use Rattle.raid_rack.specs.Rows.{KeepsLacking, KeepsRows, LackingFrom, LeavesFrom, LeavesLacking, LeavesRows, lacking_then, rows_then}
 
 -- Replayed contents have a state between two, and by it an array whose superblocks agree.
 pub record IsBetween (s t : State) (n : ℕ) (r : Image) : Type 0 where
@@ -52,6 +52,8 @@ pub record KeepsMoments (v w : Raid) (a b : Seen) : Type 0 where
   -- have and of the one after the call
   pub reach : (n : ℕ) → IsTold v a n → is_over w n ≡ false → a.traced → Leaves a b (λ c. ReachBetween v w n (replayed a.sectors c))
   pub reached : (n : ℕ) → IsTold v a n → is_over w n ≡ false → KeepsReach w.state (shape_of (v.arrays n)) (shape_of (w.arrays n))
+  -- Where a member is lacking by the state that contents have, they leave no rows to resync but those that were left before the call.
+  pub lacking : (n : ℕ) → IsTold v a n → is_over w n ≡ false → LeavesLacking v a n → KeepsLacking v w a b n
 
 -- Marks are added and nothing else of the book, each with its cause; what stops leave meanwhile has marks between those before and
 -- those after. What is told stays so. `p` and `q` are the arrays that were written before it and after it.
@@ -89,6 +91,11 @@ moments_same v x = record {
   frames = λ n told goes traced. leaves_same x (λ c. HasFrame (frame_of (v.arrays n).truth) n (replayed x.sectors c));
   reach = λ n told goes traced. leaves_same x (λ c. ReachBetween v v n (replayed x.sectors c));
   reached = λ n told goes. reach_same (is_current v.state) (shape_of (v.arrays n));
+  lacking = λ n told goes leaves. record {
+    later = omega arith;
+    leaves = λ traced. leaves_same x (λ c. IsInside x.sectors c → LackingFrom (v.arrays n).resync n (replayed x.sectors c));
+    after = leaves;
+  };
 }
 
 -- no call is a run
@@ -212,6 +219,9 @@ moments_then v w z a b c one two book after sectors_same still_traced = record {
   reached = λ n told goes.
       reach_then (is_current w.state) (is_current z.state) (shape_of (v.arrays n)) (shape_of (w.arrays n)) (shape_of (z.arrays n)) after.current
       (one.reached n told (two.still n goes)) (two.reached n (one.told n told) goes);
+  lacking = λ n told goes leaves.
+      let first = one.lacking n told (two.still n goes) leaves in
+      lacking_then v w z a b c n sectors_same still_traced first (two.lacking n (one.told n told) goes first.after);
   since = λ n base told goes since holds.
       let early = one.since n base told (two.still n goes) since holds in
       since_then base a b c sectors_same still_traced early

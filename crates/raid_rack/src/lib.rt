@@ -59,10 +59,12 @@
 //!
 //! **Stops inside calls.** At each moment of a call, of an array that was told and isn't over after it (`KeepsMoments`): no log is
 //! damaged; replayed contents say one state between those before and after the call, with each copy of it and no later one
-//! (`LogsBetween`), and by it superblocks that agree, of the size and places from before it. What is pending brings that state alone,
-//! and is for sectors that slices have. As it stands, each place that was current when a run began has a copy of a state that came of
-//! the one from then, which names its drive, and any other place an earlier copy at most (`AreSince`): so a stop is read on the same
-//! disks, whatever is replayed. Calls in a row keep all this (`moments_then` of specs/Runs.antt).
+//! (`LogsBetween`), and by it superblocks that agree, of the size and places from before it. If by that state a member of an array that
+//! isn't young is missing or being rebuilt, they leave no rows of it to resync but those that were left before the call, where images
+//! left no others then (`KeepsLacking`). What is pending brings that state alone, and is for sectors that slices have. As it stands,
+//! each place that was current when a run began has a copy of a state that came of the one from then, which names its drive, and any
+//! other place an earlier copy at most (`AreSince`): so a stop is read on the same disks, whatever is replayed. Calls in a row keep all
+//! this (`moments_then` of specs/Runs.antt).
 //!
 //! **Works of maintenance.** A step of an array makes another array of it, by one commit: more rows that agree, or members that count
 //! further. It is a part of a call that writes no value (`Brings`): each array gives its values, by the array before the step or after

@@ -28,7 +28,7 @@ mend-requires g c =
           (clean_call a all x y n _ c.clean.new.self c.requires.running c.requires.heeded low
           (same_element c.deref_mut.result.now a.all.items n _ no_array c.deref_mut.ensures.value (omega (arith, count, low)))
           items
-          (record { cleans = e.cleans; view = e.view; goes = e.goes; elsewhere = e.elsewhere; supers = e.others; settled = e.settled; kept = e.kept }));
+          (record { cleans = e.cleans; truths = e.leaves; view = e.view; goes = e.goes; elsewhere = e.elsewhere; supers = e.others; settled = e.settled; kept = e.kept }));
     }
 
 pub returns-clause-cleans : goal.returns-clause-cleans
@@ -46,7 +46,7 @@ returns-clause-cleans g c =
     (clean_call a all x y n _ c.clean.new.self c.requires.running c.requires.heeded low
     (same_element c.deref_mut.result.now a.all.items n _ no_array c.deref_mut.ensures.value (omega (arith, count, low)))
     items
-    (record { cleans = e.cleans; view = e.view; goes = e.goes; elsewhere = e.elsewhere; supers = e.others; settled = e.settled; kept = e.kept }))
+    (record { cleans = e.cleans; truths = e.leaves; view = e.view; goes = e.goes; elsewhere = e.elsewhere; supers = e.others; settled = e.settled; kept = e.kept }))
     c.mend.ensures.mends
     (λ are.
     let idle = c.mend.ensures.idle are in (

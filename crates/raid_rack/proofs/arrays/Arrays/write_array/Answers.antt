@@ -35,7 +35,7 @@ mend-requires g c =
     (same_element c.deref_mut.result.now a.all.items n _ no_array c.deref_mut.ensures.value (omega (arith, count, low)))
     (items_set a.all c.deref_mut.result.now n c.write.new.self c.deref_mut.ensures.value)
     number (later_number c.clear.new.self c.write.new.log c.write.ensures.log) c.current_places-on.ensures c.went-places.ensures.few c.write.ensures.goes
-    (record { writes = c.write.ensures.writes; kept = c.write.ensures.kept; view = c.write.ensures.view; elsewhere = c.write.ensures.elsewhere }) in
+    (record { writes = c.write.ensures.writes; kept = c.write.ensures.kept; truths = c.write.ensures.leaves; view = c.write.ensures.view; elsewhere = c.write.ensures.elsewhere }) in
     record { running = wrote.running }
 
 pub returns-clause-writes : goal.returns-clause-writes
@@ -52,7 +52,7 @@ returns-clause-writes g c =
     (same_element c.deref_mut.result.now a.all.items n _ no_array c.deref_mut.ensures.value (omega (arith, count, low)))
     (items_set a.all c.deref_mut.result.now n c.write.new.self c.deref_mut.ensures.value)
     number (later_number c.clear.new.self c.write.new.log c.write.ensures.log) c.current_places-on.ensures c.went-places.ensures.few c.write.ensures.goes
-    (record { writes = c.write.ensures.writes; kept = c.write.ensures.kept; view = c.write.ensures.view; elsewhere = c.write.ensures.elsewhere }) in
+    (record { writes = c.write.ensures.writes; kept = c.write.ensures.kept; truths = c.write.ensures.leaves; view = c.write.ensures.view; elsewhere = c.write.ensures.elsewhere }) in
     writes_one a _ c.mend.new.self x y (g.S.Rack.seen c.mend.new.rack) n c.args.sector c.args.from.now wrote c.mend.ensures.mends
 
 pub returns-clause-runs : goal.returns-clause-runs
@@ -86,7 +86,7 @@ returns-clause-spares g c written noted =
     c.requires.running c.requires.heeded low old_is
     (items_set a.all c.deref_mut.result.now n c.write.new.self c.deref_mut.ensures.value)
     number (later_number c.clear.new.self c.write.new.log c.write.ensures.log) c.current_places-on.ensures c.went-places.ensures.few c.write.ensures.goes
-    (record { writes = c.write.ensures.writes; kept = c.write.ensures.kept; view = c.write.ensures.view; elsewhere = c.write.ensures.elsewhere }) in
+    (record { writes = c.write.ensures.writes; kept = c.write.ensures.kept; truths = c.write.ensures.leaves; view = c.write.ensures.view; elsewhere = c.write.ensures.elsewhere }) in
     spares_write written a _ n _ c.current_places-on.result.items x y (g.S.Rack.seen c.mend.new.rack) c.requires.running c.requires.heeded low old_is noted refl wrote.caused
     c.mend.ensures.mends.moves.stays (λ are. ap g.S.Rack.seen (c.mend.ensures.idle are).1) c.write.ensures.elsewhere
 
