@@ -12,16 +12,17 @@ use Rattle.pool_state.specs.declared.contents.State.{State}
 use Rattle.array_image.specs.Arrays.{array_in, arrays_in, replayed, shape_in}
 use Rattle.array_image.specs.Left.{Picks}
 use Rattle.array_image.specs.States.{state_in}
+use Rattle.array_image.specs.Supers.{truth_in}
 use Rattle.commit_log.proofs.Kept.{live_after, live_on}
 use Rattle.raid_rack.specs.Raid.{Raid}
 use Rattle.pool_image.specs.Disks.{Disks, disks_of}
 use Rattle.pool_image.specs.Drives.{Found, found, slices_of}
-use Rattle.pool_image.specs.Meaning.{arrays_held, shape_of}
+use Rattle.pool_image.specs.Meaning.{arrays_held, shape_of, truth_of}
 use Rattle.pool_model.specs.InService.{IsOutset}
 use Rattle.pool_model.specs.Pools.{IsSoundPool}
 use Rattle.pool_model.specs.Left.{AreAlone, AreAloneBy, HoldAgain, HoldRest, IsLeftBy, IsPickOff, IsServed, AreElsewhere}
 use Rattle.pool_model.proofs.Copies.{IsKnown, known_of, c, quiet, seat_there, seats_now, state_is}
-use Rattle.pool_model.proofs.Current.{shape_current}
+use Rattle.pool_model.proofs.Current.{shape_current, truth_current}
 use Rattle.pool_model.proofs.Extents.{sectors_now}
 use Rattle.pool_model.proofs.Found.{found_is}
 use Rattle.pool_model.proofs.Outset.{outset_of}
@@ -36,6 +37,11 @@ module _ (f : Found) (t : Slices) (v : Raid) (y : Seen) (i : Image) (known : IsK
 
   pub state_known : state_in (replayed (sectors_of t) (c f t v y i known)) ≡ Some v.state
   state_known = ap state_in still_quiet ∙ state_is f t v y i known
+
+  pub truth_known : (n : ℕ) → n < f.state.made → truth_of (now f t v y i known) n ≡ truth_in v.state (replayed (sectors_of t) (c f t v y i known)) n
+  truth_known n low =
+      truth_current v.state (slices_of (now f t v y i known)) (c f t v y i known) n (same f t v.state i (stood f t v y i known) (says_pool f t v y i known) n low)
+      ∙ sym (ap (λ (r : Image). truth_in v.state r n) still_quiet)
 
   pub shape_known : (n : ℕ) → n < f.state.made → shape_of (now f t v y i known) n ≡ shape_in v.state (replayed (sectors_of t) (c f t v y i known)) n
   shape_known n low =
@@ -63,6 +69,7 @@ module _ (f : Found) (t : Slices) (v : Raid) (y : Seen) (i : Image) (known : IsK
       alone = alone_now f t v.state i (stood f t v y i known) (says_pool f t v y i known) i known.left.alone;
       sectors = sectors_now f t v.state i (stood f t v y i known) (says_pool f t v y i known);
       is_state = state_known;
+      truths = truth_known;
       shapes = shape_known;
       values = value_known;
     };

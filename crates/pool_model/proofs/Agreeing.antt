@@ -7,17 +7,19 @@ use Rattle.pool_state.specs.declared.contents.State.{State}
 use Rattle.array_image.specs.States.{is_current}
 use Rattle.array_core.proofs.Stripped.{some_same}
 use Rattle.raid_rack.specs.Book.{IsAfter}
+use Rattle.raid_rack.specs.Reach.{KeepsReach}
 use Rattle.pool_image.specs.Alike.{Agree, IsSamePool, MeansTheSame}
 use Rattle.pool_image.specs.Disks.{Disks, identities_of, newest, seat_of}
 use Rattle.pool_image.specs.Drives.{Found, found, found_by}
 use Rattle.pool_image.specs.Replay.{Standing, standing, standing_by, written}
 use Rattle.pool_image.specs.Volumes.{Arrays}
-use Rattle.pool_image.proofs.Founds.{damage_same, joined_same}
+use Rattle.pool_image.proofs.Founds.{damage_same, joined_same, shapes_same}
 use Rattle.pool_image.proofs.Rested.{stood_by}
 use Rattle.pool_rest.specs.SoundLogs.{HasSoundLogs}
 use Rattle.pool_rest.proofs.Unwritten.{agreeing_mean}
 use Rattle.pool_model.specs.Openings.{HoldOpened, MayReplay}
 use Rattle.pool_model.proofs.Found.{found_is}
+use Rattle.pool_model.proofs.LackingRows.{dirty_same}
 use Rattle.pool_model.proofs.Rereading.{agree_holds}
 
 some_newest : (f : Found) (g : State → Found) (o : Option State) → option_map g o ≡ Some f → (z : State) × (o ≡ Some z)
@@ -60,6 +62,7 @@ agree_opened f from c i holds agree =
       sound = again.sound;
       logs = subst (λ (k : Disks). HasSoundLogs k i) disks again.logs;
       after = subst (λ (z : State). IsAfter f.state z) (sym is.state) holds.after;
+      plan = ap (λ (z : State). z.plan) is.state ∙ holds.plan;
       marks = λ p counts past. holds.marks p counts (sym (ap (λ (z : State). is_current z p) is.state) ∙ past);
       seats = λ p counts. is.seats p ∙ holds.seats p (sym (ap (λ (z : State). is_current z p) is.state) ∙ counts);
       values = λ n x low behind inside. ap (λ (k : Arrays). k.contents n x) (joined_same h again.now is) ∙ holds.values n x low behind inside;
@@ -67,6 +70,9 @@ agree_opened f from c i holds agree =
       alone = again.alone;
       stops = subst (λ (k : Disks). MayReplay k i again.now) disks again.stops;
       sectors = λ n low. ap (λ (k : Arrays). k.sectors n) (joined_same h again.now is) ∙ holds.sectors n low;
+      reach = λ n before left low was now.
+          subst (λ (z : State). KeepsReach z before left) (sym is.state) (holds.reach n before left low was (sym (shapes_same h again.now is n) ∙ now));
+      unsynced = λ n low dirty. holds.unsynced n low (sym (dirty_same h again.now is n) ∙ dirty);
       parts = λ p now none.
           elim (holds.parts p (sym (ap (λ (z : State). is_current z p) is.state) ∙ now) none) [
             | inl fine ↦ inl (damage_same h again.now is p ∙ fine)

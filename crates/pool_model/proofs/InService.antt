@@ -161,6 +161,7 @@ still_said f e t s i is = record {
   alone = is.alone;
   sectors = λ n low. is.sectors n low ∙ sectors_said f e n;
   is_state = is.is_state;
+  truths = is.truths;
   shapes = is.shapes;
   values = is.values;
 }

@@ -17,6 +17,7 @@ use Rattle.pool_state.specs.Sector.{decoded}
 use Rattle.array_image.specs.Arrays.{array_in, arrays_in, replayed, shape_in}
 use Rattle.array_image.specs.Places.{data_sector, log_sectors, log_slice, member_slice, place_of, slice_of, state_sector, super_sector}
 use Rattle.array_image.specs.States.{current_places, epoch_of, is_current}
+use Rattle.array_image.specs.Supers.{truth_in}
 use Rattle.array_image.proofs.Frames.{super_of_sector}
 use Rattle.array_core.proofs.Stripped.{some_same}
 use Rattle.commit_log.specs.Kept.{IsNoLater}
@@ -222,6 +223,9 @@ module _ (f : Found) (t : Slices) (base s : State) (i : Image) (stop : SaysStopp
           named = was.named;
         }
 
+    pub truth_same : truth_in s (sliced t after) n ≡ truth_in s written_as n
+    truth_same = truth_current s (sliced t after) written_as n same_current
+
     pub shape_same : shape_in s (sliced t after) n ≡ shape_in s written_as n
     shape_same = shape_current s (sliced t after) written_as n same_current
 
@@ -381,6 +385,9 @@ module _ (f : Found) (t : Slices) (base s : State) (i : Image) (stop : SaysStopp
     alone = alone_now f t s after (standing_by f.disks i st.stood) says_pool after alone_now_written;
     sectors = sectors_now f t s after (standing_by f.disks i st.stood) says_pool;
     is_state = stop.says.is_state;
+    truths = λ n low.
+        truth_current s (slices_of now) (sliced t after) n (same f t s after (standing_by f.disks i st.stood) says_pool n low)
+        ∙ truth_same n low;
     shapes = λ n low.
         shape_current s (slices_of now) (sliced t after) n (same f t s after (standing_by f.disks i st.stood) says_pool n low)
         ∙ shape_same n low;

@@ -84,6 +84,7 @@ pub mod Agreeing
 pub mod GatesSame
 pub mod Likewise
 pub mod Sectors
+pub mod LackingRows
 pub mod Reopening
 pub mod ReopeningAmid
 pub mod ArraysMeant

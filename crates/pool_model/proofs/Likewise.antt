@@ -31,6 +31,7 @@ amid_likewise f g t s u r w i disks seats made sectors from until amid = record 
       alone = amid.between.still.alone;
       sectors = λ n low. let less = subst (λ k. n < k) made low in amid.between.still.sectors n less ∙ sym (sectors n less);
       is_state = amid.between.still.is_state;
+      truths = λ n low. amid.between.still.truths n (subst (λ k. n < k) made low);
       shapes = λ n low. amid.between.still.shapes n (subst (λ k. n < k) made low);
       values = λ n x low. amid.between.still.values n x (subst (λ k. n < k) made low);
     };

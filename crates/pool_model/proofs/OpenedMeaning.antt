@@ -1,7 +1,7 @@
 -- What contents mean that a stop inside an opening leaves, and for what they may be refused.
-use Rattle.std.proofs.Common.{◌≡◌, ℕ, ◌<◌, ◌≤◌, Bool, true, false, nat_lt, if◌then◌else◌, is_none, List, [], ◌∷◌, filter, length, Option, Some, None, option_map, refl, sym, ap, subst, ◌∙◌, inl, inr, le-ltb, lt-ltb, arith}
+use Rattle.std.proofs.Common.{◌≡◌, ℕ, suc, ◌+◌, ◌<◌, ◌≤◌, ◌&&◌, not, Bool, true, false, nat_lt, if◌then◌else◌, is_none, List, [], ◌∷◌, filter, length, slice_get, Option, Some, None, option_map, unwrap_or, refl, sym, ap, subst, ◌∙◌, inl, inr, le-ltb, lt-ltb, ltb-true, arith}
 use Rattle.std.specs.Option.{option_and_then, option_map_or}
-use Rattle.std.proofs.lemmas.Bool.{cases_lt}
+use Rattle.std.proofs.lemmas.Bool.{and_parts, both_ways, cases_Bool, cases_lt}
 use Rattle.std.proofs.lemmas.List.{length-map}
 use Rattle.std.proofs.lemmas.List.Sums.{length-filter}
 use Rattle.std.specs.List.{range_with_len}
@@ -9,16 +9,21 @@ use Rattle.std.proofs.lemmas.Option.{none-some}
 use Rattle.rack.specs.Seen.{Image}
 use Rattle.shr_base.specs.declared.Id.{Id}
 use Rattle.pool_state.specs.declared.contents.State.{State}
+use Rattle.md_super.specs.declared.superblock.Super.{Super}
+use Rattle.array_image.specs.Arrays.{Member, Shape, member_in, place_with, shape_by}
+use Rattle.array_image.specs.Places.{member_slice, place_of, slice_of, super_sector}
 use Rattle.array_image.specs.States.{current_places, is_current}
+use Rattle.array_image.specs.Supers.{is_rebuilding}
+use Rattle.array_core.proofs.Rules.{get_map}
 use Rattle.array_core.proofs.Stripped.{some_same}
 use Rattle.lvm_group.specs.Images.{IsVolume}
 use Rattle.lvm_group.specs.Laws.{shows}
 use Rattle.lvm_group.specs.Runs.{Linear, array_of, data_start, sector_of}
 use Rattle.lvm_group.proofs.SameParts.{area_below}
 use Rattle.pool_image.specs.Disks.{Disks, identities_of, newest, seat_of}
-use Rattle.pool_image.specs.Drives.{Found, found, found_by}
-use Rattle.pool_image.specs.Meaning.{Part, Refusal, absent_count, array_sectors, arrays_held, damage_of, damaged, has_other_pool, in_superblock, joined_arrays, no_pool, refusal_of, refused_at, refused_by, two_pools}
-use Rattle.pool_image.specs.Replay.{Standing, standing, written}
+use Rattle.pool_image.specs.Drives.{Found, drive_sector, extent_of, found, found_by, slices_from, slices_of}
+use Rattle.pool_image.specs.Meaning.{Part, Refusal, absent_count, array_sectors, arrays_held, bad_volume, damage_of, damaged, has_other_pool, in_superblock, is_dirty_degraded, is_too_few, joined_arrays, lacking_of, no_pool, refusal_of, refused_at, refused_by, shape_of, super_at, truth_of, two_pools}
+use Rattle.pool_image.specs.Replay.{Extent, Standing, standing, written}
 use Rattle.pool_image.specs.Volumes.{Arrays, first_bad}
 use Rattle.pool_image.proofs.Groups.{AreWholeArrays}
 use Rattle.pool_image.proofs.Joined.{AreAlike}
@@ -27,8 +32,11 @@ use Rattle.raid_rack.specs.Book.{IsAfter, drive_of}
 use Rattle.pool_model.specs.Openings.{HoldOpened}
 use Rattle.pool_model.specs.Reopening.{HoldMeaning, HoldVolumeBy, MayRefuseOpened}
 use Rattle.pool_model.proofs.ArraysMeant.{arrays_volume}
-use Rattle.pool_model.proofs.Found.{found_is}
+use Rattle.pool_model.proofs.Current.{shape_truth}
+use Rattle.pool_model.proofs.Found.{found_is, some_made}
 use Rattle.pool_model.proofs.Grouped.{means_below}
+use Rattle.pool_model.proofs.Layers.{nothing_super}
+use Rattle.pool_model.proofs.Refused.{enough, not_dirty}
 use Rattle.pool_model.proofs.Unrefused.{first_damage, none_damaged, refused_or, unrefused, unrefused_few}
 
 -- ---- why they are refused
@@ -94,9 +102,134 @@ absent_fewer f g after seats =
     let same = ap (λ n. length (filter (λ p. is_none (f.seats p)) (filter (is_current f.state) (range_with_len 0 n)))) drives in
     omega (arith, left, right, few, same)
 
+-- ---- members
+
+-- a place without a disk has no superblock
+none_seated : (f : Found) (n p : ℕ) → n < 16 → f.seats p ≡ None → super_at f n p ≡ None
+unfolding slices_of
+none_seated f n p few free = nothing_super f.state (slices_of f) n p (of (extent_of f (slice_of (member_slice p n))))
+  where
+    nothing : (u : ℕ) → drive_sector f (place_of (member_slice p n)) u ≡ []
+    nothing u =
+        let same : place_of (member_slice p n) ≡ p = omega (arith, few) in
+        ap (λ o. option_map_or (λ d. if nat_lt u (f.disks.sectors d) then f.contents d u else []) o []) (ap f.seats same ∙ free)
+
+    of_test : (e : Extent) (b : Bool) → (if b then slices_from f e.first (member_slice p n) super_sector else []) ≡ []
+    of_test e true = nothing (e.first + super_sector)
+    of_test e false = refl
+
+    of : (o : Option Extent) → option_map_or (λ (e : Extent). if nat_lt super_sector e.sectors then slices_from f e.first (member_slice p n) super_sector else []) o [] ≡ []
+    of None = refl
+    of (Some e) = of_test e (nat_lt super_sector e.sectors)
+
+-- one of the members by superblocks
+one_mapped : (member : ℕ → Member) (o : Option ℕ) (m : Member) → option_map member o ≡ Some m → (k : ℕ) × (m ≡ member k)
+one_mapped member None m is = absurd (let bad : None ≡ Some m = is in cc)
+one_mapped member (Some k) m is = (k, some_same m (member k) (sym is))
+
+-- no more lack of a list than of one as long, where each that is whole in that one is so in it
+fewer_lack : (xs ys : List Member) → length ys ≡ length xs
+    → ((k : ℕ) (m o : Member) → slice_get xs k ≡ Some m → slice_get ys k ≡ Some o → m.is_whole ≡ true → o.is_whole ≡ true)
+    → length (filter (λ (m : Member). not m.is_whole) ys) ≤ length (filter (λ (m : Member). not m.is_whole) xs)
+fewer_lack [] [] long whole = omega arith
+fewer_lack [] (o ∷ ys) long whole = absurd (omega (arith, long))
+fewer_lack (m ∷ xs) [] long whole = absurd (omega (arith, long))
+fewer_lack (m ∷ xs) (o ∷ ys) long whole =
+    of m.is_whole o.is_whole (whole 0 m o refl refl) (fewer_lack xs ys (omega (arith, long)) (λ k a b at there. whole (suc k) a b at there))
+  where
+    were : List Member
+    were = filter (λ (k : Member). not k.is_whole) xs
+
+    are : List Member
+    are = filter (λ (k : Member). not k.is_whole) ys
+
+    of : (a b : Bool) → (a ≡ true → b ≡ true) → length are ≤ length were → length (if not b then o ∷ are else are) ≤ length (if not a then m ∷ were else were)
+    of true true keeps rest = rest
+    of true false keeps rest = absurd (both_ways false refl (keeps refl))
+    of false true keeps rest = omega (arith, rest)
+    of false false keeps rest = omega (arith, rest)
+
 module _ (f : Found) (from : ℕ) (i : Image) (holds : HoldOpened f from i) (none : refused_by f ≡ None) (good : first_bad (joined_arrays holds.now) ≡ None) (why : Refusal) where
   abbrev g : Found
   g = holds.now
+
+  module _ (n : ℕ) (low : n < g.state.made) where
+    small : n < 16
+    small = (let most = (some_made g (found_is f.disks i g holds.found_is).0).1 in omega (arith, low, most))
+
+    before : n < f.state.made
+    before = (let made = holds.after.same.made in omega (arith, low, made))
+
+    -- a place with a whole member isn't marked meanwhile
+    stays : (p : ℕ) → (is_current f.state p && option_map_or (λ (t : Super). not (is_rebuilding t)) (super_at f n p) false) ≡ true → is_current g.state p ≡ true
+    stays p whole = elim (cases_Bool (is_current g.state p)) [
+      | inl now ↦ now
+      | inr past ↦
+          let parts = and_parts (is_current f.state p) _ whole in
+          absurd (both_ways (option_map_or (λ (t : Super). not (is_rebuilding t)) (super_at f n p) false)
+          (ap (λ (o : Option Super). option_map_or (λ (t : Super). not (is_rebuilding t)) o false) (none_seated f n p small (holds.marks p parts.0 past))) parts.1)
+    ]
+
+    whole_stays : (had : Shape) (k : ℕ) (m : Member) → shape_of f n ≡ Some had → slice_get had.members k ≡ Some m → m.is_whole ≡ true → is_current g.state m.place ≡ true
+    unfolding shape_by
+    whole_stays had k m was at whole =
+        let by = shape_truth f.state (slices_of f) n (truth_of f n) had was in
+        let member : ℕ → Member = member_in f.state (slices_of f) n by.0 in
+        let ks = range_with_len 0 by.0.raid_disks in
+        let one = one_mapped member (slice_get ks k) m (sym (get_map member ks k) ∙ ap (λ (z : Shape). slice_get z.members k) (sym by.2) ∙ at) in
+        ap (λ (z : Member). is_current g.state z.place) one.1
+        ∙ stays (unwrap_or (place_with by.0.roles.items one.0) 16) (ap (λ (z : Member). z.is_whole) (sym one.1) ∙ whole)
+
+    -- it lacks no more members than it did
+    lacking_still : (had left : Shape) → shape_of f n ≡ Some had → shape_of g n ≡ Some left → lacking_of left ≤ lacking_of had
+    lacking_still had left was is =
+        let keeps = holds.reach n had left before was is in
+        let long = sym (length-map left.members (λ m. m.place)) ∙ ap length keeps.places ∙ length-map had.members (λ m. m.place) in
+        let fewer = fewer_lack had.members left.members long (λ k m o at there whole. (keeps.reach k m o at there (whole_stays had k m was at whole)).1 whole) in
+        let late = length-filter (λ (m : Member). not m.is_whole) left.members in
+        let early = length-filter (λ (m : Member). not m.is_whole) had.members in
+        omega (arith, fewer, late, early)
+
+    held : is_too_few f n ≡ false
+    held = enough f (none ∙ sym (ap (option_map bad_volume) (unrefused f none).1)) n before
+
+    enough_now : is_too_few g n ≡ false
+    enough_now = of (shape_of f n) (shape_of g n) refl refl
+      where
+        of : (a b : Option Shape) → shape_of f n ≡ a → shape_of g n ≡ b → option_map_or (λ shape. nat_lt 1 (lacking_of shape)) b true ≡ false
+        of a None was is =
+            let truth = holds.sound.rules.arrays n low in absurd (none-some _ (sym is ∙ ap (option_map (shape_by g.state (slices_of g) n)) truth.1))
+        of None (Some left) was is =
+            absurd (both_ways (is_too_few f n) held (ap (λ (o : Option Shape). option_map_or (λ shape. nat_lt 1 (lacking_of shape)) o true) was))
+        of (Some had) (Some left) was is =
+            let most : lacking_of had ≤ 1 = elim (cases_lt 1 (lacking_of had)) [
+              | inl more ↦
+                  absurd (both_ways (is_too_few f n) held
+                  (ap (λ (o : Option Shape). option_map_or (λ shape. nat_lt 1 (lacking_of shape)) o true) was ∙ lt-ltb 1 (lacking_of had) more))
+              | inr least ↦ least
+            ] in
+            let fewer = lacking_still had left was is in
+            le-ltb 1 (lacking_of left) (omega (arith, most, fewer))
+
+    -- where it lacks a member it did before
+    lacked : (a b : Option Shape) → shape_of f n ≡ a → shape_of g n ≡ b → option_map_or (λ shape. nat_lt 0 (lacking_of shape)) b false ≡ true
+        → option_map_or (λ shape. nat_lt 0 (lacking_of shape)) a false ≡ true
+    lacked a None was is lacks = absurd (both_ways false refl lacks)
+    lacked None (Some left) was is lacks =
+        absurd (both_ways (is_too_few f n) held (ap (λ (o : Option Shape). option_map_or (λ shape. nat_lt 1 (lacking_of shape)) o true) was))
+    lacked (Some had) (Some left) was is lacks =
+        let fewer = lacking_still had left was is in
+        let some = ltb-true 0 (lacking_of left) lacks in
+        lt-ltb 0 (lacking_of had) (omega (arith, fewer, some))
+
+    -- so it has no rows left to resync where it lacks one, as it had none: the pool wasn't refused
+    synced_now : is_dirty_degraded g n ≡ true → ⊥
+    synced_now dirty =
+        let parts = and_parts (nat_lt n g.state.joined) _ dirty in
+        let joined : nat_lt n f.state.joined ≡ true = sym (ap (nat_lt n) holds.after.same.joined) ∙ parts.0 in
+        let lacks = lacked (shape_of f n) (shape_of g n) refl refl (and_parts (option_map_or (λ shape. nat_lt 0 (lacking_of shape)) (shape_of g n) false) _ parts.1).0 in
+        let unsynced = holds.unsynced n before dirty in
+        both_ways (is_dirty_degraded f n) (not_dirty f (none ∙ sym (ap (option_map bad_volume) (unrefused f none).1)) n before) (λ i. joined i && (lacks i && unsynced i))
 
   -- a place whose drive was whole wants a superblock alone
   wants : (p : ℕ) (part : Part) → is_current g.state p ≡ true → damage_of g p ≡ Some part → MayRefuseOpened g (damaged p part)
@@ -108,7 +241,7 @@ module _ (f : Found) (from : ℕ) (i : Image) (holds : HoldOpened f from i) (non
 
   by_drives : refused_by g ≡ Some why → MayRefuseOpened g why
   by_drives is =
-      elim (refused_or g (MayRefuseOpened g) (λ n low lacks. lacks) (λ n low lacks. lacks)
+      elim (refused_or g (MayRefuseOpened g) (λ n low lacks. both_ways (is_too_few g n) (enough_now n low) lacks) (λ n low dirty. synced_now n low dirty)
       (let most = absent_fewer f g holds.after holds.seats in let few = unrefused_few f none in omega (arith, most, few)) good why is) [
         | inl excused ↦ excused
         | inr lacks ↦ (let one = first_damage g why lacks in subst (MayRefuseOpened g) (sym one.4) (wants one.0 one.1 one.2 one.3))

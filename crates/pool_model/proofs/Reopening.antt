@@ -1,9 +1,7 @@
 -- A later opening of what a stop leaves finds the arrays of the run's book and means its volume, or refuses it for what the book says of an array or another pool's disk says.
-use Rattle.std.proofs.Common.{◌≡◌, ℕ, zero, suc, ◌+◌, ◌<◌, ◌≤◌, ◌/◌, ◌^◌, Bool, true, false, ◌||◌, not, is_some, nat_lt, if◌then◌else◌, [], map, count_by, length, Option, Some, None, refl, sym, ap, subst, ◌∙◌, inl, inr, le-ltb, lt-ltb, ltb-true, arith}
-use Rattle.std.specs.List.{range_with_len}
+use Rattle.std.proofs.Common.{◌≡◌, ℕ, ◌<◌, ◌≤◌, ◌^◌, Bool, true, false, ◌||◌, not, is_some, nat_lt, if◌then◌else◌, [], length, Option, Some, None, refl, sym, ap, subst, ◌∙◌, inl, inr, le-ltb, lt-ltb, ltb-true, arith}
 use Rattle.std.specs.Option.{option_map_or}
 use Rattle.std.proofs.lemmas.Bool.{and_parts, cases_Bool}
-use Rattle.std.proofs.lemmas.List.Sums.{sum_by-cons}
 use Rattle.std.proofs.lemmas.Option.{none-some}
 use Rattle.rack.specs.Seen.{Image, IsPick, Seen}
 use Rattle.rack.specs.Values.{MayLeave}
@@ -12,15 +10,14 @@ use Rattle.slice_rack.specs.Slices.{Slices, sectors_of}
 use Rattle.slice_rack.specs.Sliced.{IsInside, sliced, slices_of as slices_shown}
 use Rattle.md_super.specs.declared.superblock.Super.{Super}
 use Rattle.pool_state.specs.declared.contents.State.{State}
-use Rattle.array_image.specs.Arrays.{Member, Shape, arrays_in, place_with, replayed, value_by}
+use Rattle.array_image.specs.Arrays.{Shape, arrays_in, place_with, replayed, value_by}
 use Rattle.array_image.specs.Left.{IsLeft}
 use Rattle.array_image.specs.SoundArray.{array_fields, first_unsynced}
 use Rattle.array_image.specs.States.{is_current}
 use Rattle.array_image.specs.Supers.{is_named, is_unclean, super_in}
 use Rattle.array_core.proofs.Rules.{placed}
 use Rattle.array_core.proofs.Stripped.{some_same}
-use Rattle.array_model.specs.View.{IsArray, View, is_whole_array, is_whole_seat, member_on, rows_of, sectors_of as sectors_in, shape_of as shape_by_book}
-use Rattle.array_model.proofs.RowWrites.{whole_seat}
+use Rattle.array_model.specs.View.{rows_of, sectors_of as sectors_in, shape_of as shape_by_book}
 use Rattle.lvm_group.specs.Images.{IsVolume}
 use Rattle.lvm_group.specs.Runs.{Linear, data_start}
 use Rattle.pool_image.specs.Disks.{Disks, Identities}
@@ -48,6 +45,7 @@ use Rattle.pool_model.proofs.Current.{array_current, shape_current, truth_curren
 use Rattle.pool_model.proofs.Extents.{is, is_is, made_same, truth_is}
 use Rattle.pool_model.proofs.InService.{service_known, vacant_known}
 use Rattle.pool_model.proofs.Known.{left, says, says_pool}
+use Rattle.pool_model.proofs.LackingRows.{lacks_rows}
 use Rattle.pool_model.proofs.Refused.{all_range}
 use Rattle.pool_model.proofs.Rested.{found_now, now, stands_so, stood}
 use Rattle.pool_model.proofs.Roles.{named_position}
@@ -129,33 +127,6 @@ amid_volume f t s i still inside small whole v y l after few group sized may =
     (λ n x low past. ap (λ (b : Bool). if b then arrays_in (replayed (sectors_of t) (sliced t i)) n x else []) (le-ltb x (sectors_in (v.arrays n)) past)))))
 
 -- ---- why it is refused
-
--- where all members are whole, none lacks
-none_lacks : (member : ℕ → Member) (a m : ℕ) → ((k : ℕ) → a ≤ k → k < a + m → (member k).is_whole ≡ true) → count_by (λ k. not k.is_whole) (map member (range_with_len a m)) ≡ 0
-none_lacks member a zero whole = refl
-none_lacks member a (suc m) whole =
-    sum_by-cons (λ (k : Member). if not k.is_whole then 1 else 0) (member a) (map member (range_with_len (a + 1) m))
-    ∙ ap (λ (b : Bool). (if not b then 1 else 0) + count_by (λ k. not k.is_whole) (map member (range_with_len (a + 1) m))) (whole a (omega arith) (omega arith))
-    ∙ ap (λ n. 0 + n) (none_lacks member (a + 1) m (λ k least low. whole k (omega (arith, least)) (omega (arith, low))))
-
--- So it is with a whole array.
-whole_lacks : (v : View) → IsArray v → is_whole_array v ≡ true → lacking_of (shape_by_book v) ≡ 0
-unfolding shape_by_book
-whole_lacks v is_array whole =
-    none_lacks (member_on v) 0 v.truth.raid_disks (λ k least low. ap (λ o. option_map_or is_whole_seat o false) (whole_seat v k is_array whole (omega (arith, low))))
-
--- An array that lacks a member and isn't young has rows left to resync, where a superblock with the fields of its truth is unclean.
-lacks_rows : (v : View) (u : Super) → HasOwnRows v → array_fields u ≡ array_fields v.truth → is_unclean u ≡ true → 0 < lacking_of (shape_by_book v) → v.young ≡ false → v.resync < rows_of v
-lacks_rows v u own fields unclean lacks young = elim (cases_Bool (is_whole_array v)) [
-  | inl whole ↦ (let none = whole_lacks v own.is_array whole in absurd (omega (arith, lacks, none)))
-  | inr not_whole ↦
-      let dirty : is_unclean v.truth ≡ true = ap (λ (z : Super). is_unclean z) (sym fields) ∙ unclean in
-      let first : v.truth.resync_offset / 128 ≡ v.resync =
-      ap (λ (b : Bool). if b then v.truth.resync_offset / 128 else v.truth.size / 128) (sym dirty) ∙ own.rows young not_whole in
-      let low = ltb-true v.truth.resync_offset v.truth.size dirty in
-      let rows = own.is_array.whole_rows in
-      omega (arith, first, low, rows)
-]
 
 module _ (f : Found) (t : Slices) (v : Raid) (y : Seen) (i : Image) (known : IsKnown f t v y i) (small : (d : ℕ) → d < f.disks.count → f.disks.sectors d < 2 ^ 48) where
   abbrev book : State

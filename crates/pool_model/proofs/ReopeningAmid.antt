@@ -1,4 +1,4 @@
--- What a stop inside calls of a pool in service leaves is refused for an excused reason alone, or since a superblock wants on a drive.
+-- What a stop inside calls of a pool in service leaves is refused for an excused reason alone, or since a drive lacks a superblock.
 --
 -- `calls_reopen` says it of calls that write slices alone. It asks for the pool's slices and its drives' tables (`HoldTabled`) by the slices of the calls: for a pool in
 -- service these are there (`slices_by`), and `vacant_lies` gives them where a place whose drive is missing has no disk any more.
@@ -21,6 +21,7 @@ use Rattle.pool_state.specs.declared.contents.Copied.{Copied}
 use Rattle.pool_state.specs.declared.contents.State.{State}
 use Rattle.array_image.specs.Arrays.{Member, Shape, member_by, member_in, replayed, shape_by}
 use Rattle.array_image.specs.Held.{Among}
+use Rattle.array_image.specs.Left.{IsLeft}
 use Rattle.array_image.specs.Places.{arrays_first, data_sector, log_slice, member_slice, state_sector}
 use Rattle.array_image.specs.Record.{is_bad_gate}
 use Rattle.array_image.specs.States.{current_places, is_current}
@@ -33,7 +34,7 @@ use Rattle.lvm_group.specs.Runs.{Linear}
 use Rattle.pool_image.specs.Alike.{drive_gate, is_bad_block}
 use Rattle.pool_image.specs.Disks.{Identities, identities_of, newest}
 use Rattle.pool_image.specs.Drives.{Found, extent_from, extent_of, first_of, found, slices_of, truth_from}
-use Rattle.pool_image.specs.Meaning.{Refusal, damage_of, damaged, first_damaged, has_log, has_slice_of, has_supers, has_table, in_superblock, is_member, is_table, joined_arrays, refusal_of, shape_of, super_at, truth_of}
+use Rattle.pool_image.specs.Meaning.{Refusal, damage_of, damaged, dirty_degraded, first_damaged, has_log, has_slice_of, has_supers, has_table, in_superblock, is_dirty_degraded, is_member, is_table, joined_arrays, refusal_of, shape_of, super_at, truth_of}
 use Rattle.pool_image.specs.Replay.{Extent, Standing, standing, standing_by, written}
 use Rattle.pool_image.specs.Volumes.{first_bad}
 use Rattle.pool_image.proofs.Identities.{seat_inside}
@@ -45,6 +46,7 @@ use Rattle.pool_rest.specs.SoundLogs.{IsSoundLog}
 use Rattle.pool_rest.proofs.Midway.{still_stands}
 use Rattle.pool_rest.proofs.MidwayDisks.{copied_or, seats_written, tables_now, written_gate}
 use Rattle.pool_rest.proofs.MidwayPool.{found_was, gates_early, was, whole_early}
+use Rattle.raid_rack.specs.Agreeing.{HasOwnRows, SayTruth}
 use Rattle.raid_rack.specs.Book.{IsAfter, after_then}
 use Rattle.raid_rack.specs.Raid.{IsTold, Raid, is_over}
 use Rattle.raid_rack.specs.Reach.{KeepsReach, ReachBetween}
@@ -62,6 +64,7 @@ use Rattle.pool_model.proofs.Amid.{moments_since, nothing_past, off_amid, off_mo
 use Rattle.pool_model.proofs.Away.{find_passes}
 use Rattle.pool_model.proofs.Found.{IsFound, few_places, found_is, some_made, valid}
 use Rattle.pool_model.proofs.Framed.{truth_placed}
+use Rattle.pool_model.proofs.LackingRows.{HasOwnLeft, dirty_rows, leaves_lacking}
 use Rattle.pool_model.proofs.Logs.{copied_in, room_in, there_in}
 use Rattle.pool_model.proofs.Named.{id_same}
 use Rattle.pool_model.proofs.Roles.{named_position}
@@ -95,7 +98,7 @@ CountsBetween v w g =
     (n : ℕ) (shape : Shape) → n < v.state.made → shape_of g n ≡ Some shape
     → KeepsReach g.state (shape_by_book (v.arrays n)) shape × KeepsReach w.state shape (shape_by_book (w.arrays n))
 
--- A current place whose drive wants a superblock has an empty member by the book before the call.
+-- A current place whose drive lacks a superblock has an empty member by the book before the call.
 module _ (v w : Raid) (g : Found) (is : IsFound g) (made : g.state.made ≡ v.state.made) (counts : CountsBetween v w g) (p : ℕ) (now : is_current g.state p ≡ true) where
   module _ (n : ℕ) (low : n < g.state.made) (t : Super) (truth : truth_of g n ≡ Some t) (named : is_named t p ≡ true) (none : super_at g n p ≡ None) where
     abbrev shape : Shape
@@ -155,12 +158,12 @@ module _ (v w : Raid) (g : Found) (is : IsFound g) (made : g.state.made ≡ v.st
 
 -- ---- why a pool is refused
 
--- it is so, or since a superblock wants on the drive of a current place whose member was to be rebuilt from its start by the book before the call
+-- it is so, or since the drive of a current place lacks a superblock whose member was to be rebuilt from its start by the book before the call
 abbrev MayRefuseAmid : Raid → Found → Refusal → Type 0
 MayRefuseAmid v g why =
-    MayRefuse g why ⊎ ((place : ℕ) × (is_current g.state place ≡ true) × HasEmptyMember v place × (why ≡ damaged place in_superblock))
+    MayRefuse v g why ⊎ ((place : ℕ) × (is_current g.state place ≡ true) × HasEmptyMember v place × (why ≡ damaged place in_superblock))
 
--- where drives want a superblock alone, the lowest one that wants something does
+-- where drives lack a superblock alone, the lowest one that lacks something does
 first_wants : (v : Raid) (g : Found) → ((p : ℕ) → is_current g.state p ≡ true → damage_of g p ≡ (if not (has_supers g p) then Some in_superblock else None))
     → ((p : ℕ) → is_current g.state p ≡ true → has_supers g p ≡ false → HasEmptyMember v p)
     → (why : Refusal) → first_damaged g ≡ Some why
@@ -352,16 +355,17 @@ module _ (f : Found) (t : Slices) (v : State) (i : Image) (begun : IsAfter f.sta
           ∙ (own p d now seat).after.same.pool ∙ sym is.after.same.pool
     ]
 
-    excused_now : HavePlaces g.state g → AreTabled f (λ d. Unit {0}) v i → (book : Raid) → ((p : ℕ) → is_current g.state p ≡ true → has_supers g p ≡ false → HasEmptyMember book p) → first_bad (joined_arrays g) ≡ None
+    excused_now : HavePlaces g.state g → AreTabled f (λ d. Unit {0}) v i → (book : Raid) → ((p : ℕ) → is_current g.state p ≡ true → has_supers g p ≡ false → HasEmptyMember book p)
+        → ((n : ℕ) → n < g.state.made → is_dirty_degraded g n ≡ true → MayRefuse book g (dirty_degraded n)) → first_bad (joined_arrays g) ≡ None
         → (why : Refusal) → refusal_of f.disks i ≡ Some why → MayRefuseAmid book g why
-    excused_now present tabled book empty good why at = elim (refused_so g (MayRefuse g) (λ other. other) (λ n low lacks. lacks) (λ n low lacks. lacks) (none_absent g present) good why i stands found_now log.pool own_pool at) [
+    excused_now present tabled book empty dirty good why at = elim (refused_so g (MayRefuse book g) (λ other. other) (λ n low lacks. lacks) dirty (none_absent g present) good why i stands found_now log.pool own_pool at) [
       | inl excused ↦ inl excused
       | inr wants ↦ inr (first_wants book g (wants_now present tabled) empty why wants)
     ]
 
 -- ---- a stop inside calls
 
--- Where contents hold a pool still, between two states, the drive of a current place that has its table wants a superblock alone.
+-- Where contents hold a pool still, between two states, the drive of a current place that has its table lacks a superblock alone.
 pub between_wants : (f : Found) (t : Slices) (v u : State) (i : Image) → IsAfter f.state v → AreSlicesNow f t v → AreInside f t → AreSince v (sectors_of t) (sliced t i)
     → (between : HoldBetween f t v u i) → (p d : ℕ) → is_current between.state p ≡ true → f.seats p ≡ Some d → IsTabled f p (f.disks.sectors d) (i d)
     → damage_of between.still.now p ≡ (if not (has_supers between.still.now p) then Some in_superblock else None)
@@ -384,13 +388,13 @@ between_wants f t v u i begun had inside since between p d counts seat tabled =
     (subst (λ (k : Found). is_current k.state p ≡ true) (sym here) (ap (λ (z : State). is_current z p) still.state ∙ counts))
     (subst (λ (k : Found). k.seats p ≡ Some d) (sym here) (still.seats p counts ∙ seat)) tabled)
 
--- Contents that hold the pool still and mean a volume where they aren't refused, with copies since the calls began, members that count as far as between the books, and the tables of
--- current places' drives.
+-- Contents that hold the pool still and mean a volume where they aren't refused, with copies since the calls began, members that count as far as between the books, no rows to resync
+-- but the first book's where a member is lacking, and the tables of current places' drives.
 pub amid_reopens : (f : Found) (t : Slices) (v w : Raid) (l : Linear) (i : Image) → IsAfter f.state v.state → AreSlicesNow f t v.state → AreInside f t
     → AreTabled f (λ d. Unit {0}) v.state i → AreSince v.state (sectors_of t) (sliced t i)
-    → ((n : ℕ) → n < f.state.made → ReachBetween v w n (replayed (sectors_of t) (sliced t i))) → HoldAmid f t v.state w.state i → HoldVolume f t l i
-    → ReopensAmid f t l v w i
-amid_reopens f t v w l i begun had inside tabled since reach amid volume =
+    → ((n : ℕ) → n < f.state.made → ReachBetween v w n (replayed (sectors_of t) (sliced t i))) → ((n : ℕ) → n < f.state.made → HasOwnLeft v n (replayed (sectors_of t) (sliced t i)))
+    → HoldAmid f t v.state w.state i → HoldVolume f t l i → ReopensAmid f t l v w i
+amid_reopens f t v w l i begun had inside tabled since reach left amid volume =
     let still = amid.between.still in
     let by = stood_by f.disks i still.logs.before still.logs.stands in
     let stands : standing f.disks i ≡ Some (standing_by f.disks i by.0) = still.logs.stands ∙ ap Some by.2 in
@@ -413,6 +417,16 @@ amid_reopens f t v w l i begun had inside tabled since reach amid volume =
     let less : n < f.state.made = omega (arith, low, made) in
     subst (λ (z : State). KeepsReach z (shape_by_book (v.arrays n)) shape × KeepsReach w.state shape (shape_by_book (w.arrays n))) (sym still.state)
     (reach n less amid.between.state shape still.is_state (sym (still.shapes n less) ∙ at))) in
+    let dirty : (n : ℕ) → n < g.state.made → is_dirty_degraded g n ≡ true → MayRefuse v g (dirty_degraded n) =
+    subst (λ (k : Found). (n : ℕ) → n < k.state.made → is_dirty_degraded k n ≡ true → MayRefuse v k (dirty_degraded n)) here
+    (λ n low lacks. (
+      lacks,
+      λ young.
+          let made = is.after.same.made in
+          let first = begun.same.made in
+          let less : n < f.state.made = omega (arith, low, made, first) in
+          dirty_rows f t amid.between.state i still v n less (left n less) lacks young,
+    )) in
     let same : g ≡ volume.now = some_same g volume.now (sym found_g ∙ volume.found_is) in
     record {
       volume = volume;
@@ -420,21 +434,32 @@ amid_reopens f t v w l i begun had inside tabled since reach amid volume =
       excused =
           subst (λ (k : Found). (why : Refusal) → refusal_of f.disks i ≡ Some why → MayRefuseAmid v k why) same
           (excused_now f t v.state i begun had inside since by.0 stands by.1 log is_now present tabled v
-          (empty_member v w g (found_is f.disks i g found_g).0 is_now.after.same.made counts)
+          (empty_member v w g (found_is f.disks i g found_g).0 is_now.after.same.made counts) dirty
           (subst (λ (k : Found). first_bad (joined_arrays k) ≡ None) (sym same) volume.lies.sound));
     }
 
--- So it is with stops inside calls that write slices alone, of a pool by slices that lie as those of its current places, where the arrays are told when calls begin and none is over
--- when they end.
+-- So it is with stops inside calls that write slices alone, of a pool by slices that lie as those of its current places, where the arrays are told when calls begin, its superblocks say
+-- the book's truths then, whose rows are the arrays' own, and none is over when they end.
 pub calls_reopen : (f : Found) (t : Slices) (v w : Raid) (x y : Seen) (l : Linear) → IsAfter f.state v.state → AreSlicesNow f t v.state → AreInside f t
     → HoldTabled f v.state t x → x.lasting → WritesOnly x y (IsSliced t) → KeepsMoments v w (slices_shown t x) (slices_shown t y)
     → ((n : ℕ) → n < f.state.made → IsTold v (slices_shown t x) n) → ((n : ℕ) → n < f.state.made → is_over w n ≡ false)
+    → ((n : ℕ) (r : Image) → n < f.state.made → IsLeft (slices_shown t x) r → SayTruth (v.arrays n) v.state r n) → ((n : ℕ) → n < f.state.made → HasOwnRows (v.arrays n))
     → x.traced → (k : ℕ) (i : Image) → x.clock < k → k ≤ y.clock → y.stops k i → HoldAmid f t v.state w.state i → HoldVolume f t l i → ReopensAmid f t l v w i
-calls_reopen f t v w x y l begun had inside tabled lasting only keeps told lasts traced k i late early stop amid volume =
+calls_reopen f t v w x y l begun had inside tabled lasting only keeps told lasts truths own traced k i late early stop amid volume =
     amid_reopens f t v w l i begun had inside (tabled i (off_amid t x y lasting only traced k i late early stop))
     (((moments_since v w (slices_shown t x) (slices_shown t y) keeps (told 0 first) (lasts 0 first)).leaves traced).new k (sliced t i) late early (i, stop, λ d s. refl) (nothing_past t i))
-    (λ n low. (keeps.reach n (told n low) (lasts n low) traced).new k (sliced t i) late early (i, stop, λ d s. refl)) amid volume
+    (λ n low. (keeps.reach n (told n low) (lasts n low) traced).new k (sliced t i) late early (i, stop, λ d s. refl)) left amid volume
   where
+    -- of an array that lacks a member the stop leaves no rows to resync but the book's
+    left : (n : ℕ) → n < f.state.made → HasOwnLeft v n (replayed (sectors_of t) (sliced t i))
+    left n low = record {
+      is_array = (own n low).is_array;
+      frame = (keeps.frames n (told n low) (lasts n low) traced).new k (sliced t i) late early (i, stop, λ d s. refl);
+      from = λ young.
+          let before = leaves_lacking v (slices_shown t x) n (told n low) (keeps.still n (lasts n low)) (λ r at. truths n r low at) (own n low) young in
+          ((keeps.lacking n (told n low) (lasts n low) before).leaves traced).new k (sliced t i) late early (i, stop, λ d s. refl) (nothing_past t i);
+    }
+
     first : 0 < f.state.made
     first =
         let still = amid.between.still in

@@ -8,17 +8,18 @@ use Rattle.pool_state.specs.declared.contents.Copied.{Copied}
 use Rattle.pool_state.specs.declared.contents.State.{State}
 use Rattle.array_image.specs.Places.{arrays_first, state_sector}
 use Rattle.array_image.specs.States.{is_current}
-use Rattle.array_image.specs.Supers.{is_named}
+use Rattle.array_image.specs.Supers.{is_named, is_unclean}
 use Rattle.array_core.proofs.Stripped.{some_same}
 use Rattle.commit_log.specs.Kept.{IsNoLater}
 use Rattle.raid_rack.specs.Book.{IsAfter, after_same}
+use Rattle.raid_rack.specs.Reach.{KeepsReach, reach_same}
 use Rattle.pool_image.specs.Alike.{Agree, IsSamePool}
 use Rattle.pool_image.specs.Disks.{Disks, Identities, Identity, identities_of, newest}
 use Rattle.pool_image.specs.Drives.{Found, found}
 use Rattle.pool_image.specs.Meaning.{is_member}
 use Rattle.pool_image.specs.Replay.{Standing, extent_by, standing, standing_by, written}
 use Rattle.pool_image.specs.Volumes.{Arrays}
-use Rattle.pool_image.proofs.Founds.{damage_same, joined_same, lies_same, truths_same}
+use Rattle.pool_image.proofs.Founds.{damage_same, joined_same, lies_same, shapes_same, truths_same}
 use Rattle.pool_image.proofs.Identities.{seat_inside}
 use Rattle.pool_image.proofs.Rested.{stood_by}
 use Rattle.pool_image.proofs.SoundSame.{sound_same}
@@ -34,6 +35,7 @@ use Rattle.pool_model.specs.Openings.{HoldOpened, IsIdleIn, MayReplay}
 use Rattle.pool_model.specs.Pools.{IsSoundPool}
 use Rattle.pool_model.specs.Stopped.{LieApart, StoodInLog}
 use Rattle.pool_model.proofs.Found.{found_is, some_made}
+use Rattle.pool_model.proofs.LackingRows.{dirty_unsynced}
 use Rattle.pool_model.proofs.SameAlone.{own_alone}
 
 -- ---- the same pool but for gates
@@ -63,6 +65,7 @@ same_holds disks i f g on found_now same sound logs apart alone may = record {
   sound = same_sound f g same sound;
   logs = subst (λ (d : Disks). HasSoundLogs d i) (sym on) logs;
   after = subst (λ (s : State). IsAfter f.state s) (sym same.state) (after_same f.state);
+  plan = ap (λ (s : State). s.plan) same.state;
   marks = λ p counts past. absurd (both_ways (is_current f.state p) (sym (ap (λ (s : State). is_current s p) same.state) ∙ past) counts);
   seats = λ p counts. same.seats p;
   values = λ n x low from inside. ap (λ (k : Arrays). k.contents n x) (joined_same f g same);
@@ -72,6 +75,9 @@ same_holds disks i f g on found_now same sound logs apart alone may = record {
       (λ n low. let one = sound.rules.arrays n low in (one.0, one.1)) alone;
   stops = subst (λ (d : Disks). MayReplay d i g) (sym on) may;
   sectors = λ n low. ap (λ (k : Arrays). k.sectors n) (joined_same f g same);
+  reach = λ n before left low was is.
+      subst (KeepsReach g.state before) (some_same before left (sym was ∙ sym (shapes_same f g same n) ∙ is)) (reach_same (is_current g.state) before);
+  unsynced = λ n low dirty. sym (ap (λ (o : Option Super). option_map_or is_unclean o false) (truths_same f g same n)) ∙ dirty_unsynced g n dirty;
   parts = λ p now none. inl (damage_same f g same p ∙ none);
 }
 

@@ -16,15 +16,16 @@ use Rattle.array_image.specs.Foremost.{foremost}
 use Rattle.array_image.specs.Places.{arrays_first, data_sector, log_slice, member_slice, place_of, state_sector, super_sector}
 use Rattle.array_image.specs.Record.{damaged_log, is_bad_gate, is_bad_log, pending}
 use Rattle.array_image.specs.States.{current_places, is_current}
-use Rattle.array_image.specs.Supers.{super_in}
+use Rattle.array_image.specs.Supers.{is_unclean, super_in}
 use Rattle.array_image.proofs.Frames.{super_of_sector}
 use Rattle.array_core.proofs.Stripped.{some_same}
 use Rattle.raid_rack.specs.Book.{after_same}
+use Rattle.raid_rack.specs.Reach.{KeepsReach, reach_same}
 use Rattle.commit_log.proofs.Places.{joins_none}
 use Rattle.pool_image.specs.Alike.{drive_gate, is_bad_block}
 use Rattle.pool_image.specs.Disks.{Disks, Identity, identities_of, newest, seat_of}
 use Rattle.pool_image.specs.Drives.{Found, drive_sector, extent_of, found, found_by, slices_from, slices_of, truth_from}
-use Rattle.pool_image.specs.Meaning.{array_sectors, arrays_held, damage_of, has_log, has_supers, has_table, is_member, is_table, super_at, truth_of}
+use Rattle.pool_image.specs.Meaning.{array_sectors, arrays_held, damage_of, has_log, has_supers, has_table, is_member, is_table, shape_of, super_at, truth_of}
 use Rattle.pool_image.specs.Replay.{Extent, Standing, extent_by, logs_of, standing, standing_by, written}
 use Rattle.pool_image.proofs.Founds.{first_behind}
 use Rattle.pool_image.proofs.Identities.{newest_same, seat_inside, seat_same}
@@ -40,6 +41,7 @@ use Rattle.pool_model.proofs.Alike.{HasTruths, extent_same, first_same, member_s
 use Rattle.pool_model.proofs.Current.{SameCurrent, SameMembers, array_current, shape_current, sound_current, truth_current}
 use Rattle.pool_model.proofs.Found.{found_is, some_made}
 use Rattle.pool_model.proofs.Layers.{IsLaid, laid, none_there}
+use Rattle.pool_model.proofs.LackingRows.{dirty_unsynced}
 use Rattle.pool_model.proofs.NoSuper.{no_super_bare, no_super_in}
 use Rattle.pool_rest.proofs.SameLogs.{logs_same}
 use Rattle.pool_model.proofs.TableRoom.{log_room, member_room}
@@ -295,8 +297,11 @@ module _ (disks : Disks) (c i : Image) (s : State) (newest_is : newest disks (id
     pub value_kept : (x : ℕ) → arrays_held g n x ≡ arrays_held f n x
     value_kept x = array_current s (slices_of g) (slices_of f) n supers members x
 
+    pub shape_kept : shape_of g n ≡ shape_of f n
+    shape_kept = shape_current s (slices_of g) (slices_of f) n supers
+
     pub sectors_kept : array_sectors g n ≡ array_sectors f n
-    sectors_kept = ap (λ (o : Option Shape). option_map_or sectors_by o 0) (shape_current s (slices_of g) (slices_of f) n supers)
+    sectors_kept = ap (λ (o : Option Shape). option_map_or sectors_by o 0) shape_kept
 
   -- ---- the pool
 
@@ -369,6 +374,7 @@ module _ (disks : Disks) (c i : Image) (s : State) (newest_is : newest disks (id
     sound = sound_kept;
     logs = idle_logs disks i s newest_now none_now (ap (damaged_log (current_places s)) logs_kept ∙ whole);
     after = after_same s;
+    plan = refl;
     marks = λ p counts past. absurd (both_ways (is_current s p) past counts);
     seats = λ p counts. seats_kept p;
     values = λ n x low from inside. value_kept n low x;
@@ -376,6 +382,8 @@ module _ (disks : Disks) (c i : Image) (s : State) (newest_is : newest disks (id
     alone = alone_kept;
     stops = inl idle_now;
     sectors = sectors_kept;
+    reach = λ n before left low was is. subst (KeepsReach s before) (some_same before left (sym was ∙ sym (shape_kept n low) ∙ is)) (reach_same (is_current s) before);
+    unsynced = λ n low dirty. ap (λ (o : Option Super). option_map_or is_unclean o false) (truth_before n low ∙ sym (truth_now n low)) ∙ dirty_unsynced g n dirty;
     parts = λ p counts none. inl (parts_kept p counts none (f.seats p) refl);
   }
 

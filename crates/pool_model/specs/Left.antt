@@ -100,8 +100,9 @@ pub record HoldStill (f : Found) (t : Slices) (s : State) (i : Image) : Type 0 w
   pub joined : now.state.joined ≡ now.state.made
   pub alone : AreAlone now now.contents
   pub sectors : (n : ℕ) → n < f.state.made → array_sectors now n ≡ array_sectors f n
-  -- once that is written the slices give this state, and its arrays their shapes
+  -- once that is written the slices give this state, and its arrays their truths and shapes
   pub is_state : state_in (replayed (sectors_of t) (sliced t i)) ≡ Some s
+  pub truths : (n : ℕ) → n < f.state.made → truth_of now n ≡ truth_in s (replayed (sectors_of t) (sliced t i)) n
   pub shapes : (n : ℕ) → n < f.state.made → shape_of now n ≡ shape_in s (replayed (sectors_of t) (sliced t i)) n
   pub values : (n x : ℕ) → n < f.state.made → arrays_held now n x ≡ arrays_in (replayed (sectors_of t) (sliced t i)) n x
 

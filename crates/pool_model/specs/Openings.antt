@@ -1,15 +1,19 @@
 -- What a stop inside an opening leaves on the disks of a pool.
 use Rattle.std.specs.Prelude.{◌≡◌, ◌⊎◌, ℕ, ◌+◌, ◌<◌, ◌≤◌, true, false, [], None, Some}
+use Rattle.std.specs.Option.{option_map_or}
 use Rattle.rack.specs.Seen.{Image}
 use Rattle.gpt_table.specs.Changes.{the_table}
+use Rattle.array_image.specs.Arrays.{Shape}
 use Rattle.array_image.specs.States.{is_current}
+use Rattle.array_image.specs.Supers.{is_unclean}
 use Rattle.pool_image.specs.Disks.{Disks}
 use Rattle.pool_image.specs.Drives.{Found, found}
-use Rattle.pool_image.specs.Meaning.{array_sectors, arrays_held, damage_of, has_table, in_superblock}
+use Rattle.pool_image.specs.Meaning.{array_sectors, arrays_held, damage_of, has_table, in_superblock, shape_of, is_dirty_degraded, truth_of}
 use Rattle.pool_image.specs.Replay.{Standing, standing}
 use Rattle.pool_rest.specs.Moments.{TakesLowerIn}
 use Rattle.pool_rest.specs.SoundLogs.{HasSoundLogs}
 use Rattle.raid_rack.specs.Book.{IsAfter}
+use Rattle.raid_rack.specs.Reach.{KeepsReach}
 use Rattle.pool_model.specs.Left.{AreAlone}
 use Rattle.pool_model.specs.Pools.{IsSoundPool}
 use Rattle.pool_model.specs.Stopped.{LieApart, StoodInLog}
@@ -42,16 +46,22 @@ IsIdleIn disks i = (before : Standing) → standing disks i ≡ Some before → 
 abbrev pub MayReplay : Disks → Image → Found → Type 0
 MayReplay disks i g = IsIdleIn disks i ⊎ (StoodInLog g × TakesLowerIn disks i)
 
+-- the truth of array n of a pool leaves rows to resync
+abbrev pub IsUnsynced : Found → ℕ → Type 0
+IsUnsynced f n = option_map_or is_unclean (truth_of f n) false ≡ true
+
 -- Contents of the disks of a pool f, as a stop inside an opening leaves them, hold it still: they have a sound pool, whose logs are sound, by f's state or
--- one to which just marks of places have come that have no disk. Each place that is current by it has the disk that it had, and the arrays have their sizes and hold what they
--- held, from a sector of theirs on: from the first one up to when the volume's texts are brought up to date, from the first extent's on meanwhile. Targets
--- land where its slices are by the drives' tables, no superblock of an array stands on a drive that is no member of it, and a record that is pending may be replayed.
+-- one to which just marks of places have come that have no disk, and whose plan is the same. Each place that is current by it has the disk that it had, and the arrays have their sizes
+-- and hold what they held, from a sector of theirs on: from the first one up to when the volume's texts are brought up to date, from the first extent's on meanwhile. Members count
+-- as far as they did, so that no row that was rebuilt is left again, and where an array lacks a member and has rows left to resync, it had such rows in f. Targets land where its slices
+-- are by the drives' tables, no superblock of an array stands on a drive that is no member of it, and a record that is pending may be replayed.
 pub record HoldOpened (f : Found) (from : ℕ) (i : Image) : Type 0 where
   pub now : Found
   pub found_is : found f.disks i ≡ Some now
   pub sound : IsSoundPool now
   pub logs : HasSoundLogs f.disks i
   pub after : IsAfter f.state now.state
+  pub plan : now.state.plan ≡ f.state.plan
   pub marks : (p : ℕ) → is_current f.state p ≡ true → is_current now.state p ≡ false → f.seats p ≡ None
   pub seats : (p : ℕ) → is_current now.state p ≡ true → now.seats p ≡ f.seats p
   pub values : (n x : ℕ) → n < f.state.made → from ≤ x → x < array_sectors f n → arrays_held now n x ≡ arrays_held f n x
@@ -59,5 +69,9 @@ pub record HoldOpened (f : Found) (from : ℕ) (i : Image) : Type 0 where
   pub alone : AreAlone now now.contents
   pub stops : MayReplay f.disks i now
   pub sectors : (n : ℕ) → n < f.state.made → array_sectors now n ≡ array_sectors f n
+  -- members on places that are current by its state count at least as far as they did
+  pub reach : (n : ℕ) (before left : Shape) → n < f.state.made → shape_of f n ≡ Some before → shape_of now n ≡ Some left → KeepsReach now.state before left
+  -- no row of an array that lacks a member is left to resync, unless the pool's truth leaves some
+  pub unsynced : (n : ℕ) → n < f.state.made → is_dirty_degraded now n ≡ true → IsUnsynced f n
   -- the drive of a place that had all its parts keeps its table, its copy and its log
   pub parts : (p : ℕ) → is_current now.state p ≡ true → damage_of f p ≡ None → (damage_of now p ≡ None) ⊎ (damage_of now p ≡ Some in_superblock)

@@ -32,16 +32,16 @@ pub record HasOtherPool (f : Found) : Type 0 where
   pub says : (f.before.identities disk).copied ≡ Some copy
   pub other : copy.state.pool ≢ f.state.pool
 
--- Why a pool may be refused whose drives are there and sound: a disk that is none of them is another pool's, or its own superblocks and marks say of an array that two members
--- are lacking, or one where they leave rows to resync.
-abbrev pub MayRefuse : Found → Refusal → Type 0
-MayRefuse f no_pool = ⊥
-MayRefuse f two_pools = HasOtherPool f
-MayRefuse f (absent count) = ⊥
-MayRefuse f (damaged place part) = ⊥
-MayRefuse f (too_few n) = is_too_few f n ≡ true
-MayRefuse f (dirty_degraded n) = is_dirty_degraded f n ≡ true
-MayRefuse f (bad_volume n) = ⊥
+-- Why a pool may be refused whose drives are there and sound, by the book v from before a call: a disk that is none of them is another pool's; its own superblocks and marks say of an
+-- array that two members are lacking; or they say that one is, of an array that the book has rows left to resync in. So a mark that a write of the run made is no reason.
+abbrev pub MayRefuse : Raid → Found → Refusal → Type 0
+MayRefuse v f no_pool = ⊥
+MayRefuse v f two_pools = HasOtherPool f
+MayRefuse v f (absent count) = ⊥
+MayRefuse v f (damaged place part) = ⊥
+MayRefuse v f (too_few n) = is_too_few f n ≡ true
+MayRefuse v f (dirty_degraded n) = (is_dirty_degraded f n ≡ true) × ((v.arrays n).young ≡ false → (v.arrays n).resync < rows_of (v.arrays n))
+MayRefuse v f (bad_volume n) = ⊥
 
 -- Why it may be where its arrays stand as in a book: two members of one are missing or being rebuilt by the book, or one is while the book has rows of the array left to resync.
 -- So a mark that a write of the run made is no reason.
@@ -80,7 +80,7 @@ pub record HasEmptyMember (v : Raid) (place : ℕ) : Type 0 where
   pub empty : member.reach ≡ 0
 
 -- What a stop inside a call leaves of it, from the book v to the book w. Members on places that are current by it count at least as far as they did, and those on places that are
--- current after the call no further than then. It is refused for such a reason, or since a superblock wants on a drive whose member was to be rebuilt from its start.
+-- current after the call no further than then. It is refused for such a reason by v, or since a drive lacks a superblock whose member was to be rebuilt from its start by v.
 pub record ReopensAmid (f : Found) (t : Slices) (l : Linear) (v w : Raid) (i : Image) : Type 0 where
   pub volume : HoldVolume f t l i
   pub reach :
@@ -88,7 +88,7 @@ pub record ReopensAmid (f : Found) (t : Slices) (l : Linear) (v w : Raid) (i : I
       → KeepsReach volume.now.state (shape_by_book (v.arrays n)) shape × KeepsReach w.state shape (shape_by_book (w.arrays n))
   pub excused :
       (why : Refusal) → refusal_of f.disks i ≡ Some why
-      → MayRefuse volume.now why
+      → MayRefuse v volume.now why
       ⊎ ((place : ℕ) × (is_current volume.now.state place ≡ true) × HasEmptyMember v place × (why ≡ damaged place in_superblock))
 
 -- Between calls they stand as a book has them: each array has its members, as far as they are rebuilt, and its truth has the fields of the book's. Where an array isn't whole by the book,
@@ -103,16 +103,16 @@ pub record Reopens (f : Found) (t : Slices) (l : Linear) (v : Raid) (i : Image) 
       → first_unsynced u ≡ (v.arrays n).resync
   pub excused : (why : Refusal) → refusal_of f.disks i ≡ Some why → MayRefuseBy v volume.now why
 
--- Why contents may be refused that a stop inside an opening leaves: two disks were of two pools before the record was replayed, or a superblock wants on the drive of a current place,
--- or an array lacks members by its superblocks and marks. No other part of a drive is damaged, no more drives are wanting than the opening could do without, and no array's part of the
--- volume is bad.
+-- Why contents may be refused that a stop inside an opening leaves: two disks were of two pools before the record was replayed, or the drive of a current place lacks a superblock. No
+-- other part of a drive is damaged, no more drives are wanting than the opening could do without, no array lacks two members, or one with rows left to resync, and no array's part of
+-- the volume is bad.
 abbrev pub MayRefuseOpened : Found → Refusal → Type 0
 MayRefuseOpened f no_pool = ⊥
 MayRefuseOpened f two_pools = has_other_pool f.disks f.before ≡ true
 MayRefuseOpened f (absent count) = ⊥
 MayRefuseOpened f (damaged place part) = (part ≡ in_superblock) × (is_current f.state place ≡ true) × (damage_of f place ≡ Some in_superblock)
-MayRefuseOpened f (too_few n) = is_too_few f n ≡ true
-MayRefuseOpened f (dirty_degraded n) = is_dirty_degraded f n ≡ true
+MayRefuseOpened f (too_few n) = ⊥
+MayRefuseOpened f (dirty_degraded n) = ⊥
 MayRefuseOpened f (bad_volume n) = ⊥
 
 -- Contents that a stop inside the opening of a pool leaves on its disks mean the volume that lies so on its arrays, with what these hold, unless they are refused for such a reason.

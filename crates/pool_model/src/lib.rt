@@ -33,8 +33,8 @@
 //! **Where targets land** (`LieApart`, `specs/Stopped.antt`; `proofs/Landing.antt`): the slices of a pool's drives lie apart by the rules on the list of drives and on the plan
 //! (`ruled_apart`), and where the drives' tables have them (`tables_apart`, `again_apart`, `landing_again`); where each drive has its table a replay then finds them (`apart_tables`).
 //!
-//! **Inside an opening** (`specs/Openings.antt`): `HoldOpened f from i` says of contents `i` that a stop inside it leaves that they hold the pool still, that
-//! targets land in it, that no superblock of an array stands on a drive that is no member of it (`AreAlone`), and that it may be replayed where a record is pending.
+//! **Inside an opening** (`specs/Openings.antt`): `HoldOpened f from i` says of contents `i` that a stop inside it leaves that they hold the pool still, with its
+//! plan and members that count as far as they did, that targets land in it, that no superblock of an array stands on a drive that is no member of it (`AreAlone`), and that it may be replayed where a record is pending.
 //! So it is while disks are read (`proofs/Rereading.antt`), while gates are closed (`idle_holds`, `proofs/GatesSame.antt`), while the copies of tables are made to
 //! agree (`settled_holds`, `proofs/Settled.antt`), and while places without a disk are marked (`marking_amid`, `proofs/Marking.antt`; `amid_opened`,
 //! `proofs/Openings.antt`). Sectors of tables have no superblock (`proofs/NoSuper.antt`). Where what its arrays have before the first extents says the volume, such contents
