@@ -1,5 +1,6 @@
 -- While a volume is opened on a pool's arrays, and their texts are brought up to date, what a stop leaves holds the pool.
-use Rattle.std.proofs.Common.{◌≡◌, ℕ, ◌<◌, ◌≤◌, ◌&&◌, false, is_some, length, List, Some, inl, inr, refl, sym, ap, subst, ◌∙◌, arith}
+use Rattle.std.proofs.Common.{◌≡◌, ℕ, ◌<◌, ◌≤◌, ◌&&◌, false, is_some, length, List, Some, inl, inr, refl, sym, ap, subst, ◌∙◌, arith, true}
+use Rattle.std.proofs.lemmas.Bool.{both_ways, cases_Bool}
 use Rattle.rack.specs.Joins.{leaves_weaker}
 use Rattle.rack.specs.Moments.{Leaves}
 use Rattle.rack.specs.Seen.{Image, IsLive, Seen}
@@ -9,36 +10,45 @@ use Rattle.slice_rack.specs.Slices.{IsOrderly, Slices, sectors_of}
 use Rattle.slice_rack.specs.Sliced.{IsInside, sliced, slices_of}
 use Rattle.slice_rack.specs.SliceRack.{below_of, tables}
 use Rattle.pool_state.specs.declared.contents.State.{State}
-use Rattle.array_image.specs.Arrays.{arrays_in, replayed}
+use Rattle.array_image.specs.Arrays.{Shape, arrays_in, replayed}
 use Rattle.array_image.specs.States.{is_current}
-use Rattle.array_model.specs.View.{sectors_of as sectors_in}
+use Rattle.array_core.proofs.Stripped.{some_same}
+use Rattle.array_model.specs.View.{sectors_of as sectors_in, shape_of}
 use Rattle.pool_image.specs.Alike.{IsSamePool}
 use Rattle.pool_image.specs.Disks.{disks_of}
-use Rattle.pool_image.specs.Drives.{Found, found}
-use Rattle.pool_image.specs.Meaning.{array_sectors, arrays_held}
+use Rattle.pool_image.specs.Drives.{Found, found, slices_of as slices_found}
+use Rattle.pool_image.specs.Meaning.{array_sectors, arrays_held, shape_of as shape_found, truth_of, is_dirty_degraded}
 use Rattle.pool_image.specs.Volumes.{Arrays}
-use Rattle.pool_image.proofs.Founds.{joined_same, truths_same}
+use Rattle.pool_image.proofs.Founds.{joined_same, super_same, truths_same}
 use Rattle.raid_rack.specs.declared.arrays.RaidRack.{RaidRack}
 use Rattle.raid_rack.specs.AllRuns.{AreCalls}
 use Rattle.raid_rack.specs.Book.{IsAfter}
 use Rattle.raid_rack.specs.Laws.{live_parts}
+use Rattle.raid_rack.specs.Moves.{IsHeeded, IsSet}
 use Rattle.raid_rack.specs.Raid.{Raid, is_over}
 use Rattle.raid_rack.specs.RaidRack.{raid_in, raid_seen, slices_in, slices_seen as slices_shown}
+use Rattle.raid_rack.specs.Reach.{KeepsReach}
 use Rattle.raid_rack.specs.Runs.{KeepsMoments}
 use Rattle.raid_rack.specs.Since.{AreSince}
+use Rattle.raid_rack.proofs.TruthAgrees.{truth_said}
+use Rattle.raid_rack.proofs.Whole.{own_rows}
 use Rattle.pool_model.specs.Left.{AreAlone, AreAloneBy, AreElsewhere, IsPickOff}
-use Rattle.pool_model.specs.Openings.{HoldOpened}
+use Rattle.pool_model.specs.Openings.{HoldOpened, IsUnsynced}
 use Rattle.pool_model.specs.Pools.{AreSlicesOf, IsSoundPool}
 use Rattle.pool_model.specs.Reopening.{AreWholeSectors}
 use Rattle.pool_model.specs.Stopped.{HaveTables, HoldAmid, HoldBetween, LieByTables}
 use Rattle.pool_model.proofs.Amid.{IsReady, inside_of, moments_since, nothing_past, off_amid, ready_amid, tables_amid, tables_lie}
+use Rattle.pool_model.proofs.Current.{shape_truth}
 use Rattle.pool_model.proofs.Found.{found_is}
-use Rattle.pool_model.proofs.Openings.{amid_opened}
+use Rattle.pool_model.proofs.Openings.{CountFrom, amid_opened}
+use Rattle.pool_model.proofs.LackingRows.{dirty_before, leaves_lacking}
 use Rattle.pool_model.proofs.Outset.{outset_of}
 use Rattle.pool_model.proofs.Sectors.{still_sized}
 use Rattle.assembler.specs.Holding.{HoldsArrays}
 use Rattle.assembler.specs.Volume.{AllLive}
 use Rattle.assembler.proofs.Alone.{alone_stops}
+use Rattle.assembler.proofs.Founded.{array_same}
+use Rattle.assembler.proofs.Shapes.{shape_heeded}
 
 -- Contents hold the pool so, with what its slices give once the pending record is written, and in whole sectors where the disks' are.
 pub record GivesOpened (e : Found) (t : Slices) (from : ℕ) (i : Image) : Type 0 where
@@ -57,6 +67,7 @@ module _ {R : Type 0} (seen : R → Seen) (runs : R → R → Type 0) (e f : Fou
     (elsewhere : (i : Image) → IsPickOff (tables (slices_in raid)) (seen (below_of (slices_in raid))) i → AreElsewhere e i)
     (alone : (i : Image) → IsPickOff (tables (slices_in raid)) (seen (below_of (slices_in raid))) i → AreAlone e i)
     (marks : (p : ℕ) → is_current (raid_in last).state p ≡ (is_current e.state p && is_some (e.seats p)))
+    (set : IsSet (raid_in raid) (slices_shown seen raid)) (heeded : IsHeeded (raid_in raid))
     (orderly : IsOrderly (tables (slices_in raid))) (inside : IsInside (tables (slices_in raid)) (seen (below_of (slices_in raid))))
     (lasting : (seen (below_of (slices_in raid))).lasting)
     (only : WritesOnly (seen (below_of (slices_in raid))) (seen (below_of (slices_in last))) (IsSliced (tables (slices_in raid))))
@@ -122,6 +133,28 @@ module _ {R : Type 0} (seen : R → Seen) (runs : R → R → Type 0) (e f : Fou
   moments : KeepsMoments v w (slices_of t z) (slices_of t y)
   moments = subst (λ (u : Slices). KeepsMoments v w (slices_of t z) (slices_of u y)) there kept.1.moments
 
+  -- a place that isn't current has no disk, or wasn't before
+  lost : (p : ℕ) → is_current v.state p ≡ false → (is_current e.state p && is_some (e.seats p)) ≡ false
+  lost p past =
+      sym (marks p)
+      ∙ elim (cases_Bool (is_current w.state p)) [
+        | inl now ↦ absurd (both_ways (is_current v.state p) past (kept.1.book.current p now))
+        | inr gone ↦ gone
+      ]
+
+  -- an array that was made has the shape that the pool gives it
+  shape_made : (n : ℕ) (had : Shape) → n < e.state.made → shape_found e n ≡ Some had → had ≡ shape_of (v.arrays n)
+  shape_made n had low was =
+      let less = small n low in
+      let by = shape_truth e.state (slices_found e) n (truth_of e n) had was in
+      let most = is_ready.outset.made.1 in
+      let there : n < v.state.made = (let made = begun.same.made in omega (arith, low, made)) in
+      some_same had (shape_of (v.arrays n))
+      (sym was
+      ∙ shape_heeded e t slices n (omega (arith, low, most)) by.0 v (slices_shown seen raid)
+      (array_same e f n by.0 (v.arrays n) (super_same e f pool n) (holds.arrays n by.0 less (truths_same e f pool n ∙ by.1)))
+      (set.arrays n there) (heeded n there) begun.current lost by.1)
+
   amid : Leaves z y (λ i. LieByTables e t v.state i → AreAloneBy v.state e i → HoldAmid e t v.state w.state i)
   amid = ready_amid e t v w z y is_ready orderly inside lasting only moments (λ n low. holds.told n (small n low)) lasts traced
 
@@ -152,6 +185,11 @@ module _ {R : Type 0} (seen : R → Seen) (runs : R → R → Type 0) (e f : Fou
         ]
         ∙ ap (λ (k : Arrays). k.contents n x) (joined_same e f pool)
 
+    counted : CountFrom e (replayed (sectors_of t) (sliced t i))
+    counted n s had left low was is there =
+        subst (λ (u : Shape). KeepsReach s u left) (sym (shape_made n had low was))
+        ((moments.reach n (holds.told n (small n low)) (lasts n low) traced).new k (sliced t i) late early (i, stop, λ j u. refl) s left is there).0
+
     between : HoldBetween e t v.state w.state i
     between = (amid.new k i late early stop (lie.new k i late early stop) (λ n p d first low counts. lone.new k i late early stop n p d first low)).between
 
@@ -168,11 +206,31 @@ module _ {R : Type 0} (seen : R → Seen) (runs : R → R → Type 0) (e f : Fou
         ((moments_since v w (slices_of t z) (slices_of t y) moments (holds.told 0 (small 0 first)) (lasts 0 first)).leaves traced).new k (sliced t i) late early
         (i, stop, λ j u. refl) (nothing_past t i)
 
+    -- an array that lacks a member has no rows left to resync but those of its book, which the pool's truth leaves
+    unsynced : (n : ℕ) → n < e.state.made → is_dirty_degraded between.still.now n ≡ true → IsUnsynced e n
+    unsynced n low =
+        let less = small n low in
+        let joined = holds.after.same.joined in
+        let here : n < v.state.made = omega (arith, less, joined, ready) in
+        let one = is_ready.outset.truths n low in
+        let of = holds.arrays n one.0 less (truths_same e f pool n ∙ one.1) in
+        let told = holds.told n less in
+        let goes = moments.still n (lasts n low) in
+        let left =
+        leaves_lacking v (slices_of t z) n told goes (λ r at. truth_said v (slices_of t z) n set heeded here told goes (holds.truths n less goes) r at)
+        (own_rows v (slices_of t z) n set heeded here) of.young in
+        dirty_before e t between.state i between.still v n low one.0 one.1 of.geometry.size of.rows of.young
+        (record {
+          is_array = (set.arrays n here).is_array;
+          frame = (moments.frames n told (lasts n low) traced).new k (sliced t i) late early (i, stop, λ j u. refl);
+          from = λ young. ((moments.lacking n told (lasts n low) left).leaves traced).new k (sliced t i) late early (i, stop, λ j u. refl) (nothing_past t i);
+        })
+
     opened : GivesOpened e t from i
     opened =
         let one =
-        amid_opened e t v.state w.state from i begun marks (value_in t (sym there)) slices (inside_of e t z is_ready.disks inside)
-        (elsewhere i (off_amid t z y lasting only traced k i late early stop)) since between in
+        amid_opened e t v.state w.state from i begun (kept.2.plan ∙ holds.plan ∙ ap (λ (s : State). s.plan) pool.state) marks (value_in t (sym there)) counted slices (inside_of e t z is_ready.disks inside)
+        (elsewhere i (off_amid t z y lasting only traced k i late early stop)) since between unsynced in
         record {
           opened = one.0;
           gives = λ n x low. ap (λ (h : Found). arrays_held h n x) one.1 ∙ between.still.values n x low;

@@ -23,7 +23,7 @@ use Rattle.raid_rack.specs.Losing.{arrays_same}
 use Rattle.raid_rack.specs.Opening.{OpensRaid}
 use Rattle.raid_rack.specs.Raid.{Raid, gone_in, held_in}
 use Rattle.raid_rack.proofs.Opening.{IsAtRest}
-use Rattle.assembler.specs.Holding.{HoldPool, IsIdle, IsPoolOn}
+use Rattle.assembler.specs.Holding.{HoldPool, IsArrayOf, IsIdle, IsPoolOn}
 use Rattle.assembler.specs.Members.{AreMembers}
 use Rattle.assembler.proofs.Holding.{before, before_is, data_kept, founds, holds_closed, holds_still, log, m, not_gone, pool, rests, seated_here, value_held}
 use Rattle.assembler.proofs.Still.{none_pending}
@@ -31,6 +31,7 @@ use Rattle.assembler.proofs.Still.{none_pending}
 -- Arrays stand over slices: each that is ready for the volume is that of its superblocks there, its sectors have the pool's values, and nothing is pending.
 pub record StandOver (f : Found) (v : Raid) (b : Seen) : Type 0 where
   pub opens : OpensRaid v b
+  pub arrays : (n : ℕ) (u : Super) → n < f.state.joined → truth_of f n ≡ Some u → IsArrayOf f n u (v.arrays n)
   pub values : (n y : ℕ) (u : List ℕ) → n < f.state.joined → MayLeave (held_in v b n y) u → u ≡ arrays_held f n y
   pub idle : (c : Image) → LogsStand b c → pending (deciding c) c ≡ []
 
@@ -67,10 +68,13 @@ module _ (f : Found) (s : State) (t : Slices) (x : Seen) (checked : Checked) (ab
           (seated_here f t x checked absent orderly own holds.steady on found holds.sound rules v.arrays v.number now p d seat))
           is)
 
-  -- an array has the members and the size that the pool's has
+  -- an array is that of the pool's truth
+  pub array_now : (n : ℕ) (u : Super) → n < f.state.joined → truth_of f n ≡ Some u → IsArrayOf f n u (v.arrays n)
+  array_now n u less truth = founds f s t x checked absent gone_now orderly l holds found members rules v state number are nobody v (arrays_same v) n u less truth
+
+  -- so it has the members and the size that the pool's has
   pub geometry_now : (n : ℕ) (u : Super) → n < f.state.joined → truth_of f n ≡ Some u → HasGeometry u (v.arrays n).truth
-  geometry_now n u less truth =
-      (founds f s t x checked absent gone_now orderly l holds found members rules v state number are nobody v (arrays_same v) n u less truth).geometry
+  geometry_now n u less truth = (array_now n u less truth).geometry
 
   -- the slices are at rest
   pub at_rest : IsAtRest (before f s t x checked absent gone_now orderly l holds found members rules v state number are) l idle.on (slices_seen t x)
@@ -82,6 +86,7 @@ module _ (f : Found) (s : State) (t : Slices) (x : Seen) (checked : Checked) (ab
       let opens = holds_still f t x checked absent orderly own holds.steady on found holds.sound rules v.arrays v.number now l number idle away in
       subst (λ (k : Raid). StandOver f k (slices_seen t x)) (sym as_before) (record {
         opens = opens;
+        arrays = array_now;
         values = value_held f t x checked absent orderly own holds.steady on found holds.sound rules v.arrays v.number now (slices_seen t x) opens (λ n place k low live. refl);
         idle = none_pending f.state l idle.on (slices_seen t x) at_rest.opened idle.none;
       })
@@ -95,6 +100,7 @@ module _ (f : Found) (s : State) (t : Slices) (x : Seen) (checked : Checked) (ab
       let kept = data_kept f t x checked absent orderly own holds.steady on found holds.sound rules v.arrays v.number now l idle.none b call in
       subst (λ (k : Raid). StandOver f k b) (sym as_before) (record {
         opens = opens;
+        arrays = array_now;
         values = value_held f t x checked absent orderly own holds.steady on found holds.sound rules v.arrays v.number now b opens kept;
         idle = λ c stand. elim (opens.log.idle c stand) [
           | inl nothing ↦ nothing

@@ -1,6 +1,7 @@
 -- Arrays that were made over the slices of a pool, and only read after that, serve it: they hold what the pool's do.
 use Rattle.std.proofs.Common.{◌≡◌, ℕ, ◌<◌, ◌≤◌, true, false, ◌&&◌, is_some, length, Option, Some, sym, ap, subst, ◌∙◌, arith}
 use Rattle.std.specs.Option.{option_map_or}
+use Rattle.std.proofs.lemmas.Bool.{and_parts}
 use Rattle.arrayvec.specs.ArrayVec.{ArrayVec}
 use Rattle.rack.specs.Seen.{Image, IsLive, Seen}
 use Rattle.rack.specs.Sequences.{OnlyReads}
@@ -37,7 +38,7 @@ use Rattle.assembler.specs.Volume.{AllLive, AreStill}
 use Rattle.assembler.proofs.Clean.{earlier_told}
 use Rattle.assembler.proofs.Founded.{array_later, array_same}
 use Rattle.assembler.proofs.Roles.{named_position}
-use Rattle.assembler.proofs.Shapes.{shape_same}
+use Rattle.assembler.proofs.Shapes.{shape_heeded}
 
 module _ {R : Type 0} (seen : R → Seen) (runs : R → R → Type 0) (e f : Found) (pool : IsSamePool e f) (a : Seen) (raid last : RaidRack R)
     (kept : AreCalls seen runs raid last) (holds : HoldsArrays f (raid_in raid) a (slices_seen seen raid)) (alive : AllLive (raid_in last))
@@ -92,10 +93,11 @@ module _ {R : Type 0} (seen : R → Seen) (runs : R → R → Type 0) (e f : Fou
       let made = made_low n less in
       let one = truths n low in
       let there : n < v.state.made = subst (λ k. n < k) (sym kept.1.book.same.made) made in
-      shape_same e t lie n (omega (arith, low, few)) one.0 v y
+      shape_heeded e t lie n (omega (arith, low, few)) one.0 v y
       (array_same e f n one.0 (v.arrays n) (super_same e f pool n)
       (array_later f n one.0 ((raid_in raid).arrays n) (v.arrays n) (holds.arrays n one.0 less (truths_same e f pool n ∙ one.1)) (kept.2.arrays n made)))
-      (fit.running.set.arrays n there) (fit.heeded n there) marks one.1
+      (fit.running.set.arrays n there) (fit.heeded n there) (λ p is. (and_parts (is_current e.state p) (is_some (e.seats p)) (sym (marks p) ∙ is)).0)
+      (λ p is. sym (marks p) ∙ is) one.1
 
   -- and while they were only read they hold what they held
   pub values_kept : OnlyReads (raid_seen seen raid) (raid_seen seen last)

@@ -1,4 +1,4 @@
--- An array of which just the drives without a disk are marked has the shape that its pool gives it.
+-- An array of which just drives without a disk are marked, or noted as gone, has the shape that its pool gives it.
 use Rattle.std.proofs.Common.{◌≡◌, ◌⊎◌, ℕ, ◌+◌, ◌<◌, Bool, true, false, ◌&&◌, not, is_some, if◌then◌else◌, [], map, slice_get, Option, Some, None, option_map, unwrap_or, inl, inr, refl, sym, ap, subst, ◌∙◌, le-ltb, arith}
 use Rattle.std.specs.Option.{option_map_or}
 use Rattle.std.specs.List.{range_with_len}
@@ -44,15 +44,15 @@ none_counts false seated o lost none = refl
 none_counts true seated o lost none = none lost
 
 -- A member that is missing has lost its place; else it counts as far as its own superblock says.
-seat_either : (current seated now : Bool) (o : Option Super) (seat : Seat) → now ≡ (current && seated) → (seated ≡ false → o ≡ None) → is_missing_seat seat ≡ not now
+seat_either : (current seated now : Bool) (o : Option Super) (seat : Seat) → (now ≡ true → current ≡ true) → (now ≡ false → (current && seated) ≡ false)
+    → (seated ≡ false → o ≡ None) → is_missing_seat seat ≡ not now
     → (seat ≡ Missing) ⊎ (seat ≡ option_map_or seat_by o Missing) → seat ≡ option_map_or seat_by (counting current o) Missing
-seat_either current seated false o seat marks none is either =
-    missing_is seat is ∙ sym (ap (λ k. option_map_or seat_by k Missing) (none_counts current seated o (sym marks) none))
-seat_either current seated true o seat marks none is either = kept current marks
-  where
-    kept : (b : Bool) → true ≡ (b && seated) → seat ≡ option_map_or seat_by (counting b o) Missing
-    kept false lost = absurd (both_ways false refl (sym lost))
-    kept true here = elim either [ inl missing ↦ absurd (both_ways true (sym (ap is_missing_seat missing) ∙ is) refl) | inr said ↦ said ]
+seat_either current seated false o seat kept lost none is either =
+    missing_is seat is ∙ sym (ap (λ k. option_map_or seat_by k Missing) (none_counts current seated o (lost refl) none))
+seat_either current seated true o seat kept lost none is either = elim either [
+  | inl missing ↦ absurd (both_ways true (sym (ap is_missing_seat missing) ∙ is) refl)
+  | inr said ↦ said ∙ sym (ap (λ (b : Bool). option_map_or seat_by (counting b o) Missing) (kept refl))
+]
 
 -- a member of such a seat
 abbrev seated_member : ℕ → ℕ → Seat → Member
@@ -99,30 +99,32 @@ unseated : (o : Option ℕ) → is_some o ≡ false → o ≡ None
 unseated None none = refl
 unseated (Some d) none = absurd (both_ways true none refl)
 
+-- The members whose places are left are on current places of the pool, and no other current place has a disk.
 module _ (f : Found) (slices : Slices) (lie : AreSlicesOf f slices) (n : ℕ) (few : n < 16) (t : Super) (v : Raid) (y : Seen) (of : IsArrayOf f n t (v.arrays n))
-    (seated : IsSeated v.state n (v.arrays n) y) (heeded : (v.arrays n).went ≡ []) (marks : (p : ℕ) → is_current v.state p ≡ (is_current f.state p && is_some (f.seats p))) where
+    (seated : IsSeated v.state n (v.arrays n) y)
+    (kept : (p : ℕ) → (is_current v.state p && not (has_gone (v.arrays n) p)) ≡ true → is_current f.state p ≡ true)
+    (lost : (p : ℕ) → (is_current v.state p && not (has_gone (v.arrays n) p)) ≡ false → (is_current f.state p && is_some (f.seats p)) ≡ false) where
   abbrev w : View
   w = v.arrays n
+
+  abbrev is_here : ℕ → Bool
+  is_here p = is_current v.state p && not (has_gone w p)
 
   place_same : (k : ℕ) → place_at w k ≡ place_by t k
   place_same k = ap (λ (r : ArrayVec ℕ). unwrap_or (place_with r.items k) 16) of.geometry.roles
 
-  -- who is missing isn't current
-  missing_now : (k : ℕ) → k < t.raid_disks → option_map is_missing_seat (slice_get w.seats k) ≡ Some (not (is_current v.state (place_by t k)))
-  missing_now k low =
-      seated.marks k (subst (λ m. k < m) (sym of.geometry.disks) low)
-      ∙ ap (λ p. Some (not (is_current v.state p && not (has_gone w p)))) (place_same k)
-      ∙ ap (λ ps. Some (not (is_current v.state (place_by t k) && not (names ps (place_by t k))))) heeded
-      ∙ ap (λ b. Some (not b)) (and_true (is_current v.state (place_by t k)))
+  -- who is missing isn't left
+  missing_now : (k : ℕ) → k < t.raid_disks → option_map is_missing_seat (slice_get w.seats k) ≡ Some (not (is_here (place_by t k)))
+  missing_now k low = seated.marks k (subst (λ m. k < m) (sym of.geometry.disks) low) ∙ ap (λ p. Some (not (is_here p))) (place_same k)
 
   seat_now : (k : ℕ) → k < t.raid_disks
       → slice_get w.seats k ≡ Some (option_map_or seat_by (counting (is_current f.state (place_by t k)) (super_at f n (place_by t k))) Missing)
   seat_now k low =
       let p = place_by t k in
       let own = super_at f n p in
-      let one = seat_some (slice_get w.seats k) (not (is_current v.state p)) (missing_now k low) in
+      let one = seat_some (slice_get w.seats k) (not (is_here p)) (missing_now k low) in
       one.1
-      ∙ ap Some (seat_either (is_current f.state p) (is_some (f.seats p)) (is_current v.state p) own one.0 (marks p)
+      ∙ ap Some (seat_either (is_current f.state p) (is_some (f.seats p)) (is_here p) own one.0 (kept p) (lost p)
       (λ none. super_unseated f slices n p lie few (unseated (f.seats p) none)) one.2
       (elim (of.members k low) [
         | inl missing ↦ inl (some_seat one.0 Missing (sym one.1 ∙ missing))
@@ -156,5 +158,15 @@ module _ (f : Found) (slices : Slices) (lie : AreSlicesOf f slices) (n : ℕ) (f
         reached = if is_reshaping (record t { feature_map = g.features i }) then g.position i else 0;
       }
 
-  pub shape_same : truth_of f n ≡ Some t → shape_found f n ≡ Some (shape_of w)
-  shape_same truth = ap (option_map (shape_by f.state (slices_of f) n)) truth ∙ ap Some (sym same_shape)
+  pub shape_left : truth_of f n ≡ Some t → shape_found f n ≡ Some (shape_of w)
+  shape_left truth = ap (option_map (shape_by f.state (slices_of f) n)) truth ∙ ap Some (sym same_shape)
+
+-- an array that was heeded, by a book that marks just the places without a disk, or some of them
+pub shape_heeded : (f : Found) (slices : Slices) → AreSlicesOf f slices → (n : ℕ) → n < 16 → (t : Super) (v : Raid) (y : Seen) → IsArrayOf f n t (v.arrays n)
+    → IsSeated v.state n (v.arrays n) y → (v.arrays n).went ≡ [] → ((p : ℕ) → is_current v.state p ≡ true → is_current f.state p ≡ true)
+    → ((p : ℕ) → is_current v.state p ≡ false → (is_current f.state p && is_some (f.seats p)) ≡ false) → truth_of f n ≡ Some t → shape_found f n ≡ Some (shape_of (v.arrays n))
+shape_heeded f slices lie n few t v y of seated heeded kept lost =
+    shape_left f slices lie n few t v y of seated (λ p is. kept p (sym (here p) ∙ is)) (λ p is. lost p (sym (here p) ∙ is))
+  where
+    here : (p : ℕ) → (is_current v.state p && not (has_gone (v.arrays n) p)) ≡ is_current v.state p
+    here p = ap (λ ps. is_current v.state p && not (names ps p)) heeded ∙ and_true (is_current v.state p)

@@ -173,7 +173,8 @@ module _ (g : Over) (c : In-Ok-open_volume g) (quiet : IsUnfaulted (a g (made g 
       (live_last g c quiet) opens.kept data_start _ (opened_writes seen g.R.Rack.runs raid (rack_in volume) (linear volume) (seqno_of volume) opens) (λ n s v early. early.1)
       (ready g k) all (now_in (a g k)) (began g k before e sound may lands all alone alive traced) sound.sound (own_slices g k before e sound may lands all alone alive traced)
       (landing g k before e sound lands) (own_elsewhere g k before e sound may lands all alone alive traced)
-      (own_alone g k before e sound may lands all alone alive traced) marks_last (slices_in raid).orderly c.make_rack.ensures.fit.running.set.fit.1
+      (own_alone g k before e sound may lands all alone alive traced) marks_last c.make_rack.ensures.fit.running.set c.make_rack.ensures.fit.heeded
+      (slices_in raid).orderly c.make_rack.ensures.fit.running.set.fit.1
       (whole.lasting sound.steady.lasts.lasting) (texts g c) (whole.traced traced)
 
   pub opened_leaves : MayReplay (disks_of (a g (made g c))) (now_in (a g (made g c))) e → TargetsLand e → e.state.joined ≡ e.state.made → AreAlone e e.contents → (a g (made g c)).traced
@@ -299,5 +300,5 @@ module _ (g : Over) (c : In-Err-open_volume g) (quiet : IsUnfaulted (a g (built 
       (live_still g c quiet e sound still) refused.kept 0 _ nothing (λ n s v none. absurd none)
       (ready g k) all (now_in (a g k)) (began g k before e sound may lands all alone alive traced) sound.sound (own_slices g k before e sound may lands all alone alive traced)
       (landing g k before e sound lands) (own_elsewhere g k before e sound may lands all alone alive traced)
-      (own_alone g k before e sound may lands all alone alive traced) (marks_kept g c quiet e sound still) (slices_in raid).orderly
-      c.make_rack.ensures.fit.running.set.fit.1 (whole.lasting sound.steady.lasts.lasting) (calls g c) (whole.traced traced)))
+      (own_alone g k before e sound may lands all alone alive traced) (marks_kept g c quiet e sound still) c.make_rack.ensures.fit.running.set c.make_rack.ensures.fit.heeded
+      (slices_in raid).orderly c.make_rack.ensures.fit.running.set.fit.1 (whole.lasting sound.steady.lasts.lasting) (calls g c) (whole.traced traced)))
