@@ -157,12 +157,15 @@ pub record IsStuck (l : Linear) (v w : Raid) (array : ℕ) : Type 0 where
   pub others : (n : ℕ) → n < v.state.made → n ≢ array → LosesOnly (v.arrays n) (w.arrays n)
   pub plan : w.state.plan ≡ v.state.plan
 
--- So it is by a book between two. Up to it fewer works than were asked for were done, and a plan went on or ended; where no disk's faults rose (`Quiet`) and only rows to
--- resync and to rebuild were left of the arrays, these were the first works that were left. From it to the last book there is what a try does.
+-- So it is by a book between two, in which just those members are missing whose drives are marked. Up to it fewer works than were asked for were done, members stayed but for
+-- losses and rebuilds, and a plan went on or ended; where no disk's faults rose (`Quiet`) and only rows to resync and to rebuild were left of the arrays, these were the first
+-- works that were left. From it to the last book there is what a try does.
 pub record StopsStuck (Quiet : Type 0) (l : Linear) (count : ℕ) (v w : Raid) (array : ℕ) : Type 0 where
   pub mid : Raid
   pub marks : IsAfter v.state mid.state
   pub done : KeepsBook v mid
+  pub kept : KeepsAllMembers v mid
+  pub seated : HasMarkedSeats mid
   pub works : ℕ
   pub few : works < count
   pub rest : Quiet → HasRowsAlone v → works_by l mid ≡ drop works (works_by l v)

@@ -3,9 +3,10 @@ use Rattle.std.proofs.lemmas.Result.{err_from_is_err_and}
 use Rattle.rack.specs.Joins.{rose_before}
 use Rattle.lvm_group.specs.Runs.{Linear}
 use Rattle.raid_rack.specs.declared.works.Stuck.{Stuck}
-use Rattle.pool.specs.View.{book, view}
+use Rattle.raid_rack.specs.RaidRack.{slices_seen}
+use Rattle.pool.specs.View.{arrays_of, book, view}
 use Rattle.pool.specs.Works.{IsStuck, KeepsPlan, works_by}
-use Rattle.pool.proofs.Booked.{raises_fewer}
+use Rattle.pool.proofs.Booked.{book_seated, raises_fewer}
 use Rattle.pool.proofs.Stepping.{does_all, does_none, does_then}
 use Rattle.pool.proofs.Working.{worked_call, worked_does, worked_fit, worked_none, worked_then}
 use Rattle.pool.proofs.Pool.step.Goals as goal
@@ -65,6 +66,8 @@ returns-in_err-advance g c =
               mid = book (view seen shelf c.loop-turn.self);
               marks = c.loop-turn.invariant.worked.book.book;
               done = c.loop-turn.invariant.worked.arrays;
+              kept = c.loop-turn.invariant.worked.members;
+              seated = book_seated (book (view seen shelf c.loop-turn.self)) (slices_seen seen (arrays_of c.loop-turn.self)) fit.0.running.set fit.0.heeded;
               works = turn;
               few = (let end = c.min-turn-end.ensures in let test = c.loop-turn-test.true in omega (arith, end, test));
               rest = λ quiet alone.
