@@ -111,8 +111,9 @@ pub holds_inside :
 holds_inside x y z a b events Serial f continues passes heads serving holds begins traced calls goes = λ served serial lands lasts k i since until stopped.
     let going = goes served serial in
     let told = told_now x y a b events f continues passes heads serving holds begins served going in
+    let truths = truths_now x y a b events f continues passes heads serving holds begins served going in
     let group = group_now x y a b events f continues passes heads serving holds begins served going in
-    meanwhile_passes y z f x.linear continues.fit calls going lands told lasts group (continues.traced serving.0.shelf traced) k i since until stopped
+    meanwhile_passes y z f x.linear continues.fit calls going lands told lasts truths group (continues.traced serving.0.shelf traced) k i since until stopped
 
 -- ---- in a row
 

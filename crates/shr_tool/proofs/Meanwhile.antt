@@ -3,6 +3,7 @@ use Rattle.std.proofs.Common.{◌≡◌, ℕ, ◌<◌, ◌≤◌, ◌^◌, false
 use Rattle.rack.specs.Seen.{Image}
 use Rattle.slice_rack.specs.Slices.{Slices}
 use Rattle.slice_rack.specs.Sliced.{IsInside, slices_of}
+use Rattle.array_core.specs.TruthHeld.{HoldTruth}
 use Rattle.array_model.specs.View.{sectors_of}
 use Rattle.lvm_group.specs.Runs.{Linear}
 use Rattle.raid_rack.specs.Raid.{IsTold, is_over}
@@ -24,11 +25,11 @@ use Rattle.pool.specs.View.{View, book, slices_shown, volume}
 use Rattle.shr_tool.specs.Between.{HoldsMeanwhile}
 use Rattle.shr_tool.specs.Service.{GoesBy, Lone}
 use Rattle.shr_tool.proofs.Heads.{heads_amid, heads_passes}
-use Rattle.shr_tool.proofs.Serviced.{goes_amid}
+use Rattle.shr_tool.proofs.Serviced.{goes_amid, own_now, say_now}
 
 module _ {L G : Type 0} {o : Option Lone} (x y : View) (f : Found) (l : Linear) (fit : (volume x).fit) (passes : Passes x y) (goes : GoesBy L o f x) (lands : L)
     (told : (n : ℕ) → n < f.state.made → IsTold (book x) (slices_shown x) n) (lasts : (n : ℕ) → n < f.state.made → is_over (book y) n ≡ false)
-    (group : G → AreHeadsLive (book x) → HoldGroup (book x) l (slices_shown x)) (traced : x.bay.traced) where
+    (truths : (n : ℕ) → n < f.state.made → HoldTruth ((book x).arrays n) (slices_shown x)) (group : G → AreHeadsLive (book x) → HoldGroup (book x) l (slices_shown x)) (traced : x.bay.traced) where
   inside : IsInside x.slices x.bay
   inside = fit.0.running.set.fit.1
 
@@ -69,7 +70,7 @@ module _ {L G : Type 0} {o : Option Lone} (x y : View) (f : Found) (l : Linear) 
         amid = amid;
         opens = λ says heads whole.
             calls_reopen f x.slices (book x) (book y) x.bay y.bay l goes.service.after lies.0 (inside_of f x.slices x.bay goes.service.disks inside) lies.1 goes.lasting passes.apart
-            moments told lasts traced k i since until stopped amid (volume_at says heads whole);
+            moments told lasts (say_now x f fit goes told (λ n low. moments.still n (lasts n low)) truths) (own_now x f fit goes) traced k i since until stopped amid (volume_at says heads whole);
       }
     where
       amid : HoldAmid f x.slices (book x).state (book y).state i

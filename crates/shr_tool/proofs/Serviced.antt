@@ -22,7 +22,6 @@ use Rattle.array_image.specs.Places.{log_slice, state_sector}
 use Rattle.array_image.specs.States.{is_current}
 use Rattle.raid_rack.specs.Book.{after_same}
 use Rattle.raid_rack.specs.Agreeing.{HasOwnRows, SayTruth}
-use Rattle.raid_rack.specs.Moves.{IsSet}
 use Rattle.raid_rack.specs.Raid.{IsTold, is_over}
 use Rattle.raid_rack.specs.Runs.{KeepsMoments}
 use Rattle.raid_rack.proofs.TruthAgrees.{truth_said}
@@ -236,6 +235,20 @@ tables_now x f goes lands = elim goes.vacant [
   | inr one ↦ tables_vacant f goes.tables x.slices one.0 (book x).state x.bay one.2.vacated one.2.missing (goes.laid lands)
 ]
 
+-- Its arrays' rows are their own. Where the arrays are told and none is over, and superblocks say their truths, whatever a stop leaves says them.
+module _ {L : Type 0} {o : Option Lone} (x : View) (f : Found) (fit : (volume x).fit) (goes : GoesBy L o f x) where
+  made_now : (n : ℕ) → n < f.state.made → n < (book x).state.made
+  made_now n low = (let made = goes.service.after.same.made in omega (arith, low, made))
+
+  pub own_now : (n : ℕ) → n < f.state.made → HasOwnRows ((book x).arrays n)
+  own_now n low = own_rows (book x) (slices_shown x) n fit.0.running.set fit.0.heeded (made_now n low)
+
+  pub say_now : ((n : ℕ) → n < f.state.made → IsTold (book x) (slices_shown x) n) → ((n : ℕ) → n < f.state.made → is_over (book x) n ≡ false)
+      → ((n : ℕ) → n < f.state.made → HoldTruth ((book x).arrays n) (slices_shown x))
+      → (n : ℕ) (r : Image) → n < f.state.made → IsLeft (slices_shown x) r → SayTruth ((book x).arrays n) (book x).state r n
+  say_now told lasts truths n r low left =
+      truth_said (book x) (slices_shown x) n fit.0.running.set fit.0.heeded (made_now n low) (told n low) (lasts n low) (truths n low) r left
+
 -- Whatever the disks may be left with holds it again. Where superblocks say their arrays' truths, and the arrays hold the group of a volume, it is opened as this volume.
 pub goes_again :
     {L G : Type 0} {o : Option Lone} (x : View) (f : Found) (l : Linear) → (volume x).fit → GoesBy L o f x
@@ -244,11 +257,8 @@ pub goes_again :
     → (i : Image) → IsPick x.bay x.bay x.bay.held i → HoldsNext L G f x.slices l (book x) i
 goes_again {L} {G} x f l fit goes told lasts truths group i pick = record { again = again; landing = landing; opens = opens }
   where
-    set : IsSet (book x) (slices_shown x)
-    set = fit.0.running.set
-
     inside : IsInside x.slices x.bay
-    inside = set.fit.1
+    inside = fit.0.running.set.fit.1
 
     again : HoldAgain f x.slices (book x).state i
     again = elim goes.vacant [
@@ -262,14 +272,11 @@ goes_again {L} {G} x f l fit goes told lasts truths group i pick = record { agai
     landing : L → HoldLanding f x.slices (book x).state i
     landing lands = landing_again f x.slices (book x).state x.bay (tables_now x f goes lands) i pick again
 
-    made_now : (n : ℕ) → n < f.state.made → n < (book x).state.made
-    made_now n low = (let made = goes.service.after.same.made in omega (arith, low, made))
-
     say : (n : ℕ) (r : Image) → n < f.state.made → IsLeft (slices_shown x) r → SayTruth ((book x).arrays n) (book x).state r n
-    say n r low left = truth_said (book x) (slices_shown x) n set fit.0.heeded (made_now n low) (told n low) (lasts n low) (truths n low) r left
+    say = say_now x f fit goes told lasts truths
 
     own : (n : ℕ) → n < f.state.made → HasOwnRows ((book x).arrays n)
-    own n low = own_rows (book x) (slices_shown x) n set fit.0.heeded (made_now n low)
+    own = own_now x f fit goes
 
     opens : G → AreHeadsLive (book x) → AreWholeSectors f.disks i → Reopens f x.slices l (book x) i
     opens says heads whole = elim goes.vacant [

@@ -147,10 +147,12 @@ pub record OpenedOn {R : Type 0} (seen : R → Seen) (shelf : R → Shelf) (runs
       (f : Found) → HoldSound (seen bay) f → IsUnfaulted (seen bay) (seen opened) → f.state.joined ≡ f.state.made → HaveOwnAreas f
       → MayStop (seen bay) f → (seen bay).traced → Leaves (seen bay) (seen opened) (SaysVolume from.book from.slices ground.linear)
   -- And it holds the sound pool still that the disks had, so that a run which is killed inside its opening may be opened again: by its state or one to which
-  -- just marks of places have come that have no disk, with the same disks for its places, and its arrays hold what they held from their first extents on.
+  -- just marks of places have come that have no disk, with its plan, and the same disks for its places. Its arrays hold what they held from their first
+  -- extents on, and members count as far as they did.
   pub stops :
       (f : Found) → HoldSound (seen bay) f → IsUnfaulted (seen bay) (seen opened) → StopsHold (seen bay) (seen opened) f data_start
-  -- A later opening of it means the run's volume again, with what its arrays held, or refuses it for a named reason, so that the two runs are told as one.
+  -- A later opening of it means the run's volume again, with what its arrays held, so that the two runs are told as one; or it refuses it, since a drive
+  -- lacks a superblock or a disk was of another pool.
   pub reopens :
       (f : Found) → HoldSound (seen bay) f → IsUnfaulted (seen bay) (seen opened) → StopsMean (seen bay) (seen opened) f ground.linear
   -- The run is one on that pool, where all its arrays are ready for the volume and on its disks no superblock of an array stood where a drive that is
