@@ -17,7 +17,7 @@ use Rattle.array_image.specs.Left.{IsInside, PicksLogs}
 use Rattle.array_image.proofs.Settled.{among_take}
 use Rattle.array_image.proofs.Marked.{among_lowered}
 use Rattle.array_model.specs.declared.Seat.{Seat}
-use Rattle.array_model.specs.View.{View, IsArray, IsNoted, LosesPlaces, shape_of, has_gone, place_at, rows_of}
+use Rattle.array_model.specs.View.{View, IsArray, IsNoted, LosesPlaces, shape_of, has_gone, place_at, rows_of, member_by_seat}
 use Rattle.array_model.specs.Says.{Says, Holds}
 use Rattle.array_model.specs.ArrayCalls.{Covers, Keeping, SyncsArray}
 use Rattle.array_model.specs.Members.{Notes}
@@ -69,7 +69,7 @@ pub shape_kept : (v u : View) (a b : Seen) → Notes v u a b → u.went ≡ [] �
 shape_kept v u a b notes fresh =
     let truth = notes.same.truth in
     let member : (k : ℕ) → member_on u k ≡ member_on v k = λ k.
-    ap₂ (λ (t : Super) (o : Option Seat). record { place = unwrap_or (place_with t.roles.items k) 16; reach = option_map_or (seat_reach t.size) o 0; is_whole = option_map_or is_whole_seat o false })
+    ap₂ (λ (t : Super) (o : Option Seat). member_by_seat t.size (unwrap_or (place_with t.roles.items k) 16) o)
     truth (seats_kept v u notes.lost notes.loses fresh k) in
     shape_is u
     ∙ ap₂ shape_with truth

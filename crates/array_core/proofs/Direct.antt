@@ -23,7 +23,7 @@ use Rattle.array_image.proofs.Frames.{super_of_sector, value_by_data}
 use Rattle.array_image.proofs.Replays.{SameLogs, calm_same, inside_same, replayed_same, whole_same}
 use Rattle.array_model.specs.declared.Seat.{Seat}
 use Rattle.array_model.specs.declared.Seat.TheVariants.{Whole, Missing, Rebuilding}
-use Rattle.array_model.specs.View.{View, IsArray, shape_of, place_at, member_on, may_vary, is_missing_seat}
+use Rattle.array_model.specs.View.{View, IsArray, shape_of, place_at, member_on, may_vary, is_missing_seat, member_by_seat}
 use Rattle.array_model.specs.Says.{Says, IsOpen, Holds, IsEarlier, HasNoOthers}
 use Rattle.array_model.specs.ArrayCalls.{Turns}
 use Rattle.array_model.specs.Stages.{IsStateOf}
@@ -39,7 +39,6 @@ use Rattle.array_core.specs.Settling.{IsOwnSector, IsNewSuper}
 use Rattle.array_core.specs.TruthLeft.{HasTruthOf}
 use Rattle.array_core.proofs.Truths.{rule_holds}
 use Rattle.array_core.proofs.Rules.{get_map, get_range, zero_more}
-use Rattle.array_core.proofs.SlotMembers.{member_at}
 use Rattle.array_core.proofs.OwnSupers.{own_whole, own_array, own_there}
 use Rattle.array_core.proofs.Stripped.{strip, strip_reshaping, strip_written, whole_written, own_member, some_same, even_data}
 
@@ -258,8 +257,8 @@ module _ (s : State) (v : View) (e o : ℕ) (m : Bool) (a b : Seen)
           ap (λ (x : Super). unwrap_or (place_with x.roles.items k) 16) earlier.fields ∙ sym new.is.place ∙ new.place in
           ap (λ (x : Super). member_by t0.size p true (Some x)) new.truth
           ∙ own_member u.truth new.slot t0.size p new.present
-          ∙ ap₂ (λ (n : ℕ) (o : Option Seat). member_at n p o) size (sym new.is.seat)
-          ∙ ap (λ (n : ℕ). member_at v.truth.size n (slice_get v.seats k)) (sym new.place ∙ new.is.place)
+          ∙ ap₂ (λ (n : ℕ) (o : Option Seat). member_by_seat n p o) size (sym new.is.seat)
+          ∙ ap (λ (n : ℕ). member_by_seat v.truth.size n (slice_get v.seats k)) (sym new.place ∙ new.is.place)
           ∙ sym same
           ∙ ap (λ (n : ℕ). member_by t0.size n (is_current s n) (super_in s q v.number n)) place
           ∙ ap (λ (x : Bool). member_by t0.size p x (super_in s q v.number p)) current

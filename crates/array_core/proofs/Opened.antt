@@ -213,7 +213,7 @@ slot_member size place true None = refl
 slot_member size place true (Some u) =
     let Goal : Bool → Type 0 = λ b.
     member_of_slot size (record { place = place; seat = if b then Rebuilding u.recovery_offset else Whole; device = u.device_id })
-    ≡ record { place = place; reach = if b then u.recovery_offset else size; is_whole = not b } in
+    ≡ record { place = place; reach = if b then u.recovery_offset else size; is_there = true; is_whole = not b } in
     let goal : Goal (is_rebuilding u) = elim (is_rebuilding u) as Goal [ true ↦ refl | false ↦ refl ] in
     goal
 

@@ -6,27 +6,19 @@ use Rattle.std.proofs.lemmas.List.Sums.{length-filter}
 use Rattle.shr_base.specs.declared.Id.{Id}
 use Rattle.array_image.specs.Arrays.{Member}
 use Rattle.array_model.specs.declared.Seat.{Seat}
-use Rattle.array_model.specs.View.{View, seat_reach, is_whole_seat, member_on}
+use Rattle.array_model.specs.View.{View, is_whole_seat, member_by_seat, member_on}
 use Rattle.array_core.specs.declared.slots.Slot.{Slot}
 use Rattle.array_core.specs.Slots.{slot_with, slots_of, place_by}
 use Rattle.array_core.specs.Opening.{lacking}
 
 -- a slot's member
 abbrev pub member_of_slot : ℕ → Slot → Member
-member_of_slot size s = record { place = s.place; reach = seat_reach size s.seat; is_whole = is_whole_seat s.seat }
-
--- the member of a seat that may be there
-abbrev pub member_at : ℕ → ℕ → Option Seat → Member
-member_at size place seat = record {
-  place = place;
-  reach = option_map_or (seat_reach size) seat 0;
-  is_whole = option_map_or is_whole_seat seat false;
-}
+member_of_slot size s = member_by_seat size s.place (Some s.seat)
 
 members_zipped : (size : ℕ) (place : ℕ → ℕ) (seat : ℕ → Option Seat) (a n : ℕ) (seats : List Seat) (devices : List Id)
     → length seats ≡ n → length devices ≡ n
     → ((k : ℕ) → k < n → seat (a + k) ≡ slice_get seats k)
-    → map (λ i. member_at size (place i) (seat i)) (range_with_len a n)
+    → map (λ i. member_by_seat size (place i) (seat i)) (range_with_len a n)
     ≡ map (member_of_slot size) (map slot_with (zip (map place (range_with_len a n)) (zip seats devices)))
 members_zipped size place seat a zero seats devices one two at = refl
 members_zipped size place seat a (suc n) [] devices one two at = absurd (omega (arith, one))
@@ -34,7 +26,7 @@ members_zipped size place seat a (suc n) (s ∷ seats) [] one two at = absurd (o
 members_zipped size place seat a (suc n) (s ∷ seats) (d ∷ devices) one two at =
     let here : seat a ≡ Some s = ap seat (omega arith) ∙ at 0 (omega arith) in
     let there : (k : ℕ) → k < n → seat ((a + 1) + k) ≡ slice_get seats k = λ k low. ap seat (omega arith) ∙ at (suc k) (omega (arith, low)) in
-    ap₂ (λ (o : Option Seat) (ms : List Member). member_at size (place a) o ∷ ms) here
+    ap₂ (λ (o : Option Seat) (ms : List Member). member_by_seat size (place a) o ∷ ms) here
     (members_zipped size place seat (a + 1) n seats devices (omega (arith, one)) (omega (arith, two)) there)
 
 -- the members of a view's shape are those of its slots

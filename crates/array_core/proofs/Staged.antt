@@ -14,7 +14,7 @@ use Rattle.array_image.specs.SoundArray.{IsWrittenSuper, IsSoundArray, array_fie
 use Rattle.array_image.specs.Even.{AreEven}
 use Rattle.array_model.specs.declared.Seat.{Seat}
 use Rattle.array_model.specs.declared.Seat.TheVariants.{Whole, Missing, Rebuilding}
-use Rattle.array_model.specs.View.{View, shape_of, member_on, place_at, is_missing_seat}
+use Rattle.array_model.specs.View.{View, shape_of, member_on, place_at, is_missing_seat, member_by_seat}
 use Rattle.array_model.specs.Stages.{IsStateOf, NoOthers, HasTargets}
 use Rattle.array_core.specs.declared.slots.Slot.{Slot}
 use Rattle.array_core.specs.Slots.{slot_with, slots_of, place_by}
@@ -24,7 +24,6 @@ use Rattle.array_core.specs.Staging.{AddsSupersOf, HasNoOthers, HasRowRebuilds}
 use Rattle.md_super.specs.Profile.{rules}
 use Rattle.array_image.specs.Stripes.{parity}
 use Rattle.array_core.proofs.Truths.{rule_holds}
-use Rattle.array_core.proofs.SlotMembers.{member_at}
 use Rattle.array_core.proofs.Leading.{none_leads, not_more}
 use Rattle.array_core.proofs.Opened.{truth_ranged, truth_leads, current_is, current_below, map_ranged}
 use Rattle.array_core.proofs.OwnSupers.{own_reshaping, own_whole, own_rebuilding, own_fields, own_array, own_there, has_sectors}
@@ -174,18 +173,18 @@ module _ (v : View) (t : State) (e : Image)
     member_same : (s : Slot) (n : ℕ) → n < v.truth.raid_disks → member_in t e v.number (member_super v.truth s) n ≡ member_on v n
     member_same s n low =
         let place = place_at v n in
-        let Goal : Seat → Type 0 = λ seat. (slot_on v n).seat ≡ seat → member_by v.truth.size place (is_current t place) (super_in t e v.number place) ≡ member_at v.truth.size place (Some seat) in
+        let Goal : Seat → Type 0 = λ seat. (slot_on v n).seat ≡ seat → member_by v.truth.size place (is_current t place) (super_in t e v.number place) ≡ member_by_seat v.truth.size place (Some seat) in
         let goal : Goal (slot_on v n).seat = elim (slot_on v n).seat as Goal [
           | Missing ↦ λ is. ap (λ (b : Bool). member_by v.truth.size place b (super_in t e v.number place)) (marked n low ∙ ap (λ seat. not (is_missing_seat seat)) is)
           | Whole ↦ λ is.
               ap₂ (member_by v.truth.size place) (marked n low ∙ ap (λ seat. not (is_missing_seat seat)) is) (own n low (ap is_missing_seat is))
-              ∙ ap (λ (b : Bool). record { place = place; reach = if b then (member_super v.truth (slot_on v n)).recovery_offset else v.truth.size; is_whole = not b }) (own_whole v.truth (slot_on v n) is)
+              ∙ ap (λ (b : Bool). record { place = place; reach = if b then (member_super v.truth (slot_on v n)).recovery_offset else v.truth.size; is_there = true; is_whole = not b }) (own_whole v.truth (slot_on v n) is)
           | Rebuilding to ↦ λ is.
               ap₂ (member_by v.truth.size place) (marked n low ∙ ap (λ seat. not (is_missing_seat seat)) is) (own n low (ap is_missing_seat is))
-              ∙ ap (λ (b : Bool). record { place = place; reach = if b then (member_super v.truth (slot_on v n)).recovery_offset else v.truth.size; is_whole = not b }) (own_rebuilding v.truth (slot_on v n) to is)
-              ∙ ap (λ seat. record { place = place; reach = rebuilt_to seat; is_whole = false }) is
+              ∙ ap (λ (b : Bool). record { place = place; reach = if b then (member_super v.truth (slot_on v n)).recovery_offset else v.truth.size; is_there = true; is_whole = not b }) (own_rebuilding v.truth (slot_on v n) to is)
+              ∙ ap (λ seat. record { place = place; reach = rebuilt_to seat; is_there = true; is_whole = false }) is
         ] in
-        goal refl ∙ ap (member_at v.truth.size place) (sym (seat_is n low))
+        goal refl ∙ ap (member_by_seat v.truth.size place) (sym (seat_is n low))
 
     shape_same : (s : Slot) → shape_by t e v.number (member_super v.truth s) ≡ shape_of v
     unfolding shape_by shape_of

@@ -14,7 +14,6 @@ use Rattle.array_model.specs.declared.Seat.TheVariants.{Whole, Missing, Rebuildi
 use Rattle.array_model.proofs.DataFrames.{columns_same}
 use Rattle.array_core.specs.declared.slots.Slot.{Slot}
 use Rattle.array_core.specs.Superblocks.{member_super, rebuilt_to}
-use Rattle.array_core.proofs.SlotMembers.{member_at}
 use Rattle.array_core.proofs.OwnSupers.{own_whole, own_rebuilding}
 
 -- ---- the fields of the array that stay
@@ -60,16 +59,16 @@ whole_written n t offset written =
     }
 
 -- the member of a superblock that is written for it
-pub own_member : (t : Super) (slot : Slot) (size p : ℕ) → slot.seat ≢ Missing → member_by size p true (Some (member_super t slot)) ≡ member_at size p (Some slot.seat)
+pub own_member : (t : Super) (slot : Slot) (size p : ℕ) → slot.seat ≢ Missing → member_by size p true (Some (member_super t slot)) ≡ member_by_seat size p (Some slot.seat)
 own_member t slot size p present =
-    let by : Bool → Member = λ b. record { place = p; reach = if b then (member_super t slot).recovery_offset else size; is_whole = not b } in
-    let Goal : Seat → Type 0 = λ seat. slot.seat ≡ seat → by (is_rebuilding (member_super t slot)) ≡ member_at size p (Some seat) in
+    let by : Bool → Member = λ b. record { place = p; reach = if b then (member_super t slot).recovery_offset else size; is_there = true; is_whole = not b } in
+    let Goal : Seat → Type 0 = λ seat. slot.seat ≡ seat → by (is_rebuilding (member_super t slot)) ≡ member_by_seat size p (Some seat) in
     let goal : Goal slot.seat = elim slot.seat as Goal [
       | Missing ↦ λ is. absurd (present is)
       | Whole ↦ λ is. ap by (own_whole t slot is)
       | Rebuilding to ↦ λ is.
           ap by (own_rebuilding t slot to is)
-          ∙ ap (λ (seat : Seat). record { place = p; reach = rebuilt_to seat; is_whole = false }) is
+          ∙ ap (λ (seat : Seat). record { place = p; reach = rebuilt_to seat; is_there = true; is_whole = false }) is
     ] in
     goal refl
 

@@ -14,7 +14,7 @@ contents : Image
 contents d t = (16 * (d / 17) + (t - 2048) / 128) ∷ []
 
 member : ℕ → ℕ → Member
-member place reach = record { place = place; reach = reach; is_whole = reach == 384 }
+member place reach = record { place = place; reach = reach; is_there = true; is_whole = reach == 384 }
 
 -- three members of three rows, the second one rebuilt in the first row alone
 array : ℕ → Layout → Layout → ℕ → Shape

@@ -16,17 +16,11 @@ use Rattle.array_image.proofs.Settled.{settled_value}
 
 -- ---- the shape under a mark
 
-marked_reach : (current lost : Bool) (reach : ℕ) → (if current && not lost then reach else 0) ≡ (if lost then 0 else if current then reach else 0)
-marked_reach true true reach = refl
-marked_reach true false reach = refl
-marked_reach false true reach = refl
-marked_reach false false reach = refl
-
-marked_whole : (current lost whole : Bool) → ((current && not lost) && whole) ≡ (not lost && (current && whole))
-marked_whole true true whole = refl
-marked_whole true false whole = refl
-marked_whole false true whole = refl
-marked_whole false false whole = refl
+marked_one : (size place : ℕ) (current lost : Bool) (own : Option Super) → member_by size place (current && not lost) own ≡ unless_gone lost (member_by size place current own)
+marked_one size place true true own = refl
+marked_one size place true false own = refl
+marked_one size place false true own = refl
+marked_one size place false false own = refl
 
 -- one superblock is valid before and after a mark, or neither time
 pub marked_super : (before after : State) (lost : ℕ → Bool) (c : Image) (array place : ℕ)
@@ -47,9 +41,7 @@ marked_member before after lost c array t n marks =
     let place = unwrap_or (place_with t.roles.items n) 16 in
     let own = super_in before c array place in
     ap₂ (λ (current : Bool) (o : Option Super). member_by t.size place current o) (marks.current place) (marked_super before after lost c array place marks)
-    ∙ ap₂ (λ (reach : ℕ) (whole : Bool). record { place = place; reach = reach; is_whole = whole })
-    (marked_reach (is_current before place) (lost place) (option_map_or (reach_of t.size) own 0))
-    (marked_whole (is_current before place) (lost place) (option_map_or (λ u. not (is_rebuilding u)) own false))
+    ∙ marked_one t.size place (is_current before place) (lost place) own
 
 marked_members : (before after : State) (lost : ℕ → Bool) (c : Image) (array : ℕ) (t : Super) (ns : List ℕ)
     → Marks before lost after

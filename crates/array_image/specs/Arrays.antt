@@ -1,5 +1,5 @@
 -- The arrays of a pool as its slices' contents say them: their members, how far each counts, and each sector's value.
-use Rattle.std.specs.Prelude.{ℕ, ◌+◌, ◌-◌, Bool, false, ◌==◌, ◌&&◌, not, nat_lt, if◌then◌else◌, List, [], map, take, position, Option, None, option_map, unwrap_or}
+use Rattle.std.specs.Prelude.{ℕ, ◌+◌, ◌-◌, Bool, false, ◌==◌, ◌&&◌, not, nat_lt, if◌then◌else◌, List, [], map, take, position, Option, None, is_some, option_map, unwrap_or}
 use Rattle.std.specs.Option.{option_map_or}
 use Rattle.std.specs.List.{range_with_len}
 use Rattle.rack.specs.Seen.{Image, read_in}
@@ -15,10 +15,12 @@ use Rattle.array_image.specs.Supers.{is_rebuilding, is_reshaping, super_in, trut
 
 -- ---- one array
 
--- a member's place, how many sectors of its data count, none of one that is missing, and whether it is neither missing nor rebuilding
+-- a member's place, how many sectors of its data count, none of one that is missing, whether it is there, on a place that is current and with its
+-- superblock, and whether it is neither missing nor rebuilding
 pub record Member : Type 0 where
   pub place : ℕ
   pub reach : ℕ
+  pub is_there : Bool
   pub is_whole : Bool
 
 -- what the values of an array's sectors go by
@@ -42,6 +44,7 @@ abbrev pub member_by : ℕ → ℕ → Bool → Option Super → Member
 member_by size place current own = record {
   place = place;
   reach = if current then option_map_or (reach_of size) own 0 else 0;
+  is_there = current && is_some own;
   is_whole = current && option_map_or (λ t. not (is_rebuilding t)) own false;
 }
 

@@ -9,7 +9,7 @@ use Rattle.array_image.specs.Held.{current_in, PicksData}
 
 -- a member that has gone counts no more
 abbrev pub unless_gone : Bool → Member → Member
-unless_gone gone m = record { place = m.place; reach = if gone then 0 else m.reach; is_whole = not gone && m.is_whole }
+unless_gone gone m = record { place = m.place; reach = if gone then 0 else m.reach; is_there = not gone && m.is_there; is_whole = not gone && m.is_whole }
 
 -- so does each one whose place is lost
 abbrev pub lower : (ℕ → Bool) → Member → Member

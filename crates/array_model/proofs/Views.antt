@@ -13,7 +13,7 @@ use Rattle.array_image.specs.Marks.{unless_gone, lower, lowered}
 use Rattle.array_image.proofs.Frames.{map_same}
 use Rattle.array_model.specs.declared.Seat.{Seat}
 use Rattle.array_model.specs.declared.Seat.TheVariants.{Missing}
-use Rattle.array_model.specs.View.{View, HasGeometry, IsSameArray, LosesPlaces, HasFault, seat_unless, seat_reach, is_whole_seat, is_missing_seat, place_at, member_on, shape_of, present, may_vary, has_gone}
+use Rattle.array_model.specs.View.{View, HasGeometry, IsSameArray, LosesPlaces, HasFault, seat_unless, seat_reach, is_whole_seat, is_missing_seat, member_by_seat, place_at, member_on, shape_of, present, may_vary, has_gone}
 use Rattle.array_model.specs.Members.{members_of, IsSameButSeats, Notes}
 
 -- ---- nothing changed
@@ -101,17 +101,10 @@ notes_then u v w a b c first second one two = record {
 
 -- ---- the shape without those that are lost
 
-member_lost : (size place : ℕ) (lost : Bool) (o p : Option Seat) → p ≡ option_map (λ seat. if lost then Missing else seat) o
-    → ◌≡◌ {A = Member}
-    (record { place = place; reach = option_map_or (seat_reach size) p 0; is_whole = option_map_or is_whole_seat p false })
-    (unless_gone lost (record { place = place; reach = option_map_or (seat_reach size) o 0; is_whole = option_map_or is_whole_seat o false }))
-member_lost size place lost o p is =
-    ap (λ q. record { place = place; reach = option_map_or (seat_reach size) q 0; is_whole = option_map_or is_whole_seat q false }) is ∙ by lost o
+member_lost : (size place : ℕ) (lost : Bool) (o p : Option Seat) → p ≡ option_map (λ seat. if lost then Missing else seat) o → member_by_seat size place p ≡ unless_gone lost (member_by_seat size place o)
+member_lost size place lost o p is = ap (member_by_seat size place) is ∙ by lost o
   where
-    by : (lost : Bool) (o : Option Seat)
-        → ◌≡◌ {A = Member}
-        (record { place = place; reach = option_map_or (seat_reach size) (option_map (λ seat. if lost then Missing else seat) o) 0; is_whole = option_map_or is_whole_seat (option_map (λ seat. if lost then Missing else seat) o) false })
-        (unless_gone lost (record { place = place; reach = option_map_or (seat_reach size) o 0; is_whole = option_map_or is_whole_seat o false }))
+    by : (lost : Bool) (o : Option Seat) → member_by_seat size place (option_map (λ seat. if lost then Missing else seat) o) ≡ unless_gone lost (member_by_seat size place o)
     by true None = refl
     by false None = refl
     by true (Some seat) = refl
@@ -119,7 +112,7 @@ member_lost size place lost o p is =
 
 pub member_then : (v w : View) (lost : ℕ → Bool) (n : ℕ) → w.truth ≡ v.truth → LosesPlaces v w lost → member_on w n ≡ lower lost (member_on v n)
 member_then v w lost n truth loses =
-    ap (λ (t : Super). record { place = unwrap_or (place_with t.roles.items n) 16; reach = option_map_or (seat_reach t.size) (slice_get w.seats n) 0; is_whole = option_map_or is_whole_seat (slice_get w.seats n) false }) truth
+    ap (λ (t : Super). member_by_seat t.size (unwrap_or (place_with t.roles.items n) 16) (slice_get w.seats n)) truth
     ∙ member_lost v.truth.size (place_at v n) (lost (place_at v n)) (slice_get v.seats n) (slice_get w.seats n) (loses.seats n)
 
 map_twice : {X Y Z : Type 0} (f : Y → Z) (g : X → Y) (xs : List X) → map f (map g xs) ≡ map (λ x. f (g x)) xs

@@ -34,7 +34,7 @@ pub record IsRow (shape : Shape) (n x : ℕ) (from : List ℕ) (xs : List Target
 
 -- the member at a position
 abbrev pub part_at : ℕ → List Member → Member
-part_at k [] = record { place = 16; reach = 0; is_whole = false }
+part_at k [] = record { place = 16; reach = 0; is_there = false; is_whole = false }
 part_at zero (m ∷ others) = m
 part_at (suc k) (m ∷ others) = part_at k others
 

@@ -1,5 +1,5 @@
 -- What contracts see of an array.
-use Rattle.std.specs.Prelude.{◌≡◌, ℕ, suc, ◌/◌, ◌%◌, ◌<◌, ◌≤◌, ◌^◌, Bool, true, false, ◌==◌, ◌&&◌, ◌||◌, not, nat_le, if◌then◌else◌, List, [], ◌∷◌, map, length, slice_get, Some, option_map, unwrap_or}
+use Rattle.std.specs.Prelude.{Option, ◌≡◌, ℕ, suc, ◌/◌, ◌%◌, ◌<◌, ◌≤◌, ◌^◌, Bool, true, false, ◌==◌, ◌&&◌, ◌||◌, not, nat_le, if◌then◌else◌, List, [], ◌∷◌, map, length, slice_get, Some, option_map, unwrap_or}
 use Rattle.std.specs.Option.{option_map_or}
 use Rattle.std.specs.List.{range_with_len, list_any, list_all}
 use Rattle.rack.specs.Seen.{Seen, Rose}
@@ -47,17 +47,26 @@ is_missing_seat Whole = false
 is_missing_seat Missing = true
 is_missing_seat (Rebuilding to) = false
 
+-- its member isn't missing
+abbrev pub is_seated : Seat → Bool
+is_seated seat = not (is_missing_seat seat)
+
 -- the place of a position, and 16 where the roles name none
 abbrev pub place_at : View → ℕ → ℕ
 place_at v n = unwrap_or (place_with v.truth.roles.items n) 16
 
+-- the member on a place by its seat, in an array of this size
+abbrev pub member_by_seat : ℕ → ℕ → Option Seat → Member
+member_by_seat size place seat = record {
+  place = place;
+  reach = option_map_or (seat_reach size) seat 0;
+  is_there = option_map_or is_seated seat false;
+  is_whole = option_map_or is_whole_seat seat false;
+}
+
 -- the member of a position
 abbrev pub member_on : View → ℕ → Member
-member_on v n = record {
-  place = place_at v n;
-  reach = option_map_or (seat_reach v.truth.size) (slice_get v.seats n) 0;
-  is_whole = option_map_or is_whole_seat (slice_get v.seats n) false;
-}
+member_on v n = member_by_seat v.truth.size (place_at v n) (slice_get v.seats n)
 
 -- the shape that the run goes by
 unfoldable pub shape_of : View → Shape

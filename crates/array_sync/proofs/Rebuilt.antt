@@ -7,7 +7,7 @@ use Rattle.md_super.specs.declared.superblock.Super.{Super}
 use Rattle.pool_state.specs.declared.contents.State.{State}
 use Rattle.array_model.specs.declared.Seat.{Seat}
 use Rattle.array_model.specs.declared.Seat.TheVariants.{Whole, Missing, Rebuilding}
-use Rattle.array_model.specs.View.{View, IsArray, LosesPlaces, is_missing_seat, is_whole_seat, member_on, place_at, seat_reach, seat_unless}
+use Rattle.array_model.specs.View.{View, IsArray, LosesPlaces, is_missing_seat, is_whole_seat, member_on, place_at, seat_reach, seat_unless, member_by_seat}
 use Rattle.array_model.specs.Members.{IsSameButSeats}
 use Rattle.array_model.specs.Stages.{IsStateOf}
 use Rattle.array_model.proofs.RowWrites.{places_apart}
@@ -156,8 +156,7 @@ module _ (v : View) (place p to : ℕ) (is : IsRebuilding v place p to) where
 
   pub other_member : (j : ℕ) → j < v.truth.raid_disks → (j ≡ p → ⊥) → member_on (rebuilt v place) j ≡ member_on v j
   other_member j low other =
-      ap (λ (o : Option Seat). record { place = place_at v j; reach = option_map_or (seat_reach v.truth.size) o 0; is_whole = option_map_or is_whole_seat o false })
-      (other_seat j (place_of_other j low other))
+      ap (member_by_seat v.truth.size (place_at v j)) (other_seat j (place_of_other j low other))
 
   pub own_reach : (member_on (rebuilt v place) p).reach ≡ to + 128
   own_reach = ap (λ (o : Option Seat). option_map_or (seat_reach v.truth.size) o 0) own_seat ∙ rebuilt_reach v.truth.size (to + 128)

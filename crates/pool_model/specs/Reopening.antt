@@ -70,26 +70,14 @@ pub record HoldVolumeBy (f : Found) (c : Image) (l : Linear) (i : Image) : Type 
 abbrev pub HoldVolume : Found → Slices → Linear → Image → Type 0
 HoldVolume f t l i = HoldVolumeBy f (arrays_in (replayed (sectors_of t) (sliced t i))) l i
 
--- By a book the member of an array on a place has no row that counts: it is to be rebuilt from its start.
-pub record HasEmptyMember (v : Raid) (place : ℕ) : Type 0 where
-  pub array : ℕ
-  pub low : array < v.state.made
-  pub member : Member
-  pub among : Among member (shape_by_book (v.arrays array)).members
-  pub on : member.place ≡ place
-  pub empty : member.reach ≡ 0
-
 -- What a stop inside a call leaves of it, from the book v to the book w. Members on places that are current by it count at least as far as they did, and those on places that are
--- current after the call no further than then. It is refused for such a reason by v, or since a drive lacks a superblock whose member was to be rebuilt from its start by v.
+-- current after the call no further than then. It is refused for such a reason by v alone.
 pub record ReopensAmid (f : Found) (t : Slices) (l : Linear) (v w : Raid) (i : Image) : Type 0 where
   pub volume : HoldVolume f t l i
   pub reach :
       (n : ℕ) (shape : Shape) → n < v.state.made → shape_of volume.now n ≡ Some shape
       → KeepsReach volume.now.state (shape_by_book (v.arrays n)) shape × KeepsReach w.state shape (shape_by_book (w.arrays n))
-  pub excused :
-      (why : Refusal) → refusal_of f.disks i ≡ Some why
-      → MayRefuse v volume.now why
-      ⊎ ((place : ℕ) × (is_current volume.now.state place ≡ true) × HasEmptyMember v place × (why ≡ damaged place in_superblock))
+  pub excused : (why : Refusal) → refusal_of f.disks i ≡ Some why → MayRefuse v volume.now why
 
 -- Between calls they stand as a book has them: each array has its members, as far as they are rebuilt, and its truth has the fields of the book's. Where an array isn't whole by the book,
 -- its truth leaves just the rows to resync that are left in it. They are refused for what the book says alone, or for another pool's disk.
@@ -103,19 +91,7 @@ pub record Reopens (f : Found) (t : Slices) (l : Linear) (v : Raid) (i : Image) 
       → first_unsynced u ≡ (v.arrays n).resync
   pub excused : (why : Refusal) → refusal_of f.disks i ≡ Some why → MayRefuseBy v volume.now why
 
--- Why contents may be refused that a stop inside an opening leaves: two disks were of two pools before the record was replayed, or the drive of a current place lacks a superblock. No
--- other part of a drive is damaged, no more drives are wanting than the opening could do without, no array lacks two members, or one with rows left to resync, and no array's part of
--- the volume is bad.
-abbrev pub MayRefuseOpened : Found → Refusal → Type 0
-MayRefuseOpened f no_pool = ⊥
-MayRefuseOpened f two_pools = has_other_pool f.disks f.before ≡ true
-MayRefuseOpened f (absent count) = ⊥
-MayRefuseOpened f (damaged place part) = (part ≡ in_superblock) × (is_current f.state place ≡ true) × (damage_of f place ≡ Some in_superblock)
-MayRefuseOpened f (too_few n) = ⊥
-MayRefuseOpened f (dirty_degraded n) = ⊥
-MayRefuseOpened f (bad_volume n) = ⊥
-
--- Contents that a stop inside the opening of a pool leaves on its disks mean the volume that lies so on its arrays, with what these hold, unless they are refused for such a reason.
+-- Contents that a stop inside the opening of a pool leaves on its disks mean the volume that lies so on its arrays, with what these hold: they aren't refused.
 pub record HoldMeaning (f : Found) (l : Linear) (i : Image) : Type 0 where
   pub volume : HoldVolumeBy f (arrays_held f) l i
-  pub excused : (why : Refusal) → refusal_of f.disks i ≡ Some why → MayRefuseOpened volume.now why
+  pub accepted : refusal_of f.disks i ≡ None

@@ -8,12 +8,17 @@ use Rattle.array_core.proofs.Rules.{get_map}
 use Rattle.array_model.specs.View.{shape_of}
 use Rattle.raid_rack.specs.Raid.{Raid}
 
--- Each member on one of these places counts by the shape b as far as by the shape a at least, and is whole where it was.
+-- A member counts as far as it did at least, has its superblock on a current place where it had, and is whole where it was.
+pub record KeepsMember (m o : Member) : Type 0 where
+  pub reach : m.reach ≤ o.reach
+  pub there : m.is_there ≡ true → o.is_there ≡ true
+  pub whole : m.is_whole ≡ true → o.is_whole ≡ true
+
+-- Each member on one of these places stands by the shape b as well as by the shape a.
 pub record KeepsReachOn (on : ℕ → Bool) (a b : Shape) : Type 0 where
   pub places : map (λ (m : Member). m.place) b.members ≡ map (λ (m : Member). m.place) a.members
   pub reach :
-      (k : ℕ) (m o : Member) → slice_get a.members k ≡ Some m → slice_get b.members k ≡ Some o → on m.place ≡ true
-      → (m.reach ≤ o.reach) × (m.is_whole ≡ true → o.is_whole ≡ true)
+      (k : ℕ) (m o : Member) → slice_get a.members k ≡ Some m → slice_get b.members k ≡ Some o → on m.place ≡ true → KeepsMember m o
 
 -- each member on a place that is current by a state
 abbrev pub KeepsReach : State → Shape → Shape → Type 0
@@ -33,7 +38,7 @@ reach_same on a = record {
   places = refl;
   reach = λ k m o at there is.
       let same : m ≡ o = ap (λ (z : Option Member). unwrap_or z m) (sym at ∙ there) in
-      (subst (λ (z : Member). m.reach ≤ z.reach) same (omega arith), λ whole. ap (λ (z : Member). z.is_whole) (sym same) ∙ whole);
+      subst (KeepsMember m) same (record { reach = omega arith; there = λ is_there. is_there; whole = λ whole. whole });
 }
 
 -- on fewer places
@@ -50,9 +55,9 @@ reach_then p q a b c fewer one two = record {
       ∙ ap (option_map (λ (z : Member). z.place)) at) in
       let first = one.reach k m mid.0 at mid.1 (fewer m.place is) in
       let second = two.reach k mid.0 o mid.1 there (ap q mid.2 ∙ is) in
-      let less = first.0 in
-      let more = second.0 in
-      (omega (arith, less, more), λ whole. second.1 (first.1 whole));
+      let less = first.reach in
+      let more = second.reach in
+      record { reach = omega (arith, less, more); there = λ is_there. second.there (first.there is_there); whole = λ whole. second.whole (first.whole whole) };
 }
   where
     midway : (z : Option Member) (m : Member) → option_map (λ (e : Member). e.place) z ≡ Some m.place → (e : Member) × (z ≡ Some e) × (e.place ≡ m.place)
