@@ -1,9 +1,10 @@
 -- What calls of a pool keep of its book: the state and the arrays, by which sectors are spent.
-use Rattle.std.specs.Prelude.{◌≡◌, ◌≢◌, ℕ, ◌*◌, ◌<◌, ◌≤◌, true, not, slice_get, Some, option_map}
+use Rattle.std.specs.Prelude.{◌≡◌, ◌≢◌, ℕ, ◌*◌, ◌<◌, ◌≤◌, true}
 use Rattle.pool_state.specs.declared.contents.State.{State}
 use Rattle.array_image.specs.States.{is_current}
-use Rattle.array_model.specs.View.{View as ArrayView, HasGeometry, is_missing_seat, member_on, place_at}
+use Rattle.array_model.specs.View.{View as ArrayView, HasGeometry, member_on, place_at}
 use Rattle.raid_rack.specs.Moves.{KeepsArrays, RaisesBy}
+pub use Rattle.raid_rack.specs.Raid.{HasMarkedSeats}
 use Rattle.raid_rack.specs.Raid.{Raid}
 use Rattle.pool.specs.View.{View, book}
 
@@ -35,12 +36,6 @@ pub record KeepsArrayBut (place : ℕ) (s : State) (u w : ArrayView) : Type 0 wh
 
 abbrev pub KeepsBookBut : ℕ → Raid → Raid → Type 0
 KeepsBookBut place v w = (n : ℕ) → n < v.state.made → KeepsArrayBut place w.state (v.arrays n) (w.arrays n)
-
--- In each array just those members are missing whose drives are marked.
-abbrev pub HasMarkedSeats : Raid → Type 0
-HasMarkedSeats v =
-    (n k : ℕ) → n < v.state.made → k < (v.arrays n).truth.raid_disks
-    → option_map is_missing_seat (slice_get (v.arrays n).seats k) ≡ Some (not (is_current v.state (place_at (v.arrays n) k)))
 
 -- The most by which a call raises the log's number, the epoch, and each array's events: that of a replacing of a drive that isn't missing, and is found gone while
 -- the new disk is being laid.

@@ -1,5 +1,5 @@
 -- What contracts see of a rack of arrays, and what it shows as a rack.
-use Rattle.std.specs.Prelude.{◌≡◌, ℕ, ◌-◌, ◌<◌, ◌^◌, Bool, true, false, ◌==◌, ◌&&◌, ◌||◌, not, nat_lt}
+use Rattle.std.specs.Prelude.{◌≡◌, ℕ, ◌-◌, ◌<◌, ◌^◌, Bool, true, false, ◌==◌, ◌&&◌, ◌||◌, not, nat_lt, slice_get, Some, option_map}
 use Rattle.std.specs.List.{list_any, range_with_len}
 use Rattle.rack.specs.Values.{Values}
 use Rattle.rack.specs.Seen.{Image, Held, Seen, IsLive}
@@ -11,7 +11,7 @@ use Rattle.array_image.specs.Left.{IsInside}
 use Rattle.array_image.specs.SoundArray.{IsWrittenSuper}
 use Rattle.array_image.specs.Held.{held_by}
 use Rattle.commit_log.specs.Kept.{LogKept}
-use Rattle.array_model.specs.View.{View, shape_of, sectors_of, spent_in, present, has_gone}
+use Rattle.array_model.specs.View.{View, is_missing_seat, place_at, shape_of, sectors_of, spent_in, present, has_gone}
 use Rattle.array_model.specs.Says.{Holds}
 
 -- what contracts see of it, but for the rack below
@@ -21,6 +21,12 @@ pub record Raid : Type 0 where
   pub arrays : ℕ → View
   -- the number of the log
   pub number : ℕ
+
+-- In each array just those members are missing whose drives are marked.
+abbrev pub HasMarkedSeats : Raid → Type 0
+HasMarkedSeats v =
+    (n k : ℕ) → n < v.state.made → k < (v.arrays n).truth.raid_disks
+    → option_map is_missing_seat (slice_get (v.arrays n).seats k) ≡ Some (not (is_current v.state (place_at (v.arrays n) k)))
 
 -- ---- sectors that can't be had
 
