@@ -440,7 +440,7 @@ amid_reopens f t v w l i begun had inside tabled since reach left amid volume =
 
 -- So it is with stops inside calls that write slices alone, of a pool by slices that lie as those of its current places, where the arrays are told when calls begin, its superblocks say
 -- the book's truths then, whose rows are the arrays' own, and none is over when they end.
-pub calls_reopen : (f : Found) (t : Slices) (v w : Raid) (x y : Seen) (l : Linear) → IsAfter f.state v.state → AreSlicesNow f t v.state → AreInside f t
+pub calls_reopen : (f : Found) (t : Slices) (v w : Raid) (x y : Seen) (l : Linear) → IsAfter f.state v.state → HasMarkedSeats v → AreSlicesNow f t v.state → AreInside f t
     → HoldTabled f v.state t x → x.lasting → WritesOnly x y (IsSliced t) → KeepsMoments v w (slices_shown t x) (slices_shown t y)
     → ((n : ℕ) → n < f.state.made → IsTold v (slices_shown t x) n) → ((n : ℕ) → n < f.state.made → is_over w n ≡ false)
     → ((n : ℕ) (r : Image) → n < f.state.made → IsLeft (slices_shown t x) r → SayTruth (v.arrays n) v.state r n) → ((n : ℕ) → n < f.state.made → HasOwnRows (v.arrays n))

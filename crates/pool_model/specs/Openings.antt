@@ -3,13 +3,12 @@ use Rattle.std.specs.Prelude.{◌≡◌, ◌⊎◌, ℕ, ◌+◌, ◌<◌, ◌�
 use Rattle.std.specs.Option.{option_map_or}
 use Rattle.rack.specs.Seen.{Image}
 use Rattle.gpt_table.specs.Changes.{the_table}
-use Rattle.pool_state.specs.declared.contents.Copied.{Copied}
 use Rattle.array_image.specs.Arrays.{Shape}
 use Rattle.array_image.specs.States.{is_current}
 use Rattle.array_image.specs.Supers.{is_unclean}
 use Rattle.pool_image.specs.Disks.{Disks}
 use Rattle.pool_image.specs.Drives.{Found, found}
-use Rattle.pool_image.specs.Meaning.{array_sectors, arrays_held, damage_of, has_other_pool, has_table, shape_of, is_dirty_degraded, truth_of}
+use Rattle.pool_image.specs.Meaning.{array_sectors, arrays_held, damage_of, has_table, shape_of, is_dirty_degraded, truth_of}
 use Rattle.pool_image.specs.Replay.{Standing, standing}
 use Rattle.pool_rest.specs.Moments.{TakesLowerIn}
 use Rattle.pool_rest.specs.SoundLogs.{HasSoundLogs}
@@ -37,10 +36,6 @@ abbrev pub HaveGoodTables : Found → Type 0
 HaveGoodTables f = (p d : ℕ) → f.seats p ≡ Some d → has_table f p d ≡ true
 
 -- ---- contents that an opening leaves
-
--- no disk had the state of another pool, once the pending record was replayed
-abbrev pub HaveOnePool : Found → Type 0
-HaveOnePool f = (d : ℕ) (copy : Copied) → d < f.disks.count → (f.identities d).copied ≡ Some copy → copy.state.pool ≡ f.state.pool
 
 -- nothing is pending in contents of disks
 abbrev pub IsIdleIn : Disks → Image → Type 0
@@ -80,5 +75,3 @@ pub record HoldOpened (f : Found) (from : ℕ) (i : Image) : Type 0 where
   pub unsynced : (n : ℕ) → n < f.state.made → is_dirty_degraded now n ≡ true → IsUnsynced f n
   -- the drive of a place that had all its parts keeps them
   pub parts : (p : ℕ) → is_current now.state p ≡ true → damage_of f p ≡ None → damage_of now p ≡ None
-  -- no disk has the state of another pool, if none had
-  pub one_pool : HaveOnePool f → has_other_pool f.disks now.before ≡ false

@@ -91,7 +91,8 @@ pub record Reopens (f : Found) (t : Slices) (l : Linear) (v : Raid) (i : Image) 
       → first_unsynced u ≡ (v.arrays n).resync
   pub excused : (why : Refusal) → refusal_of f.disks i ≡ Some why → MayRefuseBy v volume.now why
 
--- Contents that a stop inside the opening of a pool leaves on its disks mean the volume that lies so on its arrays, with what these hold: they aren't refused.
+-- Contents that a stop inside the opening of a pool leaves on its disks mean the volume that lies so on its arrays, with what these hold: they are refused
+-- only where two disks were of two pools before the record was replayed.
 pub record HoldMeaning (f : Found) (l : Linear) (i : Image) : Type 0 where
   pub volume : HoldVolumeBy f (arrays_held f) l i
-  pub accepted : refusal_of f.disks i ≡ None
+  pub excused : (why : Refusal) → refusal_of f.disks i ≡ Some why → (why ≡ two_pools) × (has_other_pool f.disks volume.now.before ≡ true)
