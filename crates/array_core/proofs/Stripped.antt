@@ -11,6 +11,7 @@ use Rattle.array_image.specs.Arrays.{Member, Shape, layout_at, member_by}
 use Rattle.array_image.specs.Even.{AreEven}
 use Rattle.array_model.specs.declared.Seat.{Seat}
 use Rattle.array_model.specs.declared.Seat.TheVariants.{Whole, Missing, Rebuilding}
+use Rattle.array_model.specs.View.{member_by_seat}
 use Rattle.array_model.proofs.DataFrames.{columns_same}
 use Rattle.array_core.specs.declared.slots.Slot.{Slot}
 use Rattle.array_core.specs.Superblocks.{member_super, rebuilt_to}
