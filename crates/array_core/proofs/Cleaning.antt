@@ -42,10 +42,9 @@ use Rattle.array_image.specs.Arrays.{place_with}
 use Rattle.array_image.specs.Left.{IsClosed}
 use Rattle.md_super.specs.declared.superblock.Super.{Super}
 use Rattle.md_super.specs.Profile.{profiled}
-use Rattle.std.specs.Option.{option_map_or}
 use Rattle.std.specs.List.{range_with_len}
 use Rattle.array_model.specs.declared.Seat.TheVariants.{Missing}
-use Rattle.array_model.specs.View.{HasGeometry, member_on, seat_reach, is_whole_seat, is_missing_seat}
+use Rattle.array_model.specs.View.{HasGeometry, member_on, is_missing_seat}
 use Rattle.array_model.proofs.Views.{shape_is, shape_with}
 
 -- ---- views in which nobody went

@@ -1,6 +1,5 @@
 -- The members of an array's shape, by its slots.
 use Rattle.std.proofs.Common.{◌≡◌, ℕ, zero, suc, ◌+◌, ◌<◌, Bool, true, false, not, if◌then◌else◌, List, [], ◌∷◌, map, filter, length, count_by, slice_get, Option, Some, refl, sym, ap, ap₂, ◌∙◌, arith}
-use Rattle.std.specs.Option.{option_map_or}
 use Rattle.std.specs.List.{range_with_len, zip}
 use Rattle.std.proofs.lemmas.List.Sums.{length-filter}
 use Rattle.shr_base.specs.declared.Id.{Id}

@@ -1,5 +1,5 @@
 -- One mark on a drive is a mark on each array that has it: before it and after it, images give values that the sectors hold.
-use Rattle.std.proofs.Common.{◌≡◌, ◌⊎◌, ℕ, ◌<◌, Bool, true, false, ◌&&◌, not, if◌then◌else◌, List, [], ◌∷◌, map, length, Option, Some, unwrap_or, refl, sym, ap, ap₂, subst, ◌∙◌, inl, inr, arith}
+use Rattle.std.proofs.Common.{◌≡◌, ◌⊎◌, ℕ, ◌<◌, Bool, true, false, ◌&&◌, not, List, [], ◌∷◌, map, length, Option, Some, unwrap_or, refl, sym, ap, ap₂, subst, ◌∙◌, inl, inr, arith}
 use Rattle.std.specs.Option.{option_map_or}
 use Rattle.std.specs.List.{range_with_len}
 use Rattle.rack.specs.Values.{Values, MayLeave}
@@ -8,8 +8,8 @@ use Rattle.md_super.specs.declared.superblock.Super.{Super}
 use Rattle.pool_state.specs.declared.contents.State.{State}
 use Rattle.array_image.specs.Places.{member_slice, super_sector}
 use Rattle.array_image.specs.States.{is_current, state_in}
-use Rattle.array_image.specs.Supers.{is_rebuilding, is_super_of, only_if, super_of, super_in}
-use Rattle.array_image.specs.Arrays.{Member, Shape, reach_of, member_by, member_in, place_with, shape_by, shape_in, array_in, arrays_in, value_by}
+use Rattle.array_image.specs.Supers.{is_super_of, only_if, super_of, super_in}
+use Rattle.array_image.specs.Arrays.{Member, Shape, member_by, member_in, place_with, shape_by, shape_in, array_in, arrays_in, value_by}
 use Rattle.array_image.specs.Held.{Among, PicksData, IsSettled}
 use Rattle.array_image.specs.Marks.{unless_gone, lower, lowered, Marks, IsCarried}
 use Rattle.array_image.proofs.Settled.{settled_value}

@@ -2,7 +2,6 @@
 use Rattle.std.proofs.Common.{◌≡◌, ◌⊎◌, ℕ, suc, ◌<◌, ◌≤◌, Bool, true, false, ◌==◌, eq-eqb, ◌||◌, ◌&&◌, nat_le, if◌then◌else◌, List, [], ◌∷◌, map, slice_get, Option, Some, None, option_map, unwrap_or, refl, sym, ap, ap₂, subst, ◌∙◌, inl, inr, arith}
 use Rattle.std.proofs.lemmas.Bool.{both_ways, lt-leb, leb-false}
 use Rattle.std.proofs.lemmas.List.Folds.{list_any-from_Any}
-use Rattle.std.specs.Option.{option_map_or}
 use Rattle.std.specs.List.{range_with_len, list_any}
 use Rattle.rack.specs.Seen.{Seen, Stays}
 use Rattle.rack.specs.Joins.{rose_later, rose_early}
@@ -13,7 +12,7 @@ use Rattle.array_image.specs.Marks.{unless_gone, lower, lowered}
 use Rattle.array_image.proofs.Frames.{map_same}
 use Rattle.array_model.specs.declared.Seat.{Seat}
 use Rattle.array_model.specs.declared.Seat.TheVariants.{Missing}
-use Rattle.array_model.specs.View.{View, HasGeometry, IsSameArray, LosesPlaces, HasFault, seat_unless, seat_reach, is_whole_seat, is_missing_seat, member_by_seat, place_at, member_on, shape_of, present, may_vary, has_gone}
+use Rattle.array_model.specs.View.{View, HasGeometry, IsSameArray, LosesPlaces, HasFault, seat_unless, is_missing_seat, member_by_seat, place_at, member_on, shape_of, present, may_vary, has_gone}
 use Rattle.array_model.specs.Members.{members_of, IsSameButSeats, Notes}
 
 -- ---- nothing changed

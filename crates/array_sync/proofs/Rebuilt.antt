@@ -7,7 +7,7 @@ use Rattle.md_super.specs.declared.superblock.Super.{Super}
 use Rattle.pool_state.specs.declared.contents.State.{State}
 use Rattle.array_model.specs.declared.Seat.{Seat}
 use Rattle.array_model.specs.declared.Seat.TheVariants.{Whole, Missing, Rebuilding}
-use Rattle.array_model.specs.View.{View, IsArray, LosesPlaces, is_missing_seat, is_whole_seat, member_on, place_at, seat_reach, seat_unless, member_by_seat}
+use Rattle.array_model.specs.View.{View, IsArray, LosesPlaces, is_missing_seat, member_on, place_at, seat_reach, seat_unless, member_by_seat}
 use Rattle.array_model.specs.Members.{IsSameButSeats}
 use Rattle.array_model.specs.Stages.{IsStateOf}
 use Rattle.array_model.proofs.RowWrites.{places_apart}

@@ -1,14 +1,12 @@
 -- What a later opening makes of the contents that a stop leaves on a pool's disks.
-use Rattle.std.specs.Prelude.{◌≡◌, ◌≢◌, ◌⊎◌, ℕ, ◌<◌, true, false, [], ◌∷◌, length, Some, None}
+use Rattle.std.specs.Prelude.{◌≡◌, ◌≢◌, ℕ, ◌<◌, true, false, [], ◌∷◌, length, Some, None}
 use Rattle.rack.specs.Seen.{Image}
 use Rattle.slice_rack.specs.Slices.{Slices, sectors_of}
 use Rattle.slice_rack.specs.Sliced.{sliced}
 use Rattle.pool_state.specs.declared.contents.Copied.{Copied}
 use Rattle.md_super.specs.declared.superblock.Super.{Super}
-use Rattle.array_image.specs.Arrays.{Member, Shape, arrays_in, replayed}
-use Rattle.array_image.specs.Held.{Among}
+use Rattle.array_image.specs.Arrays.{Shape, arrays_in, replayed}
 use Rattle.array_image.specs.SoundArray.{array_fields, first_unsynced}
-use Rattle.array_image.specs.States.{is_current}
 use Rattle.array_model.specs.View.{is_whole_array, rows_of, shape_of as shape_by_book}
 use Rattle.raid_rack.specs.Raid.{Raid}
 use Rattle.raid_rack.specs.Reach.{KeepsReach}
@@ -16,7 +14,7 @@ use Rattle.lvm_group.specs.Runs.{Linear, sectors_in}
 use Rattle.lvm_group.specs.Shown.{contents_of}
 use Rattle.pool_image.specs.Disks.{Disks}
 use Rattle.pool_image.specs.Drives.{Found, found}
-use Rattle.pool_image.specs.Meaning.{Refusal, Volume, absent, arrays_held, bad_volume, damage_of, damaged, dirty_degraded, has_other_pool, in_superblock, is_dirty_degraded, is_too_few, lacking_of, meaning, no_pool, refusal_of, shape_of, too_few, truth_of, two_pools}
+use Rattle.pool_image.specs.Meaning.{Refusal, Volume, absent, arrays_held, bad_volume, damaged, dirty_degraded, has_other_pool, is_dirty_degraded, is_too_few, lacking_of, meaning, no_pool, refusal_of, shape_of, too_few, truth_of, two_pools}
 use Rattle.pool_model.specs.Grouped.{HaveOwnAreas, IsVolumeOf}
 
 -- contents of disks in whole sectors
