@@ -14,7 +14,7 @@ use Rattle.array_image.specs.Places.{data_sector, member_slice, super_sector}
 use Rattle.array_image.specs.Record.{Gate, gate_of}
 use Rattle.array_image.specs.States.{current_places, is_current}
 use Rattle.array_image.specs.Supers.{is_super_of, only_if, super_in, super_of}
-use Rattle.array_image.specs.Arrays.{Shape, place_with, replayed}
+use Rattle.array_image.specs.Arrays.{place_with, replayed}
 use Rattle.array_image.specs.Spent.{spent_by}
 use Rattle.array_image.specs.Even.{AreEven}
 use Rattle.array_image.specs.Held.{IsSettled, current_in}
@@ -42,12 +42,13 @@ use Rattle.raid_rack.specs.Raid.{Raid, IsWritten, Stood, gone_in, is_over}
 use Rattle.raid_rack.specs.Settling.{state_after}
 use Rattle.raid_rack.specs.Vacated.{FindsArray}
 use Rattle.raid_rack.proofs.Added.{marks_bring, names_current}
+use Rattle.raid_rack.proofs.Alike.{CountAlike, data_alike, settled_alike}
 use Rattle.raid_rack.proofs.Brought.{copies_own}
 use Rattle.raid_rack.proofs.Adding.{all_live, no_data, supers_calm, supers_inside}
 use Rattle.raid_rack.proofs.Changed.{lowered_none}
 use Rattle.raid_rack.proofs.Committed.{IsCommitBy, after_further, after_gone, after_set, commit_losing, next_later, raid_after, raised_more}
 use Rattle.raid_rack.proofs.Enlisted.{enlisted_marked, listed}
-use Rattle.raid_rack.proofs.Joining.{MayJoinPool, listed_heeded, listed_raid, listed_shape, lists_listed, was_current}
+use Rattle.raid_rack.proofs.Joining.{MayJoinPool, listed_alike, listed_heeded, listed_raid, lists_listed, was_current}
 use Rattle.raid_rack.proofs.Marking.{MarksCall, NotesLost, commit_new, marks_stood, shape_after}
 use Rattle.raid_rack.proofs.Losing.{only_gone}
 use Rattle.raid_rack.proofs.Noted.{left_reach, live_later}
@@ -239,8 +240,9 @@ module _ (place units : ℕ) (plan : Plan) (joining : ℕ → Bool) (v : Raid) (
 
   -- ---- its superblocks
 
-  shape_same : shape_of (u.arrays n) ≡ shape_of (v.arrays n)
-  shape_same = listed_shape place units plan joining v x may n low
+  -- its members count as they did before
+  shape_alike : CountAlike (shape_of (v.arrays n)) (shape_of (u.arrays n))
+  shape_alike = listed_alike place units plan joining v x may n low
 
   truth_same : (u.arrays n).truth ≡ (v.arrays n).truth
   truth_same = renewed_truth (joining n) place (next_drive v.state) (v.arrays n)
@@ -260,7 +262,7 @@ module _ (place units : ℕ) (plan : Plan) (joining : ℕ → Bool) (v : Raid) (
       staged_array u [] takes l xs x commit.marking n low
       (let some = member_left m n m_goes in
       let fewer = (after_further u [] takes gone l xs f x y commit).seats n low in omega (arith, some, fewer))
-      written (subst (λ (shape : Shape). IsSettled shape n x.held) (sym shape_same) finds.settled)
+      written (settled_alike (shape_of (v.arrays n)) (shape_of (u.arrays n)) shape_alike n x.held finds.settled)
 
   -- the drive's slice has a superblock of the array only where it is a member of it
   alone : (c : Image) → Picks x c → HasNoOthers (u.arrays n) t (put x.sectors l.added c)
@@ -292,7 +294,7 @@ module _ (place units : ℕ) (plan : Plan) (joining : ℕ → Bool) (v : Raid) (
           ]
 
   holds : HoldsData n (shape_of (u.arrays n)) (v.arrays n).resync vals spent x
-  holds = subst (λ (shape : Shape). HoldsData n shape (v.arrays n).resync vals spent x) (sym shape_same) finds.members
+  holds = data_alike (shape_of (v.arrays n)) (shape_of (u.arrays n)) shape_alike n (v.arrays n).resync vals spent x finds.members
 
   pub restates : Restates t (shape_of (u.arrays n)) false (u.arrays n) l.added x n
   restates =

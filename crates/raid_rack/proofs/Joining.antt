@@ -1,6 +1,6 @@
 -- The commit that makes a new drive one of the pool: one that marks nobody, of a state that has the drive in its list already, by the logs of
 -- the drives that the pool had before.
-use Rattle.std.proofs.Common.{◌≡◌, ◌≢◌, ◌⊎◌, ℕ, ◌+◌, ◌<◌, ◌==◌, ◌&&◌, ◌||◌, not, Bool, true, false, if◌then◌else◌, List, [], is_some, length, slice_get, Some, option_map, refl, sym, ap, ap₂, subst, ◌∙◌, inl, inr, arith}
+use Rattle.std.proofs.Common.{◌≡◌, ◌≢◌, ◌⊎◌, ℕ, ◌+◌, ◌<◌, ◌==◌, ◌&&◌, ◌||◌, not, Bool, true, false, if◌then◌else◌, List, [], is_some, length, slice_get, Some, option_map, refl, sym, ap, subst, ◌∙◌, inl, inr, arith}
 use Rattle.std.proofs.lemmas.Bool.{and_parts, both_ways, cases_Bool, cases_eq, ne_eqb}
 use Rattle.rack.specs.Seen.{Seen}
 use Rattle.rack.specs.Joins.{rose_early, rose_later}
@@ -11,7 +11,7 @@ use Rattle.pool_state.specs.declared.contents.Plan.{Plan}
 use Rattle.pool_state.specs.declared.contents.Plan.TheVariants.{Replace}
 use Rattle.pool_state.specs.declared.contents.State.{State}
 use Rattle.md_super.specs.declared.superblock.Super.{Super}
-use Rattle.array_image.specs.Arrays.{Shape, first_layout}
+use Rattle.array_image.specs.Arrays.{first_layout}
 use Rattle.array_image.specs.Spent.{spent_by}
 use Rattle.array_image.specs.Stripes.{capacity}
 use Rattle.array_image.specs.Places.{data_sector, log_sectors, log_slice, member_slice}
@@ -27,6 +27,7 @@ use Rattle.raid_rack.specs.Moves.{IsHeeded, IsSeated, IsSet, IsUnmarked, Mends, 
 use Rattle.raid_rack.specs.Raid.{Raid, gone_in, is_empty, is_left, is_over, is_used_up}
 use Rattle.raid_rack.specs.Settling.{HasStaged, IsMarking}
 use Rattle.raid_rack.proofs.Added.{names_current}
+use Rattle.raid_rack.proofs.Alike.{CountAlike, alike_same, spent_alike}
 use Rattle.raid_rack.proofs.Committed.{IsCommitBy, after_cause, after_further, after_left, commit_losing, raid_after}
 use Rattle.raid_rack.proofs.Enlisted.{current_enlisted, enlisted_marked, listed, valid_listed}
 use Rattle.raid_rack.proofs.Losing.{only_gone}
@@ -34,7 +35,7 @@ use Rattle.raid_rack.proofs.Noted.{current_few, losing_spent}
 use Rattle.raid_rack.proofs.Others.{other_left, some_other}
 use Rattle.raid_rack.proofs.Over.{not_empty, or_from, or_parts, over_still, used_still}
 use Rattle.raid_rack.proofs.Raises.{raised_up}
-use Rattle.raid_rack.proofs.Renewed.{Lists, member_found, renewed_resync, renewed_shape, renewed_truth, renewed_unmarked, renewed_went, seated_listed, seated_renewed}
+use Rattle.raid_rack.proofs.Renewed.{Lists, member_found, renewed_alike, renewed_resync, renewed_truth, renewed_unmarked, renewed_went, seated_listed, seated_renewed}
 use Rattle.raid_rack.proofs.Restating.{and_none}
 use Rattle.raid_rack.proofs.Settling.{more_super, more_supers}
 use Rattle.raid_rack.proofs.Steps.{length_set}
@@ -133,16 +134,19 @@ module _ (place units : ℕ) (plan : Plan) (joining : ℕ → Bool) (v : Raid) (
         (renewed_unmarked (joining n) place (next_drive v.state) (v.arrays n) (may.unmarked n low)).mark is);
   }
 
-  pub listed_shape : (n : ℕ) → n < v.state.made → shape_of ((listed_raid place units plan joining v).arrays n) ≡ shape_of (v.arrays n)
-  listed_shape n low = of (joining n)
+  -- its members count as they did
+  pub listed_alike : (n : ℕ) → n < v.state.made → CountAlike (shape_of (v.arrays n)) (shape_of ((listed_raid place units plan joining v).arrays n))
+  listed_alike n low = of (joining n)
     where
-      of : (b : Bool) → shape_of (if b then renewed place (next_drive v.state) (v.arrays n) else v.arrays n) ≡ shape_of (v.arrays n)
-      of true = renewed_shape v.state (listed place units plan v.state) n (v.arrays n) x place (next_drive v.state) drive_lists may.missing (may.set.arrays n low) (may.heeded n low)
-      of false = refl
+      of : (b : Bool) → CountAlike (shape_of (v.arrays n)) (shape_of (if b then renewed place (next_drive v.state) (v.arrays n) else v.arrays n))
+      of true = renewed_alike v.state (listed place units plan v.state) n (v.arrays n) x place (next_drive v.state) drive_lists may.missing (may.set.arrays n low) (may.heeded n low)
+      of false = alike_same (shape_of (v.arrays n))
 
   pub listed_spent : (n k : ℕ) → n < v.state.made → spent_in ((listed_raid place units plan joining v).arrays n) k ≡ spent_in (v.arrays n) k
   listed_spent n k low =
-      ap₂ (λ (shape : Shape) (rows : ℕ). spent_by shape rows k) (listed_shape n low) (renewed_resync (joining n) place (next_drive v.state) (v.arrays n))
+      let u = (listed_raid place units plan joining v).arrays n in
+      spent_alike (shape_of (v.arrays n)) (shape_of u) (listed_alike n low) u.resync k
+      ∙ ap (λ (rows : ℕ). spent_by (shape_of (v.arrays n)) rows k) (renewed_resync (joining n) place (next_drive v.state) (v.arrays n))
 
   -- ---- what is added to the log
 

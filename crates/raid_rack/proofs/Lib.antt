@@ -74,6 +74,7 @@ pub mod Apart
 pub mod Seating
 pub mod Others
 pub mod Renewed
+mod Alike
 mod Joining
 mod Joined
 mod JoinedMissing

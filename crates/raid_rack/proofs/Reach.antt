@@ -1,5 +1,5 @@
 -- How far members count by shapes that the run goes by.
-use Rattle.std.proofs.Common.{◌≡◌, ℕ, zero, suc, ◌+◌, ◌<◌, ◌≤◌, Bool, true, false, ◌&&◌, not, slice_get, Option, Some, None, option_map, unwrap_or, refl, sym, ap, ap₂, ◌∙◌, inl, inr, arith}
+use Rattle.std.proofs.Common.{◌≡◌, ℕ, zero, suc, ◌+◌, ◌<◌, Bool, true, false, ◌&&◌, not, slice_get, Option, Some, None, option_map, unwrap_or, refl, sym, ap, ap₂, subst, ◌∙◌, inl, inr, arith}
 use Rattle.std.proofs.lemmas.Bool.{both_ways}
 use Rattle.std.specs.List.{range_with_len}
 use Rattle.std.specs.Option.{option_map_or}
@@ -10,10 +10,10 @@ use Rattle.array_image.specs.Arrays.{Member, place_with}
 use Rattle.array_image.specs.States.{is_current}
 use Rattle.array_core.proofs.Rules.{get_map, zero_more}
 use Rattle.array_model.specs.declared.Seat.{Seat}
-use Rattle.array_model.specs.View.{View, has_gone, is_missing_seat, is_whole_seat, member_on, place_at, seat_reach, shape_of}
+use Rattle.array_model.specs.View.{View, has_gone, is_missing_seat, is_seated, is_whole_seat, member_on, place_at, seat_reach, shape_of}
 use Rattle.raid_rack.specs.Frames.{Frame, frame_of}
 use Rattle.raid_rack.specs.Moves.{IsSeated, LosesOnly}
-use Rattle.raid_rack.specs.Reach.{KeepsReachOn}
+use Rattle.raid_rack.specs.Reach.{KeepsMember, KeepsReachOn}
 use Rattle.raid_rack.proofs.Frames.{geometry_frame, view_frame}
 use Rattle.raid_rack.proofs.Seated.{place_few}
 
@@ -38,9 +38,9 @@ member_there u k m at =
     let there = range_there 0 u.truth.raid_disks k found.0 found.1 in
     (there.0, found.2 ∙ ap (member_on u) (there.1 ∙ zero_more k))
 
--- how far a member counts, and whether it is whole, in an array that has it after another one
+-- a member stands in an array as well as in another one before it
 abbrev pub CountsOn : View → View → ℕ → Type 0
-CountsOn u z k = ((member_on u k).reach ≤ (member_on z k).reach) × ((member_on u k).is_whole ≡ true → (member_on z k).is_whole ≡ true)
+CountsOn u z k = KeepsMember (member_on u k) (member_on z k)
 
 pub reach_by : (on : ℕ → Bool) (u z : View) → frame_of z.truth ≡ frame_of u.truth
     → ((k : ℕ) → k < z.truth.raid_disks → on (place_at u k) ≡ true → CountsOn u z k) → KeepsReachOn on (shape_of u) (shape_of z)
@@ -49,20 +49,19 @@ reach_by on u z framed counts = record {
   reach = λ k m o at there is.
       let was = member_there u k m at in
       let now = member_there z k o there in
-      let both = counts k now.0 (ap on (sym (ap (λ (e : Member). e.place) was.1)) ∙ is) in
-      let more = both.0 in
-      let early = ap (λ (e : Member). e.reach) was.1 in
-      let late = ap (λ (e : Member). e.reach) now.1 in (
-        omega (arith, more, early, late),
-        λ whole. ap (λ (e : Member). e.is_whole) now.1 ∙ both.1 (sym (ap (λ (e : Member). e.is_whole) was.1) ∙ whole),
-      );
+      subst (KeepsMember m) (sym now.1)
+      (subst (λ (e : Member). KeepsMember e (member_on z k)) (sym was.1) (counts k now.0 (ap on (sym (ap (λ (e : Member). e.place) was.1)) ∙ is)));
 }
 
 -- a member whose seat is as it was
 pub same_counts : (u z : View) (k : ℕ) → z.truth.size ≡ u.truth.size → slice_get z.seats k ≡ slice_get u.seats k → CountsOn u z k
 same_counts u z k size same =
     let reach = ap₂ (λ (n : ℕ) (o : Option Seat). option_map_or (seat_reach n) o 0) size same in
-    (omega (arith, reach), λ whole. ap (λ (o : Option Seat). option_map_or is_whole_seat o false) same ∙ whole)
+    record {
+      reach = omega (arith, reach);
+      there = λ was. ap (λ (o : Option Seat). option_map_or is_seated o false) same ∙ was;
+      whole = λ was. ap (λ (o : Option Seat). option_map_or is_whole_seat o false) same ∙ was;
+    }
 
 -- An array that has lost members counts those as before that it hasn't lost: they are those on current places that haven't gone.
 pub lost_reach : (on : ℕ → Bool) (s : State) (n : ℕ) (u z : View) (x : Seen) → IsSeated s n z x → LosesOnly u z

@@ -12,7 +12,7 @@ use Rattle.array_image.specs.Supers.{is_reshaping}
 use Rattle.commit_log.specs.View.{LogView}
 use Rattle.array_model.specs.declared.Seat.{Seat}
 use Rattle.array_model.specs.declared.Seat.TheVariants.{Whole, Missing, Rebuilding}
-use Rattle.array_model.specs.View.{View, has_gone, is_missing_seat, is_whole_array, is_whole_seat, member_on, place_at, present, rows_of, seat_reach, shape_of}
+use Rattle.array_model.specs.View.{View, has_gone, is_missing_seat, is_seated, is_whole_array, is_whole_seat, member_on, place_at, present, rows_of, seat_reach, shape_of}
 use Rattle.array_model.specs.Members.{members_of}
 use Rattle.array_core.specs.Pool.{Goes}
 use Rattle.array_core.specs.Seats.{seat_of}
@@ -101,14 +101,18 @@ module _ (s : State) (m : ℕ) (u : View) (x : Seen) (place : ℕ) (seated : IsS
       (λ k low current.
       elim (cases_eq k position.0) [
         | inl same ↦
-            subst (CountsOn u (rebuilt u place)) (sym same) (
-              let was = ap (λ (o : Option Seat). option_map_or (seat_reach u.truth.size) o 0) position.3 in
+            subst (CountsOn u (rebuilt u place)) (sym same) (record {
+              reach =
+                  let was = ap (λ (o : Option Seat). option_map_or (seat_reach u.truth.size) o 0) position.3 in
                   let now =
                   ap (λ (o : Option Seat). option_map_or (seat_reach u.truth.size) o 0) (own_seat u place position.0 (reach_on u place) is)
                   ∙ reach_there u.truth.size (reach_on u place + 128) in
-                  omega (arith, was, now),
-              λ whole. absurd (both_ways false refl (sym (ap (λ (o : Option Seat). option_map_or is_whole_seat o false) position.3) ∙ whole)),
-            )
+                  omega (arith, was, now);
+              there = λ was.
+                  ap (λ (o : Option Seat). option_map_or is_seated o false) (own_seat u place position.0 (reach_on u place) is)
+                  ∙ ap not (rebuilt_there u.truth.size (reach_on u place + 128));
+              whole = λ whole. absurd (both_ways false refl (sym (ap (λ (o : Option Seat). option_map_or is_whole_seat o false) position.3) ∙ whole));
+            })
         | inr other ↦
             same_counts u (rebuilt u place) k refl
             (other_seat u place position.0 (reach_on u place) is k (place_of_other u place position.0 (reach_on u place) is k low other))

@@ -1,5 +1,5 @@
 -- Members of a new drive that are to be rebuilt: which they are, and what doesn't change of their arrays.
-use Rattle.std.proofs.Common.{◌≡◌, ◌≢◌, ◌⊎◌, ℕ, zero, suc, ◌+◌, ◌%◌, ◌<◌, ◌≤◌, ◌==◌, ◌&&◌, ◌||◌, not, nat_le, nat_lt, Bool, true, false, if◌then◌else◌, List, [], ◌∷◌, get_or, is_ok, is_some, length, map, slice_get, Option, Some, None, option_map, refl, sym, ap, subst, ◌∙◌, inl, inr, eq-eqb, eqb-true, ltb-true, arith}
+use Rattle.std.proofs.Common.{◌≡◌, ◌≢◌, ◌⊎◌, ℕ, zero, suc, ◌+◌, ◌%◌, ◌<◌, ◌≤◌, ◌==◌, ◌&&◌, ◌||◌, not, nat_le, nat_lt, Bool, true, false, if◌then◌else◌, List, [], ◌∷◌, get_or, is_ok, is_some, length, slice_get, Option, Some, None, option_map, refl, sym, ap, subst, ◌∙◌, inl, inr, eq-eqb, eqb-true, ltb-true, arith}
 use Rattle.std.specs.List.{range_with_len}
 use Rattle.std.specs.Option.{option_map_or}
 use Rattle.std.proofs.lemmas.Bool.{and_parts, both_ways, cases_Bool, cases_lt, ne_eqb}
@@ -10,15 +10,14 @@ use Rattle.shr_base.specs.declared.Id.{Id}
 use Rattle.md_super.specs.declared.superblock.Super.{Super}
 use Rattle.md_super.specs.Profile.{is_height_of, profiled, rules}
 use Rattle.pool_state.specs.declared.contents.State.{State}
-use Rattle.array_image.specs.Arrays.{Member, Shape, final_layout, first_layout}
+use Rattle.array_image.specs.Arrays.{Member}
 use Rattle.array_image.specs.Places.{array_id, data_sector, member_slice}
-use Rattle.array_image.specs.Spent.{spent_by}
 use Rattle.array_image.specs.States.{is_current}
-use Rattle.array_image.specs.Supers.{has_roles, is_reshaping}
+use Rattle.array_image.specs.Supers.{has_roles}
 use Rattle.commit_log.proofs.Deciding.{names_first}
 use Rattle.array_model.specs.declared.Seat.{Seat}
 use Rattle.array_model.specs.declared.Seat.TheVariants.{Missing, Rebuilding, Whole}
-use Rattle.array_model.specs.View.{View, IsArray, has_gone, is_missing_seat, is_whole_seat, member_on, place_at, seat_reach, shape_of, spent_in}
+use Rattle.array_model.specs.View.{View, IsArray, has_gone, is_missing_seat, member_by_seat, member_on, place_at, shape_of}
 use Rattle.array_core.specs.declared.slots.Slot.{Slot}
 use Rattle.array_core.specs.Seats.{names, renewed, seat_of, slot_at}
 use Rattle.array_core.specs.Slots.{place_by, slots_of}
@@ -28,6 +27,7 @@ use Rattle.raid_rack.specs.Enlisting.{renewed_at}
 use Rattle.raid_rack.specs.Moves.{IsOfPool, IsSeated, IsUnmarked}
 use Rattle.raid_rack.specs.NewDrive.{first_in, joins, slice_length}
 use Rattle.raid_rack.specs.RaidRack.{IsRunning, no_array, raid_by}
+use Rattle.raid_rack.proofs.Alike.{CountAlike, counting, counting_map}
 use Rattle.raid_rack.proofs.LayingDrive.{joins_fits}
 use Rattle.raid_rack.proofs.Agreed.{slots_count}
 use Rattle.raid_rack.proofs.Rows.{KeepsClear}
@@ -184,9 +184,9 @@ sized_truth t extent ok =
 abbrev renew_seat : ℕ → ℕ → Seat → Seat
 renew_seat place p seat = if names (place ∷ []) p then Rebuilding 0 else seat
 
--- the member of a position by its seat
-abbrev member_from : View → ℕ → Option Seat → Member
-member_from u k o = record { place = place_at u k; reach = option_map_or (seat_reach u.truth.size) o 0; is_whole = option_map_or is_whole_seat o false }
+-- how the member of a position counts by its seat
+abbrev counting_by : View → ℕ → Option Seat → Member
+counting_by u k o = counting (member_by_seat u.truth.size (place_at u k) o)
 
 module _ (s t : State) (n : ℕ) (u : View) (x : Seen) (place : ℕ) (drive : Id) (lists : Lists s place t) (missing : is_current s place ≡ false)
     (seated : IsSeated s n u x) (heeded : u.went ≡ []) where
@@ -258,31 +258,27 @@ module _ (s t : State) (n : ℕ) (u : View) (x : Seen) (place : ℕ) (drive : Id
         | inr past ↦ inr (slice_get_past u.seats k (let count = seated.is_array.seats in omega (arith, count, past)))
       ]
 
-  -- so its shape stays
-  pub renewed_shape : shape_of (renewed place drive u) ≡ shape_of u
+  -- so its members count as they did, though that one is there now
+  pub renewed_alike : CountAlike (shape_of u) (shape_of (renewed place drive u))
   unfolding shape_of
-  renewed_shape =
-      ap (λ (f : ℕ → Member). record {
-        members = map f (range_with_len 0 u.truth.raid_disks);
-        size = u.truth.size;
-        moved = final_layout u.truth;
-        layout = first_layout u.truth;
-        reached = if is_reshaping u.truth then u.truth.reshape_position else 0;
-      }) (λ i k. same k i)
+  renewed_alike = record {
+    members = counting_map (member_on (renewed place drive u)) (member_on u) (range_with_len 0 u.truth.raid_disks) same;
+    size = refl;
+    moved = refl;
+    layout = refl;
+    reached = refl;
+  }
     where
-      none_yet : (k : ℕ) (o : Option Seat) → (o ≡ Some Missing) ⊎ (o ≡ None) → member_from u k (option_map (λ seat. Rebuilding 0) o) ≡ member_from u k o
-      none_yet k o (inl is) = ap (λ q. member_from u k (option_map (λ seat. Rebuilding 0) q)) is ∙ sym (ap (member_from u k) is)
-      none_yet k o (inr is) = ap (λ q. member_from u k (option_map (λ seat. Rebuilding 0) q)) is ∙ sym (ap (member_from u k) is)
+      none_yet : (k : ℕ) (o : Option Seat) → (o ≡ Some Missing) ⊎ (o ≡ None) → counting_by u k (option_map (λ seat. Rebuilding 0) o) ≡ counting_by u k o
+      none_yet k o (inl is) = ap (λ q. counting_by u k (option_map (λ seat. Rebuilding 0) q)) is ∙ sym (ap (counting_by u k) is)
+      none_yet k o (inr is) = ap (λ q. counting_by u k (option_map (λ seat. Rebuilding 0) q)) is ∙ sym (ap (counting_by u k) is)
 
-      same : (k : ℕ) → member_on (renewed place drive u) k ≡ member_on u k
+      same : (k : ℕ) → counting (member_on (renewed place drive u) k) ≡ counting (member_on u k)
       same k =
           elim (cases_Bool (names (place ∷ []) (place_at u k))) [
-            | inl own ↦ ap (member_from u k) (seats_own k own) ∙ none_yet k (slice_get u.seats k) (vacant k own)
-            | inr other ↦ ap (member_from u k) (seats_other k other)
+            | inl own ↦ ap (counting_by u k) (seats_own k own) ∙ none_yet k (slice_get u.seats k) (vacant k own)
+            | inr other ↦ ap (counting_by u k) (seats_other k other)
           ]
-
-  pub renewed_spent : (y : ℕ) → spent_in (renewed place drive u) y ≡ spent_in u y
-  renewed_spent y = ap (λ (shape : Shape). spent_by shape u.resync y) renewed_shape
 
   -- and it is one of the pool, where the place has its slice
   pub seated_renewed : IsUnmarked u → member_slice place n < x.disks → data_sector + u.truth.size ≤ x.sectors (member_slice place n) → IsSeated t n (renewed place drive u) x
