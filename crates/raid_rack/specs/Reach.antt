@@ -24,8 +24,8 @@ pub record KeepsReachOn (on : ℕ → Bool) (a b : Shape) : Type 0 where
 abbrev pub KeepsReach : State → Shape → Shape → Type 0
 KeepsReach s = KeepsReachOn (is_current s)
 
--- Array n by contents: its members on places that are current by their state count at least as far as in v, and those on places
--- that are current by w no further than in w.
+-- Array n by contents: its members on places that are current by their state count at least as far as in v and are there where they were,
+-- and those on places that are current by w count no further than in w, and are there only where they are by w.
 abbrev pub ReachBetween : Raid → Raid → ℕ → Image → Type 0
 ReachBetween v w n r =
     (s : State) (shape : Shape) → state_in r ≡ Some s → shape_in s r n ≡ Some shape

@@ -48,8 +48,8 @@ pub record KeepsMoments (v w : Raid) (a b : Seen) : Type 0 where
       → KeepsSince base a b
   pub framed : (n : ℕ) → IsTold v a n → is_over w n ≡ false → frame_of (w.arrays n).truth ≡ frame_of (v.arrays n).truth
   pub frames : (n : ℕ) → IsTold v a n → is_over w n ≡ false → a.traced → Leaves a b (λ c. HasFrame (frame_of (v.arrays n).truth) n (replayed a.sectors c))
-  -- and its members count at least as far as before the call, and no further than after it, by the marks of the state that contents
-  -- have and of the one after the call
+  -- and its members count at least as far as before the call and are there where they were, and no further than after it, by the marks
+  -- of the state that contents have and of the one after the call
   pub reach : (n : ℕ) → IsTold v a n → is_over w n ≡ false → a.traced → Leaves a b (λ c. ReachBetween v w n (replayed a.sectors c))
   pub reached : (n : ℕ) → IsTold v a n → is_over w n ≡ false → KeepsReach w.state (shape_of (v.arrays n)) (shape_of (w.arrays n))
   -- Where a member is lacking by the state that contents have, they leave no rows to resync but those that were left before the call.

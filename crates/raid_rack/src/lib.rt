@@ -59,7 +59,8 @@
 //!
 //! **Stops inside calls.** At each moment of a call, of an array that was told and isn't over after it (`KeepsMoments`): no log is
 //! damaged; replayed contents say one state between those before and after the call, with each copy of it and no later one
-//! (`LogsBetween`), and by it superblocks that agree, of the size and places from before it. If by that state a member of an array that
+//! (`LogsBetween`), and by it superblocks that agree, of the size and places from before it, and members that count at least as far as
+//! before it and are there where they were (`ReachBetween`). If by that state a member of an array that
 //! isn't young is missing or being rebuilt, they leave no rows of it to resync but those that were left before the call, where images
 //! left no others then (`KeepsLacking`). What is pending brings that state alone, and is for sectors that slices have. As it stands,
 //! each place that was current when a run began has a copy of a state that came of the one from then, which names its drive, and any
@@ -78,7 +79,7 @@
 //! with number 0 (`LaysDrive`), and slices for the log and for each array that it is a member of and reaches (`SeatsDrive`). Calls on a
 //! disk that has no place are reads to the slices (`reads_apart` of proofs/Apart.antt). Then one commit on the drives that are left has the
 //! state with it, a copy for it too, and the superblocks, by which its members are to be rebuilt from their start. So it is one of the
-//! pool in no image before that commit, and in each after it; and since its members count nowhere yet, no value moves (`Enlists`).
+//! pool in no image before that commit, and in each after it; and since its members are there from then on but count nowhere yet, no value moves (`Enlists`).
 //! The slices by the new tables differ from those by the old ones at the drive's place alone. Where that isn't current, arrays stand over
 //! them as they did (`reseated_amid` of proofs/Reseated.antt). What a stop leaves is read by the old tables until the slices are added
 //! (`SaysLaying`), and from then on by the new ones, where the disk holds its table (`SaysJoining`). The moment alone tells which, so an
