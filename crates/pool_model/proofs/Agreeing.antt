@@ -1,5 +1,5 @@
 -- Contents that agree inside the disks with some that hold a pool as a stop inside an opening leaves it hold it too.
-use Rattle.std.proofs.Common.{◌≡◌, ℕ, Option, Some, None, option_map, refl, sym, ap, subst, ◌∙◌, inl, inr}
+use Rattle.std.proofs.Common.{◌≡◌, ℕ, Option, Some, None, option_map, refl, sym, ap, subst, ◌∙◌}
 use Rattle.std.specs.Option.{option_and_then}
 use Rattle.std.proofs.lemmas.Option.{none-some}
 use Rattle.rack.specs.Seen.{Image}
@@ -73,9 +73,5 @@ agree_opened f from c i holds agree =
       reach = λ n before left low was now.
           subst (λ (z : State). KeepsReach z before left) (sym is.state) (holds.reach n before left low was (sym (shapes_same h again.now is n) ∙ now));
       unsynced = λ n low dirty. holds.unsynced n low (sym (dirty_same h again.now is n) ∙ dirty);
-      parts = λ p now none.
-          elim (holds.parts p (sym (ap (λ (z : State). is_current z p) is.state) ∙ now) none) [
-            | inl fine ↦ inl (damage_same h again.now is p ∙ fine)
-            | inr wants ↦ inr (damage_same h again.now is p ∙ wants)
-          ];
+      parts = λ p now none. damage_same h again.now is p ∙ holds.parts p (sym (ap (λ (z : State). is_current z p) is.state) ∙ now) none;
     }

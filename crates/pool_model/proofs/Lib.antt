@@ -86,6 +86,7 @@ pub mod Likewise
 pub mod Sectors
 pub mod LackingRows
 pub mod Reopening
+pub mod WereThere
 pub mod ReopeningAmid
 pub mod ArraysMeant
 pub mod OpenedMeaning

@@ -1,5 +1,5 @@
 -- What contents mean that a stop inside an opening leaves, and for what they may be refused.
-use Rattle.std.proofs.Common.{◌≡◌, ℕ, suc, ◌+◌, ◌<◌, ◌≤◌, ◌&&◌, not, Bool, true, false, nat_lt, if◌then◌else◌, is_none, List, [], ◌∷◌, filter, length, slice_get, Option, Some, None, option_map, unwrap_or, refl, sym, ap, subst, ◌∙◌, inl, inr, le-ltb, lt-ltb, ltb-true, arith}
+use Rattle.std.proofs.Common.{◌≡◌, ℕ, suc, ◌+◌, ◌<◌, ◌≤◌, ◌&&◌, not, Bool, true, false, nat_lt, if◌then◌else◌, is_none, List, [], ◌∷◌, filter, length, slice_get, Option, Some, None, option_map, unwrap_or, refl, sym, ap, ◌∙◌, inl, inr, le-ltb, lt-ltb, ltb-true, arith}
 use Rattle.std.specs.Option.{option_and_then, option_map_or}
 use Rattle.std.proofs.lemmas.Bool.{and_parts, both_ways, cases_Bool, cases_lt}
 use Rattle.std.proofs.lemmas.List.{length-map}
@@ -22,7 +22,7 @@ use Rattle.lvm_group.specs.Runs.{Linear, array_of, data_start, sector_of}
 use Rattle.lvm_group.proofs.SameParts.{area_below}
 use Rattle.pool_image.specs.Disks.{Disks, identities_of, newest, seat_of}
 use Rattle.pool_image.specs.Drives.{Found, drive_sector, extent_of, found, found_by, slices_from, slices_of}
-use Rattle.pool_image.specs.Meaning.{Part, Refusal, absent_count, array_sectors, arrays_held, bad_volume, damage_of, damaged, has_other_pool, in_superblock, is_dirty_degraded, is_too_few, joined_arrays, lacking_of, no_pool, refusal_of, refused_at, refused_by, shape_of, super_at, truth_of, two_pools}
+use Rattle.pool_image.specs.Meaning.{Refusal, absent_count, array_sectors, arrays_held, bad_volume, has_other_pool, is_dirty_degraded, is_too_few, joined_arrays, lacking_of, no_pool, refusal_of, refused_at, refused_by, shape_of, super_at, truth_of, two_pools}
 use Rattle.pool_image.specs.Replay.{Extent, Standing, standing, written}
 use Rattle.pool_image.specs.Volumes.{Arrays, first_bad}
 use Rattle.pool_image.proofs.Groups.{AreWholeArrays}
@@ -30,14 +30,14 @@ use Rattle.pool_image.proofs.Joined.{AreAlike}
 use Rattle.pool_image.proofs.Parts.{held_in}
 use Rattle.raid_rack.specs.Book.{IsAfter, drive_of}
 use Rattle.pool_model.specs.Openings.{HoldOpened}
-use Rattle.pool_model.specs.Reopening.{HoldMeaning, HoldVolumeBy, MayRefuseOpened}
+use Rattle.pool_model.specs.Reopening.{HoldMeaning, HoldVolumeBy}
 use Rattle.pool_model.proofs.ArraysMeant.{arrays_volume}
 use Rattle.pool_model.proofs.Current.{shape_truth}
 use Rattle.pool_model.proofs.Found.{found_is, some_made}
 use Rattle.pool_model.proofs.Grouped.{means_below}
 use Rattle.pool_model.proofs.Layers.{nothing_super}
 use Rattle.pool_model.proofs.Refused.{enough, not_dirty}
-use Rattle.pool_model.proofs.Unrefused.{first_damage, none_damaged, refused_or, unrefused, unrefused_few}
+use Rattle.pool_model.proofs.Unrefused.{no_damages, none_damaged, refused_or, unrefused, unrefused_few}
 
 -- ---- why they are refused
 
@@ -185,7 +185,7 @@ module _ (f : Found) (from : ℕ) (i : Image) (holds : HoldOpened f from i) (non
     lacking_still had left was is =
         let keeps = holds.reach n had left before was is in
         let long = sym (length-map left.members (λ m. m.place)) ∙ ap length keeps.places ∙ length-map had.members (λ m. m.place) in
-        let fewer = fewer_lack had.members left.members long (λ k m o at there whole. (keeps.reach k m o at there (whole_stays had k m was at whole)).1 whole) in
+        let fewer = fewer_lack had.members left.members long (λ k m o at there whole. (keeps.reach k m o at there (whole_stays had k m was at whole)).whole whole) in
         let late = length-filter (λ (m : Member). not m.is_whole) left.members in
         let early = length-filter (λ (m : Member). not m.is_whole) had.members in
         omega (arith, fewer, late, early)
@@ -231,31 +231,26 @@ module _ (f : Found) (from : ℕ) (i : Image) (holds : HoldOpened f from i) (non
         let unsynced = holds.unsynced n before dirty in
         both_ways (is_dirty_degraded f n) (not_dirty f (none ∙ sym (ap (option_map bad_volume) (unrefused f none).1)) n before) (λ i. joined i && (lacks i && unsynced i))
 
-  -- a place whose drive was whole wants a superblock alone
-  wants : (p : ℕ) (part : Part) → is_current g.state p ≡ true → damage_of g p ≡ Some part → MayRefuseOpened g (damaged p part)
-  wants p part now is =
-      elim (holds.parts p now (none_damaged f p (unrefused f none).0 (holds.after.current p now))) [
-        | inl fine ↦ absurd (none-some part (sym fine ∙ is))
-        | inr at ↦ (some_same part in_superblock (sym is ∙ at), now, at)
-      ]
-
-  by_drives : refused_by g ≡ Some why → MayRefuseOpened g why
+  -- nor are its drives a reason: they keep their parts, and no more of them are absent
+  by_drives : refused_by g ≡ Some why → ⊥
   by_drives is =
-      elim (refused_or g (MayRefuseOpened g) (λ n low lacks. both_ways (is_too_few g n) (enough_now n low) lacks) (λ n low dirty. synced_now n low dirty)
+      elim (refused_or g (λ reason. ⊥) (λ n low lacks. both_ways (is_too_few g n) (enough_now n low) lacks) (λ n low dirty. synced_now n low dirty)
       (let most = absent_fewer f g holds.after holds.seats in let few = unrefused_few f none in omega (arith, most, few)) good why is) [
-        | inl excused ↦ excused
-        | inr lacks ↦ (let one = first_damage g why lacks in subst (MayRefuseOpened g) (sym one.4) (wants one.0 one.1 one.2 one.3))
+        | inl never ↦ never
+        | inr lacks ↦
+            none-some why
+            (sym (no_damages g (λ p now. holds.parts p now (none_damaged f p (unrefused f none).0 (holds.after.current p now)))) ∙ lacks)
       ]
 
-  pub opened_excused : refusal_of f.disks i ≡ Some why → MayRefuseOpened g why
+  pub opened_excused : refusal_of f.disks i ≡ Some why → (why ≡ two_pools) × (has_other_pool f.disks g.before ≡ true)
   unfolding refusal_of
   opened_excused is =
       of (has_other_pool f.disks g.before) refl (sym (ap (λ o. option_map_or (refused_at f.disks i) o (Some no_pool)) (found_stands f.disks i g holds.found_is)) ∙ is)
     where
-      of : (b : Bool) → has_other_pool f.disks g.before ≡ b → (if b then Some two_pools else option_map_or refused_by (found f.disks i) (Some no_pool)) ≡ Some why → MayRefuseOpened g why
-      of true other at =
-          subst (MayRefuseOpened g) (some_same two_pools why at) (ap (λ (k : Disks). has_other_pool k g.before) (found_is f.disks i g holds.found_is).1 ∙ other)
-      of false one at = by_drives (sym (ap (λ o. option_map_or refused_by o (Some no_pool)) holds.found_is) ∙ at)
+      of : (b : Bool) → has_other_pool f.disks g.before ≡ b → (if b then Some two_pools else option_map_or refused_by (found f.disks i) (Some no_pool)) ≡ Some why
+          → (why ≡ two_pools) × (has_other_pool f.disks g.before ≡ true)
+      of true other at = (sym (some_same two_pools why at), other)
+      of false one at = absurd (by_drives (sym (ap (λ o. option_map_or refused_by o (Some no_pool)) holds.found_is) ∙ at))
 
 -- ---- the volume
 
@@ -339,7 +334,7 @@ module _ (f : Found) (l : Linear) (i : Image) (holds : HoldOpened f data_start i
         );
   }
 
-  -- and where the pool wasn't refused they are for named reasons alone
+  -- and where the pool wasn't refused they are for another pool's disk alone
   pub opened_meaning : refused_by f ≡ None → HoldMeaning f l i
   unfolding opened_volume
   opened_meaning none = record { volume = opened_volume; excused = λ why. opened_excused f data_start i holds none opened_volume.lies.sound why }

@@ -1,5 +1,5 @@
 -- What holds a pool again as a stop inside an opening leaves it.
-use Rattle.std.proofs.Common.{◌≡◌, ◌⊎◌, ℕ, ◌<◌, ◌≤◌, ◌&&◌, Bool, true, false, not, if◌then◌else◌, is_some, Option, Some, None, refl, sym, ap, ap₂, subst, ◌∙◌, inl, inr, arith}
+use Rattle.std.proofs.Common.{◌≡◌, ℕ, ◌<◌, ◌≤◌, ◌&&◌, ◌||◌, Bool, true, false, not, is_some, Option, Some, None, option_map, unwrap_or, refl, sym, ap, ap₂, subst, ◌∙◌, inr, arith}
 use Rattle.std.specs.Option.{option_map_or}
 use Rattle.std.proofs.lemmas.Bool.{both_ways}
 use Rattle.rack.specs.Seen.{Image}
@@ -7,16 +7,17 @@ use Rattle.slice_rack.specs.Slices.{Slices, sectors_of}
 use Rattle.slice_rack.specs.Sliced.{sliced}
 use Rattle.md_super.specs.declared.superblock.Super.{Super}
 use Rattle.pool_state.specs.declared.contents.State.{State}
-use Rattle.array_image.specs.Arrays.{Shape, arrays_in, replayed, shape_in}
+use Rattle.array_image.specs.Arrays.{Member, Shape, arrays_in, member_by, member_in, place_with, replayed, shape_by, shape_in}
+use Rattle.array_image.specs.Held.{Among}
 use Rattle.array_image.specs.States.{is_current, state_in}
 use Rattle.raid_rack.specs.Book.{IsAfter, after_then, plan_between}
 use Rattle.raid_rack.specs.Reach.{KeepsReach}
-use Rattle.array_image.specs.Supers.{is_unclean}
+use Rattle.array_image.specs.Supers.{is_named, is_unclean}
 use Rattle.raid_rack.specs.Since.{AreSince}
 use Rattle.pool_image.specs.Alike.{IsSamePool}
 use Rattle.pool_image.specs.Disks.{Disks}
-use Rattle.pool_image.specs.Drives.{Found, found}
-use Rattle.pool_image.specs.Meaning.{array_sectors, arrays_held, damage_of, has_supers, in_superblock, is_table, shape_of, is_dirty_degraded}
+use Rattle.pool_image.specs.Drives.{Found, found, slices_of}
+use Rattle.pool_image.specs.Meaning.{array_sectors, arrays_held, damage_of, has_supers, is_dirty_degraded, is_member, is_table, shape_of, super_at, truth_of}
 use Rattle.pool_image.specs.Volumes.{Arrays}
 use Rattle.pool_image.proofs.Founds.{damage_same, joined_same, shapes_same, truths_same}
 use Rattle.pool_rest.specs.SoundLogs.{HasSoundLogs}
@@ -24,9 +25,12 @@ use Rattle.pool_model.specs.Left.{AreElsewhere}
 use Rattle.pool_model.specs.Openings.{HoldOpened, IsUnsynced, MayReplay}
 use Rattle.pool_model.specs.Pools.{AreSlicesOf}
 use Rattle.pool_model.specs.Stopped.{HoldBetween}
-use Rattle.pool_model.proofs.ReopeningAmid.{between_wants}
+use Rattle.pool_model.proofs.Members.{among_range}
+use Rattle.pool_model.proofs.ReopeningAmid.{between_whole}
+use Rattle.pool_model.proofs.Roles.{all_range}
 use Rattle.pool_model.proofs.Said.{AreInside, slices_by}
 use Rattle.pool_model.proofs.Unrefused.{no_drive, undamaged}
+use Rattle.pool_model.proofs.WereThere.{HadThere}
 
 -- from a later sector on
 unfoldable pub opened_from : (f : Found) (from later : ℕ) (i : Image) → from ≤ later → HoldOpened f from i → HoldOpened f later i
@@ -79,6 +83,17 @@ CountFrom f r =
     (n : ℕ) (s : State) (before left : Shape) → n < f.state.made → shape_of f n ≡ Some before → state_in r ≡ Some s → shape_in s r n ≡ Some left
     → KeepsReach s before left
 
+-- a member of an array's shape is there where its place is current and has its superblock
+member_there : (f : Found) (n p : ℕ) (t : Super) → is_current f.state p ≡ true → is_some (super_at f n p) ≡ true
+    → (m : Member) → Among m (shape_by f.state (slices_of f) n t).members → m.place ≡ p → m.is_there ≡ true
+unfolding shape_by
+member_there f n p t current has m among place =
+    let one = among_range (member_in f.state (slices_of f) n t) m 0 t.raid_disks among in
+    let here : unwrap_or (place_with t.roles.items one.0) 16 ≡ p = ap (λ (z : Member). z.place) (sym one.3) ∙ place in
+    ap (λ (z : Member). z.is_there) one.3
+    ∙ ap (λ q. (member_by t.size q (is_current f.state q) (super_at f n q)).is_there) here
+    ∙ ap₂ (λ a b. a && b) current has
+
 -- What a stop inside a call of a pool in service leaves does so, where just the places without a disk are marked by the call's end, and the replayed slices
 -- give what the pool's arrays held, with members that count as far as they did. Its disks have the drives' tables, and copies since the pool's state, and an array lacks a member and has
 -- rows left to resync only where the pool's truth leaves such ones.
@@ -104,8 +119,7 @@ amid_opened f t s u from i begun plan marks values counted slices inside elsewhe
         alone = still.alone;
         stops = inr (amid.stood, amid.lower);
         sectors = still.sectors;
-        reach = λ n before left low was is.
-            subst (λ (z : State). KeepsReach z before left) (sym still.state) (counted n amid.state before left low was still.is_state (sym (still.shapes n low) ∙ is));
+        reach = reach_now;
         unsynced = unsynced;
         parts = λ p counts fine. parts p (current_now p counts) fine (f.seats p) refl;
       },
@@ -115,21 +129,37 @@ amid_opened f t s u from i begun plan marks values counted slices inside elsewhe
     current_now : (p : ℕ) → is_current amid.still.now.state p ≡ true → is_current amid.state p ≡ true
     current_now p counts = sym (ap (λ (z : State). is_current z p) amid.still.state) ∙ counts
 
+    reach_now : (n : ℕ) (before left : Shape) → n < f.state.made → shape_of f n ≡ Some before → shape_of amid.still.now n ≡ Some left → KeepsReach amid.still.now.state before left
+    reach_now n before left low was is =
+        let still = amid.still in
+        subst (λ (z : State). KeepsReach z before left) (sym still.state) (counted n amid.state before left low was still.is_state (sym (still.shapes n low) ∙ is))
+
     none : (p : ℕ) → is_current f.state p ≡ true → is_current amid.state p ≡ false → (o : Option ℕ) → f.seats p ≡ o → f.seats p ≡ None
     none p counts past None seat = seat
     none p counts past (Some d) seat =
         absurd (both_ways (is_current amid.state p) past
         (amid.sooner.current p (marks p ∙ ap₂ (λ (b : Bool) (o : Option ℕ). b && is_some o) counts seat)))
 
-    wants : (p : ℕ) (b : Bool) → damage_of amid.still.now p ≡ (if not b then Some in_superblock else None)
-        → (damage_of amid.still.now p ≡ None) ⊎ (damage_of amid.still.now p ≡ Some in_superblock)
-    wants p true is = inl is
-    wants p false is = inr is
+    -- a member that had its superblock was there
+    stood : (p : ℕ) → is_current amid.state p ≡ true → has_supers f p ≡ true → (n : ℕ) → n < f.state.made → is_member f n p ≡ true → HadThere amid.still.now p n
+    stood p counts supers n low member = of (truth_of f n) refl member
+      where
+        has : is_some (super_at f n p) ≡ true
+        has =
+            sym (ap (λ b. not b || is_some (super_at f n p)) member)
+            ∙ all_range (λ k. not (is_member f k p) || is_some (super_at f k p)) 0 f.state.made n supers (omega arith) (omega (arith, low))
 
-    parts : (p : ℕ) → is_current amid.state p ≡ true → damage_of f p ≡ None → (o : Option ℕ) → f.seats p ≡ o
-        → (damage_of amid.still.now p ≡ None) ⊎ (damage_of amid.still.now p ≡ Some in_superblock)
-    parts p counts fine None free = inl (no_drive amid.still.now p (amid.still.seats p counts ∙ free))
+        of : (o : Option Super) → truth_of f n ≡ o → option_map_or (λ t. is_named t p) o false ≡ true → HadThere amid.still.now p n
+        of None truth named = absurd (both_ways false refl named)
+        of (Some t) truth named = record {
+          was = shape_by f.state (slices_of f) n t;
+          keeps = λ left is. reach_now n (shape_by f.state (slices_of f) n t) left low (ap (option_map (shape_by f.state (slices_of f) n)) truth) is;
+          there = member_there f n p t (begun.current p (amid.later.current p counts)) has;
+        }
+
+    parts : (p : ℕ) → is_current amid.state p ≡ true → damage_of f p ≡ None → (o : Option ℕ) → f.seats p ≡ o → damage_of amid.still.now p ≡ None
+    parts p counts fine None free = no_drive amid.still.now p (amid.still.seats p counts ∙ free)
     parts p counts fine (Some d) seat =
-        wants p (has_supers amid.still.now p)
-        (between_wants f t s u i begun (slices_by f t s slices) inside since amid p d counts seat
-        (ap (λ o. option_map_or (is_table f p (f.disks.sectors d)) o false) (elsewhere.tables p d seat) ∙ (undamaged f p d seat fine).table))
+        let whole = undamaged f p d seat fine in
+        between_whole f t s u i begun (slices_by f t s slices) inside since amid p d counts seat
+        (ap (λ o. option_map_or (is_table f p (f.disks.sectors d)) o false) (elsewhere.tables p d seat) ∙ whole.table) (stood p counts whole.supers)

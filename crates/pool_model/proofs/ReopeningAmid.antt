@@ -1,9 +1,8 @@
--- What a stop inside calls of a pool in service leaves is refused for an excused reason alone, or since a drive lacks a superblock.
+-- What a stop inside calls of a pool in service leaves is refused for an excused reason alone: its drives keep all their parts.
 --
 -- `calls_reopen` says it of calls that write slices alone. It asks for the pool's slices and its drives' tables (`HoldTabled`) by the slices of the calls: for a pool in
 -- service these are there (`slices_by`), and `vacant_lies` gives them where a place whose drive is missing has no disk any more.
-use Rattle.std.proofs.Common.{◌≡◌, ◌⊎◌, ℕ, zero, suc, ◌+◌, ◌<◌, ◌≤◌, ◌&&◌, ◌||◌, not, Bool, true, false, find, nat_lt, if◌then◌else◌, is_none, is_some, List, [], ◌∷◌, slice_get, Option, Some, None, option_map, unwrap_or, refl, sym, ap, ap₂, subst, ◌∙◌, inl, inr, lt-ltb, arith}
-use Rattle.std.specs.List.{list_all, range_with_len}
+use Rattle.std.proofs.Common.{◌≡◌, ◌⊎◌, ℕ, suc, ◌+◌, ◌<◌, ◌≤◌, ◌&&◌, ◌||◌, not, Bool, true, false, nat_lt, if◌then◌else◌, is_some, List, [], Option, Some, None, option_map, unwrap_or, refl, sym, ap, ap₂, subst, ◌∙◌, inl, inr, lt-ltb, arith}
 use Rattle.std.specs.Option.{option_and_then, option_map_or}
 use Rattle.std.specs.Result.{result_ok}
 use Rattle.std.proofs.lemmas.Bool.{both_ways, cases_Bool}
@@ -19,14 +18,11 @@ use Rattle.gpt_table.specs.Changes.{the_table}
 use Rattle.md_super.specs.declared.superblock.Super.{Super}
 use Rattle.pool_state.specs.declared.contents.Copied.{Copied}
 use Rattle.pool_state.specs.declared.contents.State.{State}
-use Rattle.array_image.specs.Arrays.{Member, Shape, member_by, member_in, replayed, shape_by}
-use Rattle.array_image.specs.Held.{Among}
+use Rattle.array_image.specs.Arrays.{Shape, replayed}
 use Rattle.array_image.specs.Left.{IsLeft}
 use Rattle.array_image.specs.Places.{arrays_first, data_sector, log_slice, member_slice, state_sector}
 use Rattle.array_image.specs.Record.{is_bad_gate}
-use Rattle.array_image.specs.States.{current_places, is_current}
-use Rattle.array_image.specs.Supers.{is_named}
-use Rattle.array_core.proofs.Rules.{get_map, get_range, placed, zero_more}
+use Rattle.array_image.specs.States.{is_current}
 use Rattle.array_core.proofs.Stripped.{some_same}
 use Rattle.array_model.specs.View.{shape_of as shape_by_book}
 use Rattle.commit_log.proofs.Kept.{put_none}
@@ -34,12 +30,11 @@ use Rattle.lvm_group.specs.Runs.{Linear}
 use Rattle.pool_image.specs.Alike.{drive_gate, is_bad_block}
 use Rattle.pool_image.specs.Disks.{Identities, identities_of, newest}
 use Rattle.pool_image.specs.Drives.{Found, extent_from, extent_of, first_of, found, slices_of, truth_from}
-use Rattle.pool_image.specs.Meaning.{Refusal, damage_of, damaged, dirty_degraded, first_damaged, has_log, has_slice_of, has_supers, has_table, in_superblock, is_dirty_degraded, is_member, is_table, joined_arrays, refusal_of, shape_of, super_at, truth_of}
+use Rattle.pool_image.specs.Meaning.{Refusal, damage_of, dirty_degraded, first_damaged, has_log, has_slice_of, has_table, is_dirty_degraded, is_member, is_table, joined_arrays, refusal_of, shape_of}
 use Rattle.pool_image.specs.Replay.{Extent, Standing, standing, standing_by, written}
 use Rattle.pool_image.specs.Volumes.{first_bad}
 use Rattle.pool_image.proofs.Identities.{seat_inside}
 use Rattle.pool_image.proofs.Rested.{gate_block, stood_by}
-use Rattle.pool_check.proofs.Valid.{valid_fit}
 use Rattle.pool_rest.specs.Moments.{StandsReplaying, landed_on}
 use Rattle.pool_rest.specs.Resting.{seated_state}
 use Rattle.pool_rest.specs.SoundLogs.{IsSoundLog}
@@ -48,141 +43,28 @@ use Rattle.pool_rest.proofs.MidwayDisks.{copied_or, seats_written, tables_now, w
 use Rattle.pool_rest.proofs.MidwayPool.{found_was, gates_early, was, whole_early}
 use Rattle.raid_rack.specs.Agreeing.{HasOwnRows, SayTruth}
 use Rattle.raid_rack.specs.Book.{IsAfter, after_then}
-use Rattle.raid_rack.specs.Raid.{IsTold, Raid, is_over}
+use Rattle.raid_rack.specs.Raid.{HasMarkedSeats, IsTold, Raid, is_over}
 use Rattle.raid_rack.specs.Reach.{KeepsReach, ReachBetween}
 use Rattle.raid_rack.specs.Runs.{KeepsMoments}
 use Rattle.raid_rack.specs.Since.{AreSince, HasOwnSince}
-use Rattle.raid_rack.proofs.Added.{names_current}
 use Rattle.pool_model.specs.Alone.{AreTabled, HoldTabled, IsTabled}
 use Rattle.pool_model.specs.InService.{InService}
 use Rattle.pool_model.specs.Left.{HavePlaces, HaveSlices}
 use Rattle.pool_model.specs.Pools.{extent_in}
-use Rattle.pool_model.specs.Reopening.{HasEmptyMember, HoldVolume, MayRefuse, ReopensAmid}
+use Rattle.pool_model.specs.Reopening.{HoldVolume, MayRefuse, ReopensAmid}
 use Rattle.pool_model.specs.Stopped.{AreSlicesNow, HoldAmid, HoldBetween}
 use Rattle.pool_model.specs.Taken.{LacksDrive}
 use Rattle.pool_model.proofs.Amid.{moments_since, nothing_past, off_amid, off_more}
-use Rattle.pool_model.proofs.Away.{find_passes}
-use Rattle.pool_model.proofs.Found.{IsFound, few_places, found_is, some_made, valid}
-use Rattle.pool_model.proofs.Framed.{truth_placed}
+use Rattle.pool_model.proofs.Found.{IsFound, few_places, found_is, some_made}
 use Rattle.pool_model.proofs.LackingRows.{HasOwnLeft, dirty_rows, leaves_lacking}
 use Rattle.pool_model.proofs.Logs.{copied_in, room_in, there_in}
 use Rattle.pool_model.proofs.Named.{id_same}
-use Rattle.pool_model.proofs.Roles.{named_position}
 use Rattle.pool_model.proofs.Said.{AreInside}
 use Rattle.pool_model.proofs.Seats.{nowhere}
 use Rattle.pool_model.proofs.Undamaged.{none_absent, slice_alike, table_alike}
-use Rattle.pool_model.proofs.Unrefused.{refused_so, superblocks_alone}
+use Rattle.pool_model.proofs.Unrefused.{no_damage, no_damages, refused_so}
 use Rattle.pool_model.proofs.Vacant.{slices_now, sliced_before}
-
--- ---- a member without a superblock
-
--- where not all pass, one of them doesn't
-some_fails : (test : ℕ → Bool) (a m : ℕ) → list_all test (range_with_len a m) ≡ false → (n : ℕ) × (n < a + m) × (test n ≡ false)
-some_fails test a zero is = absurd (both_ways true is refl)
-some_fails test a (suc m) is = of (test a) refl is (some_fails test (a + 1) m)
-  where
-    of : (b : Bool) → test a ≡ b → (b && list_all test (range_with_len (a + 1) m)) ≡ false
-        → (list_all test (range_with_len (a + 1) m) ≡ false → (n : ℕ) × (n < a + 1 + m) × (test n ≡ false)) → (n : ℕ) × (n < a + suc m) × (test n ≡ false)
-    of false fails all rest = (a, omega arith, fails)
-    of true passes all rest = let one = rest all in (one.0, (let low = one.1 in omega (arith, low)), one.2)
-
--- a member at a position is one of the list
-among_get : (ms : List Member) (k : ℕ) (m : Member) → slice_get ms k ≡ Some m → Among m ms
-among_get [] k m at = none-some m at
-among_get (x ∷ ms) zero m at = inl (sym (some_same x m at))
-among_get (x ∷ ms) (suc k) m at = inr (among_get ms k m at)
-
--- the members of a pool's arrays count as far as in the book v at least, and no further than in w
-abbrev CountsBetween : Raid → Raid → Found → Type 0
-CountsBetween v w g =
-    (n : ℕ) (shape : Shape) → n < v.state.made → shape_of g n ≡ Some shape
-    → KeepsReach g.state (shape_by_book (v.arrays n)) shape × KeepsReach w.state shape (shape_by_book (w.arrays n))
-
--- A current place whose drive lacks a superblock has an empty member by the book before the call.
-module _ (v w : Raid) (g : Found) (is : IsFound g) (made : g.state.made ≡ v.state.made) (counts : CountsBetween v w g) (p : ℕ) (now : is_current g.state p ≡ true) where
-  module _ (n : ℕ) (low : n < g.state.made) (t : Super) (truth : truth_of g n ≡ Some t) (named : is_named t p ≡ true) (none : super_at g n p ≡ None) where
-    abbrev shape : Shape
-    shape = shape_by g.state (slices_of g) n t
-
-    wanting : HasEmptyMember v p
-    unfolding shape_by
-    wanting =
-        let good = valid g is in
-        let has = truth_placed g.state (slices_of g) n t (valid_fit g.state good.0 good.1).few truth in
-        let at = named_position t p 16 has.roles (λ k less. let one = placed t k has.roles less in (one.0, one.1)) has.few named in
-        let k = at.0 in
-        let member : ℕ → Member = member_in g.state (slices_of g) n t in
-        let there : slice_get shape.members k ≡ Some (member k) =
-        get_map member (range_with_len 0 t.raid_disks) k ∙ ap (option_map member) (get_range 0 t.raid_disks k at.1) ∙ ap (λ j. Some (member j)) (zero_more k) in
-        let place : (member k).place ≡ p = ap (λ o. unwrap_or o 16) at.2 in
-        let nothing : (member k).reach ≡ 0 =
-        ap (λ q. (member_by t.size q (is_current g.state q) (super_at g n q)).reach) place ∙ ap₂ (λ b o. (member_by t.size p b o).reach) now none in
-        let below : n < v.state.made = omega (arith, low, made) in
-        let keeps = (counts n shape below (ap (option_map (shape_by g.state (slices_of g) n)) truth)).0 in
-        let one = before (slice_get (shape_by_book (v.arrays n)).members k)
-        (sym (get_map (λ (z : Member). z.place) (shape_by_book (v.arrays n)).members k) ∙ ap (λ ps. slice_get ps k) (sym keeps.places)
-        ∙ get_map (λ (z : Member). z.place) shape.members k ∙ ap (option_map (λ (z : Member). z.place)) there ∙ ap Some place) in
-        let most = (keeps.reach k one.0 (member k) one.1 there (ap (is_current g.state) one.2 ∙ now)).0 in
-        record {
-          array = n;
-          low = below;
-          member = one.0;
-          among = among_get (shape_by_book (v.arrays n)).members k one.0 one.1;
-          on = one.2;
-          empty = omega (arith, most, nothing);
-        }
-      where
-        before : (o : Option Member) → option_map (λ (z : Member). z.place) o ≡ Some p → (m : Member) × (o ≡ Some m) × (m.place ≡ p)
-        before None at = absurd (none-some p at)
-        before (Some m) at = (m, refl, some_same m.place p at)
-
-  empty_member : has_supers g p ≡ false → HasEmptyMember v p
-  empty_member wants =
-      let one = some_fails (λ n. not (is_member g n p) || is_some (super_at g n p)) 0 g.state.made wants in
-      let n = one.0 in
-      of n (let low = one.1 in omega (arith, low)) (truth_of g n) refl (super_at g n p) refl one.2
-    where
-      named : (n : ℕ) (low : n < g.state.made) (t : Super) → truth_of g n ≡ Some t → super_at g n p ≡ None → (b : Bool) → is_named t p ≡ b → (not b || false) ≡ false → HasEmptyMember v p
-      named n low t truth none true is fails = wanting n low t truth is none
-      named n low t truth none false is fails = absurd (both_ways true fails refl)
-
-      or_true : (b : Bool) → (b || true) ≡ true
-      or_true true = refl
-      or_true false = refl
-
-      of : (n : ℕ) (low : n < g.state.made) (o : Option Super) → truth_of g n ≡ o → (u : Option Super) → super_at g n p ≡ u
-          → (not (option_map_or (λ t. is_named t p) o false) || is_some u) ≡ false → HasEmptyMember v p
-      of n low None truth u super fails = absurd (both_ways true fails refl)
-      of n low (Some t) truth None none fails = named n low t truth none (is_named t p) refl fails
-      of n low (Some t) truth (Some u) there fails = absurd (both_ways (not (is_named t p) || true) fails (or_true (not (is_named t p))))
-
--- ---- why a pool is refused
-
--- it is so, or since the drive of a current place lacks a superblock whose member was to be rebuilt from its start by the book before the call
-abbrev MayRefuseAmid : Raid → Found → Refusal → Type 0
-MayRefuseAmid v g why =
-    MayRefuse v g why ⊎ ((place : ℕ) × (is_current g.state place ≡ true) × HasEmptyMember v place × (why ≡ damaged place in_superblock))
-
--- where drives lack a superblock alone, the lowest one that lacks something does
-first_wants : (v : Raid) (g : Found) → ((p : ℕ) → is_current g.state p ≡ true → damage_of g p ≡ (if not (has_supers g p) then Some in_superblock else None))
-    → ((p : ℕ) → is_current g.state p ≡ true → has_supers g p ≡ false → HasEmptyMember v p)
-    → (why : Refusal) → first_damaged g ≡ Some why
-    → (place : ℕ) × (is_current g.state place ≡ true) × HasEmptyMember v place × (why ≡ damaged place in_superblock)
-first_wants v g each empty why is = of (find (λ place. is_some (damage_of g place)) (current_places g.state)) refl is
-  where
-    by : (p : ℕ) (b : Bool) → has_supers g p ≡ b → option_map (damaged p) (if not b then Some in_superblock else None) ≡ Some why
-        → (has_supers g p ≡ false) × (why ≡ damaged p in_superblock)
-    by p true has at = absurd (none-some why at)
-    by p false wants at = (wants, sym (some_same (damaged p in_superblock) why at))
-
-    of : (o : Option ℕ) → find (λ place. is_some (damage_of g place)) (current_places g.state) ≡ o
-        → option_and_then (λ place. option_map (damaged place) (damage_of g place)) o ≡ Some why
-        → (place : ℕ) × (is_current g.state place ≡ true) × HasEmptyMember v place × (why ≡ damaged place in_superblock)
-    of None lowest at = absurd (none-some why at)
-    of (Some p) lowest at =
-        let now = sym (names_current g.state p) ∙ (find_passes (λ place. is_some (damage_of g place)) (current_places g.state) p lowest).1 in
-        let wants = by p (has_supers g p) refl (sym (ap (option_map (damaged p)) (each p now)) ∙ at) in
-        (p, now, empty p now wants.0, wants.1)
+use Rattle.pool_model.proofs.WereThere.{HadThere, book_there, supers_there}
 
 -- ---- what is known of the pool
 
@@ -279,10 +161,10 @@ module _ (f : Found) (t : Slices) (v : State) (i : Image) (begun : IsAfter f.sta
       own_copied : (ids d).copied ≡ Some own.copy
       own_copied = copied_in g t i inside p d on_place (is.slices.logs p d seat) ∙ ap result_ok own.is
 
-      copied_now : is_none (g.identities d).copied ≡ false
+      copied_now : is_some (g.identities d).copied ≡ true
       copied_now = elim (copied_or f.disks i w s0 newest_is log (λ e k below within which none. others e k none) (λ e below within. copies e within) d there) [
-        | inl same ↦ ap is_none (same ∙ own_copied)
-        | inr new ↦ ap is_none new.1.1
+        | inl same ↦ ap is_some (same ∙ own_copied)
+        | inr new ↦ ap is_some new.1.1
       ]
 
       -- ---- its table
@@ -293,23 +175,31 @@ module _ (f : Found) (t : Slices) (v : State) (i : Image) (begun : IsAfter f.sta
       made_same : g.state.made ≡ f.state.made
       made_same = is.after.same.made ∙ begun.same.made
 
+      low_now : (n : ℕ) → n < f.state.made → n < g.state.made
+      low_now n low = (let made = made_same in omega (arith, low, made))
+
+      -- it was a member of the arrays that it is a member of
+      member_before : (n : ℕ) → n < f.state.made → is_member g n p ≡ true → is_member f n p ≡ true
+      member_before n low member = elim (cases_Bool (is_member f n p)) [
+        | inl was ↦ was
+        | inr past ↦
+            let size = had.others n p (few n (low_now n low)) (ap₂ (λ a b. a && b) (lt-ltb n f.state.made low) past) in
+            let some = some_sectors g n (extent_in t (member_slice p n)) (is.slices.members n p d (low_now n low) seat member) in absurd (omega (arith, size, some))
+      ]
+
       wants_same : (table : Table) (k n : ℕ) → n < f.state.made
           → (not (is_member g n p) || has_slice_of g k table (n + 1)) ≡ (not (is_member f n p) || has_slice_of f k table (n + 1))
       wants_same table k n low = of (is_member g n p) (is_member f n p) refl refl
         where
-          low_now : n < g.state.made
-          low_now = (let made = made_same in omega (arith, low, made))
-
           of : (a b : Bool) → is_member g n p ≡ a → is_member f n p ≡ b
               → (not (is_member g n p) || has_slice_of g k table (n + 1)) ≡ (not (is_member f n p) || has_slice_of f k table (n + 1))
           of false false none past = ap (λ a. not a || has_slice_of g k table (n + 1)) none ∙ sym (ap (λ a. not a || has_slice_of f k table (n + 1)) past)
           of true true member was =
-              ap₂ (λ a b. not a || b) (member ∙ sym was) (slice_alike f g table k n (is.slices.members n p d low_now seat member ∙ sym (had.members n p d low before_call seat_before was)))
-          of true false member past =
-              (let size = had.others n p (few n low_now) (ap₂ (λ a b. a && b) (lt-ltb n f.state.made low) past) in
-              let some = some_sectors g n (extent_in t (member_slice p n)) (is.slices.members n p d low_now seat member) in absurd (omega (arith, size, some)))
+              ap₂ (λ a b. not a || b) (member ∙ sym was)
+              (slice_alike f g table k n (is.slices.members n p d (low_now n low) seat member ∙ sym (had.members n p d low before_call seat_before was)))
+          of true false member past = absurd (both_ways (is_member f n p) past (member_before n low member))
           of false true none was =
-              (let size = is.slices.others n p low_now none in
+              (let size = is.slices.others n p (low_now n low) none in
               let some = some_sectors f n (extent_in t (member_slice p n)) (had.members n p d low before_call seat_before was) in absurd (omega (arith, size, some)))
 
       table_now : IsTabled f p (f.disks.sectors d) (i d) → has_table g p d ≡ true
@@ -336,15 +226,28 @@ module _ (f : Found) (t : Slices) (v : State) (i : Image) (begun : IsAfter f.sta
       log_now : has_log g p ≡ true
       log_now = ap₂ (λ a b. not a && not b) gate_good (whole_early f.disks i i s0 newest_is log mid (λ e below within. refl) (λ e below within. refl) p)
 
-    wants_on : (p d : ℕ) → is_current g.state p ≡ true → g.seats p ≡ Some d → IsTabled f p (f.disks.sectors d) (i d)
-        → damage_of g p ≡ (if not (has_supers g p) then Some in_superblock else None)
-    wants_on p d now seat tabled = superblocks_alone g p d seat (table_now p d now seat tabled) (copied_now p d now seat) (log_now p d now seat)
+    -- such a drive keeps all its parts, where the members on its place were there
+    whole_on : (p d : ℕ) → is_current g.state p ≡ true → g.seats p ≡ Some d → IsTabled f p (f.disks.sectors d) (i d)
+        → ((n : ℕ) → n < f.state.made → is_member f n p ≡ true → HadThere g p n) → damage_of g p ≡ None
+    whole_on p d now seat tabled stood =
+        no_damage g p d seat (record {
+          table = table_now p d now seat tabled;
+          copy = copied_now p d now seat;
+          log = log_now p d now seat;
+          supers =
+              supers_there g is_found p now
+              (λ n low member.
+              let made = made_same p d now seat in
+              let less : n < f.state.made = omega (arith, low, made) in
+              stood n less (member_before p d now seat n less member));
+        })
 
-    wants_now : HavePlaces g.state g → AreTabled f (λ d. Unit {0}) v i → (p : ℕ) → is_current g.state p ≡ true
-        → damage_of g p ≡ (if not (has_supers g p) then Some in_superblock else None)
-    wants_now present tabled p now =
+    none_damaged : HavePlaces g.state g → AreTabled f (λ d. Unit {0}) v i → ((p n : ℕ) → is_current g.state p ≡ true → n < f.state.made → HadThere g p n) → first_damaged g ≡ None
+    none_damaged present tabled stood =
+        no_damages g
+        (λ p now.
         let drive = present p now in
-        wants_on p drive.0 now drive.1 (tabled p drive.0 (seat_before p drive.0 now drive.1) (inl (before_call p drive.0 now drive.1)))
+        whole_on p drive.0 now drive.1 (tabled p drive.0 (seat_before p drive.0 now drive.1) (inl (before_call p drive.0 now drive.1))) (λ n low member. stood p n now low))
 
     -- a drive's copy is of the pool
     own_pool : (p d : ℕ) (copy : Copied) → g.seats p ≡ Some d → (ids d).copied ≡ Some copy → copy.state.pool ≡ g.state.pool
@@ -355,21 +258,21 @@ module _ (f : Found) (t : Slices) (v : State) (i : Image) (begun : IsAfter f.sta
           ∙ (own p d now seat).after.same.pool ∙ sym is.after.same.pool
     ]
 
-    excused_now : HavePlaces g.state g → AreTabled f (λ d. Unit {0}) v i → (book : Raid) → ((p : ℕ) → is_current g.state p ≡ true → has_supers g p ≡ false → HasEmptyMember book p)
+    excused_now : HavePlaces g.state g → AreTabled f (λ d. Unit {0}) v i → ((p n : ℕ) → is_current g.state p ≡ true → n < f.state.made → HadThere g p n) → (book : Raid)
         → ((n : ℕ) → n < g.state.made → is_dirty_degraded g n ≡ true → MayRefuse book g (dirty_degraded n)) → first_bad (joined_arrays g) ≡ None
-        → (why : Refusal) → refusal_of f.disks i ≡ Some why → MayRefuseAmid book g why
-    excused_now present tabled book empty dirty good why at = elim (refused_so g (MayRefuse book g) (λ other. other) (λ n low lacks. lacks) dirty (none_absent g present) good why i stands found_now log.pool own_pool at) [
-      | inl excused ↦ inl excused
-      | inr wants ↦ inr (first_wants book g (wants_now present tabled) empty why wants)
+        → (why : Refusal) → refusal_of f.disks i ≡ Some why → MayRefuse book g why
+    excused_now present tabled stood book dirty good why at = elim (refused_so g (MayRefuse book g) (λ other. other) (λ n low lacks. lacks) dirty (none_absent g present) good why i stands found_now log.pool own_pool at) [
+      | inl excused ↦ excused
+      | inr wants ↦ absurd (none-some why (sym (none_damaged present tabled stood) ∙ wants))
     ]
 
 -- ---- a stop inside calls
 
--- Where contents hold a pool still, between two states, the drive of a current place that has its table lacks a superblock alone.
-pub between_wants : (f : Found) (t : Slices) (v u : State) (i : Image) → IsAfter f.state v → AreSlicesNow f t v → AreInside f t → AreSince v (sectors_of t) (sliced t i)
+-- Where contents hold a pool still, between two states, the drive of a current place that has its table keeps all its parts, if the members on its place were there.
+pub between_whole : (f : Found) (t : Slices) (v u : State) (i : Image) → IsAfter f.state v → AreSlicesNow f t v → AreInside f t → AreSince v (sectors_of t) (sliced t i)
     → (between : HoldBetween f t v u i) → (p d : ℕ) → is_current between.state p ≡ true → f.seats p ≡ Some d → IsTabled f p (f.disks.sectors d) (i d)
-    → damage_of between.still.now p ≡ (if not (has_supers between.still.now p) then Some in_superblock else None)
-between_wants f t v u i begun had inside since between p d counts seat tabled =
+    → ((n : ℕ) → n < f.state.made → is_member f n p ≡ true → HadThere between.still.now p n) → damage_of between.still.now p ≡ None
+between_whole f t v u i begun had inside since between p d counts seat tabled stood =
     let still = between.still in
     let by = stood_by f.disks i still.logs.before still.logs.stands in
     let stands : standing f.disks i ≡ Some (standing_by f.disks i by.0) = still.logs.stands ∙ ap Some by.2 in
@@ -383,18 +286,25 @@ between_wants f t v u i begun had inside since between p d counts seat tabled =
       seats = λ q now. still.seats q (subst (λ (z : State). is_current z q ≡ true) still.state now);
       slices = still.slices;
     } in
-    subst (λ (k : Found). damage_of k p ≡ (if not (has_supers k p) then Some in_superblock else None)) here
-    (wants_on f t v i begun had inside since by.0 stands by.1 log (subst (IsNow f t v) (sym here) is) p d
+    subst (λ (k : Found). damage_of k p ≡ None) here
+    (whole_on f t v i begun had inside since by.0 stands by.1 log (subst (IsNow f t v) (sym here) is) p d
     (subst (λ (k : Found). is_current k.state p ≡ true) (sym here) (ap (λ (z : State). is_current z p) still.state ∙ counts))
-    (subst (λ (k : Found). k.seats p ≡ Some d) (sym here) (still.seats p counts ∙ seat)) tabled)
+    (subst (λ (k : Found). k.seats p ≡ Some d) (sym here) (still.seats p counts ∙ seat)) tabled
+    (λ n low member. subst (λ (k : Found). HadThere k p n) (sym here) (stood n low member)))
+
+-- the members of a pool's arrays count as far as in the book v at least, and no further than in w
+abbrev CountsBetween : Raid → Raid → Found → Type 0
+CountsBetween v w g =
+    (n : ℕ) (shape : Shape) → n < v.state.made → shape_of g n ≡ Some shape
+    → KeepsReach g.state (shape_by_book (v.arrays n)) shape × KeepsReach w.state shape (shape_by_book (w.arrays n))
 
 -- Contents that hold the pool still and mean a volume where they aren't refused, with copies since the calls began, members that count as far as between the books, no rows to resync
 -- but the first book's where a member is lacking, and the tables of current places' drives.
-pub amid_reopens : (f : Found) (t : Slices) (v w : Raid) (l : Linear) (i : Image) → IsAfter f.state v.state → AreSlicesNow f t v.state → AreInside f t
+pub amid_reopens : (f : Found) (t : Slices) (v w : Raid) (l : Linear) (i : Image) → IsAfter f.state v.state → HasMarkedSeats v → AreSlicesNow f t v.state → AreInside f t
     → AreTabled f (λ d. Unit {0}) v.state i → AreSince v.state (sectors_of t) (sliced t i)
     → ((n : ℕ) → n < f.state.made → ReachBetween v w n (replayed (sectors_of t) (sliced t i))) → ((n : ℕ) → n < f.state.made → HasOwnLeft v n (replayed (sectors_of t) (sliced t i)))
     → HoldAmid f t v.state w.state i → HoldVolume f t l i → ReopensAmid f t l v w i
-amid_reopens f t v w l i begun had inside tabled since reach left amid volume =
+amid_reopens f t v w l i begun marked had inside tabled since reach left amid volume =
     let still = amid.between.still in
     let by = stood_by f.disks i still.logs.before still.logs.stands in
     let stands : standing f.disks i ≡ Some (standing_by f.disks i by.0) = still.logs.stands ∙ ap Some by.2 in
@@ -417,6 +327,15 @@ amid_reopens f t v w l i begun had inside tabled since reach left amid volume =
     let less : n < f.state.made = omega (arith, low, made) in
     subst (λ (z : State). KeepsReach z (shape_by_book (v.arrays n)) shape × KeepsReach w.state shape (shape_by_book (w.arrays n))) (sym still.state)
     (reach n less amid.between.state shape still.is_state (sym (still.shapes n less) ∙ at))) in
+    let stood : (p n : ℕ) → is_current g.state p ≡ true → n < f.state.made → HadThere g p n =
+    λ p n now low.
+    let made = begun.same.made in
+    let less : n < v.state.made = omega (arith, low, made) in
+    record {
+      was = shape_by_book (v.arrays n);
+      keeps = λ shape at. (counts n shape less at).0;
+      there = book_there v marked n p less (is_now.after.current p now);
+    } in
     let dirty : (n : ℕ) → n < g.state.made → is_dirty_degraded g n ≡ true → MayRefuse v g (dirty_degraded n) =
     subst (λ (k : Found). (n : ℕ) → n < k.state.made → is_dirty_degraded k n ≡ true → MayRefuse v k (dirty_degraded n)) here
     (λ n low lacks. (
@@ -432,9 +351,8 @@ amid_reopens f t v w l i begun had inside tabled since reach left amid volume =
       volume = volume;
       reach = subst (CountsBetween v w) same counts;
       excused =
-          subst (λ (k : Found). (why : Refusal) → refusal_of f.disks i ≡ Some why → MayRefuseAmid v k why) same
-          (excused_now f t v.state i begun had inside since by.0 stands by.1 log is_now present tabled v
-          (empty_member v w g (found_is f.disks i g found_g).0 is_now.after.same.made counts) dirty
+          subst (λ (k : Found). (why : Refusal) → refusal_of f.disks i ≡ Some why → MayRefuse v k why) same
+          (excused_now f t v.state i begun had inside since by.0 stands by.1 log is_now present tabled stood v dirty
           (subst (λ (k : Found). first_bad (joined_arrays k) ≡ None) (sym same) volume.lies.sound));
     }
 
@@ -445,8 +363,8 @@ pub calls_reopen : (f : Found) (t : Slices) (v w : Raid) (x y : Seen) (l : Linea
     → ((n : ℕ) → n < f.state.made → IsTold v (slices_shown t x) n) → ((n : ℕ) → n < f.state.made → is_over w n ≡ false)
     → ((n : ℕ) (r : Image) → n < f.state.made → IsLeft (slices_shown t x) r → SayTruth (v.arrays n) v.state r n) → ((n : ℕ) → n < f.state.made → HasOwnRows (v.arrays n))
     → x.traced → (k : ℕ) (i : Image) → x.clock < k → k ≤ y.clock → y.stops k i → HoldAmid f t v.state w.state i → HoldVolume f t l i → ReopensAmid f t l v w i
-calls_reopen f t v w x y l begun had inside tabled lasting only keeps told lasts truths own traced k i late early stop amid volume =
-    amid_reopens f t v w l i begun had inside (tabled i (off_amid t x y lasting only traced k i late early stop))
+calls_reopen f t v w x y l begun marked had inside tabled lasting only keeps told lasts truths own traced k i late early stop amid volume =
+    amid_reopens f t v w l i begun marked had inside (tabled i (off_amid t x y lasting only traced k i late early stop))
     (((moments_since v w (slices_shown t x) (slices_shown t y) keeps (told 0 first) (lasts 0 first)).leaves traced).new k (sliced t i) late early (i, stop, λ d s. refl) (nothing_past t i))
     (λ n low. (keeps.reach n (told n low) (lasts n low) traced).new k (sliced t i) late early (i, stop, λ d s. refl)) left amid volume
   where

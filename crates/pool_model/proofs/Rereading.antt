@@ -78,7 +78,7 @@ same_holds disks i f g on found_now same sound logs apart alone may = record {
   reach = λ n before left low was is.
       subst (KeepsReach g.state before) (some_same before left (sym was ∙ sym (shapes_same f g same n) ∙ is)) (reach_same (is_current g.state) before);
   unsynced = λ n low dirty. sym (ap (λ (o : Option Super). option_map_or is_unclean o false) (truths_same f g same n)) ∙ dirty_unsynced g n dirty;
-  parts = λ p now none. inl (damage_same f g same p ∙ none);
+  parts = λ p now none. damage_same f g same p ∙ none;
 }
 
 -- ---- a replay

@@ -1,6 +1,5 @@
 -- A whole array of whose members one is away: each of its sectors has its value, and no more than one member lacks.
-use Rattle.std.proofs.Common.{◌≡◌, ◌≢◌, ℕ, zero, suc, ◌+◌, ◌/◌, ◌%◌, ◌<◌, ◌≤◌, Bool, true, false, ◌==◌, ◌&&◌, ◌||◌, not, nat_lt, if◌then◌else◌, List, [], ◌∷◌, filter, get_or, map, length, Option, Some, option_map, slice_get, unwrap_or, refl, sym, ap, ap₂, subst, ◌∙◌, inl, inr, eqb-true, lt-ltb, ltb-true, arith}
-use Rattle.std.specs.Option.{option_map_or}
+use Rattle.std.proofs.Common.{◌≡◌, ◌≢◌, ℕ, zero, suc, ◌+◌, ◌/◌, ◌%◌, ◌<◌, ◌≤◌, Bool, true, false, ◌==◌, ◌&&◌, ◌||◌, not, nat_lt, if◌then◌else◌, List, [], ◌∷◌, filter, get_or, map, length, Some, option_map, slice_get, unwrap_or, refl, sym, ap, ap₂, subst, ◌∙◌, inl, inr, eqb-true, lt-ltb, ltb-true, arith}
 use Rattle.std.specs.List.{range_with_len}
 use Rattle.std.proofs.lemmas.Bool.{and_parts, cases_eq}
 use Rattle.std.proofs.lemmas.List.Quantifiers.{position-Some}
@@ -21,9 +20,8 @@ use Rattle.array_image.specs.States.{is_current}
 use Rattle.array_image.specs.Stripes.{sector_in}
 use Rattle.array_image.specs.Supers.{is_rebuilding, is_reshaping, new_row, super_in}
 use Rattle.array_image.proofs.Losing.{length_map}
-use Rattle.array_model.specs.declared.Seat.{Seat}
 use Rattle.array_model.specs.declared.Seat.TheVariants.{Whole}
-use Rattle.array_model.specs.View.{IsArray, View, is_whole_seat, member_on, place_at, seat_reach, shape_of}
+use Rattle.array_model.specs.View.{IsArray, View, member_by_seat, member_on, place_at, shape_of}
 use Rattle.array_model.proofs.Layouts.{sector_inside}
 use Rattle.array_model.proofs.Noting.{laid_out}
 use Rattle.array_model.proofs.Spared.{lost_value}
@@ -150,12 +148,11 @@ module _ (n : ℕ) (t : Super) (few : n < 16) (facts : Truth t) where
   seat_whole : (k : ℕ) → k < t.raid_disks → slice_get v.seats k ≡ Some Whole
   seat_whole k low = get_map (λ k. Whole) (range_with_len 0 t.raid_disks) k ∙ ap (option_map (λ k. Whole)) (get_range 0 t.raid_disks k low)
 
-  pub member_is : (k : ℕ) → k < t.raid_disks → member_on v k ≡ record { place = place_at v k; reach = t.size; is_whole = true }
-  member_is k low =
-      ap (λ (o : Option Seat). record { place = place_at v k; reach = option_map_or (seat_reach t.size) o 0; is_whole = option_map_or is_whole_seat o false }) (seat_whole k low)
+  pub member_is : (k : ℕ) → k < t.raid_disks → member_on v k ≡ member_by_seat t.size (place_at v k) (Some Whole)
+  member_is k low = ap (member_by_seat t.size (place_at v k)) (seat_whole k low)
 
   module _ (p : ℕ) where
-    left_one : (k : ℕ) → k < t.raid_disks → (member_on v k).place ≢ p → lower (only_place p) (member_on v k) ≡ record { place = place_at v k; reach = t.size; is_whole = true }
+    left_one : (k : ℕ) → k < t.raid_disks → (member_on v k).place ≢ p → lower (only_place p) (member_on v k) ≡ member_by_seat t.size (place_at v k) (Some Whole)
     left_one k low other =
         ap (λ (b : Bool). unless_gone b (member_on v k)) (no (place_at v k == p) (λ same. other (eqb-true (place_at v k) p same))) ∙ member_is k low
       where
@@ -223,7 +220,7 @@ module _ (n : ℕ) (t : Super) (few : n < 16) (facts : Truth t) where
         let here : q ≡ one.0 = ap (λ o. unwrap_or o 16) one.1 in
         let all = has.all k one.0 low one.1 in
         ap₂ (member_by t.size q) (ap (is_current s) here ∙ all.0) (ap (super_in s c n) here ∙ all.2)
-        ∙ ap (λ (b : Bool). record { place = q; reach = if b then all.1.recovery_offset else t.size; is_whole = true && not b }) all.3
+        ∙ ap (λ (b : Bool). record { place = q; reach = if b then all.1.recovery_offset else t.size; is_there = true; is_whole = true && not b }) all.3
         ∙ sym (member_is k low)
 
     pub shape_whole : shape_by s c n t ≡ shape_of v

@@ -67,7 +67,7 @@ some_copied None is = absurd (both_ways false refl is)
 some_copied (Some copy) is = refl
 
 -- a drive with its table, a copy and a sound log wants a superblock alone
-pub superblocks_alone : (f : Found) (p d : ℕ) → f.seats p ≡ Some d → has_table f p d ≡ true → is_none (f.identities d).copied ≡ false → has_log f p ≡ true
+superblocks_alone : (f : Found) (p d : ℕ) → f.seats p ≡ Some d → has_table f p d ≡ true → is_none (f.identities d).copied ≡ false → has_log f p ≡ true
     → damage_of f p ≡ (if not (has_supers f p) then Some in_superblock else None)
 unfolding damage_of
 superblocks_alone f p d seat table copy log =
@@ -109,23 +109,6 @@ no_damages f none =
     ap (option_and_then (λ place. option_map (damaged place) (damage_of f place)))
     (none_found (λ place. is_some (damage_of f place)) (current_places f.state)
     (λ p among. ap is_some (none p (sym (names_current f.state p) ∙ among))))
-
--- the damage that is named is one of a current place
-pub first_damage : (f : Found) (why : Refusal) → first_damaged f ≡ Some why
-    → (p : ℕ) × (part : Part) × (is_current f.state p ≡ true) × (damage_of f p ≡ Some part) × (why ≡ damaged p part)
-first_damage f why is = of (find (λ place. is_some (damage_of f place)) (current_places f.state)) refl is
-  where
-    by : (p : ℕ) → is_current f.state p ≡ true → (o : Option Part) → damage_of f p ≡ o → option_map (damaged p) o ≡ Some why
-        → (p : ℕ) × (part : Part) × (is_current f.state p ≡ true) × (damage_of f p ≡ Some part) × (why ≡ damaged p part)
-    by p now None here at = absurd (none-some why at)
-    by p now (Some part) here at = (p, part, now, here, sym (some_same (damaged p part) why at))
-
-    of : (o : Option ℕ) → find (λ place. is_some (damage_of f place)) (current_places f.state) ≡ o
-        → option_and_then (λ place. option_map (damaged place) (damage_of f place)) o ≡ Some why
-        → (p : ℕ) × (part : Part) × (is_current f.state p ≡ true) × (damage_of f p ≡ Some part) × (why ≡ damaged p part)
-    of None lowest at = absurd (none-some why at)
-    of (Some p) lowest at =
-        by p (sym (names_current f.state p) ∙ (find_passes (λ place. is_some (damage_of f place)) (current_places f.state) p lowest).1) (damage_of f p) refl at
 
 -- ---- no refusal
 

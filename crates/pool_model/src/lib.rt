@@ -21,7 +21,9 @@
 //! (`KeepsMoments` of raid_rack), each stop leaves such contents, by a state between (`HoldAmid`; `service_amid`, `vacant_amid`, `proofs/Amid.antt`),
 //! where by them the drives' tables have the members' slices (`LieByTables`); each place that is current by that state has its drive. Before a pool is
 //! in service a place may be absent: `HoldBetween` says the rest of it, for calls that tell of their stops (`TellsStops`, `found_tells`). Calls keep these tables (`HoldTables`, `tables_amid`; where drives were
-//! declined or taken in `proofs/Tables.antt`). What contents say of a pool, whatever made them so, stands in `proofs/Said.antt`.
+//! declined or taken in `proofs/Tables.antt`). What contents say of a pool, whatever made them so, stands in `proofs/Said.antt`. Members that are there by the book before a call
+//! have their superblocks at a stop (`proofs/WereThere.antt`), so no drive of a current place is damaged then, and a later opening refuses such contents for what their own superblocks and
+//! marks say of an array, or for another pool's disk, alone (`ReopensAmid`, `specs/Reopening.antt`; `calls_reopen`, `proofs/ReopeningAmid.antt`).
 //!
 //! **While a drive is taken in** (`specs/Laid.antt`) a stop leaves contents that hold the pool that there was, up to the moment when the record counts that brings the state
 //! with the drive: by the slices that are left while the drive is laid, and by those with its own from then on (`entering_early`, `proofs/TakingEarly.antt`). It says no state by
@@ -37,8 +39,9 @@
 //! plan and members that count as far as they did, that targets land in it, that no superblock of an array stands on a drive that is no member of it (`AreAlone`), and that it may be replayed where a record is pending.
 //! So it is while disks are read (`proofs/Rereading.antt`), while gates are closed (`idle_holds`, `proofs/GatesSame.antt`), while the copies of tables are made to
 //! agree (`settled_holds`, `proofs/Settled.antt`), and while places without a disk are marked (`marking_amid`, `proofs/Marking.antt`; `amid_opened`,
-//! `proofs/Openings.antt`). Sectors of tables have no superblock (`proofs/NoSuper.antt`). Where what its arrays have before the first extents says the volume, such contents
-//! mean it, with what the arrays held, or are refused for named reasons (`HoldMeaning`, `specs/Reopening.antt`; `opened_meaning`, `proofs/OpenedMeaning.antt`).
+//! `proofs/Openings.antt`). Sectors of tables have no superblock (`proofs/NoSuper.antt`). Where what its arrays have before the first extents says the volume,
+//! and the pool wasn't refused, such contents mean it, with what the arrays held, or are refused for another pool's disk alone (`HoldMeaning`, `specs/Reopening.antt`;
+//! `opened_meaning`, `proofs/OpenedMeaning.antt`).
 //!
 //! `proofs/Absent.antt`: any one drive of a whole pool may be absent, `IsWholePool` (`specs/Absent.antt`): the disks without its disk mean what all of
 //! them mean (`safe_in_absence`). `proofs/EndedWhole.antt`: so it is of all that disks may be left with by a pool that has ended whole, by its
