@@ -24,7 +24,7 @@ use Rattle.array_image.specs.Left.{IsClosed}
 use Rattle.array_image.specs.SoundArray.{IsSoundArray, first_unsynced}
 use Rattle.array_model.specs.declared.Seat.{Seat}
 use Rattle.array_model.specs.declared.Seat.TheVariants.{Whole, Missing, Rebuilding}
-use Rattle.array_model.specs.View.{View, IsArray, is_whole_seat, member_on, place_at, seat_reach, seat_unless, sectors_of, shape_of}
+use Rattle.array_model.specs.View.{View, IsArray, member_by_seat, member_on, place_at, seat_reach, seat_unless, sectors_of, shape_of}
 use Rattle.array_model.specs.Opened.{OpensOn}
 use Rattle.array_core.specs.Model.{is_truth}
 use Rattle.array_core.specs.declared.Found.{Found as FoundSuper}
@@ -92,12 +92,7 @@ seats_shape v w truth seats =
     ap (λ (u : Super). shape_of (record w { truth = u })) truth
     ∙ (let members : map (member_on (record w { truth = v.truth })) (range_with_len 0 v.truth.raid_disks) ≡ map (member_on v) (range_with_len 0 v.truth.raid_disks) =
     map_ranged (member_on (record w { truth = v.truth })) (member_on v) 0 v.truth.raid_disks
-    (λ k from low.
-    ap (λ (o : Option Seat). record {
-      place = place_at v k;
-      reach = option_map_or (seat_reach v.truth.size) o 0;
-      is_whole = option_map_or is_whole_seat o false;
-    }) (seats k (omega (arith, low)))) in
+    (λ k from low. ap (member_by_seat v.truth.size (place_at v k)) (seats k (omega (arith, low)))) in
     λ i. record (shape_of v) { members = members i })
 
 -- an array has at least the sectors of a member

@@ -7,13 +7,13 @@ use Rattle.arrayvec.specs.ArrayVec.{ArrayVec}
 use Rattle.rack.specs.Seen.{Seen}
 use Rattle.slice_rack.specs.Slices.{Slices, disk_of, first_of as slice_first, sectors_of}
 use Rattle.md_super.specs.declared.superblock.Super.{Super}
-use Rattle.array_image.specs.Arrays.{Member, final_layout, first_layout, member_by, member_in, place_with, shape_by}
+use Rattle.array_image.specs.Arrays.{final_layout, first_layout, member_by, member_in, place_with, shape_by}
 use Rattle.array_image.specs.Places.{member_slice, place_of, super_sector}
 use Rattle.array_image.specs.States.{is_current}
 use Rattle.array_image.specs.Supers.{is_rebuilding, is_reshaping}
 use Rattle.array_model.specs.declared.Seat.{Seat}
 use Rattle.array_model.specs.declared.Seat.TheVariants.{Whole, Missing, Rebuilding}
-use Rattle.array_model.specs.View.{View, has_gone, is_missing_seat, is_whole_seat, member_on, place_at, seat_reach, shape_of}
+use Rattle.array_model.specs.View.{View, has_gone, is_missing_seat, member_by_seat, member_on, place_at, shape_of}
 use Rattle.array_core.specs.Opening.{seat_by}
 use Rattle.array_core.specs.Seats.{names}
 use Rattle.array_core.specs.Slots.{place_by}
@@ -54,17 +54,15 @@ seat_either current seated true o seat kept lost none is either = elim either [
   | inr said ↦ said ∙ sym (ap (λ (b : Bool). option_map_or seat_by (counting b o) Missing) (kept refl))
 ]
 
--- a member of such a seat
-abbrev seated_member : ℕ → ℕ → Seat → Member
-seated_member size place seat = record { place = place; reach = seat_reach size seat; is_whole = is_whole_seat seat }
-
-rebuilt_so : (size place offset : ℕ) (b : Bool) → seated_member size place (if b then Rebuilding offset else Whole) ≡ record { place = place; reach = if b then offset else size; is_whole = not b }
+-- a member whose superblock is there
+rebuilt_so : (size place offset : ℕ) (b : Bool) → member_by_seat size place (Some (if b then Rebuilding offset else Whole))
+    ≡ record { place = place; reach = if b then offset else size; is_there = true; is_whole = not b }
 rebuilt_so size place offset true = refl
 rebuilt_so size place offset false = refl
 
 -- that is the member of the image
 member_said : (size place : ℕ) (current : Bool) (o : Option Super)
-    → seated_member size place (option_map_or seat_by (counting current o) Missing) ≡ member_by size place current o
+    → member_by_seat size place (Some (option_map_or seat_by (counting current o) Missing)) ≡ member_by size place current o
 member_said size place false o = refl
 member_said size place true None = refl
 member_said size place true (Some u) = rebuilt_so size place u.recovery_offset (is_rebuilding u)
@@ -133,12 +131,9 @@ module _ (f : Found) (slices : Slices) (lie : AreSlicesOf f slices) (n : ℕ) (f
 
   member_same : (k : ℕ) → k < t.raid_disks → member_on w k ≡ member_in f.state (slices_of f) n t k
   member_same k low =
-      let so : member_on w k ≡ seated_member t.size (place_by t k) (option_map_or seat_by (counting (is_current f.state (place_by t k)) (super_at f n (place_by t k))) Missing) =
-      λ i. record {
-        place = place_same k i;
-        reach = option_map_or (seat_reach (of.geometry.size i)) (seat_now k low i) 0;
-        is_whole = option_map_or is_whole_seat (seat_now k low i) false;
-      } in
+      let so : member_on w k
+      ≡ member_by_seat t.size (place_by t k) (Some (option_map_or seat_by (counting (is_current f.state (place_by t k)) (super_at f n (place_by t k))) Missing)) =
+      λ i. member_by_seat (of.geometry.size i) (place_same k i) (seat_now k low i) in
       so ∙ member_said t.size (place_by t k) (is_current f.state (place_by t k)) (super_at f n (place_by t k))
 
   members_same : map (member_on w) (range_with_len 0 w.truth.raid_disks) ≡ map (member_in f.state (slices_of f) n t) (range_with_len 0 t.raid_disks)

@@ -22,6 +22,7 @@ use Rattle.pool_model.proofs.Said.{slices_by}
 use Rattle.pool_model.proofs.Sizes.{sectors_kept}
 use Rattle.pool.specs.Calls.{Passes}
 use Rattle.pool.specs.View.{View, book, slices_shown, volume}
+use Rattle.pool.proofs.Booked.{book_seated}
 use Rattle.shr_tool.specs.Between.{HoldsMeanwhile}
 use Rattle.shr_tool.specs.Service.{GoesBy, Lone}
 use Rattle.shr_tool.proofs.Heads.{heads_amid, heads_passes}
@@ -69,8 +70,9 @@ module _ {L G : Type 0} {o : Option Lone} (x y : View) (f : Found) (l : Linear) 
       record {
         amid = amid;
         opens = λ says heads whole.
-            calls_reopen f x.slices (book x) (book y) x.bay y.bay l goes.service.after lies.0 (inside_of f x.slices x.bay goes.service.disks inside) lies.1 goes.lasting passes.apart
-            moments told lasts (say_now x f fit goes told (λ n low. moments.still n (lasts n low)) truths) (own_now x f fit goes) traced k i since until stopped amid (volume_at says heads whole);
+            calls_reopen f x.slices (book x) (book y) x.bay y.bay l goes.service.after (book_seated (book x) (slices_shown x) fit.0.running.set fit.0.heeded) lies.0
+            (inside_of f x.slices x.bay goes.service.disks inside) lies.1 goes.lasting passes.apart moments told lasts
+            (say_now x f fit goes told (λ n low. moments.still n (lasts n low)) truths) (own_now x f fit goes) traced k i since until stopped amid (volume_at says heads whole);
       }
     where
       amid : HoldAmid f x.slices (book x).state (book y).state i

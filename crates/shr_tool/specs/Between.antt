@@ -36,7 +36,7 @@ pub record HoldsNext (Landing Group : Type 0) (f : Found) (t : Slices) (l : Line
   pub opens : Group → AreHeadsLive v → AreWholeSectors f.disks i → Reopens f t l v i
 
 -- Contents hold the pool f, by a state between those of two books, once what is pending is written. They mean the run's volume, too, with members that count as far as in between, or
--- are refused for such a reason, or since a drive lacks a superblock whose member was to be rebuilt from its start.
+-- are refused for such a reason by the book before.
 pub record HoldsMeanwhile (Group : Type 0) (f : Found) (t : Slices) (l : Linear) (v w : Raid) (i : Image) : Type 0 where
   pub amid : HoldAmid f t v.state w.state i
   pub opens : Group → AreHeadsLive w → AreWholeSectors f.disks i → ReopensAmid f t l v w i
