@@ -43,10 +43,10 @@ use Rattle.raid_rack.specs.Moves.{IsSeated}
 use Rattle.raid_rack.proofs.Founding.{position_named}
 use Rattle.raid_rack.proofs.Seated.{array_with, gone_lost, place_few}
 use Rattle.pool_model.proofs.Grouped.{truth_long}
+use Rattle.pool_model.proofs.Roles.{placed_position}
 use Rattle.assembler.specs.Members.{AreMembers}
 use Rattle.pool_model.specs.Pools.{IsSoundPool}
 use Rattle.assembler.specs.Holding.{AreSteady, IsPoolOn}
-use Rattle.assembler.proofs.Roles.{named_position}
 use Rattle.assembler.proofs.Seating.{array_seated}
 use Rattle.assembler.proofs.Shows.{few_place, live, now, reads_member}
 use Rattle.assembler.proofs.Truthful.{shape_now, shape_said, sound_now, super_gone, super_other, super_unseated, truth_now}
@@ -263,7 +263,7 @@ module _ (f : Found) (t : Slices) (x : Seen) (checked : Checked) (absent : List 
           | inr stranger ↦ super_other f t x checked absent orderly m steady pool opened n made place (few_place f t x checked absent orderly m steady pool opened place current) stranger
           | inl member ↦
               let facts = truth_facts tr usable in
-              let named = named_position tr place facts.positions facts.few (sym (ap (λ (o : Option Super). option_map_or (λ z. is_named z place) o false) of.truth_is) ∙ member) in
+              let named = placed_position tr place facts.positions facts.few (sym (ap (λ (o : Option Super). option_map_or (λ z. is_named z place) o false) of.truth_is) ∙ member) in
               absurd (other named.0 named.1 (ap (λ o. unwrap_or o 16) named.2))
         ];
         resync = young (nat_lt n f.state.joined) (lt-ltb n f.state.joined joined);

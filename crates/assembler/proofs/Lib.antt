@@ -28,7 +28,6 @@ mod Moments
 mod Numbered
 mod Refusals
 mod Rest
-mod Roles
 mod Running
 mod Seating
 mod Served

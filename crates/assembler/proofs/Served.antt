@@ -32,12 +32,12 @@ use Rattle.raid_rack.proofs.AgreeStill.{agree_spared, truth_spared}
 use Rattle.pool_model.specs.Left.{IsServed, LeavesClean}
 use Rattle.pool_model.specs.Pools.{AreSlicesOf}
 use Rattle.pool_model.proofs.Refused.{HoldSupers}
+use Rattle.pool_model.proofs.Roles.{placed_position}
 use Rattle.pool_model.proofs.Values.{HoldValues}
 use Rattle.assembler.specs.Holding.{HoldsArrays}
 use Rattle.assembler.specs.Volume.{AllLive, AreStill}
 use Rattle.assembler.proofs.Clean.{earlier_told}
 use Rattle.assembler.proofs.Founded.{array_later, array_same}
-use Rattle.assembler.proofs.Roles.{named_position}
 use Rattle.assembler.proofs.Shapes.{shape_heeded}
 
 module _ {R : Type 0} (seen : R → Seen) (runs : R → R → Type 0) (e f : Found) (pool : IsSamePool e f) (a : Seen) (raid last : RaidRack R)
@@ -148,7 +148,7 @@ module _ {R : Type 0} (seen : R → Seen) (runs : R → R → Type 0) (e f : Fou
           → is_some (super_in v.state r n p) ≡ true
       there t truth usable p r current named left =
           let facts = truth_facts t usable in
-          let at = named_position t p facts.positions facts.few named in
+          let at = placed_position t p facts.positions facts.few named in
           let agrees = agree r left in
           let earlier = earlier_told v y n (kept.1.moments.told n (holds.told n low)) (lasts n low) r left agrees.truth agrees.leads in
           let of = array_later f n t ((raid_in raid).arrays n) (v.arrays n) (holds.arrays n t low truth) (kept.2.arrays n (made_low n low)) in

@@ -17,7 +17,7 @@ use Rattle.array_image.specs.SoundArray.{array_fields, first_unsynced}
 use Rattle.array_image.specs.States.{is_current}
 use Rattle.array_image.specs.Supers.{is_named, is_rebuilding, is_unclean, named_places, super_in, truth_in}
 use Rattle.array_core.proofs.Opened.{current_below}
-use Rattle.array_core.proofs.Rules.{get_map, get_range, placed}
+use Rattle.array_core.proofs.Rules.{get_map, get_range}
 use Rattle.array_core.proofs.Truths.{Truth}
 use Rattle.array_core.proofs.Stripped.{some_same}
 use Rattle.array_model.specs.declared.Seat.{Seat}
@@ -38,7 +38,7 @@ use Rattle.pool_model.proofs.Known.{earlier, left, says, says_pool}
 use Rattle.pool_model.proofs.Named.{same_length, stands_same}
 use Rattle.pool_model.proofs.Rested.{log_same, now, stood}
 use Rattle.pool_model.proofs.Said.{SaysPool}
-use Rattle.pool_model.proofs.Roles.{named_position}
+use Rattle.pool_model.proofs.Roles.{placed_position}
 use Rattle.pool_model.proofs.Sizes.{facts_known}
 use Rattle.pool_model.proofs.Still.{same}
 
@@ -188,7 +188,7 @@ module _ (f : Found) (t : Slices) (v : Raid) (y : Seen) (i : Image) (known : IsK
         by true current (Some own) has is = of own current has (is_rebuilding own) refl is
 
     had_named : (q : ℕ) → is_named w q ≡ true → IsHad q
-    had_named q named = let one = named_position w q 16 fact.positions (λ k less. let one = placed w k fact.positions less in (one.0, one.1)) fact.few named in had one.0 q one.1 one.2
+    had_named q named = let one = placed_position w q fact.positions fact.few named in had one.0 q one.1 one.2
 
     -- ---- nothing is left to do
 

@@ -15,7 +15,7 @@ use Rattle.array_core.proofs.Rules.{get_map, get_range, placed}
 use Rattle.array_core.proofs.Truths.{rule_holds}
 use Rattle.array_core.proofs.Stripped.{some_same}
 use Rattle.raid_rack.specs.Frames.{Frame, frame_of}
-use Rattle.pool_model.proofs.Roles.{named_position}
+use Rattle.pool_model.proofs.Roles.{placed_position}
 
 -- a superblock of up to 16 members, which lie on places below 16, each position on one
 pub record IsPlaced (t : Super) : Type 0 where
@@ -78,7 +78,7 @@ module _ (t u : Super) (has : IsPlaced t) (had : IsPlaced u) (same : frame_of t 
   -- a place that one names has a position, and so the other names it
   named_there : (p : ℕ) → is_named t p ≡ true → is_named u p ≡ true
   named_there p named =
-      let at = named_position t p 16 has.roles (λ k low. let one = placed t k has.roles low in (one.0, one.1)) has.few named in
+      let at = placed_position t p has.roles has.few named in
       let few = has.few in
       let many = disks_same in
       let below : at.0 < u.raid_disks = (let low = at.1 in omega (arith, low, many)) in

@@ -15,7 +15,6 @@ use Rattle.array_image.specs.Left.{IsLeft}
 use Rattle.array_image.specs.SoundArray.{array_fields, first_unsynced}
 use Rattle.array_image.specs.States.{is_current}
 use Rattle.array_image.specs.Supers.{is_named, is_unclean, super_in}
-use Rattle.array_core.proofs.Rules.{placed}
 use Rattle.array_core.proofs.Stripped.{some_same}
 use Rattle.array_model.specs.View.{rows_of, sectors_of as sectors_in, shape_of as shape_by_book}
 use Rattle.lvm_group.specs.Images.{IsVolume}
@@ -48,7 +47,7 @@ use Rattle.pool_model.proofs.Known.{left, says, says_pool}
 use Rattle.pool_model.proofs.LackingRows.{lacks_rows}
 use Rattle.pool_model.proofs.Refused.{all_range}
 use Rattle.pool_model.proofs.Rested.{found_now, now, stands_so, stood}
-use Rattle.pool_model.proofs.Roles.{named_position}
+use Rattle.pool_model.proofs.Roles.{placed_position}
 use Rattle.pool_model.proofs.Said.{AreInside, SaysPool}
 use Rattle.pool_model.proofs.Sectors.{still_sized}
 use Rattle.pool_model.proofs.Sizes.{facts_known, reaches, sectors_known}
@@ -181,7 +180,7 @@ module _ (f : Found) (t : Slices) (v : Raid) (y : Seen) (i : Image) (known : IsK
     super_there p n counts low = elim (cases_Bool (is_named truth p)) [
       | inl named ↦
           let fact = facts_known f t v y i known small n low in
-          let one = named_position truth p 16 fact.positions (λ k less. let one = placed truth k fact.positions less in (one.0, one.1)) fact.few named in
+          let one = placed_position truth p fact.positions fact.few named in
           or_true (not (is_member g n p)) (is_some (super_at g n p))
           (ap is_some (same f t v.state i rest said n low p counts) ∙ there one.0 p one.1 one.2 counts)
       | inr none ↦

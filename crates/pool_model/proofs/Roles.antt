@@ -12,6 +12,7 @@ use Rattle.md_super.specs.declared.superblock.Super.{Super}
 use Rattle.array_image.specs.Arrays.{place_with}
 use Rattle.array_image.specs.Supers.{has_role, has_roles, is_named, named_places}
 use Rattle.array_core.proofs.Opened.{named_place}
+use Rattle.array_core.proofs.Rules.{placed}
 use Rattle.commit_log.specs.View.{names}
 use Rattle.commit_log.proofs.Naming.{names_range}
 
@@ -192,3 +193,7 @@ named_position t p m roles placed few named =
                 absurd (omega (arith, two, one))
           ]),
         )
+
+-- roles that are right by the rules on superblocks have a place for each position
+pub placed_position : (t : Super) (p : ℕ) → has_roles 16 t ≡ true → t.raid_disks ≤ 16 → is_named t p ≡ true → (k : ℕ) × (k < t.raid_disks) × (place_with t.roles.items k ≡ Some p)
+placed_position t p roles few named = named_position t p 16 roles (λ k low. let one = placed t k roles low in (one.0, one.1)) few named

@@ -9,7 +9,7 @@ use Rattle.array_image.specs.Arrays.{Member, Shape, member_by, member_in, shape_
 use Rattle.array_image.specs.Held.{Among}
 use Rattle.array_image.specs.States.{is_current}
 use Rattle.array_image.specs.Supers.{is_named}
-use Rattle.array_core.proofs.Rules.{get_map, get_range, placed, zero_more}
+use Rattle.array_core.proofs.Rules.{get_map, get_range, zero_more}
 use Rattle.array_core.proofs.Stripped.{some_same}
 use Rattle.array_model.specs.declared.Seat.{Seat}
 use Rattle.array_model.specs.View.{is_missing_seat, is_seated, member_on, place_at, shape_of as shape_by_book}
@@ -23,7 +23,7 @@ use Rattle.pool_model.proofs.Found.{IsFound, valid}
 use Rattle.pool_model.proofs.Framed.{truth_placed}
 use Rattle.pool_model.proofs.Members.{among_range}
 use Rattle.pool_model.proofs.Refused.{all_range}
-use Rattle.pool_model.proofs.Roles.{named_position}
+use Rattle.pool_model.proofs.Roles.{placed_position}
 
 -- a member at a position is one of the list
 among_get : (ms : List Member) (k : ℕ) (m : Member) → slice_get ms k ≡ Some m → Among m ms
@@ -48,7 +48,7 @@ module _ (g : Found) (is : IsFound g) (p : ℕ) (now : is_current g.state p ≡ 
     super_there =
         let good = valid g is in
         let has = truth_placed g.state (slices_of g) n t (valid_fit g.state good.0 good.1).few truth in
-        let at = named_position t p 16 has.roles (λ k less. let one = placed t k has.roles less in (one.0, one.1)) has.few named in
+        let at = placed_position t p has.roles has.few named in
         let k = at.0 in
         let member : ℕ → Member = member_in g.state (slices_of g) n t in
         let here : slice_get shape.members k ≡ Some (member k) =
