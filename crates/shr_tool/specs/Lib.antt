@@ -18,6 +18,7 @@ pub mod Entry
 pub mod Attaching
 pub mod Refusing
 pub mod Opened
+pub mod Online
 pub mod Made
 pub mod Run
 pub mod LayoutText

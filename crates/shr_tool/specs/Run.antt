@@ -3,6 +3,7 @@ use Rattle.std.specs.Prelude.{◌≡◌, ℕ, List, ◌++◌, codes, decimal}
 use Rattle.rack.specs.declared.AttachFault.{AttachFault}
 use Rattle.rack.specs.declared.AttachFault.TheVariants.{Failed, Twice, Memory as NoRoom}
 use Rattle.rack.specs.Seen.{Seen}
+use Rattle.rack.specs.Sequences.{OnlyReads}
 use Rattle.rack.specs.Shelf.{Shelf}
 use Rattle.shr_script.specs.Reply.{refused_line}
 use Rattle.pool_format.specs.declared.Birth.{Birth}
@@ -11,7 +12,7 @@ use Rattle.shr_tool.specs.declared.status.Status.{Status}
 use Rattle.shr_tool.specs.declared.status.Status.TheVariants.{Refused, Memory}
 use Rattle.shr_tool.specs.Attaching.{AreAttached, IsUnattached}
 use Rattle.shr_tool.specs.Made.{MakeOutcome}
-use Rattle.shr_tool.specs.Opened.{OpenOutcome}
+use Rattle.shr_tool.specs.Online.{OnlineOutcome}
 use Rattle.shr_tool.specs.Saying.{Says}
 
 -- the line of a name that can't be attached
@@ -43,8 +44,12 @@ pub data PoolOutcome {B : Type 0} (seen : B → Seen) (shelf : B → Shelf) (run
   name_refused : NameRefused (seen bay) (seen after) (shelf bay) (shelf after) names out out' status → PoolOutcome seen shelf runs bay after task names text rest out out' status
   -- to read the words, before anything was called
   no_memory : after ≡ bay → Says Memory (refused_line (codes "memory")) out out' status → PoolOutcome seen shelf runs bay after task names text rest out out' status
+  -- to ask the disks, of which some may have been read
+  not_asked :
+      OnDisks seen shelf bay names (λ attached. OnlyReads (seen attached) (seen after) × runs attached after × Says Memory (refused_line (codes "memory")) out out' status)
+      → PoolOutcome seen shelf runs bay after task names text rest out out' status
   on_disks :
-      OnDisks seen shelf bay names (λ attached. OpenOutcome seen shelf runs attached after task text rest out out' status)
+      OnDisks seen shelf bay names (λ attached. OnlineOutcome seen shelf runs attached after task text rest out out' status)
       → PoolOutcome seen shelf runs bay after task names text rest out out' status
 
 -- how `create` came out

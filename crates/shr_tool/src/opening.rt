@@ -1,14 +1,18 @@
 //! `serve NAME..`, `import NAME..`, `export NAME..` and `status NAME..`: opens the pool of the named disks and does the task on it.
 
-ghost use Rattle.std.specs.Prelude.{◌≡◌, ◌≢◌, ◌≤◌, ◌^◌, false, map, string_bytes};
+ghost use Rattle.std.specs.Prelude.{◌≡◌, ◌≢◌, ◌⊎◌, ◌≤◌, ◌^◌, false, map, codes, string_bytes};
+ghost use Rattle.rack.specs.Sequences.{OnlyReads};
 ghost use Rattle.flat_array.specs.Array.{FlatArray};
 ghost use Rattle.pool.specs.Continuing.{Continues};
 ghost use Rattle.pool.specs.View.{bay_in, view, volume};
 ghost use Rattle.shr_tool.specs.Serving.{IsServing};
 ghost use Rattle.shr_tool.specs.Limits.{KeepsLimit};
 ghost use Rattle.shr_tool.specs.Outcome.{HasStatusCause};
+ghost use Rattle.shr_script.specs.Reply.{refused_line};
+ghost use Rattle.shr_tool.specs.Online.{OnlineOutcome};
 ghost use Rattle.shr_tool.specs.Opened.{OpenOutcome};
 ghost use Rattle.shr_tool.specs.Run.{PoolOutcome};
+ghost use Rattle.shr_tool.specs.Saying.{Says};
 ghost use Rattle.shr_tool.specs.Tasks.{NeedsInput, TaskOutcome, takes_input};
 ghost use Rattle.shr_tool.specs.Timeline.{ground_of};
 ghost use Rattle.pool.specs.Moment.{moment_of};
@@ -17,12 +21,17 @@ use crate::attaching::{attach_all, refuse_name};
 use crate::exporting::export_pool;
 use crate::importing::import_pool;
 use crate::refusals::refuse_open;
+use crate::saying::refuse;
 use crate::serve::{serve_pool, show_pool};
 use crate::status::Status;
 use io_ends::{Sink, Source};
+use online_bay::OnlineBay;
 use pool::Pool;
 use rack::{Bay, Rack};
 use std::alloc::Global;
+
+/// The sector of a drive's state, which each disk is asked for.
+const STATE_SECTOR: u64 = 2048;
 
 /// What is done on a pool once it is opened.
 #[derive(Clone, Copy, Debug, PartialEq, Eq)]
@@ -59,8 +68,38 @@ pub fn open_for<B: Bay, I: Source, O: Sink>(
         (I.left input.old) (I.left input.new) (O.taken out.old) (O.taken out.new) result }
 {
     match attach_all(bay, names) {
-        Ok(()) => open_attached(alloc, bay, seconds, task, input, out),
+        Ok(()) => open_online(alloc, bay, seconds, task, input, out),
         Err(at) => refuse_name(out, at),
+    }
+}
+
+/// Opens the pool of the attached disks that answer, and does the task on it.
+fn open_online<B: Bay, I: Source, O: Sink>(
+    alloc: Global,
+    bay: &mut B,
+    seconds: u64,
+    task: Task,
+    input: &mut I,
+    out: &mut O,
+) -> Status
+    ensures source { I.faults input.old ≤ I.faults input.new }
+    ensures sink { O.faults out.old ≤ O.faults out.new }
+    ensures cause { HasStatusCause result (I.faults input.old) (I.faults input.new) (O.faults out.old) (O.faults out.new) }
+    ensures limit { task ≡ Task.Serve → I.told input.old → KeepsLimit (result ≡ Status.Limit) (2 ^ 32) (I.left input.old) (I.left input.new) }
+    ensures other { task ≢ Task.Serve → result ≢ Status.Limit }
+    ensures unread { takes_input task ≡ false → input.new ≡ input.old }
+    ensures outcome { NeedsInput task (I.told input.old) → O.told out.old
+        → (OnlyReads (B.seen bay.old) (B.seen bay.new) × B.runs bay.old bay.new × Says Status.Memory (refused_line (codes "memory")) (O.taken out.old) (O.taken out.new) result)
+        ⊎ OnlineOutcome B.seen B.shelf B.runs bay.old bay.new task
+        (I.left input.old) (I.left input.new) (O.taken out.old) (O.taken out.new) result }
+{
+    match OnlineBay::probe(alloc, bay, STATE_SECTOR) {
+        Ok(mut online) => {
+            let status = open_attached(alloc, &mut online, seconds, task, input, out);
+            let _bay = online.into_inner();
+            status
+        }
+        Err(_) => refuse(out, b"memory", Status::Memory),
     }
 }
 
@@ -73,6 +112,7 @@ pub(crate) fn open_attached<B: Bay, I: Source, O: Sink>(
     input: &mut I,
     out: &mut O,
 ) -> Status
+    ensures lenders { B.lenders bay.new ≡ B.lenders bay.old }
     ensures source { I.faults input.old ≤ I.faults input.new }
     ensures sink { O.faults out.old ≤ O.faults out.new }
     ensures cause { HasStatusCause result (I.faults input.old) (I.faults input.new) (O.faults out.old) (O.faults out.new) }
