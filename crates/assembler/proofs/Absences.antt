@@ -25,7 +25,7 @@ use Rattle.pool_image.specs.Drives.{Found}
 use Rattle.pool_image.specs.Meaning.{array_sectors, arrays_held, shape_of, is_dirty_degraded, truth_of}
 use Rattle.raid_rack.specs.Rows.{KeepsLacking}
 use Rattle.pool_model.specs.Left.{AreAlone, AreAloneBy, IsPickOff}
-use Rattle.pool_model.specs.Openings.{HoldOpened, IsUnsynced}
+use Rattle.pool_model.specs.Openings.{HadOnePool, HaveOnePool, HoldOpened, IsUnsynced}
 use Rattle.pool_model.specs.Stopped.{HaveTables, HoldBetween, LieByTables, TellsStops}
 use Rattle.pool_model.proofs.Amid.{IsReady, inside_of, nothing_past, off_amid, tables_amid, tables_lie}
 use Rattle.pool_model.proofs.Found.{IsFound}
@@ -39,7 +39,7 @@ use Rattle.assembler.proofs.Moments.{says_values}
 
 -- A part of an opening that moves no value, from the book v, whose state is the pool's, to w, by which just the places without a disk are marked. When it begins members count as far
 -- as in the pool, and the arrays have the rows left to resync that the pool's truths leave; where a member is lacking the part leaves no others.
-module _ (f : Found) (t : Slices) (v w : Raid) (x y : Seen) (spent : ℕ → ℕ → Bool) (vals : ℕ → ℕ → Values) (found : IsFound f) (ready : IsReady f t v x) (same : v.state ≡ f.state)
+module _ (f : Found) (t : Slices) (v w : Raid) (x y : Seen) (spent : ℕ → ℕ → Bool) (vals : ℕ → ℕ → Values) (found : IsFound f) (stays_one : HadOnePool f → HaveOnePool f) (ready : IsReady f t v x) (same : v.state ≡ f.state)
     (have : HaveTables f) (alone : (i : Image) → IsPickOff t x i → AreAlone f i) (orderly : IsOrderly t) (inside : IsInside t x) (lasting : x.lasting) (only : WritesOnly x y (IsSliced t))
     (parts : (n : ℕ) → n < f.state.made → PartOf v w (slices_of t x) (slices_of t y) n (vals n) (vals n) (spent n))
     (amid : (n : ℕ) → n < f.state.made → IsAmid v (slices_of t x) n (vals n) (spent n))
@@ -113,7 +113,7 @@ module _ (f : Found) (t : Slices) (v w : Raid) (x y : Seen) (spent : ℕ → ℕ
     opened =
         (amid_opened f t v.state w.state 0 i ready.after plan marks gives counted ready.slices (inside_of f t x ready.disks inside)
         (ready.elsewhere i (off_amid t x y lasting only traced k i late early stop))
-        (tells.since.new k (sliced t i) late early (i, stop, λ j u. refl) (nothing_past t i)) between unsynced).0
+        (tells.since.new k (sliced t i) late early (i, stop, λ j u. refl) (nothing_past t i)) ready.outset stays_one between unsynced).0
 
   pub marking_leaves : Leaves x y (HoldOpened f 0)
   marking_leaves = record { later = holds.later; kept = holds.kept; past = holds.past; new = opened }

@@ -17,9 +17,10 @@ use Rattle.pool_rest.specs.declared.resting.AtRest.{AtRest}
 use Rattle.pool_rest.specs.Resting.{IsIdle}
 use Rattle.pool_model.proofs.Settled.{idle_logs, idle_pool}
 use Rattle.pool_model.specs.Left.{AreAlone}
-use Rattle.pool_model.specs.Openings.{HoldOpened}
+use Rattle.pool_model.specs.Openings.{HadOnePool, HoldOpened}
 use Rattle.pool_model.specs.Stopped.{LieApart}
 use Rattle.pool_model.proofs.Found.{found_is, some_made}
+use Rattle.pool_model.proofs.OnePool.{one_rested}
 use Rattle.pool_model.proofs.Openings.{opened_same}
 use Rattle.pool_model.proofs.Rereading.{same_apart}
 use Rattle.pool_model.proofs.SameAlone.{own_alone}
@@ -67,9 +68,16 @@ module _ {R : Type 0} (seen : R → Seen) (a : Seen) (rest : AtRest R) (e : Foun
       subst (AreAlone (f seen a rest e sound rested))
       (sym (ap (λ (h : Found). h.contents) (idle_pool (disks_of x) (now_in x) (f seen a rest e sound rested) rest_sound.found_is rest_idle rest_sound.logs).same))
 
+  -- no disk has another pool's state there, where none had one
+  pub rest_one : HadOnePool e → HadOnePool (f seen a rest e sound rested)
+  rest_one =
+      one_rested (disks_of a) (now_in a) e sound.found_is sound.logs (disks_of x) (now_in x) (f seen a rest e sound rested)
+      (idle_pool (disks_of x) (now_in x) (f seen a rest e sound rested) rest_sound.found_is rest_idle rest_sound.logs) (pool_same seen a rest e sound rested)
+
   -- what stops leave in reads since then
   pub until_read : (y : Seen) → LieApart e → AreAlone e e.contents → OnlyReads x y → Leaves a x (HoldOpened e 0) → a.traced → Leaves a y (HoldOpened e 0)
   until_read y apart alone reads early traced =
       leaves_then (HoldOpened e 0) early
-      (leaves_weaker (HoldOpened (f seen a rest e sound rested) 0) (HoldOpened e 0) (λ i. opened_same e (f seen a rest e sound rested) 0 i (pool_same seen a rest e sound rested))
+      (leaves_weaker (HoldOpened (f seen a rest e sound rested) 0) (HoldOpened e 0)
+      (λ i. opened_same e (f seen a rest e sound rested) 0 i (pool_same seen a rest e sound rested) rest_one)
       (rereading_leaves x y (f seen a rest e sound rested) rest_sound (same_apart e (f seen a rest e sound rested) (pool_same seen a rest e sound rested) apart) (pool_alone alone) (inl rest_idle) reads (rested.stays.traced traced)))

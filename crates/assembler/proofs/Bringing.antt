@@ -33,7 +33,7 @@ use Rattle.raid_rack.specs.Since.{AreSince}
 use Rattle.raid_rack.proofs.TruthAgrees.{truth_said}
 use Rattle.raid_rack.proofs.Whole.{own_rows}
 use Rattle.pool_model.specs.Left.{AreAlone, AreAloneBy, AreElsewhere, IsPickOff}
-use Rattle.pool_model.specs.Openings.{HoldOpened, IsUnsynced}
+use Rattle.pool_model.specs.Openings.{HadOnePool, HaveOnePool, HoldOpened, IsUnsynced}
 use Rattle.pool_model.specs.Pools.{AreSlicesOf, IsSoundPool}
 use Rattle.pool_model.specs.Reopening.{AreWholeSectors}
 use Rattle.pool_model.specs.Stopped.{HaveTables, HoldAmid, HoldBetween, LieByTables}
@@ -62,7 +62,7 @@ module _ {R : Type 0} (seen : R → Seen) (runs : R → R → Type 0) (e f : Fou
     (holds : HoldsArrays f (raid_in raid) a (slices_shown seen raid)) (alive : AllLive (raid_in last)) (kept : AreCalls seen runs raid last)
     (from : ℕ) (may : ℕ → ℕ → List ℕ → Type 0) (writes : WritesOnly (raid_seen seen raid) (raid_seen seen last) may) (low_only : (n x : ℕ) (v : List ℕ) → may n x v → x < from)
     (ready : (raid_in raid).state.joined ≤ (raid_in raid).state.made) (all : e.state.joined ≡ e.state.made)
-    (before : Image) (found_before : found (disks_of (seen (below_of (slices_in raid)))) before ≡ Some e) (sound : IsSoundPool e)
+    (before : Image) (found_before : found (disks_of (seen (below_of (slices_in raid)))) before ≡ Some e) (sound : IsSoundPool e) (stays_one : HadOnePool e → HaveOnePool e)
     (slices : AreSlicesOf e (tables (slices_in raid))) (have : HaveTables e)
     (elsewhere : (i : Image) → IsPickOff (tables (slices_in raid)) (seen (below_of (slices_in raid))) i → AreElsewhere e i)
     (alone : (i : Image) → IsPickOff (tables (slices_in raid)) (seen (below_of (slices_in raid))) i → AreAlone e i)
@@ -230,7 +230,7 @@ module _ {R : Type 0} (seen : R → Seen) (runs : R → R → Type 0) (e f : Fou
     opened =
         let one =
         amid_opened e t v.state w.state from i begun (kept.2.plan ∙ holds.plan ∙ ap (λ (s : State). s.plan) pool.state) marks (value_in t (sym there)) counted slices (inside_of e t z is_ready.disks inside)
-        (elsewhere i (off_amid t z y lasting only traced k i late early stop)) since between unsynced in
+        (elsewhere i (off_amid t z y lasting only traced k i late early stop)) since is_ready.outset stays_one between unsynced in
         record {
           opened = one.0;
           gives = λ n x low. ap (λ (h : Found). arrays_held h n x) one.1 ∙ between.still.values n x low;

@@ -40,7 +40,7 @@ use Rattle.raid_rack.proofs.Noted.{current_few, gone_from}
 use Rattle.raid_rack.proofs.Opening.{opened_amid}
 use Rattle.raid_rack.proofs.Over.{number_room, someone_left}
 use Rattle.pool_model.specs.Left.{AreAlone, IsPickOff}
-use Rattle.pool_model.specs.Openings.{HoldOpened}
+use Rattle.pool_model.specs.Openings.{HadOnePool, HaveOnePool, HoldOpened}
 use Rattle.pool_model.specs.Stopped.{HaveTables}
 use Rattle.pool_model.proofs.AbsentCopies.{absent_holds, absent_since}
 use Rattle.pool_model.proofs.Amid.{IsReady}
@@ -76,7 +76,7 @@ durable_is v x n vals spent opens joined amid =
 module _ (e f : Found) (pool : IsSamePool f e) (t : Slices) (v w : Raid) (a : Seen) (b d z : Seen) (stand : StandOver f v (slices_of t b)) (set : IsSet v (slices_of t b))
     (reads : OnlyReads (slices_of t b) (slices_of t d)) (marks : Mends v w (slices_of t d) (slices_of t z)) (made : HoldsArrays f w a (slices_of t z)) (alive : AllLive w)
     (unseated : (p : ℕ) → gone_in v p ≡ true → seat_of t p ≡ None)
-    (found : IsFound e) (ready : IsReady e t v d) (same : v.state ≡ e.state) (have : HaveTables e)
+    (found : IsFound e) (stays_one : HadOnePool e → HaveOnePool e) (ready : IsReady e t v d) (same : v.state ≡ e.state) (have : HaveTables e)
     (alone : (i : Image) → IsPickOff t d i → AreAlone e i) (orderly : IsOrderly t) (inside : IsInside t d) (lasting : d.lasting)
     (only : WritesOnly d z (IsSliced t)) (marks_are : (p : ℕ) → is_current w.state p ≡ (is_current e.state p && is_some (e.seats p))) (traced : d.traced) where
   abbrev before : Seen
@@ -241,6 +241,6 @@ module _ (e f : Found) (pool : IsSamePool f e) (t : Slices) (v w : Raid) (a : Se
 
   pub marked_leaves : Leaves d z (HoldOpened e 0)
   marked_leaves =
-      marking_leaves e t v w d z (spent_of w) vals found ready same have alone orderly inside lasting only part amid members means copies since room someone live
+      marking_leaves e t v w d z (spent_of w) vals found stays_one ready same have alone orderly inside lasting only part amid members means copies since room someone live
       (marks.moves.plan ∙ ap (λ (s : State). s.plan) same) marks_are
       (λ n u low truth. let of = array_of n u low truth in ((set.arrays n (low_made n low)).is_array, of.rows, of.young)) lacking traced

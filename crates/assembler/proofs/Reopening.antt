@@ -17,7 +17,7 @@ use Rattle.raid_rack.specs.declared.arrays.RaidRack.{RaidRack}
 use Rattle.raid_rack.specs.Raid.{Raid}
 use Rattle.raid_rack.specs.RaidRack.{raid_in, raid_seen, refused_in, slices_seen}
 use Rattle.pool_model.specs.Grouped.{HaveOwnAreas}
-use Rattle.pool_model.specs.Openings.{HoldOpened}
+use Rattle.pool_model.specs.Openings.{HadOnePool, HoldOpened}
 use Rattle.pool_model.specs.Reopening.{AreWholeSectors, HoldMeaning}
 use Rattle.pool_model.proofs.OpenedMeaning.{opened_meaning}
 use Rattle.pool_model.proofs.Openings.{opened_from}
@@ -30,7 +30,7 @@ module _ {R : Type 0} (seen : R → Seen) (runs : R → R → Type 0) (e f : Fou
     (holds : HoldsArrays f (raid_in raid) a (slices_seen seen raid)) (fresh : (n : ℕ) → refused_in raid n ≡ 0)
     (l : Linear) (seqno : ℕ) (opens : OpensVolume seen runs raid last l seqno) (alive : AllLive (raid_in last))
     (most : (raid_in raid).state.joined ≤ 16) (both : (raid_in raid).state.joined ≡ (raid_in raid).state.made)
-    (all : e.state.joined ≡ e.state.made) (own : HaveOwnAreas e) (none : refused_by e ≡ None) where
+    (all : e.state.joined ≡ e.state.made) (own : HaveOwnAreas e) (none : refused_by e ≡ None) (had : HadOnePool e) where
   abbrev u : Raid
   u = raid_in raid
 
@@ -91,7 +91,7 @@ module _ {R : Type 0} (seen : R → Seen) (runs : R → R → Type 0) (e f : Fou
       (given_volume seen runs f a raid last holds fresh l seqno opens alive most both own_rested (arrays_held e) (λ n x low first. held_same n x)))
       (λ n x low first.
       still.values n x (made n low) (omega arith) (let enough = room n low in let size = sized n low in omega (arith, first, enough, size)))
-      (λ n x low first. whole n x low) none
+      (λ n x low first. whole n x low) none had
 
   -- whose texts are brought up to date
   pub brought_meaning : (t : Slices) (i : Image) → GivesOpened e t data_start i
@@ -99,4 +99,4 @@ module _ {R : Type 0} (seen : R → Seen) (runs : R → R → Type 0) (e f : Fou
   brought_meaning t i gives lies wholes =
       opened_meaning e l i gives.opened all sizes sized room whole extent arrays (arrays_in (replayed (sectors_of t) (sliced t i)))
       (of_pool (arrays_in (replayed (sectors_of t) (sliced t i))) lies) (λ n x low first. gives.gives n x (made n low))
-      (λ n x low first. ap length (sym (gives.gives n x (made n low))) ∙ gives.whole wholes n x (made n low)) none
+      (λ n x low first. ap length (sym (gives.gives n x (made n low))) ∙ gives.whole wholes n x (made n low)) none had

@@ -43,7 +43,7 @@ use Rattle.pool_model.proofs.Outset.{outset_of}
 use Rattle.pool_model.proofs.Rereading.{agree_holds, midway_holds, same_apart}
 use Rattle.pool_model.proofs.Settled.{idle_logs}
 use Rattle.assembler.specs.Sound.{HoldSound}
-use Rattle.assembler.proofs.AtRest.{pool_alone}
+use Rattle.assembler.proofs.AtRest.{pool_alone, rest_one}
 use Rattle.assembler.proofs.Before.{before_is}
 use Rattle.assembler.proofs.Entry.{IsRested, f, pool_same, rest_found}
 use Rattle.assembler.proofs.Finding.{idle, newest_is, same as found_same}
@@ -118,7 +118,7 @@ module _ {R : Type 0} (seen : R → Seen) (a : Seen) (rest : AtRest R) (e : Foun
       let whole : damaged_log (current_places rest.state) (standing_by (disks_of x) (now_in x) rest.state).logs ≡ None = sym rested.stands.damaged_is ∙ rested.settled.whole in
       let none : IsIdleIn (disks_of x) (now_in x) = λ before is.
       ap (λ (z : Standing). z.targets) (some_same before (standing_by (disks_of x) (now_in x) rest.state) (sym is ∙ rested.stands.stands)) ∙ idle_rest in
-      opened_same e pool 0 i (pool_same seen a rest e sound rested)
+      opened_same e pool 0 i (pool_same seen a rest e sound rested) (rest_one seen a rest e sound rested)
       (agree_holds (disks_of x) (now_in x) i pool at.found_is at.sound
       (idle_logs (disks_of x) (now_in x) rest.state newest_rest idle_rest whole) (same_apart e pool (pool_same seen a rest e sound rested) apart) (pool_alone seen a rest e sound rested alone) (inl none) (subst (λ (k : Disks). Agree k i (now_in x)) disks_same agree))
 

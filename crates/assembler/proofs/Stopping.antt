@@ -35,6 +35,7 @@ use Rattle.pool_model.specs.Stopped.{LieApart}
 use Rattle.pool_model.proofs.Amid.{IsReady}
 use Rattle.pool_model.proofs.Found.{IsFound, found_is}
 use Rattle.pool_model.proofs.Landing.{tables_apart}
+use Rattle.pool_model.proofs.OnePool.{one_after, one_rested}
 use Rattle.pool_model.proofs.Openings.{opened_same}
 use Rattle.pool_model.proofs.Outset.{outset_of}
 use Rattle.pool_model.proofs.Rereading.{same_apart}
@@ -138,7 +139,8 @@ module _ (f e : Found) (s : State) (t : Slices) (y b d z : Seen) (went places : 
 
   settling : Leaves b d (HoldOpened e 0)
   settling =
-      leaves_weaker (HoldOpened g 0) (HoldOpened e 0) (λ i. opened_same e g 0 i gates.same)
+      leaves_weaker (HoldOpened g 0) (HoldOpened e 0)
+      (λ i. opened_same e g 0 i gates.same (one_rested (disks_of y) (now_in y) e rest.sound.found_is rest.sound.logs (disks_of b) (now_in b) g idle_b gates.same))
       (settles g gates.sound gates.idle (good_same e g gates.same rest.good) (same_apart e g gates.same (tables_apart e rest.tables)) (λ p. seats p ∙ sym (gates.same.seats p)) alone_b (mended.closing.stays.traced traced))
 
   -- ---- marks
@@ -202,7 +204,7 @@ module _ (f e : Found) (s : State) (t : Slices) (y b d z : Seen) (went places : 
   marking_now =
       marked_leaves e f rest.same t v w (slices_of t y) b d z stand set (mended_reads s t y b d went places checked absent orderly members mended) marks made alive
       (gone_unseated f s t y checked absent places orderly l holds found members rules v state number are nobody)
-      at.0 ready same_state rest.tables lone orderly inside (stays.lasting members.lasting) marking marks_are (stays.traced traced)
+      at.0 (one_after (disks_of y) (now_in y) e rest.sound.found_is rest.sound.logs) ready same_state rest.tables lone orderly inside (stays.lasting members.lasting) marking marks_are (stays.traced traced)
 
   pub making_leaves : Leaves y z (HoldOpened e 0)
   making_leaves = leaves_then (HoldOpened e 0) (leaves_then (HoldOpened e 0) (gates.leaves traced) settling) marking_now

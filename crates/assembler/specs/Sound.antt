@@ -4,7 +4,6 @@ use Rattle.rack.specs.Seen.{Image, IsPick, Seen}
 use Rattle.rack.specs.Moments.{Leaves}
 use Rattle.slice_rack.specs.Slices.{Slices}
 use Rattle.slice_rack.specs.SliceRack.{below_of, tables}
-use Rattle.pool_state.specs.declared.contents.Copied.{Copied}
 use Rattle.array_image.specs.Left.{IsLeft}
 use Rattle.array_image.specs.Record.{Gate, gate_of}
 use Rattle.array_image.specs.States.{is_current}
@@ -33,6 +32,7 @@ pub use Rattle.pool_model.specs.Grouped.{HaveOwnAreas}
 use Rattle.pool_model.specs.Grouped.{HoldGroup, IsVolumeOf}
 pub use Rattle.pool_model.specs.Left.{AreAlone}
 use Rattle.pool_model.specs.Left.{AreElsewhere, HoldSame, IsPickOff}
+pub use Rattle.pool_model.specs.Openings.{HaveOnePool}
 use Rattle.pool_model.specs.Openings.{HoldOpened, MayReplay}
 use Rattle.pool_model.specs.Pools.{AreSlicesOf, IsSoundPool}
 use Rattle.pool_model.specs.Reopening.{AreWholeSectors, HoldMeaning}
@@ -73,15 +73,11 @@ StopsHold x y f from =
     MayReplay (disks_of x) (now_in x) f → TargetsLand f → f.state.joined ≡ f.state.made → AreAlone f f.contents → x.traced
     → Leaves x y (HoldOpened f from)
 
--- And where the arrays have the pool's metadata areas it means the volume that lies so on them, with what they hold, unless a disk is of another pool: where it is in whole sectors.
+-- And where the arrays have the pool's metadata areas it isn't refused, and means the volume that lies so on them, with what they hold: where it is in whole sectors.
 abbrev pub StopsMean : Seen → Seen → Found → Linear → Type 0
 StopsMean x y f l =
     f.state.joined ≡ f.state.made → HaveOwnAreas f → MayReplay (disks_of x) (now_in x) f → TargetsLand f → AreAlone f f.contents → x.traced
     → Leaves x y (λ i. AreWholeSectors f.disks i → HoldMeaning f l i)
-
--- no disk had the state of another pool, once the pending record was replayed
-abbrev pub HaveOnePool : Found → Type 0
-HaveOnePool f = (d : ℕ) (copy : Copied) → d < f.disks.count → (f.identities d).copied ≡ Some copy → copy.state.pool ≡ f.state.pool
 
 -- a bound of the numbers of gates that a pool's drives have
 abbrev pub HaveGatesUpTo : Seen → Found → ℕ → Type 0
@@ -117,7 +113,7 @@ pub record IsMeantBy {R : Type 0} (seen : R → Seen) (x : Seen) (f : Found) (ra
   pub says :
       f.state.joined ≡ f.state.made → HaveOwnAreas f → MayStop x f → x.traced
       → Leaves x (seen (below_of (slices_in rack))) (SaysVolume (raid_in rack) (tables (slices_in rack)) l)
-  -- what a stop leaves inside the opening means that volume by its own pool, as a later opening finds it
+  -- what a stop leaves inside the opening isn't refused, and means that volume by its own pool, as a later opening finds it
   pub reopens : StopsMean x (seen (below_of (slices_in rack))) f l
   -- the numbers that end rise by a bounded number
   pub epoch : (raid_in rack).state.epoch ≤ f.state.epoch + most_opening

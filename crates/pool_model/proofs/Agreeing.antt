@@ -74,4 +74,5 @@ agree_opened f from c i holds agree =
           subst (λ (z : State). KeepsReach z before left) (sym is.state) (holds.reach n before left low was (sym (shapes_same h again.now is n) ∙ now));
       unsynced = λ n low dirty. holds.unsynced n low (sym (dirty_same h again.now is n) ∙ dirty);
       parts = λ p now none. damage_same h again.now is p ∙ holds.parts p (sym (ap (λ (z : State). is_current z p) is.state) ∙ now) none;
+      one_pool = λ had. again.one_pool (holds.one_pool had);
     }

@@ -1,6 +1,6 @@
 -- The pool that contents have: its state is the newest one, and its seats are by that.
 use Rattle.std.proofs.Common.{◌≡◌, ◌⊎◌, ℕ, zero, suc, ◌<◌, ◌≤◌, ◌^◌, List, Bool, true, false, ◌&&◌, nat_lt, nat_le, not, if◌then◌else◌, map, Option, Some, None, Result, Ok, Err, option_map, refl, sym, ap, subst, ◌∙◌, inl, inr, leb-true, arith}
-use Rattle.std.specs.Option.{option_and_then}
+use Rattle.std.specs.Option.{option_and_then, option_map_or}
 use Rattle.std.specs.List.{list_all, range_with_len}
 use Rattle.std.specs.Result.{result_ok}
 use Rattle.std.proofs.lemmas.Bool.{and_parts, cases_eq, cases_lt}
@@ -91,6 +91,21 @@ found_is disks c f is = of (standing disks c) is
     of : (o : Option Standing) → option_and_then (λ before. found_by disks before (written disks before c)) o ≡ Some f → IsFound f × (f.disks ≡ disks)
     of None at = absurd (none-some f at)
     of (Some before) at = by before (written disks before c) (newest disks (identities_of disks (written disks before c))) refl at
+
+-- what stood on the disks before the record was replayed
+pub found_stands : (disks : Disks) (c : Image) (f : Found) → found disks c ≡ Some f → standing disks c ≡ Some f.before
+unfolding found
+found_stands disks c f is = of (standing disks c) refl is
+  where
+    by : (before : Standing) (e : Image) (o : Option State)
+        → option_map (λ s. record { disks = disks; before = before; contents = e; identities = identities_of disks e; state = s; seats = seat_of s disks (identities_of disks e) }) o ≡ Some f
+        → before ≡ f.before
+    by before e None at = absurd (none-some f at)
+    by before e (Some s) at = ap (λ (o : Option Found). option_map_or (λ k. k.before) o before) at
+
+    of : (o : Option Standing) → standing disks c ≡ o → option_and_then (λ before. found_by disks before (written disks before c)) o ≡ Some f → standing disks c ≡ Some f.before
+    of None none at = absurd (none-some f at)
+    of (Some before) some at = some ∙ ap Some (by before (written disks before c) (newest disks (identities_of disks (written disks before c))) at)
 
 -- a disk is some place's, or none's
 pub seated_below : (seats : ℕ → Option ℕ) (d n : ℕ) → ((p : ℕ) × (seats p ≡ Some d)) ⊎ ((p : ℕ) → p < n → seats p ≡ Some d → ⊥)

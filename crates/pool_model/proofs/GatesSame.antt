@@ -11,7 +11,7 @@ use Rattle.array_image.specs.States.{current_places, is_current}
 use Rattle.array_core.proofs.Stripped.{some_same}
 use Rattle.raid_rack.proofs.Added.{names_current}
 use Rattle.pool_image.specs.Alike.{Agree, IsSameButGates, IsSamePool, drive_gate}
-use Rattle.pool_image.specs.Disks.{Disks, identities_of, newest, seat_of}
+use Rattle.pool_image.specs.Disks.{Disks, Identity, identities_of, newest, seat_of}
 use Rattle.pool_image.specs.Drives.{Found, found, slices_of}
 use Rattle.pool_image.specs.Meaning.{has_log}
 use Rattle.pool_image.specs.Replay.{Extent, Standing, log_extent, standing_by}
@@ -20,7 +20,7 @@ use Rattle.pool_image.proofs.Rested.{gate_block}
 use Rattle.pool_rest.specs.SoundLogs.{HasSoundLogs}
 use Rattle.pool_rest.proofs.SameLogs.{logs_same}
 use Rattle.pool_model.specs.Left.{AreAlone}
-use Rattle.pool_model.specs.Openings.{HoldOpened, IsIdleIn}
+use Rattle.pool_model.specs.Openings.{HadOnePool, HoldOpened, IsIdleIn}
 use Rattle.pool_model.specs.Pools.{IsSoundPool}
 use Rattle.pool_model.specs.Stopped.{LieApart}
 use Rattle.pool_model.proofs.Rereading.{same_holds, same_sound}
@@ -71,6 +71,7 @@ pub record HoldButGates (disks : Disks) (f : Found) (i : Image) : Type 0 where
   pub sound : IsSoundPool now
   pub logs : HasSoundLogs disks i
   pub idle : IsIdleIn disks i
+  pub one_pool : HadOnePool f → HadOnePool now
 
 module _ (disks : Disks) (c i : Image) (s : State) (newest_is : newest disks (identities_of disks c) ≡ Some s) (whole : damaged_log (current_places s) (standing_by disks c s).logs ≡ None)
     (long : (p d : ℕ) → seat_of s disks (identities_of disks c) p ≡ Some d → arrays_first ≤ disks.sectors d) (sound : IsSoundPool (pool_at disks c s))
@@ -105,6 +106,7 @@ module _ (disks : Disks) (c i : Image) (s : State) (newest_is : newest disks (id
     sound = same_sound (pool_at disks c s) (pool_at disks i s) pool_same sound;
     logs = idle_logs disks i s newest_now none whole_now;
     idle = λ before at. ap (λ (x : Standing). x.targets) (some_same before (standing_by disks i s) (sym at ∙ idle_stands disks i s newest_now)) ∙ none;
+    one_pool = λ had d copy there here. had d copy there (sym (ap (λ (z : Identity). z.copied) (same.identities d there)) ∙ here);
   }
 
 -- so it is of a pool that was found on the disks at rest
@@ -117,7 +119,7 @@ idle_holds disks c i f is sound long same none whole =
 
 -- and an opening that was stopped there holds it
 pub gates_opened : (disks : Disks) (i : Image) (f : Found) → f.disks ≡ disks → IsSoundPool f → LieApart f → AreAlone f f.contents → HoldButGates disks f i → HoldOpened f 0 i
-gates_opened disks i f on sound apart alone holds = same_holds disks i f holds.now on holds.found_is holds.same sound holds.logs apart alone (inl holds.idle)
+gates_opened disks i f on sound apart alone holds = same_holds disks i f holds.now on holds.found_is holds.same sound holds.logs apart alone (inl holds.idle) holds.one_pool
 
 -- ---- contents that agree
 

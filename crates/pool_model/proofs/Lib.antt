@@ -78,6 +78,7 @@ pub mod SameAlone
 pub mod Entries
 pub mod Landing
 pub mod Settled
+pub mod OnePool
 pub mod Openings
 pub mod Rereading
 pub mod Agreeing

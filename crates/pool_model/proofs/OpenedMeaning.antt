@@ -1,6 +1,6 @@
--- What contents mean that a stop inside an opening leaves, and for what they may be refused.
+-- What contents mean that a stop inside an opening leaves: they aren't refused.
 use Rattle.std.proofs.Common.{◌≡◌, ℕ, suc, ◌+◌, ◌<◌, ◌≤◌, ◌&&◌, not, Bool, true, false, nat_lt, if◌then◌else◌, is_none, List, [], ◌∷◌, filter, length, slice_get, Option, Some, None, option_map, unwrap_or, refl, sym, ap, ◌∙◌, inl, inr, le-ltb, lt-ltb, ltb-true, arith}
-use Rattle.std.specs.Option.{option_and_then, option_map_or}
+use Rattle.std.specs.Option.{option_map_or}
 use Rattle.std.proofs.lemmas.Bool.{and_parts, both_ways, cases_Bool, cases_lt}
 use Rattle.std.proofs.lemmas.List.{length-map}
 use Rattle.std.proofs.lemmas.List.Sums.{length-filter}
@@ -8,7 +8,6 @@ use Rattle.std.specs.List.{range_with_len}
 use Rattle.std.proofs.lemmas.Option.{none-some}
 use Rattle.rack.specs.Seen.{Image}
 use Rattle.shr_base.specs.declared.Id.{Id}
-use Rattle.pool_state.specs.declared.contents.State.{State}
 use Rattle.md_super.specs.declared.superblock.Super.{Super}
 use Rattle.array_image.specs.Arrays.{Member, Shape, member_in, place_with, shape_by}
 use Rattle.array_image.specs.Places.{member_slice, place_of, slice_of, super_sector}
@@ -20,41 +19,26 @@ use Rattle.lvm_group.specs.Images.{IsVolume}
 use Rattle.lvm_group.specs.Laws.{shows}
 use Rattle.lvm_group.specs.Runs.{Linear, array_of, data_start, sector_of}
 use Rattle.lvm_group.proofs.SameParts.{area_below}
-use Rattle.pool_image.specs.Disks.{Disks, identities_of, newest, seat_of}
-use Rattle.pool_image.specs.Drives.{Found, drive_sector, extent_of, found, found_by, slices_from, slices_of}
-use Rattle.pool_image.specs.Meaning.{Refusal, absent_count, array_sectors, arrays_held, bad_volume, has_other_pool, is_dirty_degraded, is_too_few, joined_arrays, lacking_of, no_pool, refusal_of, refused_at, refused_by, shape_of, super_at, truth_of, two_pools}
-use Rattle.pool_image.specs.Replay.{Extent, Standing, standing, written}
+use Rattle.pool_image.specs.Drives.{Found, drive_sector, extent_of, found, slices_from, slices_of}
+use Rattle.pool_image.specs.Meaning.{Refusal, absent_count, array_sectors, arrays_held, bad_volume, is_dirty_degraded, is_too_few, joined_arrays, lacking_of, no_pool, refusal_of, refused_at, refused_by, shape_of, super_at, truth_of, two_pools}
+use Rattle.pool_image.specs.Replay.{Extent}
 use Rattle.pool_image.specs.Volumes.{Arrays, first_bad}
 use Rattle.pool_image.proofs.Groups.{AreWholeArrays}
 use Rattle.pool_image.proofs.Joined.{AreAlike}
 use Rattle.pool_image.proofs.Parts.{held_in}
 use Rattle.raid_rack.specs.Book.{IsAfter, drive_of}
-use Rattle.pool_model.specs.Openings.{HoldOpened}
+use Rattle.pool_model.specs.Openings.{HadOnePool, HoldOpened}
 use Rattle.pool_model.specs.Reopening.{HoldMeaning, HoldVolumeBy}
 use Rattle.pool_model.proofs.ArraysMeant.{arrays_volume}
 use Rattle.pool_model.proofs.Current.{shape_truth}
-use Rattle.pool_model.proofs.Found.{found_is, some_made}
+use Rattle.pool_model.proofs.Found.{found_is, found_stands, some_made}
 use Rattle.pool_model.proofs.Grouped.{means_below}
 use Rattle.pool_model.proofs.Layers.{nothing_super}
+use Rattle.pool_model.proofs.OnePool.{none_stood}
 use Rattle.pool_model.proofs.Refused.{enough, not_dirty}
 use Rattle.pool_model.proofs.Unrefused.{no_damages, none_damaged, refused_or, unrefused, unrefused_few}
 
--- ---- why they are refused
-
--- what stood on the disks of a pool before its record was replayed
-found_stands : (disks : Disks) (c : Image) (f : Found) → found disks c ≡ Some f → standing disks c ≡ Some f.before
-unfolding found
-found_stands disks c f is = of (standing disks c) refl is
-  where
-    by : (before : Standing) (e : Image) (o : Option State)
-        → option_map (λ s. record { disks = disks; before = before; contents = e; identities = identities_of disks e; state = s; seats = seat_of s disks (identities_of disks e) }) o ≡ Some f
-        → before ≡ f.before
-    by before e None at = absurd (none-some f at)
-    by before e (Some s) at = ap (λ (o : Option Found). option_map_or (λ k. k.before) o before) at
-
-    of : (o : Option Standing) → standing disks c ≡ o → option_and_then (λ before. found_by disks before (written disks before c)) o ≡ Some f → standing disks c ≡ Some f.before
-    of None none at = absurd (none-some f at)
-    of (Some before) some at = some ∙ ap Some (by before (written disks before c) (newest disks (identities_of disks (written disks before c))) at)
+-- ---- why they aren't refused
 
 -- of numbers that pass two tests there are no more than of those that pass two others, where each of them does
 fewer : (p c q d : ℕ → Bool) → ((k : ℕ) → c k ≡ true → p k ≡ true → (d k ≡ true) × (q k ≡ true)) → (xs : List ℕ) → length (filter p (filter c xs)) ≤ length (filter q (filter d xs))
@@ -149,7 +133,7 @@ fewer_lack (m ∷ xs) (o ∷ ys) long whole =
     of false true keeps rest = omega (arith, rest)
     of false false keeps rest = omega (arith, rest)
 
-module _ (f : Found) (from : ℕ) (i : Image) (holds : HoldOpened f from i) (none : refused_by f ≡ None) (good : first_bad (joined_arrays holds.now) ≡ None) (why : Refusal) where
+module _ (f : Found) (from : ℕ) (i : Image) (holds : HoldOpened f from i) (none : refused_by f ≡ None) (good : first_bad (joined_arrays holds.now) ≡ None) where
   abbrev g : Found
   g = holds.now
 
@@ -232,8 +216,8 @@ module _ (f : Found) (from : ℕ) (i : Image) (holds : HoldOpened f from i) (non
         both_ways (is_dirty_degraded f n) (not_dirty f (none ∙ sym (ap (option_map bad_volume) (unrefused f none).1)) n before) (λ i. joined i && (lacks i && unsynced i))
 
   -- nor are its drives a reason: they keep their parts, and no more of them are absent
-  by_drives : refused_by g ≡ Some why → ⊥
-  by_drives is =
+  by_drives : (why : Refusal) → refused_by g ≡ Some why → ⊥
+  by_drives why is =
       elim (refused_or g (λ reason. ⊥) (λ n low lacks. both_ways (is_too_few g n) (enough_now n low) lacks) (λ n low dirty. synced_now n low dirty)
       (let most = absent_fewer f g holds.after holds.seats in let few = unrefused_few f none in omega (arith, most, few)) good why is) [
         | inl never ↦ never
@@ -242,15 +226,18 @@ module _ (f : Found) (from : ℕ) (i : Image) (holds : HoldOpened f from i) (non
             (sym (no_damages g (λ p now. holds.parts p now (none_damaged f p (unrefused f none).0 (holds.after.current p now)))) ∙ lacks)
       ]
 
-  pub opened_excused : refusal_of f.disks i ≡ Some why → (why ≡ two_pools) × (has_other_pool f.disks g.before ≡ true)
+  -- nor is another pool's disk
+  pub opened_unrefused : HadOnePool f → refusal_of f.disks i ≡ None
   unfolding refusal_of
-  opened_excused is =
-      of (has_other_pool f.disks g.before) refl (sym (ap (λ o. option_map_or (refused_at f.disks i) o (Some no_pool)) (found_stands f.disks i g holds.found_is)) ∙ is)
+  opened_unrefused had =
+      ap (λ o. option_map_or (refused_at f.disks i) o (Some no_pool)) (found_stands f.disks i g holds.found_is)
+      ∙ ap (λ (b : Bool). if b then Some two_pools else option_map_or refused_by (found f.disks i) (Some no_pool)) (none_stood f.disks i g holds.found_is holds.logs (holds.one_pool had))
+      ∙ ap (λ o. option_map_or refused_by o (Some no_pool)) holds.found_is
+      ∙ of (refused_by g) refl
     where
-      of : (b : Bool) → has_other_pool f.disks g.before ≡ b → (if b then Some two_pools else option_map_or refused_by (found f.disks i) (Some no_pool)) ≡ Some why
-          → (why ≡ two_pools) × (has_other_pool f.disks g.before ≡ true)
-      of true other at = (sym (some_same two_pools why at), other)
-      of false one at = absurd (by_drives (sym (ap (λ o. option_map_or refused_by o (Some no_pool)) holds.found_is) ∙ at))
+      of : (o : Option Refusal) → refused_by g ≡ o → refused_by g ≡ None
+      of None unrefused = unrefused
+      of (Some why) refused = absurd (by_drives why refused)
 
 -- ---- the volume
 
@@ -334,7 +321,7 @@ module _ (f : Found) (l : Linear) (i : Image) (holds : HoldOpened f data_start i
         );
   }
 
-  -- and where the pool wasn't refused they are for another pool's disk alone
-  pub opened_meaning : refused_by f ≡ None → HoldMeaning f l i
+  -- and where the pool wasn't refused, and no disk had another pool's state, they aren't
+  pub opened_meaning : refused_by f ≡ None → HadOnePool f → HoldMeaning f l i
   unfolding opened_volume
-  opened_meaning none = record { volume = opened_volume; excused = λ why. opened_excused f data_start i holds none opened_volume.lies.sound why }
+  opened_meaning none had = record { volume = opened_volume; unrefused = opened_unrefused f data_start i holds none opened_volume.lies.sound had }

@@ -1,5 +1,5 @@
 -- What holds a pool again as a stop inside an opening leaves it.
-use Rattle.std.proofs.Common.{◌≡◌, ℕ, ◌<◌, ◌≤◌, ◌&&◌, ◌||◌, Bool, true, false, not, is_some, Option, Some, None, option_map, unwrap_or, refl, sym, ap, ap₂, subst, ◌∙◌, inr, arith}
+use Rattle.std.proofs.Common.{◌≡◌, ℕ, ◌<◌, ◌≤◌, ◌&&◌, ◌||◌, Bool, true, false, not, is_some, Option, Some, None, option_map, unwrap_or, refl, sym, ap, ap₂, subst, ◌∙◌, inl, inr, arith}
 use Rattle.std.specs.Option.{option_map_or}
 use Rattle.std.proofs.lemmas.Bool.{both_ways}
 use Rattle.rack.specs.Seen.{Image}
@@ -14,19 +14,23 @@ use Rattle.raid_rack.specs.Book.{IsAfter, after_then, plan_between}
 use Rattle.raid_rack.specs.Reach.{KeepsReach}
 use Rattle.array_image.specs.Supers.{is_named, is_unclean}
 use Rattle.raid_rack.specs.Since.{AreSince}
+use Rattle.raid_rack.proofs.Noted.{current_few}
 use Rattle.pool_image.specs.Alike.{IsSamePool}
-use Rattle.pool_image.specs.Disks.{Disks}
+use Rattle.pool_image.specs.Disks.{Disks, Identity, identities_of}
 use Rattle.pool_image.specs.Drives.{Found, found, slices_of}
 use Rattle.pool_image.specs.Meaning.{array_sectors, arrays_held, damage_of, has_supers, is_dirty_degraded, is_member, is_table, shape_of, super_at, truth_of}
 use Rattle.pool_image.specs.Volumes.{Arrays}
 use Rattle.pool_image.proofs.Founds.{damage_same, joined_same, shapes_same, truths_same}
 use Rattle.pool_rest.specs.SoundLogs.{HasSoundLogs}
+use Rattle.pool_model.specs.InService.{IsOutset}
 use Rattle.pool_model.specs.Left.{AreElsewhere}
-use Rattle.pool_model.specs.Openings.{HoldOpened, IsUnsynced, MayReplay}
+use Rattle.pool_model.specs.Openings.{HadOnePool, HaveOnePool, HoldOpened, IsUnsynced, MayReplay}
 use Rattle.pool_model.specs.Pools.{AreSlicesOf}
 use Rattle.pool_model.specs.Stopped.{HoldBetween}
+use Rattle.pool_model.proofs.Found.{found_is, seated_below}
 use Rattle.pool_model.proofs.Members.{among_range}
-use Rattle.pool_model.proofs.ReopeningAmid.{between_whole}
+use Rattle.pool_model.proofs.OnePool.{stood_as}
+use Rattle.pool_model.proofs.ReopeningAmid.{between_own, between_whole}
 use Rattle.pool_model.proofs.Roles.{all_range}
 use Rattle.pool_model.proofs.Said.{AreInside, slices_by}
 use Rattle.pool_model.proofs.Unrefused.{no_drive, undamaged}
@@ -51,11 +55,12 @@ opened_from f from later i before holds = record {
   reach = holds.reach;
   unsynced = holds.unsynced;
   parts = holds.parts;
+  one_pool = holds.one_pool;
 }
 
--- of the same pool, but for gates of its log
-pub opened_same : (e f : Found) (from : ℕ) (i : Image) → IsSamePool e f → HoldOpened f from i → HoldOpened e from i
-opened_same e f from i same holds = record {
+-- of the same pool, but for gates of its log, where no other pool stood if none did
+pub opened_same : (e f : Found) (from : ℕ) (i : Image) → IsSamePool e f → (HadOnePool e → HadOnePool f) → HoldOpened f from i → HoldOpened e from i
+opened_same e f from i same one holds = record {
   now = holds.now;
   found_is = ap (λ (d : Disks). found d i) (sym same.disks) ∙ holds.found_is;
   sound = holds.sound;
@@ -75,6 +80,7 @@ opened_same e f from i same holds = record {
   unsynced = λ n low dirty.
       sym (ap (λ (o : Option Super). option_map_or is_unclean o false) (truths_same e f same n)) ∙ holds.unsynced n (subst (λ (s : State). n < s.made) (sym same.state) low) dirty;
   parts = λ p now none. holds.parts p now (damage_same e f same p ∙ none);
+  one_pool = λ had. holds.one_pool (one had);
 }
 
 -- By contents of slices the members of a pool's arrays, on places that are current by their state, count at least as far as in the pool.
@@ -96,14 +102,15 @@ member_there f n p t current has m among place =
 
 -- What a stop inside a call of a pool in service leaves does so, where just the places without a disk are marked by the call's end, and the replayed slices
 -- give what the pool's arrays held, with members that count as far as they did. Its disks have the drives' tables, and copies since the pool's state, and an array lacks a member and has
--- rows left to resync only where the pool's truth leaves such ones.
+-- rows left to resync only where the pool's truth leaves such ones. No disk had another pool's state once the pool's record was replayed, if none did before.
 pub amid_opened : (f : Found) (t : Slices) (s u : State) (from : ℕ) (i : Image) → IsAfter f.state s → u.plan ≡ f.state.plan
     → ((p : ℕ) → is_current u p ≡ (is_current f.state p && is_some (f.seats p)))
     → ((n x : ℕ) → n < f.state.made → from ≤ x → x < array_sectors f n → arrays_in (replayed (sectors_of t) (sliced t i)) n x ≡ arrays_held f n x)
     → CountFrom f (replayed (sectors_of t) (sliced t i)) → AreSlicesOf f t → AreInside f t → AreElsewhere f i → AreSince s (sectors_of t) (sliced t i)
+    → IsOutset f → (HadOnePool f → HaveOnePool f)
     → (amid : HoldBetween f t s u i) → ((n : ℕ) → n < f.state.made → is_dirty_degraded amid.still.now n ≡ true → IsUnsynced f n)
     → (holds : HoldOpened f from i) × (holds.now ≡ amid.still.now)
-amid_opened f t s u from i begun plan marks values counted slices inside elsewhere since amid unsynced =
+amid_opened f t s u from i begun plan marks values counted slices inside elsewhere since outset one amid unsynced =
     let still = amid.still in (
       record {
         now = still.now;
@@ -122,6 +129,7 @@ amid_opened f t s u from i begun plan marks values counted slices inside elsewhe
         reach = reach_now;
         unsynced = unsynced;
         parts = λ p counts fine. parts p (current_now p counts) fine (f.seats p) refl;
+        one_pool = own;
       },
       refl,
     )
@@ -134,11 +142,14 @@ amid_opened f t s u from i begun plan marks values counted slices inside elsewhe
         let still = amid.still in
         subst (λ (z : State). KeepsReach z before left) (sym still.state) (counted n amid.state before left low was still.is_state (sym (still.shapes n low) ∙ is))
 
+    -- a drive of the pool keeps its place
+    stays : (p d : ℕ) → f.seats p ≡ Some d → is_current amid.state p ≡ true
+    stays p d seat =
+        amid.sooner.current p (marks p ∙ ap₂ (λ (b : Bool) (o : Option ℕ). b && is_some o) (outset.seated p d seat).current seat)
+
     none : (p : ℕ) → is_current f.state p ≡ true → is_current amid.state p ≡ false → (o : Option ℕ) → f.seats p ≡ o → f.seats p ≡ None
     none p counts past None seat = seat
-    none p counts past (Some d) seat =
-        absurd (both_ways (is_current amid.state p) past
-        (amid.sooner.current p (marks p ∙ ap₂ (λ (b : Bool) (o : Option ℕ). b && is_some o) counts seat)))
+    none p counts past (Some d) seat = absurd (both_ways (is_current amid.state p) past (stays p d seat))
 
     -- a member that had its superblock was there
     stood : (p : ℕ) → is_current amid.state p ≡ true → has_supers f p ≡ true → (n : ℕ) → n < f.state.made → is_member f n p ≡ true → HadThere amid.still.now p n
@@ -156,6 +167,21 @@ amid_opened f t s u from i begun plan marks values counted slices inside elsewhe
           keeps = λ left is. reach_now n (shape_by f.state (slices_of f) n t) left low (ap (option_map (shape_by f.state (slices_of f) n)) truth) is;
           there = member_there f n p t (begun.current p (amid.later.current p counts)) has;
         }
+
+    own : HadOnePool f → HadOnePool amid.still.now
+    own had d copy low here = elim (seated_below f.seats d 16) [
+      | inl at ↦ between_own f t s u i begun (slices_by f t s slices) inside since amid at.0 d copy (stays at.0 d at.1) at.1 said
+      | inr none ↦
+          one had d copy there
+          (sym (ap (λ (z : Identity). z.copied) (elsewhere.others d (λ p seat. none p (current_few f.state p outset.places (outset.seated p d seat).current) seat) there)) ∙ said)
+          ∙ sym (after_then f.state s amid.state begun amid.later).same.pool ∙ sym (ap (λ (z : State). z.pool) amid.still.state)
+    ]
+      where
+        there : d < f.disks.count
+        there = subst (λ (disks : Disks). d < disks.count) (found_is f.disks i amid.still.now amid.still.found_is).1 low
+
+        said : (identities_of f.disks i d).copied ≡ Some copy
+        said = sym (ap (λ (z : Identity). z.copied) (stood_as f.disks i amid.still.now amid.still.found_is d)) ∙ here
 
     parts : (p : ℕ) → is_current amid.state p ≡ true → damage_of f p ≡ None → (o : Option ℕ) → f.seats p ≡ o → damage_of amid.still.now p ≡ None
     parts p counts fine None free = no_drive amid.still.now p (amid.still.seats p counts ∙ free)

@@ -268,29 +268,46 @@ module _ (f : Found) (t : Slices) (v : State) (i : Image) (begun : IsAfter f.sta
 
 -- ---- a stop inside calls
 
--- Where contents hold a pool still, between two states, the drive of a current place that has its table keeps all its parts, if the members on its place were there.
-pub between_whole : (f : Found) (t : Slices) (v u : State) (i : Image) → IsAfter f.state v → AreSlicesNow f t v → AreInside f t → AreSince v (sectors_of t) (sliced t i)
-    → (between : HoldBetween f t v u i) → (p d : ℕ) → is_current between.state p ≡ true → f.seats p ≡ Some d → IsTabled f p (f.disks.sectors d) (i d)
-    → ((n : ℕ) → n < f.state.made → is_member f n p ≡ true → HadThere between.still.now p n) → damage_of between.still.now p ≡ None
-between_whole f t v u i begun had inside since between p d counts seat tabled stood =
+-- Contents that hold a pool still, between two states, have one by which the record that is pending is written, so what follows of that is so of it.
+between_by : (f : Found) (t : Slices) (v u : State) (i : Image) (begun : IsAfter f.state v) (had : AreSlicesNow f t v) (inside : AreInside f t) (since : AreSince v (sectors_of t) (sliced t i))
+    → (between : HoldBetween f t v u i) (P : Found → Type 0)
+    → ((s0 : State) (stands : standing f.disks i ≡ Some (standing_by f.disks i s0)) (newest_is : newest f.disks (identities_of f.disks i) ≡ Some s0)
+    (log : IsSoundLog f.disks i (standing_by f.disks i s0) (seated_state (standing_by f.disks i s0).targets s0))
+    → IsNow f t v (g f t v i begun had inside since s0 stands newest_is log) → P (g f t v i begun had inside since s0 stands newest_is log))
+    → P between.still.now
+between_by f t v u i begun had inside since between P each =
     let still = between.still in
     let by = stood_by f.disks i still.logs.before still.logs.stands in
     let stands : standing f.disks i ≡ Some (standing_by f.disks i by.0) = still.logs.stands ∙ ap Some by.2 in
     let log : IsSoundLog f.disks i (standing_by f.disks i by.0) (seated_state (standing_by f.disks i by.0).targets by.0) =
     subst (λ (x : Standing). IsSoundLog f.disks i x (seated_state x.targets x.state)) by.2 still.logs.log in
-    let g : Found = was f.disks i i by.0 by.1 log (mid f t v i begun had inside since by.0 stands by.1 log) in
-    let found_g : found f.disks i ≡ Some g = found_now f t v i begun had inside since by.0 stands by.1 log in
-    let here : g ≡ still.now = some_same g still.now (sym found_g ∙ still.found_is) in
+    let here : g f t v i begun had inside since by.0 stands by.1 log ≡ still.now =
+    some_same (g f t v i begun had inside since by.0 stands by.1 log) still.now (sym (found_now f t v i begun had inside since by.0 stands by.1 log) ∙ still.found_is) in
     let is : IsNow f t v still.now = record {
       after = subst (IsAfter v) (sym still.state) between.later;
       seats = λ q now. still.seats q (subst (λ (z : State). is_current z q ≡ true) still.state now);
       slices = still.slices;
     } in
-    subst (λ (k : Found). damage_of k p ≡ None) here
-    (whole_on f t v i begun had inside since by.0 stands by.1 log (subst (IsNow f t v) (sym here) is) p d
-    (subst (λ (k : Found). is_current k.state p ≡ true) (sym here) (ap (λ (z : State). is_current z p) still.state ∙ counts))
-    (subst (λ (k : Found). k.seats p ≡ Some d) (sym here) (still.seats p counts ∙ seat)) tabled
-    (λ n low member. subst (λ (k : Found). HadThere k p n) (sym here) (stood n low member)))
+    subst P here (each by.0 stands by.1 log (subst (IsNow f t v) (sym here) is))
+
+-- Then the drive of a current place that has its table keeps all its parts, if the members on its place were there.
+pub between_whole : (f : Found) (t : Slices) (v u : State) (i : Image) → IsAfter f.state v → AreSlicesNow f t v → AreInside f t → AreSince v (sectors_of t) (sliced t i)
+    → (between : HoldBetween f t v u i) → (p d : ℕ) → is_current between.state p ≡ true → f.seats p ≡ Some d → IsTabled f p (f.disks.sectors d) (i d)
+    → ((n : ℕ) → n < f.state.made → is_member f n p ≡ true → HadThere between.still.now p n) → damage_of between.still.now p ≡ None
+between_whole f t v u i begun had inside since between p d counts seat tabled stood =
+    between_by f t v u i begun had inside since between
+    (λ k. is_current k.state p ≡ true → k.seats p ≡ Some d → ((n : ℕ) → n < f.state.made → is_member f n p ≡ true → HadThere k p n) → damage_of k p ≡ None)
+    (λ s0 stands newest_is log is now seat_now there. whole_on f t v i begun had inside since s0 stands newest_is log is p d now seat_now tabled there)
+    (ap (λ (z : State). is_current z p) between.still.state ∙ counts) (between.still.seats p counts ∙ seat) stood
+
+-- And its copy is of the pool, before the record is replayed.
+pub between_own : (f : Found) (t : Slices) (v u : State) (i : Image) → IsAfter f.state v → AreSlicesNow f t v → AreInside f t → AreSince v (sectors_of t) (sliced t i)
+    → (between : HoldBetween f t v u i) → (p d : ℕ) (copy : Copied) → is_current between.state p ≡ true → f.seats p ≡ Some d → (identities_of f.disks i d).copied ≡ Some copy
+    → copy.state.pool ≡ between.still.now.state.pool
+between_own f t v u i begun had inside since between p d copy counts seat here =
+    between_by f t v u i begun had inside since between (λ k. k.seats p ≡ Some d → copy.state.pool ≡ k.state.pool)
+    (λ s0 stands newest_is log is seat_now. own_pool f t v i begun had inside since s0 stands newest_is log is p d copy seat_now here)
+    (between.still.seats p counts ∙ seat)
 
 -- the members of a pool's arrays count as far as in the book v at least, and no further than in w
 abbrev CountsBetween : Raid → Raid → Found → Type 0

@@ -31,7 +31,7 @@ use Rattle.pool_rest.proofs.Midway.{still_stands}
 use Rattle.pool_rest.proofs.MidwayDisks.{copy_room, new_copy, seats_written}
 use Rattle.pool_rest.proofs.MidwayPool.{copied_or, early, early_found, early_ids, early_logs, early_lower, early_pool, found_was, late, late_found, late_logs, late_lower, late_pool, stands_late, stands_so, targets_late, was}
 use Rattle.pool_model.specs.Left.{AreAlone}
-use Rattle.pool_model.specs.Openings.{HoldOpened, IsIdleIn, MayReplay}
+use Rattle.pool_model.specs.Openings.{HadOnePool, HoldOpened, IsIdleIn, MayReplay}
 use Rattle.pool_model.specs.Pools.{IsSoundPool}
 use Rattle.pool_model.specs.Stopped.{LieApart, StoodInLog}
 use Rattle.pool_model.proofs.Found.{found_is, some_made}
@@ -55,11 +55,11 @@ same_apart f g same apart m n p d a b less low seat none member lies there =
     (ap₂ (λ (k : Disks) (z : Identity). extent_by (k.sectors d) z.table (suc m)) (sym same.disks) (sym (same.identities p d was)) ∙ lies)
     (sym (lies_same f g same (suc n)) ∙ there)
 
--- contents that have it hold the pool, where their logs are sound and what is pending there may be replayed
+-- contents that have it hold the pool, where their logs are sound and what is pending there may be replayed, and no disk has another pool's state
 pub same_holds : (disks : Disks) (i : Image) (f g : Found) → f.disks ≡ disks → found disks i ≡ Some g → IsSamePool f g → IsSoundPool f → HasSoundLogs disks i → LieApart f → AreAlone f f.contents
-    → MayReplay disks i g
+    → MayReplay disks i g → (HadOnePool f → HadOnePool g)
     → HoldOpened f 0 i
-same_holds disks i f g on found_now same sound logs apart alone may = record {
+same_holds disks i f g on found_now same sound logs apart alone may one = record {
   now = g;
   found_is = ap (λ (d : Disks). found d i) on ∙ found_now;
   sound = same_sound f g same sound;
@@ -79,6 +79,7 @@ same_holds disks i f g on found_now same sound logs apart alone may = record {
       subst (KeepsReach g.state before) (some_same before left (sym was ∙ sym (shapes_same f g same n) ∙ is)) (reach_same (is_current g.state) before);
   unsynced = λ n low dirty. sym (ap (λ (o : Option Super). option_map_or is_unclean o false) (truths_same f g same n)) ∙ dirty_unsynced g n dirty;
   parts = λ p now none. damage_same f g same p ∙ none;
+  one_pool = one;
 }
 
 -- ---- a replay
@@ -104,6 +105,13 @@ module _ (disks : Disks) (c i : Image) (s0 : State) (newest_before : newest disk
 
   there : (p d : ℕ) → f.seats p ≡ Some d → d < disks.count
   there p d seat = seat_inside s disks (identities_of disks (written disks (standing_by disks c s0) c)) p d seat
+
+  -- a disk has the copy that it had, or one of the record's state
+  one_now : HadOnePool f → (d : ℕ) (copy : Copied) → d < disks.count → (now_ids d).copied ≡ Some copy → copy.state.pool ≡ f.state.pool
+  one_now had d copy low here = elim (copied_or disks c i s0 newest_before log mid d low) [
+    | inl kept ↦ had d copy low (sym kept ∙ here)
+    | inr new ↦ sym (ap (λ (k : Copied). k.state.pool) (some_same (record { state = s; own = new.0 }) copy (sym new.1.1 ∙ here)))
+  ]
 
   -- no copy and no gate has changed
   module _ (states : AreStatesKept disks c i) (kept : AreGatesKept disks c i) where
@@ -142,7 +150,7 @@ module _ (disks : Disks) (c i : Image) (s0 : State) (newest_before : newest disk
     holds_early : HoldOpened f 0 i
     holds_early =
         same_holds disks i f e refl (early_found disks c i s0 newest_before log mid states kept) same_early sound
-        (early_logs disks c i s0 newest_before log mid states kept) apart alone may_early
+        (early_logs disks c i s0 newest_before log mid states kept) apart alone may_early one_now
 
   -- the state stands that the record is for
   module _ (brought : StandsBrought disks s0 s (standing_by disks c s0).targets c i) where
@@ -232,6 +240,7 @@ module _ (disks : Disks) (c i : Image) (s0 : State) (newest_before : newest disk
     holds_late : HoldOpened f 0 i
     holds_late =
         same_holds disks i f g refl (late_found disks c i s0 newest_before log mid brought) same_late sound (late_logs disks c i s0 newest_before log mid brought) apart alone may_late
+        one_now
 
   holds_replaying : HoldOpened f 0 i
   holds_replaying = elim mid.says [ inl kept ↦ holds_early kept.0 kept.1 | inr brought ↦ holds_late brought ]

@@ -385,6 +385,7 @@ module _ (disks : Disks) (c i : Image) (s : State) (newest_is : newest disks (id
     reach = λ n before left low was is. subst (KeepsReach s before) (some_same before left (sym was ∙ sym (shape_kept n low) ∙ is)) (reach_same (is_current s) before);
     unsynced = λ n low dirty. ap (λ (o : Option Super). option_map_or is_unclean o false) (truth_before n low ∙ sym (truth_now n low)) ∙ dirty_unsynced g n dirty;
     parts = λ p counts none. parts_kept p counts none (f.seats p) refl;
+    one_pool = λ had d copy there here. had d copy there (sym (copied d there) ∙ here);
   }
 
 -- A pool that was found on the disks, with nothing pending and sound logs, is the one of these contents.

@@ -252,7 +252,7 @@ pub none_any : (test : ℕ → Bool) (a m : ℕ) → ((k : ℕ) → k < a + m �
 none_any test a zero none = refl
 none_any test a (suc m) none = ap₂ (λ x y. x || y) (none a (omega arith)) (none_any test (a + 1) m (λ k low. none k (omega (arith, low))))
 
-any_none : (test : ℕ → Bool) (a m k : ℕ) → list_any test (range_with_len a m) ≡ false → a ≤ k → k < a + m → test k ≡ false
+pub any_none : (test : ℕ → Bool) (a m k : ℕ) → list_any test (range_with_len a m) ≡ false → a ≤ k → k < a + m → test k ≡ false
 any_none test a zero k none least most = absurd (omega (arith, least, most))
 any_none test a (suc m) k none least most = elim (cases_lt a k) [
   | inl more ↦ any_none test (a + 1) m k (second (test a) (list_any test (range_with_len (a + 1) m)) none) (omega (arith, more)) (omega (arith, most))

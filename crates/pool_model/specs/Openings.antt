@@ -3,6 +3,7 @@ use Rattle.std.specs.Prelude.{◌≡◌, ◌⊎◌, ℕ, ◌+◌, ◌<◌, ◌�
 use Rattle.std.specs.Option.{option_map_or}
 use Rattle.rack.specs.Seen.{Image}
 use Rattle.gpt_table.specs.Changes.{the_table}
+use Rattle.pool_state.specs.declared.contents.Copied.{Copied}
 use Rattle.array_image.specs.Arrays.{Shape}
 use Rattle.array_image.specs.States.{is_current}
 use Rattle.array_image.specs.Supers.{is_unclean}
@@ -35,6 +36,16 @@ pub record IsButTables (f : Found) (c i : Image) : Type 0 where
 abbrev pub HaveGoodTables : Found → Type 0
 HaveGoodTables f = (p d : ℕ) → f.seats p ≡ Some d → has_table f p d ≡ true
 
+-- ---- one pool
+
+-- no disk had the state of another pool, before the pending record was replayed
+abbrev pub HadOnePool : Found → Type 0
+HadOnePool f = (d : ℕ) (copy : Copied) → d < f.disks.count → (f.before.identities d).copied ≡ Some copy → copy.state.pool ≡ f.state.pool
+
+-- nor once it was
+abbrev pub HaveOnePool : Found → Type 0
+HaveOnePool f = (d : ℕ) (copy : Copied) → d < f.disks.count → (f.identities d).copied ≡ Some copy → copy.state.pool ≡ f.state.pool
+
 -- ---- contents that an opening leaves
 
 -- nothing is pending in contents of disks
@@ -54,7 +65,8 @@ IsUnsynced f n = option_map_or is_unclean (truth_of f n) false ≡ true
 -- one to which just marks of places have come that have no disk, and whose plan is the same. Each place that is current by it has the disk that it had, and the arrays have their sizes
 -- and hold what they held, from a sector of theirs on: from the first one up to when the volume's texts are brought up to date, from the first extent's on meanwhile. Members count
 -- as far as they did, so that no row that was rebuilt is left again, and where an array lacks a member and has rows left to resync, it had such rows in f. Targets land where its slices
--- are by the drives' tables, no superblock of an array stands on a drive that is no member of it, and a record that is pending may be replayed.
+-- are by the drives' tables, no superblock of an array stands on a drive that is no member of it, and a record that is pending may be replayed. No disk has another pool's state, before
+-- that is replayed, where none had one in f.
 pub record HoldOpened (f : Found) (from : ℕ) (i : Image) : Type 0 where
   pub now : Found
   pub found_is : found f.disks i ≡ Some now
@@ -75,3 +87,4 @@ pub record HoldOpened (f : Found) (from : ℕ) (i : Image) : Type 0 where
   pub unsynced : (n : ℕ) → n < f.state.made → is_dirty_degraded now n ≡ true → IsUnsynced f n
   -- the drive of a place that had all its parts keeps them
   pub parts : (p : ℕ) → is_current now.state p ≡ true → damage_of f p ≡ None → damage_of now p ≡ None
+  pub one_pool : HadOnePool f → HadOnePool now

@@ -14,7 +14,7 @@ use Rattle.lvm_group.specs.Runs.{Linear, sectors_in}
 use Rattle.lvm_group.specs.Shown.{contents_of}
 use Rattle.pool_image.specs.Disks.{Disks}
 use Rattle.pool_image.specs.Drives.{Found, found}
-use Rattle.pool_image.specs.Meaning.{Refusal, Volume, absent, arrays_held, bad_volume, damaged, dirty_degraded, has_other_pool, is_dirty_degraded, is_too_few, lacking_of, meaning, no_pool, refusal_of, shape_of, too_few, truth_of, two_pools}
+use Rattle.pool_image.specs.Meaning.{Refusal, Volume, absent, arrays_held, bad_volume, damaged, dirty_degraded, is_dirty_degraded, is_too_few, lacking_of, meaning, no_pool, refusal_of, shape_of, too_few, truth_of, two_pools}
 use Rattle.pool_model.specs.Grouped.{HaveOwnAreas, IsVolumeOf}
 
 -- contents of disks in whole sectors
@@ -89,8 +89,7 @@ pub record Reopens (f : Found) (t : Slices) (l : Linear) (v : Raid) (i : Image) 
       → first_unsynced u ≡ (v.arrays n).resync
   pub excused : (why : Refusal) → refusal_of f.disks i ≡ Some why → MayRefuseBy v volume.now why
 
--- Contents that a stop inside the opening of a pool leaves on its disks mean the volume that lies so on its arrays, with what these hold: they are refused
--- only where two disks were of two pools before the record was replayed.
+-- Contents that a stop inside the opening of a pool leaves on its disks aren't refused, and mean the volume that lies so on its arrays, with what these hold.
 pub record HoldMeaning (f : Found) (l : Linear) (i : Image) : Type 0 where
   pub volume : HoldVolumeBy f (arrays_held f) l i
-  pub excused : (why : Refusal) → refusal_of f.disks i ≡ Some why → (why ≡ two_pools) × (has_other_pool f.disks volume.now.before ≡ true)
+  pub unrefused : refusal_of f.disks i ≡ None

@@ -39,9 +39,9 @@
 //! plan and members that count as far as they did, that targets land in it, that no superblock of an array stands on a drive that is no member of it (`AreAlone`), and that it may be replayed where a record is pending.
 //! So it is while disks are read (`proofs/Rereading.antt`), while gates are closed (`idle_holds`, `proofs/GatesSame.antt`), while the copies of tables are made to
 //! agree (`settled_holds`, `proofs/Settled.antt`), and while places without a disk are marked (`marking_amid`, `proofs/Marking.antt`; `amid_opened`,
-//! `proofs/Openings.antt`). Sectors of tables have no superblock (`proofs/NoSuper.antt`). Where what its arrays have before the first extents says the volume,
-//! and the pool wasn't refused, such contents mean it, with what the arrays held, or are refused for another pool's disk alone (`HoldMeaning`, `specs/Reopening.antt`;
-//! `opened_meaning`, `proofs/OpenedMeaning.antt`).
+//! `proofs/Openings.antt`). Sectors of tables have no superblock (`proofs/NoSuper.antt`). Where no disk had another pool's state none has one then (`HadOnePool`,
+//! `proofs/OnePool.antt`). Where what its arrays have before the first extents says the volume, and the pool wasn't refused, such contents aren't refused either, and
+//! mean it, with what the arrays held (`HoldMeaning`, `specs/Reopening.antt`; `opened_meaning`, `proofs/OpenedMeaning.antt`).
 //!
 //! `proofs/Absent.antt`: any one drive of a whole pool may be absent, `IsWholePool` (`specs/Absent.antt`): the disks without its disk mean what all of
 //! them mean (`safe_in_absence`). `proofs/EndedWhole.antt`: so it is of all that disks may be left with by a pool that has ended whole, by its

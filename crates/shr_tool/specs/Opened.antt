@@ -151,8 +151,7 @@ pub record OpenedOn {R : Type 0} (seen : R → Seen) (shelf : R → Shelf) (runs
   -- extents on, and members count as far as they did.
   pub stops :
       (f : Found) → HoldSound (seen bay) f → IsUnfaulted (seen bay) (seen opened) → StopsHold (seen bay) (seen opened) f data_start
-  -- A later opening of it means the run's volume again, with what its arrays held, so that the two runs are told as one; or it refuses it, since a disk
-  -- was of another pool.
+  -- A later opening of it doesn't refuse it, and means the run's volume again, with what its arrays held, so that the two runs are told as one.
   pub reopens :
       (f : Found) → HoldSound (seen bay) f → IsUnfaulted (seen bay) (seen opened) → StopsMean (seen bay) (seen opened) f ground.linear
   -- The run is one on that pool, where all its arrays are ready for the volume and on its disks no superblock of an array stood where a drive that is

@@ -33,7 +33,6 @@ use Rattle.assembler.specs.Raising.{most_opening}
 use Rattle.assembler.specs.Refusing.{is_early, meant_by}
 use Rattle.pool_model.specs.Left.{IsPickOff}
 use Rattle.pool_model.specs.Pools.{AreSlicesOf}
-use Rattle.pool_model.proofs.Unrefused.{unrefused_by}
 use Rattle.assembler.proofs.Agreed.{agree_opened}
 use Rattle.assembler.proofs.Apart.{lands_apart}
 use Rattle.assembler.proofs.Grouped.{group_opened}
@@ -151,8 +150,7 @@ returns-in-Ok-open_volume-clause-meant g c e sound quiet =
           (subst (λ (u : Slices). IsPickOff u (seen (below_of (slices_in (rack_in volume)))) i) (opens.kept.0.tables ∙ c.make_rack.ensures.tables) off);
       says = λ all own calm traced. opened_says g c quiet e sound all own calm traced;
       reopens = opened_reopens g c quiet e sound
-          (unrefused_by (disks_of (a g k)) (now_in (a g k)) e sound.found_is
-          (refusal_entry seen (a g k) c.in-Ok.rest e sound (rested g k before e sound) ∙ passes g k before e sound ∙ ap (option_map bad_volume) held.0.sound));
+          (refusal_entry seen (a g k) c.in-Ok.rest e sound (rested g k before e sound) ∙ passes g k before e sound ∙ ap (option_map bad_volume) held.0.sound);
       moments = λ calm traced.
           let later = (ay g k).traced traced in
           opening_leaves pool (t g k) (y g k) m.checked m.absent.items m.slices.orderly (members g k before e sound) has.steady has.pool (checked g k before e sound).1 has.sound

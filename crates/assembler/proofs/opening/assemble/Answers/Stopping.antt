@@ -19,25 +19,28 @@ use Rattle.lvm_group.specs.Runs.{data_start}
 use Rattle.lvm_group.specs.Volume.{below_of as rack_in, linear, seqno_of}
 use Rattle.pool_image.specs.Disks.{Disks, disks_of}
 use Rattle.pool_image.specs.Drives.{Found, found}
-use Rattle.pool_image.specs.Meaning.{refused_by}
+use Rattle.pool_image.specs.Meaning.{refusal_of}
 use Rattle.pool_image.specs.Volumes.{Arrays}
 use Rattle.pool_image.proofs.Founds.{joined_same}
 use Rattle.pool_scan.specs.Scanning.{IsUnfaulted, now_in}
 use Rattle.pool_model.specs.Grouped.{HaveOwnAreas}
 use Rattle.pool_model.specs.Left.{AreAlone, AreElsewhere, IsPickOff}
-use Rattle.pool_model.specs.Openings.{HoldOpened, MayReplay}
+use Rattle.pool_model.specs.Openings.{HadOnePool, HoldOpened, MayReplay}
 use Rattle.pool_model.specs.Pools.{AreSlicesOf}
 use Rattle.pool_model.specs.Reopening.{AreWholeSectors, HoldMeaning}
 use Rattle.pool_model.specs.Stopped.{LieApart}
 use Rattle.pool_model.proofs.Found.{found_is}
+use Rattle.pool_model.proofs.OnePool.{one_after, one_rested, unrefused_one}
 use Rattle.pool_model.proofs.Openings.{opened_from, opened_same}
 use Rattle.pool_model.proofs.Refused.{table_there}
+use Rattle.pool_model.proofs.Settled.{idle_pool}
+use Rattle.pool_model.proofs.Unrefused.{unrefused_by}
 use Rattle.assembler.specs.Moments.{SaysVolume}
 use Rattle.assembler.specs.Sound.{HoldSound, MayStop, StopsMean, TargetsLand}
 use Rattle.assembler.specs.Rested.{HoldRested}
 use Rattle.assembler.specs.Volume.{AllLive, AreStill}
 use Rattle.assembler.proofs.Apart.{lands_apart, slices_landed}
-use Rattle.assembler.proofs.AtRest.{pool_alone, rest_alone, rest_idle, rest_sound, until_read}
+use Rattle.assembler.proofs.AtRest.{pool_alone, rest_alone, rest_idle, rest_one, rest_sound, until_read}
 use Rattle.assembler.proofs.Bringing.{GivesOpened, bringing_gives, bringing_leaves}
 use Rattle.assembler.proofs.Entry.{quiet_first, rested_so}
 use Rattle.assembler.proofs.Grouped.{brought_volume, given_volume}
@@ -107,11 +110,20 @@ module _ (g : Over) (c : After-make_rack g) (to_z : IsUnfaulted (a g c) (z g c))
       replaying_leaves g.R.Rack.seen (a g c) c.in-Ok.rest e sound (rested g c to_z e sound) apart alone is.laid is.fit may (is.idle told lasts (to_x g c to_z))
       (λ lower u of stood. is.midway told lasts (to_x g c to_z) sound.logs lower sound.steady.single u of stood) traced
 
+  -- no disk has another pool's state after the checks, where none had one before
+  checked_one : HadOnePool pool → HadOnePool at_rest.0
+  checked_one =
+      let now = rest_sound g.R.Rack.seen (a g c) c.in-Ok.rest e sound (rested g c to_z e sound) in
+      one_rested (disks_of (x g c)) (now_in (x g c)) pool now.found_is now.logs (disks_of (y g c)) (now_in (y g c)) at_rest.0
+      (idle_pool (disks_of (y g c)) (now_in (y g c)) at_rest.0 at_rest.1.sound.found_is at_rest.1.idle at_rest.1.sound.logs) at_rest.1.same
+
   -- gates, tables, marks and superblocks
   making : Leaves (y g c) (z g c) (HoldOpened e 0)
   making =
       leaves_weaker (HoldOpened at_rest.0 0) (HoldOpened e 0)
-      (λ i holds_now. opened_same e pool 0 i (same g c to_z e sound) (opened_same pool at_rest.0 0 i at_rest.1.same holds_now))
+      (λ i holds_now.
+      opened_same e pool 0 i (same g c to_z e sound) (rest_one g.R.Rack.seen (a g c) c.in-Ok.rest e sound (rested g c to_z e sound))
+      (opened_same pool at_rest.0 0 i at_rest.1.same checked_one holds_now))
       (c.make_rack.ensures.moments pool at_rest.0 (checked g c to_z e sound).0 (checked g c to_z e sound).1 at_rest.1 (from_y g c to_z) alive ((ay g c).traced traced))
 
   pub made_leaves : Leaves (a g c) (z g c) (HoldOpened e 0)
@@ -171,7 +183,8 @@ module _ (g : Over) (c : In-Ok-open_volume g) (quiet : IsUnfaulted (a g (made g 
       let whole = stays_then (ay g k) (yz g k) in
       bringing_gives seen g.R.Rack.runs e (f g k before e sound) (same g k before e sound) (slices_of (t g k) (y g k)) raid (rack_in volume) (arrays g k before e sound)
       (live_last g c quiet) opens.kept data_start _ (opened_writes seen g.R.Rack.runs raid (rack_in volume) (linear volume) (seqno_of volume) opens) (λ n s v early. early.1)
-      (ready g k) all (now_in (a g k)) (began g k before e sound may lands all alone alive traced) sound.sound (own_slices g k before e sound may lands all alone alive traced)
+      (ready g k) all (now_in (a g k)) (began g k before e sound may lands all alone alive traced) sound.sound
+      (one_after (disks_of (a g k)) (now_in (a g k)) e sound.found_is sound.logs) (own_slices g k before e sound may lands all alone alive traced)
       (landing g k before e sound lands) (own_elsewhere g k before e sound may lands all alone alive traced)
       (own_alone g k before e sound may lands all alone alive traced) marks_last c.make_rack.ensures.fit.running.set c.make_rack.ensures.fit.heeded
       (slices_in raid).orderly c.make_rack.ensures.fit.running.set.fit.1
@@ -235,10 +248,12 @@ module _ (g : Over) (c : In-Ok-open_volume g) (quiet : IsUnfaulted (a g (made g 
             (sym book.pool) lies.means)),
       )) all_says
 
-  -- They mean it, where they aren't refused, also with the sectors before their first extents.
-  pub opened_reopens : refused_by e ≡ None → StopsMean (a g (made g c)) (opened g c) e (linear c.in-Ok-open_volume.volume)
-  opened_reopens none all own may lands alone traced =
+  -- They aren't refused where the disks weren't, and mean it, also with the sectors before their first extents.
+  pub opened_reopens : refusal_of (disks_of (a g (made g c))) (now_in (a g (made g c))) ≡ None → StopsMean (a g (made g c)) (opened g c) e (linear c.in-Ok-open_volume.volume)
+  opened_reopens meant all own may lands alone traced =
       let k = made g c in
+      let none = unrefused_by (disks_of (a g k)) (now_in (a g k)) e sound.found_is meant in
+      let had = unrefused_one (disks_of (a g k)) (now_in (a g k)) e sound.found_is sound.logs meant in
       let before = first_quiet g c quiet in
       let seen = g.R.Rack.seen in
       let runs = g.R.Rack.runs in
@@ -261,18 +276,18 @@ module _ (g : Over) (c : In-Ok-open_volume g) (quiet : IsUnfaulted (a g (made g 
       let says =
       brought_says seen raid last V _
       (brought_volume seen runs pool (slices_of (t g k) (y g k)) raid last held c.make_rack.ensures.fresh (linear volume) (seqno_of volume) opens alive few both
-      (own_rested seen runs e pool is (slices_of (t g k) (y g k)) raid last held c.make_rack.ensures.fresh (linear volume) (seqno_of volume) opens alive few both all own none) (whole.traced traced))
+      (own_rested seen runs e pool is (slices_of (t g k) (y g k)) raid last held c.make_rack.ensures.fresh (linear volume) (seqno_of volume) opens alive few both all own none had) (whole.traced traced))
       (texts g c) (whole.traced traced) in
       leaves_then P
       (leaves_weaker (HoldOpened e 0) P
-      (λ i still wholes. still_meaning seen runs e pool is (slices_of (t g k) (y g k)) raid last held c.make_rack.ensures.fresh (linear volume) (seqno_of volume) opens alive few both all own none i still)
+      (λ i still wholes. still_meaning seen runs e pool is (slices_of (t g k) (y g k)) raid last held c.make_rack.ensures.fresh (linear volume) (seqno_of volume) opens alive few both all own none had i still)
       (made_leaves g k before e sound may lands all alone (live_first g c quiet) traced))
       (record {
         later = gives.later;
         kept = gives.kept;
         past = gives.past;
         new = λ n i since until stop wholes.
-            brought_meaning seen runs e pool is (slices_of (t g k) (y g k)) raid last held c.make_rack.ensures.fresh (linear volume) (seqno_of volume) opens alive few both all own none
+            brought_meaning seen runs e pool is (slices_of (t g k) (y g k)) raid last held c.make_rack.ensures.fresh (linear volume) (seqno_of volume) opens alive few both all own none had
             (tables (slices_in raid)) i (gives.new n i since until stop)
             (subst (λ (u : Slices). V (arrays_in (replayed (sectors_of u) (sliced u i)))) opens.kept.0.tables (says.new n i since until stop)) wholes;
       })
@@ -298,7 +313,8 @@ module _ (g : Over) (c : In-Err-open_volume g) (quiet : IsUnfaulted (a g (built 
       (leaves_then (HoldOpened e 0) (made_leaves g k before e sound may lands all alone alive traced)
       (bringing_leaves seen g.R.Rack.runs e (f g k before e sound) (same g k before e sound) (slices_of (t g k) (y g k)) raid refused.last (arrays g k before e sound)
       (live_still g c quiet e sound still) refused.kept 0 _ nothing (λ n s v none. absurd none)
-      (ready g k) all (now_in (a g k)) (began g k before e sound may lands all alone alive traced) sound.sound (own_slices g k before e sound may lands all alone alive traced)
+      (ready g k) all (now_in (a g k)) (began g k before e sound may lands all alone alive traced) sound.sound
+      (one_after (disks_of (a g k)) (now_in (a g k)) e sound.found_is sound.logs) (own_slices g k before e sound may lands all alone alive traced)
       (landing g k before e sound lands) (own_elsewhere g k before e sound may lands all alone alive traced)
       (own_alone g k before e sound may lands all alone alive traced) (marks_kept g c quiet e sound still) c.make_rack.ensures.fit.running.set c.make_rack.ensures.fit.heeded
       (slices_in raid).orderly c.make_rack.ensures.fit.running.set.fit.1 (whole.lasting sound.steady.lasts.lasting) (calls g c) (whole.traced traced)))
