@@ -48,6 +48,7 @@ mod TakenTables
 mod TakingFrom
 mod TakingStops
 mod Through
+mod Online
 mod Timelines
 mod Told
 mod TurnedDown

@@ -74,7 +74,7 @@ pub fn open_for<B: Bay, I: Source, O: Sink>(
 }
 
 /// Opens the pool of the attached disks that answer, and does the task on it.
-fn open_online<B: Bay, I: Source, O: Sink>(
+pub(crate) fn open_online<B: Bay, I: Source, O: Sink>(
     alloc: Global,
     bay: &mut B,
     seconds: u64,
@@ -99,12 +99,15 @@ fn open_online<B: Bay, I: Source, O: Sink>(
             let _bay = online.into_inner();
             status
         }
-        Err(_) => refuse(out, b"memory", Status::Memory),
+        Err(back) => {
+            let _bay = back.rack;
+            refuse(out, b"memory", Status::Memory)
+        }
     }
 }
 
 /// Opens the pool of the attached disks, and does the task on it.
-pub(crate) fn open_attached<B: Bay, I: Source, O: Sink>(
+fn open_attached<B: Bay, I: Source, O: Sink>(
     alloc: Global,
     bay: &mut B,
     seconds: u64,

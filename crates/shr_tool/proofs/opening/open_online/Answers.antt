@@ -1,6 +1,8 @@
 -- The disks are asked, and the pool opened on those that answer, or memory is wanting. The bay comes back as it was left.
-use Rattle.std.proofs.Common.{◌≡◌, ℕ, List, ◌∷◌, ◌∙◌, ap, sym, subst, inl, inr}
+use Rattle.std.proofs.Common.{◌≡◌, ℕ, List, ◌∷◌, ◌∙◌, ap, sym, subst, inl, inr, MutBor}
+use Rattle.rack.specs.Sequences.{OnlyReads}
 use Rattle.array_image.specs.Places.{state_sector}
+use Rattle.online_bay.specs.declared.OnlineBay.{OnlineBay}
 use Rattle.online_bay.specs.OnlineBay.{bay_in, offline_in}
 use Rattle.shr_tool.specs.Online.{Online, OnlineOutcome, online_runs, online_seen, online_shelf}
 use Rattle.shr_tool.proofs.Online.{asks_through, outcome_through}
@@ -32,9 +34,19 @@ returns-in-Ok-clause-outcome g c =
       asks = asks_through seen _ runs (λ r. r.now) (λ r s ran. ran.1) _ (bay_in online) state_sector (offline_in online) asks;
       offline = offline_in last;
       outcome =
-          outcome_through (online_seen seen) (online_shelf shelf) _ (online_runs runs) (λ r. record { bay = (bay_in r).now; offline = offline_in r })
+          outcome_through (online_seen seen) (online_shelf shelf) _ (online_runs runs) (λ (r : OnlineBay (MutBor g.row.B.Denot)). record { bay = (bay_in r).now; offline = offline_in r })
           (λ r s ran. (ran.0, ran.1.1)) online last c.args.task _ _ _ _ _ (does.outcome source sink);
     }))
 
 pub returns-in-Err-clause-outcome : goal.returns-in-Err-clause-outcome
-returns-in-Err-clause-outcome g c = ?
+returns-in-Err-clause-outcome g c =
+    let seen = g.B.Rack.seen in
+    let runs = g.B.Rack.runs in
+    let back = c.in-Err.ensures.back in
+    let same : c.bay-in-Err-1.given.0 ≡ c.in-Err.back.rack.now = c.bay-in-Err-1.given.1 (sym back.1.0) in
+    λ source sink.
+    inl (
+      subst (λ b. OnlyReads (seen c.args.bay.now) (seen b)) (sym same) back.0,
+      subst (λ b. runs c.args.bay.now b) (sym same) back.1.1,
+      c.refuse.ensures.says sink,
+    )
