@@ -1,8 +1,8 @@
 -- A pool that is opened on the disks which answer is opened on the bay, with the others offline.
-use Rattle.std.proofs.Common.{◌⊎◌, ℕ, List, Bool, inl, inr}
+use Rattle.std.proofs.Common.{ℕ, List, Bool, inl, inr}
 use Rattle.rack.specs.Seen.{Seen}
 use Rattle.rack.specs.Shelf.{Shelf}
-use Rattle.online_bay.specs.Online.{Answered, Asks}
+use Rattle.online_bay.specs.Online.{Asks}
 use Rattle.shr_tool.specs.declared.opening.Task.{Task}
 use Rattle.shr_tool.specs.declared.status.Status.{Status}
 use Rattle.shr_tool.specs.Opened.{NotOpened, OpenOutcome, OpenedOn}

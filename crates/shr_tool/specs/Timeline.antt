@@ -1,5 +1,5 @@
 -- A run as a list of events at moments that never fall.
-use Rattle.std.specs.Prelude.{◌≡◌, ◌⊎◌, ℕ, ◌+◌, ◌*◌, ◌<◌, ◌≤◌, true, false, List, [], ◌∷◌, drop, Some, None, Ok, Err}
+use Rattle.std.specs.Prelude.{◌≡◌, ◌⊎◌, ℕ, ◌*◌, ◌<◌, ◌≤◌, true, false, List, [], ◌∷◌, drop, Some, None, Ok, Err}
 use Rattle.rack.specs.Seen.{Image, Rose}
 use Rattle.rack.specs.Values.{Keeps}
 use Rattle.shr_script.specs.declared.Command.TheVariants.{Lose}

@@ -4,7 +4,7 @@ use Rattle.rack.specs.Sequences.{OnlyReads}
 use Rattle.array_image.specs.Places.{state_sector}
 use Rattle.online_bay.specs.declared.OnlineBay.{OnlineBay}
 use Rattle.online_bay.specs.OnlineBay.{bay_in, offline_in}
-use Rattle.shr_tool.specs.Online.{Online, OnlineOutcome, online_runs, online_seen, online_shelf}
+use Rattle.shr_tool.specs.Online.{OnlineOutcome, online_runs, online_seen, online_shelf}
 use Rattle.shr_tool.proofs.Online.{asks_through, outcome_through}
 use Rattle.shr_tool.proofs.opening.open_online.Goals as goal
 
