@@ -90,23 +90,30 @@ fn open(found: &[Found], young: bool) -> Result<Array, ArrayFault>
 
 #[test]
 fn refuses_by_the_first_cause(rt: HostRuntime) {
-    let none = [none_on(0), none_on(1), none_on(2)];
-    assert_eq!(rt; open(&none, false).err(), Some(ArrayFault::Foreign));
-
-    // two members are missing as well
     let dirty = superblock(7, 0);
     let mut other = superblock(7, 0);
     other.set_id = Id([9; 16]);
+    let none = [none_on(0), none_on(1), none_on(2)];
+    // two members are missing as well
     let sets = [on(0, &dirty), on(1, &other), none_on(2)];
-    assert_eq!(rt; open(&sets, false).err(), Some(ArrayFault::Foreign));
-
     // rows are left to resync as well
     let one = [none_on(0), on(1, &dirty), none_on(2)];
-    assert_eq!(rt; open(&one, false).err(), Some(ArrayFault::TooFew));
-
     let two = [on(0, &dirty), on(1, &dirty), none_on(2)];
-    assert_eq!(rt; open(&two, false).err(), Some(ArrayFault::DirtyDegraded));
-    assert_eq!(rt; open(&two, true).err(), None);
+    let faults = [
+        open(&none, false).err(),
+        open(&sets, false).err(),
+        open(&one, false).err(),
+        open(&two, false).err(),
+        open(&two, true).err(),
+    ];
+    let wanted = [
+        Some(ArrayFault::Foreign),
+        Some(ArrayFault::Foreign),
+        Some(ArrayFault::TooFew),
+        Some(ArrayFault::DirtyDegraded),
+        None,
+    ];
+    assert_eq!(rt; faults, wanted);
 }
 
 #[test]
@@ -114,12 +121,11 @@ fn opens_by_the_most_events(rt: HostRuntime) -> Result<(), Fail> {
     let old = superblock(7, 0);
     let new = superblock(8, u64::MAX);
     let array = open(&[on(0, &old), on(1, &new), none_on(2)], false)?;
-    assert_eq!(rt; array.truth().events, 8);
-    assert_eq!(rt; array.seat(1), Some(Seat::Whole));
-    assert_eq!(rt; array.seat(2), Some(Seat::Missing));
-    assert_eq!(rt; array.seat(3), None);
-    assert_eq!(rt; array.sectors(), 2 * SIZE);
-    assert_eq!(rt; array.resync_from(), array.rows());
+    let numbers = (array.truth().events, array.sectors(), array.resync_from());
+    assert_eq!(rt; numbers, (8, 2 * SIZE, array.rows()));
+    for (place, seat) in [(1, Some(Seat::Whole)), (2, Some(Seat::Missing)), (3, None)] {
+        assert_eq!(rt; array.seat(place), seat, "{place}");
+    }
     Ok(())
 }
 
@@ -127,8 +133,7 @@ fn opens_by_the_most_events(rt: HostRuntime) -> Result<(), Fail> {
 fn resyncs_from_the_row_of_the_truth(rt: HostRuntime) -> Result<(), Fail> {
     let dirty = superblock(7, 384);
     let array = open(&[on(2, &dirty), on(1, &dirty), on(0, &dirty)], false)?;
-    assert_eq!(rt; array.resync_from(), 3);
-    assert_eq!(rt; array.rows(), 26);
+    assert_eq!(rt; (array.resync_from(), array.rows()), (3, 26));
     Ok(())
 }
 
@@ -146,10 +151,8 @@ fn stages_the_array_that_it_adopts(rt: HostRuntime) -> Result<(), Fail> {
     };
     let mut log = Log::make(rt.alloc())?;
     array.stage(&mut log, &change);
-    assert_eq!(rt; log.room(), 3993);
-
     array.adopt(&change);
-    assert_eq!(rt; array.seat(2), Some(Seat::Rebuilding { to: 384 }));
-    assert_eq!(rt; array.truth().events, 8);
+    let seen = (log.room(), array.seat(2), array.truth().events);
+    assert_eq!(rt; seen, (3993, Some(Seat::Rebuilding { to: 384 }), 8));
     Ok(())
 }

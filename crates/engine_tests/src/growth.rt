@@ -1,4 +1,4 @@
-ghost use Rattle.std.specs.Prelude.{◌≤◌, IsTrue, length};
+ghost use Rattle.std.specs.Prelude.{◌^◌, ◌<◌, ◌≤◌, IsTrue, length, sum};
 ghost use Rattle.growth_plan.specs.Book.{IsBook, IsSmall};
 
 use arrayvec::ArrayVec;
@@ -8,7 +8,6 @@ use growth_plan::{
 use pool_state::{Drive, Plan, State, Work, is_state_of};
 use rack::Places;
 use std::process::Abort;
-use std::test::Fail;
 
 const LIMIT: u64 = 1 << 52;
 
@@ -49,6 +48,45 @@ fn is_book(state: &State, progress: &Progress) -> bool
     true
 }
 
+/// The calls, each once it may be made.
+impl Book {
+    fn is_sound(&self) -> bool
+        ensures { IsTrue result → IsBook self.now.state self.now.progress }
+    {
+        is_book(&self.state, &self.progress)
+    }
+
+    fn admit_add(&self, rt: &impl Abort, units: u64) -> Result<(), AdmitFault>
+        requires { units < 2 ^ 41 }
+    {
+        assert!(rt; self.is_sound());
+        admit_add(&self.state, &self.progress, units)
+    }
+
+    fn admit_replace(&self, rt: &impl Abort, place: u32, units: u64) -> Result<(), AdmitFault>
+        requires { units < 2 ^ 41 }
+    {
+        assert!(rt; self.is_sound() && (place as usize) < self.state.drives.len());
+        admit_replace(&self.state, &self.progress, place, units)
+    }
+
+    /// What is to be done next, and how many works are left.
+    fn work(&self, rt: &impl Abort) -> (Option<Work>, u64) {
+        assert!(rt; self.is_sound());
+        (
+            next_work(&self.state, &self.progress),
+            left(&self.state, &self.progress),
+        )
+    }
+
+    fn target(&self, rt: &impl Abort) -> ArrayVec<u64, 16>
+        ensures { sum result.items < 2 ^ 64 }
+    {
+        assert!(rt; self.is_sound());
+        target(&self.state, &self.progress)
+    }
+}
+
 /// A pool of drives with these units and no plan, with extents of 128 sectors.
 fn pool(units: &[u64]) -> State {
     let mut drives = ArrayVec::new();
@@ -84,17 +122,19 @@ fn array(members: &[u32], height: u64) -> ArrayNow {
     now
 }
 
-/// Drives of 10, 10 and 20 units, freshly created: one array over all three.
-fn three_drives() -> Book {
+/// A pool of drives with these units, freshly created: one array over all of them.
+fn one_array(units: &[u64], members: &[u32], extents: u64) -> Book {
     let mut arrays = ArrayVec::new();
-    arrays.push(array(&[0, 1, 2], 10));
+    arrays.push(array(members, 10));
     Book {
-        state: pool(&[10, 10, 20]),
-        progress: Progress {
-            arrays,
-            extents: 20,
-        },
+        state: pool(units),
+        progress: Progress { arrays, extents },
     }
+}
+
+/// Drives of 10, 10 and 20 units.
+fn three_drives() -> Book {
+    one_array(&[10, 10, 20], &[0, 1, 2], 20)
 }
 
 /// Adds a drive at the next place.
@@ -177,37 +217,29 @@ fn done(book: &mut Book, work: Work, extents: u64) {
     }
 }
 
-/// Does these works, each as often as it says; each lowers what is left by one, to none.
-fn all_works(rt: &impl Abort, book: &mut Book, works: &[(Work, u64)]) {
+/// Does these works, each as often as it says; each lowers what is left by one, to none. The volume then has so many
+/// extents.
+fn all_works(rt: &impl Abort, book: &mut Book, works: &[(Work, u64)], extents: u64) {
+    let mut count = book.work(rt).1;
     for (work, times) in works {
         for _ in 0..*times {
-            assert!(rt; is_book(&book.state, &book.progress));
-            assert_eq!(rt; next_work(&book.state, &book.progress), Some(*work));
-            let before = left(&book.state, &book.progress);
-            let extents = target(&book.state, &book.progress).as_slice().iter().sum();
-            done(book, *work, extents);
-            assert!(rt; is_book(&book.state, &book.progress));
-            let after = left(&book.state, &book.progress);
-            assert_eq!(rt; after, before.saturating_sub(1));
+            assert_eq!(rt; book.work(rt), (Some(*work), count));
+            let sum = book.target(rt).as_slice().iter().sum();
+            done(book, *work, sum);
+            count = count.saturating_sub(1);
         }
     }
-    assert!(rt; is_book(&book.state, &book.progress));
-    assert_eq!(rt; next_work(&book.state, &book.progress), None);
-    assert_eq!(rt; left(&book.state, &book.progress), 0);
+    let end = (book.work(rt), count, book.progress.extents);
+    assert_eq!(rt; end, ((None, 0), 0, extents));
 }
 
 #[test]
 fn a_drive_is_added(rt: HostRuntime) {
     let mut book = three_drives();
-    assert!(rt; is_book(&book.state, &book.progress));
-    assert_eq!(rt;
-        admit_add(&book.state, &book.progress, 15),
-        Err(AdmitFault::Size)
-    );
-    assert_eq!(rt; admit_add(&book.state, &book.progress, 20), Ok(()));
+    let answers = [book.admit_add(&rt, 15), book.admit_add(&rt, 20)];
+    assert_eq!(rt; answers, [Err(AdmitFault::Size), Ok(())]);
     add(&mut book, 20);
-    assert!(rt; is_book(&book.state, &book.progress));
-    assert_eq!(rt; left(&book.state, &book.progress), 58);
+    assert_eq!(rt; book.work(&rt).1, 58);
     let works = [
         (Work::Begin { array: 0, place: 3 }, 1),
         (Work::Reshape { array: 0 }, 26),
@@ -224,28 +256,22 @@ fn a_drive_is_added(rt: HostRuntime) {
         (Work::Extend, 1),
         (Work::Close, 1),
     ];
-    all_works(&rt, &mut book, &works);
-    assert_eq!(rt; book.progress.extents, 40);
+    all_works(&rt, &mut book, &works, 40);
 }
 
 #[test]
 fn a_drive_is_replaced(rt: HostRuntime) {
     let mut book = three_drives();
-    assert!(rt; is_book(&book.state, &book.progress));
-    assert_eq!(rt; book.state.drives.len(), 3);
-    assert_eq!(rt; admit_replace(&book.state, &book.progress, 1, 10), Ok(()));
+    assert_eq!(rt; book.admit_replace(&rt, 1, 10), Ok(()));
     replace(&mut book, 1, 10);
     let works = [(Work::Rebuild { array: 0, place: 1 }, 26), (Work::Close, 1)];
-    all_works(&rt, &mut book, &works);
-    assert_eq!(rt; book.progress.extents, 20);
+    all_works(&rt, &mut book, &works, 20);
 }
 
 #[test]
 fn a_larger_drive_replaces_another(rt: HostRuntime) {
     let mut book = three_drives();
-    assert!(rt; is_book(&book.state, &book.progress));
-    assert_eq!(rt; book.state.drives.len(), 3);
-    assert_eq!(rt; admit_replace(&book.state, &book.progress, 0, 20), Ok(()));
+    assert_eq!(rt; book.admit_replace(&rt, 0, 20), Ok(()));
     replace(&mut book, 0, 20);
     let works = [
         (Work::Rebuild { array: 0, place: 0 }, 26),
@@ -261,23 +287,13 @@ fn a_larger_drive_replaces_another(rt: HostRuntime) {
         (Work::Extend, 1),
         (Work::Close, 1),
     ];
-    all_works(&rt, &mut book, &works);
-    assert_eq!(rt; book.progress.extents, 30);
+    all_works(&rt, &mut book, &works, 30);
 }
 
 #[test]
 fn a_mirror_takes_in_a_drive(rt: HostRuntime) {
-    let mut arrays = ArrayVec::new();
-    arrays.push(array(&[0, 1], 10));
-    let mut book = Book {
-        state: pool(&[10, 10]),
-        progress: Progress {
-            arrays,
-            extents: 10,
-        },
-    };
-    assert!(rt; is_book(&book.state, &book.progress));
-    assert_eq!(rt; admit_add(&book.state, &book.progress, 10), Ok(()));
+    let mut book = one_array(&[10, 10], &[0, 1], 10);
+    assert_eq!(rt; book.admit_add(&rt, 10), Ok(()));
     add(&mut book, 10);
     let works = [
         (Work::TakeOver { array: 0 }, 1),
@@ -287,63 +303,43 @@ fn a_mirror_takes_in_a_drive(rt: HostRuntime) {
         (Work::Extend, 1),
         (Work::Close, 1),
     ];
-    all_works(&rt, &mut book, &works);
-    assert_eq!(rt; book.progress.extents, 20);
+    all_works(&rt, &mut book, &works, 20);
 }
 
 #[test]
 fn a_smaller_drive_replaces_none(rt: HostRuntime) {
     let book = three_drives();
-    assert!(rt; is_book(&book.state, &book.progress));
-    assert_eq!(rt; book.state.drives.len(), 3);
-    let refused = admit_replace(&book.state, &book.progress, 2, 10);
-    assert_eq!(rt; refused, Err(AdmitFault::Smaller));
-    assert_eq!(rt;
-        admit_replace(&book.state, &book.progress, 2, 9),
-        Err(AdmitFault::Size)
-    );
-    assert_eq!(rt;
-        admit_replace(&book.state, &book.progress, 2, 15),
-        Err(AdmitFault::Smaller)
-    );
-    assert_eq!(rt; admit_replace(&book.state, &book.progress, 2, 21), Ok(()));
+    let rows = [
+        (9, Err(AdmitFault::Size)),
+        (10, Err(AdmitFault::Smaller)),
+        (15, Err(AdmitFault::Smaller)),
+        (21, Ok(())),
+    ];
+    for (units, answer) in rows {
+        assert_eq!(rt; book.admit_replace(&rt, 2, units), answer, "{units}");
+    }
+}
+
+/// Whether a drive of so many units may be added, and whether it may replace the first one.
+fn admits(rt: &impl Abort, book: &Book, units: u64) -> [Result<(), AdmitFault>; 2]
+    requires { units < 2 ^ 41 }
+{
+    [book.admit_add(rt, units), book.admit_replace(rt, 0, units)]
 }
 
 #[test]
 fn the_last_place_and_the_last_serial(rt: HostRuntime) {
-    let mut arrays = ArrayVec::new();
-    arrays.push(array(&[0, 1, 2, 3, 4, 5, 6, 7, 8, 9, 10, 11, 12, 13, 14], 10));
-    let mut book = Book {
-        state: pool(&[10; 15]),
-        progress: Progress {
-            arrays,
-            extents: 140,
-        },
-    };
+    let full = Err(AdmitFault::TooManyDrives);
+    let members = [0, 1, 2, 3, 4, 5, 6, 7, 8, 9, 10, 11, 12, 13, 14];
+    let mut book = one_array(&[10; 15], &members, 140);
     book.state.serial = u32::MAX - 1;
-    assert!(rt; is_book(&book.state, &book.progress));
-    assert_eq!(rt; admit_add(&book.state, &book.progress, 10), Ok(()));
-    assert_eq!(rt; book.state.drives.len(), 15);
-    assert_eq!(rt; admit_replace(&book.state, &book.progress, 0, 10), Ok(()));
+    assert_eq!(rt; admits(&rt, &book, 10), [Ok(()), Ok(())]);
     book.state.serial = u32::MAX;
-    assert!(rt; is_book(&book.state, &book.progress));
-    assert_eq!(rt;
-        admit_add(&book.state, &book.progress, 10),
-        Err(AdmitFault::TooManyDrives)
-    );
-    assert_eq!(rt;
-        admit_replace(&book.state, &book.progress, 0, 10),
-        Err(AdmitFault::TooManyDrives)
-    );
+    assert_eq!(rt; admits(&rt, &book, 10), [full, full]);
     book.state.serial = 0;
     add(&mut book, 10);
-    assert!(rt; is_book(&book.state, &book.progress));
-    assert_eq!(rt; book.state.drives.len(), 16);
-    assert_eq!(rt;
-        admit_add(&book.state, &book.progress, 10),
-        Err(AdmitFault::TooManyDrives)
-    );
-    assert_eq!(rt; admit_replace(&book.state, &book.progress, 0, 10), Ok(()));
+    let last = (admits(&rt, &book, 10), book.state.drives.len());
+    assert_eq!(rt; last, ([full, Ok(())], 16));
 }
 
 /// Two drives of 16 and 20 units, with so many arrays of one extent each.
@@ -365,63 +361,38 @@ fn many_layers(count: u32) -> Book {
 
 #[test]
 fn the_last_layer(rt: HostRuntime) {
+    let full = Err(AdmitFault::TooManyLayers);
     let book = many_layers(16);
-    assert!(rt; is_book(&book.state, &book.progress));
-    assert_eq!(rt; book.state.drives.len(), 2);
-    assert_eq!(rt;
-        admit_add(&book.state, &book.progress, 20),
-        Err(AdmitFault::TooManyLayers)
-    );
-    assert_eq!(rt;
-        admit_replace(&book.state, &book.progress, 0, 20),
-        Err(AdmitFault::TooManyLayers)
-    );
-    assert_eq!(rt; admit_add(&book.state, &book.progress, 16), Ok(()));
-    assert_eq!(rt; admit_replace(&book.state, &book.progress, 0, 16), Ok(()));
-    let book = many_layers(15);
-    assert!(rt; is_book(&book.state, &book.progress));
-    assert_eq!(rt; admit_add(&book.state, &book.progress, 20), Ok(()));
+    assert_eq!(rt; admits(&rt, &book, 20), [full, full]);
+    assert_eq!(rt; admits(&rt, &book, 16), [Ok(()), Ok(())]);
+    assert_eq!(rt; many_layers(15).admit_add(&rt, 20), Ok(()));
 }
 
 /// No part agrees with another: heights, rows and extents near their bounds, and no layer for the drives.
 #[test]
 fn books_that_disagree(rt: HostRuntime) {
     let mut book = many_layers(16);
+    let rows = LIMIT - 1;
     for now in book.progress.arrays.as_mut_slice() {
-        now.height = LIMIT - 1;
-        now.rows = LIMIT - 1;
-        now.resync = LIMIT - 1;
-        now.rebuild = LIMIT - 1;
-        now.reshape = LIMIT - 1;
+        now.height = rows;
+        now.rows = rows;
+        now.resync = rows;
+        now.rebuild = rows;
+        now.reshape = rows;
         now.reshaping = true;
-        now.zero = LIMIT - 1;
+        now.zero = rows;
     }
     book.state.plan = Plan::Replace { place: 0 };
     book.state.joined = 15;
-    assert!(rt; is_book(&book.state, &book.progress));
     // 16 arrays with all rows to resync, to rebuild and to reshape, each with its end; the last one's
     // rows of zeros and its start; the volume and the plan.
-    let rows = LIMIT - 1;
-    assert_eq!(rt;
-        left(&book.state, &book.progress),
-        16 * (3 * rows + 1) + rows + 1 + 2
-    );
-    assert_eq!(rt;
-        next_work(&book.state, &book.progress),
-        Some(Work::Resync { array: 0 })
-    );
-    assert_eq!(rt;
-        target(&book.state, &book.progress).as_slice(),
-        [rows; 16].as_slice()
-    );
+    let count = 16 * (3 * rows + 1) + rows + 1 + 2;
+    assert_eq!(rt; book.work(&rt), (Some(Work::Resync { array: 0 }), count));
+    assert_eq!(rt; book.target(&rt).as_slice(), [rows; 16].as_slice());
     // Two layers are missing; the lower one counts alone.
     let mut book = three_drives();
-    add(&mut book, 20);
-    add(&mut book, 30);
-    add(&mut book, 30);
-    assert!(rt; is_book(&book.state, &book.progress));
-    assert_eq!(rt;
-        target(&book.state, &book.progress).as_slice(),
-        [30, 30].as_slice()
-    );
+    for units in [20, 30, 30] {
+        add(&mut book, units);
+    }
+    assert_eq!(rt; book.target(&rt).as_slice(), [30, 30].as_slice());
 }

@@ -8,6 +8,8 @@
 #[cfg(test)]
 mod arrays;
 #[cfg(test)]
+mod disks;
+#[cfg(test)]
 mod growth;
 #[cfg(test)]
 mod memory_disks;

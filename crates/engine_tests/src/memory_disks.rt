@@ -2,25 +2,12 @@
 
 ghost use Rattle.std.specs.Prelude.{◌<◌};
 
-use rack::{AttachFault, Bay, Gone, Name, Rack};
-use rack_mem::{DiskSpec, MemBay, Pick};
+use crate::disks::{attach, bay, shelf, sync, write};
+use rack::{AttachFault, Bay, Gone, Rack};
+use rack_mem::{MemBay, Pick};
 use std::alloc::Global;
 use std::process::Abort;
 use std::test::Fail;
-
-// A bay of the disks `a` and `b` with eight sectors each, of which `a` is attached.
-fn bay(rt: &impl Abort, alloc: Global, failing: &[u64], room: u64) -> Result<MemBay, Fail> {
-    let mut shelf = Vec::new(alloc);
-    for name in ["a", "b"] {
-        let name = Name::of(alloc, name.as_bytes())?;
-        let disk = DiskSpec { name, sectors: 8 };
-        shelf.push(disk)?;
-    }
-    assert!(rt; shelf.len() == 2 && shelf.iter().all(|disk| disk.sectors < 1 << 48));
-    let mut bay = MemBay::new(alloc, shelf, failing.to_vec(alloc)?, room)?;
-    assert_eq!(rt; bay.attach("a"), Ok(0));
-    Ok(bay)
-}
 
 // Writes a sector, syncs its disk and reads the sector back, through the bound.
 fn round_trip<R: Rack>(rack: &mut R, value: &[u8; 512]) -> Result<[u8; 512], Gone>
@@ -37,50 +24,71 @@ fn round_trip<R: Rack>(rack: &mut R, value: &[u8; 512]) -> Result<[u8; 512], Gon
 
 #[test]
 fn attaches_by_name(rt: HostRuntime) -> Result<(), Fail> {
-    let mut bay = bay(&rt, rt.alloc(), &[], 0)?;
-    assert_eq!(rt; bay.attach("c"), Err(AttachFault::Failed));
-    assert_eq!(rt; bay.attach("a"), Err(AttachFault::Twice { disk: 0 }));
-    assert_eq!(rt; bay.attach("b"), Ok(1));
-    assert_eq!(rt; bay.disks(), 2);
+    let mut bay = shelf(&rt, rt.alloc(), &[8, 8], &[], 0)?;
+    let rows = [
+        ("a", Ok(0)),
+        ("c", Err(AttachFault::Failed)),
+        ("a", Err(AttachFault::Twice { disk: 0 })),
+        ("b", Ok(1)),
+    ];
+    for (name, answer) in rows {
+        assert_eq!(rt; bay.attach(name), answer, "{name}");
+    }
+    assert!(rt; bay.disks() == 2);
     assert_eq!(rt; bay.sectors(1), 8);
     Ok(())
 }
 
 #[test]
 fn reads_what_was_written(rt: HostRuntime) -> Result<(), Fail> {
-    let mut bay = bay(&rt, rt.alloc(), &[], 3)?;
-    assert!(rt; 0 < bay.disks());
-    assert!(rt; 7 < bay.sectors(0));
-    assert_eq!(rt; round_trip(&mut bay, &[5; 512]), Ok([5; 512]));
-    assert_eq!(rt; bay.calls(), 3);
+    let mut bay = bay(&rt, rt.alloc(), &[8], 3)?;
+    assert!(rt; 0 < bay.disks() && 7 < bay.sectors(0));
+    let back = round_trip(&mut bay, &[5; 512]);
+    assert_eq!(rt; (back, bay.calls()), (Ok([5; 512]), 3));
     Ok(())
 }
 
 #[test]
 fn refuses_for_its_three_causes(rt: HostRuntime) -> Result<(), Fail> {
-    let mut bay = bay(&rt, rt.alloc(), &[1], 4)?;
+    let mut bay = shelf(&rt, rt.alloc(), &[8, 8], &[1], 4)?;
+    attach(&rt, &mut bay, 1);
     assert!(rt; 0 < bay.disks());
-    assert_eq!(rt; bay.write(0, 3, &[1; 512]), Ok(()));
-    assert_eq!(rt; bay.write(0, 3, &[2; 512]), Err(Gone { disk: 0 }));
-    assert_eq!(rt; bay.sync(0), Ok(()));
+    let gone = Err(Gone { disk: 0 });
+    let before = [
+        bay.write(0, 3, &[1; 512]),
+        bay.write(0, 3, &[2; 512]),
+        bay.sync(0),
+    ];
     bay.fail_disk(0);
-    assert_eq!(rt; bay.sync(0), Err(Gone { disk: 0 }));
+    let after = (bay.sync(0), bay.calls(), bay.sync(0), bay.calls());
+    assert_eq!(rt; before, [Ok(()), gone, Ok(())]);
+    assert_eq!(rt; after, (gone, 4, gone, 4));
     assert_eq!(rt; bay.sector_now(0, 3), [1; 512]);
-    assert_eq!(rt; bay.calls(), 4);
-    assert_eq!(rt; bay.sync(0), Err(Gone { disk: 0 }));
-    assert_eq!(rt; bay.calls(), 4);
     Ok(())
+}
+
+// What a stop leaves in the sectors 3 and 5 of the first disk.
+fn sectors_at(
+    rt: &impl Abort,
+    alloc: Global,
+    bay: &MemBay,
+    moment: u64,
+    pick: Pick,
+) -> Result<[[u8; 512]; 2], Fail> {
+    assert!(rt; moment <= bay.calls());
+    let mut image = bay.image_at(alloc, moment, pick)?;
+    attach(rt, &mut image, 1);
+    Ok([image.sector_now(0, 3), image.sector_now(0, 5)])
 }
 
 #[test]
 fn a_stop_leaves_each_held_value(rt: HostRuntime) -> Result<(), Fail> {
-    let mut bay = bay(&rt, rt.alloc(), &[], 9)?;
-    assert!(rt; 0 < bay.disks());
-    assert_eq!(rt; bay.write(0, 3, &[1; 512]), Ok(()));
-    assert_eq!(rt; bay.sync(0), Ok(()));
-    assert_eq!(rt; bay.write(0, 3, &[2; 512]), Ok(()));
-    assert_eq!(rt; bay.write(0, 5, &[9; 512]), Ok(()));
-    assert_eq!(rt; bay.write(0, 3, &[3; 512]), Ok(()));
+    let mut bay = bay(&rt, rt.alloc(), &[8], 9)?;
+    assert_eq!(rt; write(&rt, &mut bay, 0, 3, &[1; 512]), Ok(()));
+    assert_eq!(rt; sync(&rt, &mut bay, 0), Ok(()));
+    for (sector, value) in [(3, 2), (5, 9), (3, 3)] {
+        assert_eq!(rt; write(&rt, &mut bay, 0, sector, &[value; 512]), Ok(()));
+    }
     let images = [
         (0, Pick::Newest, 0, 0),
         (1, Pick::Oldest, 0, 0),
@@ -94,19 +102,8 @@ fn a_stop_leaves_each_held_value(rt: HostRuntime) -> Result<(), Fail> {
         (5, Pick::Seeded { seed: u64::MAX }, 3, 0),
     ];
     for (moment, pick, third, fifth) in images {
-        assert!(rt; moment <= bay.calls());
-        let mut image = bay.image_at(rt.alloc(), moment, pick)?;
-        assert_eq!(rt; image.attach("a"), Ok(0));
-        assert_eq!(rt;
-            image.sector_now(0, 3),
-            [third; 512],
-            "sector 3 after {moment}"
-        );
-        assert_eq!(rt;
-            image.sector_now(0, 5),
-            [fifth; 512],
-            "sector 5 after {moment}"
-        );
+        let found = sectors_at(&rt, rt.alloc(), &bay, moment, pick)?;
+        assert_eq!(rt; found, [[third; 512], [fifth; 512]], "after {moment}");
     }
     Ok(())
 }

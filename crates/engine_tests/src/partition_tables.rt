@@ -5,12 +5,13 @@ ghost use Rattle.gpt_table.specs.declared.Table.{Table};
 ghost use Rattle.gpt_table.specs.Format.{IsWritable};
 ghost use Rattle.gpt_table.specs.Changes.{changed};
 
+use crate::disks::{attach, bay, sync, write};
 use arrayvec::ArrayVec;
 use gpt_table::{
     Entry, Slice, Table, TableFault, change_entry, read_table, settle_table, write_whole,
 };
-use rack::{Bay, Name, Rack};
-use rack_mem::{DiskSpec, MemBay, Pick};
+use rack::{Gone, Rack};
+use rack_mem::{MemBay, Pick};
 use shr_base::Id;
 use std::alloc::Global;
 use std::process::Abort;
@@ -24,17 +25,6 @@ const PICKS: [Pick; 5] = [
     Pick::Seeded { seed: 1 },
     Pick::Seeded { seed: 2 },
 ];
-
-// A bay of one attached disk.
-fn bay(rt: &impl Abort, alloc: Global, sectors: u64) -> Result<MemBay, Fail> {
-    let mut shelf = Vec::new(alloc);
-    let name = Name::of(alloc, b"a")?;
-    shelf.push(DiskSpec { name, sectors })?;
-    assert!(rt; shelf.len() == 1 && shelf.iter().all(|disk| disk.sectors < 1 << 48));
-    let mut bay = MemBay::new(alloc, shelf, Vec::new(alloc), 400)?;
-    assert_eq!(rt; bay.attach("a"), Ok(0));
-    Ok(bay)
-}
 
 // A table without entries, of the smallest disk.
 fn empty() -> Table
@@ -61,73 +51,100 @@ fn entry() -> Entry
     Entry { number: 2, slice }
 }
 
-// The table that a stop leaves, for each pick.
-fn tables_at(
+// Writes a table to the first disk.
+fn put(rt: &impl Abort, bay: &mut MemBay, table: &Table) -> Result<(), Gone>
+    requires writable { IsWritable table.now }
+    requires size { table.now.sectors ≡ 67 }
+{
+    assert!(rt; 0 < bay.disks() && bay.sectors(0) == 67);
+    write_whole(bay, 0, table)
+}
+
+// Changes it there by the entry above.
+fn change(rt: &impl Abort, bay: &mut MemBay, table: &mut Table) -> Result<(), Gone>
+    requires writable { IsWritable table.old }
+    requires size { table.old.sectors ≡ 67 }
+{
+    let entry = entry();
+    assert!(rt; 0 < bay.disks() && bay.sectors(0) == 67);
+    change_entry(bay, 0, table, &entry)
+}
+
+// The table of the first disk.
+fn read(rt: &impl Abort, bay: &mut MemBay) -> Result<Table, TableFault> {
+    assert!(rt; 0 < bay.disks());
+    read_table(bay, 0).map(|seen| seen.table)
+}
+
+// Settles it.
+fn settle(rt: &impl Abort, bay: &mut MemBay) -> Result<(), TableFault> {
+    assert!(rt; 0 < bay.disks());
+    settle_table(bay, 0)
+}
+
+// Asserts that a stop leaves one of two tables, for each pick.
+fn assert_stop(
     rt: &impl Abort,
     alloc: Global,
     bay: &MemBay,
     moment: u64,
-) -> Result<Vec<Table>, Fail> {
-    let mut found = Vec::new(alloc);
+    tables: [&Table; 2],
+) -> Result<(), Fail> {
+    assert!(rt; moment <= bay.calls());
     for pick in PICKS {
-        assert!(rt; moment <= bay.calls());
         let mut image = bay.image_at(alloc, moment, pick)?;
-        assert_eq!(rt; image.attach("a"), Ok(0));
-        assert!(rt; 0 < image.disks());
-        let seen = read_table(&mut image, 0);
-        assert!(rt; seen.is_ok(), "at {moment}");
-        if let Ok(seen) = seen {
-            found.push(seen.table)?;
-        }
-    }
-    Ok(found)
-}
-
-#[test]
-fn a_stop_leaves_the_old_table_or_the_new_one(rt: HostRuntime) -> Result<(), Fail> {
-    let alloc = rt.alloc();
-    let mut bay = bay(&rt, alloc, 67)?;
-    let (old, mut new, entry) = (empty(), empty(), entry());
-    assert!(rt; 0 < bay.disks() && bay.sectors(0) == 67);
-    assert_eq!(rt; write_whole(&mut bay, 0, &old), Ok(()));
-    let start = bay.calls();
-    assert!(rt; 0 < bay.disks() && bay.sectors(0) == 67);
-    assert_eq!(rt; change_entry(&mut bay, 0, &mut new, &entry), Ok(()));
-    assert_eq!(rt; new.entries.len(), 1);
-    for moment in start..bay.calls() + 1 {
-        for table in &tables_at(&rt, alloc, &bay, moment)? {
-            assert!(rt; *table == old || *table == new, "at {moment}");
+        attach(rt, &mut image, 1);
+        match read(rt, &mut image) {
+            Ok(table) => assert!(rt; tables.contains(&&table), "at {moment}"),
+            Err(fault) => panic!(rt; "{fault:?} at {moment}"),
         }
     }
     Ok(())
 }
 
+// Asserts so of the stops from a moment on.
+fn assert_stops(
+    rt: &impl Abort,
+    alloc: Global,
+    bay: &MemBay,
+    start: u64,
+    tables: [&Table; 2],
+) -> Result<(), Fail> {
+    for moment in start..bay.calls() + 1 {
+        assert_stop(rt, alloc, bay, moment, tables)?;
+    }
+    Ok(())
+}
+
+#[test]
+fn a_stop_leaves_the_old_table_or_the_new_one(rt: HostRuntime) -> Result<(), Fail> {
+    let mut bay = bay(&rt, rt.alloc(), &[67], 400)?;
+    let (old, mut new) = (empty(), empty());
+    assert_eq!(rt; put(&rt, &mut bay, &old), Ok(()));
+    let start = bay.calls();
+    let answer = change(&rt, &mut bay, &mut new);
+    assert_eq!(rt; (answer, new.entries.len()), (Ok(()), 1));
+    assert_stops(&rt, rt.alloc(), &bay, start, [&old, &new])
+}
+
 #[test]
 fn settling_leaves_the_table_at_every_stop(rt: HostRuntime) -> Result<(), Fail> {
-    let alloc = rt.alloc();
+    let table = empty();
     // the header of the primary, then that of the backup
     for spoiled in [1, 66] {
-        let mut bay = bay(&rt, alloc, 67)?;
-        let table = empty();
-        assert!(rt; 0 < bay.disks() && bay.sectors(0) == 67);
-        assert_eq!(rt; write_whole(&mut bay, 0, &table), Ok(()));
-        assert!(rt; 0 < bay.disks() && spoiled < bay.sectors(0));
-        assert_eq!(rt; bay.write(0, spoiled, &[0x55; 512]), Ok(()));
-        assert!(rt; 0 < bay.disks());
-        assert_eq!(rt; bay.sync(0), Ok(()));
+        let mut bay = bay(&rt, rt.alloc(), &[67], 400)?;
+        let answers = [
+            put(&rt, &mut bay, &table),
+            write(&rt, &mut bay, 0, spoiled, &[0x55; 512]),
+            sync(&rt, &mut bay, 0),
+        ];
+        assert_eq!(rt; answers, [Ok(()); 3]);
         let start = bay.calls();
-        assert!(rt; 0 < bay.disks());
-        assert_eq!(rt; settle_table(&mut bay, 0), Ok(()));
-        let end = bay.calls();
-        for moment in start..end + 1 {
-            for found in &tables_at(&rt, alloc, &bay, moment)? {
-                assert_eq!(rt; *found, table, "at {moment}");
-            }
-        }
+        assert_eq!(rt; settle(&rt, &mut bay), Ok(()));
+        assert_stops(&rt, rt.alloc(), &bay, start, [&table, &table])?;
         // now nothing has to be written: two copies are read
-        assert!(rt; 0 < bay.disks());
-        assert_eq!(rt; settle_table(&mut bay, 0), Ok(()));
-        assert_eq!(rt; bay.calls(), end + 66);
+        let end = bay.calls();
+        assert_eq!(rt; (settle(&rt, &mut bay), bay.calls()), (Ok(()), end + 66));
     }
     Ok(())
 }
@@ -135,11 +152,12 @@ fn settling_leaves_the_table_at_every_stop(rt: HostRuntime) -> Result<(), Fail> 
 #[test]
 fn a_small_disk_has_no_table(rt: HostRuntime) -> Result<(), Fail> {
     for sectors in [66, 67] {
-        let mut bay = bay(&rt, rt.alloc(), sectors)?;
-        assert!(rt; 0 < bay.disks());
-        assert_eq!(rt; read_table(&mut bay, 0).err(), Some(TableFault::NoTable));
-        assert!(rt; 0 < bay.disks());
-        assert_eq!(rt; settle_table(&mut bay, 0), Err(TableFault::NoTable));
+        let mut bay = bay(&rt, rt.alloc(), &[sectors], 400)?;
+        let answers = (read(&rt, &mut bay).err(), settle(&rt, &mut bay));
+        assert_eq!(rt;
+            answers,
+            (Some(TableFault::NoTable), Err(TableFault::NoTable))
+        );
     }
     Ok(())
 }

@@ -4,38 +4,51 @@ ghost use Rattle.std.specs.Prelude.{◌<◌};
 ghost use Rattle.slice_rack.specs.Sliced.{slices_of};
 ghost use Rattle.slice_rack.specs.SliceRack.{tables, below_of};
 
-use rack::{Bay, Gone, Name, Rack};
-use rack_mem::{DiskSpec, MemBay};
+use crate::disks::bay;
+use rack::{Gone, Rack};
 use slice_rack::{SliceFault, SliceRack};
-use std::alloc::Global;
 use std::process::Abort;
 use std::test::Fail;
 
-// A bay with one attached disk of sixteen sectors.
-fn bay(rt: &impl Abort, alloc: Global) -> Result<MemBay, Fail> {
-    let mut shelf = Vec::new(alloc);
-    let name = Name::of(alloc, b"a")?;
-    shelf.push(DiskSpec { name, sectors: 16 })?;
-    assert!(rt; shelf.len() == 1 && shelf.iter().all(|disk| disk.sectors < 1 << 48));
-    let mut bay = MemBay::new(alloc, shelf, Vec::new(alloc), 99)?;
-    assert_eq!(rt; bay.attach("a"), Ok(0));
-    Ok(bay)
+// Makes a slice.
+fn add<R: Rack>(
+    slices: &mut SliceRack<R>,
+    place: u32,
+    slice: u32,
+    first: u64,
+    sectors: u64,
+) -> Result<(), SliceFault>
+    requires place { place < 16 }
+    requires slice { slice < 17 }
+    requires fit { (slices_of (tables slices.old) (R.seen (below_of slices.old))).fit }
+    ensures { (slices_of (tables slices.new) (R.seen (below_of slices.new))).fit }
+{
+    slices.add_slice(place, slice, first, sectors)
 }
 
 #[test]
 fn slices_at_the_edges_of_a_disk(rt: HostRuntime) -> Result<(), Fail> {
-    let bay = bay(&rt, rt.alloc())?;
+    let bay = bay(&rt, rt.alloc(), &[16], 99)?;
     assert!(rt; 0 < bay.disks());
     let mut slices = SliceRack::new(bay);
-    assert_eq!(rt; slices.add_slice(2, 0, 0, 4), Err(SliceFault::Unseated));
+    let unseated = slices.add_slice(2, 0, 0, 4);
     slices.seat(2, 0);
-    assert_eq!(rt; slices.seated(0), Some(2));
-    assert_eq!(rt; slices.add_slice(2, 0, 13, 4), Err(SliceFault::Outside));
-    assert_eq!(rt; slices.add_slice(2, 0, 12, 4), Ok(()));
-    assert_eq!(rt; slices.add_slice(2, 1, 9, 4), Err(SliceFault::Overlap));
-    assert_eq!(rt; slices.add_slice(2, 1, 8, 4), Ok(()));
-    assert_eq!(rt; slices.sectors(34), 4);
-    assert_eq!(rt; slices.sectors(36), 0);
+    let seated = slices.seated(0);
+    assert_eq!(rt; (unseated, seated), (Err(SliceFault::Unseated), Some(2)));
+    let answers = [
+        add(&mut slices, 2, 0, 13, 4),
+        add(&mut slices, 2, 0, 12, 4),
+        add(&mut slices, 2, 1, 9, 4),
+        add(&mut slices, 2, 1, 8, 4),
+    ];
+    let wanted = [
+        Err(SliceFault::Outside),
+        Ok(()),
+        Err(SliceFault::Overlap),
+        Ok(()),
+    ];
+    assert_eq!(rt; answers, wanted);
+    assert_eq!(rt; [slices.sectors(34), slices.sectors(36)], [4, 0]);
     Ok(())
 }
 
@@ -54,38 +67,16 @@ fn round_trip<R: Rack>(rack: &mut R, disk: u32, value: &[u8; 512]) -> Result<[u8
 
 #[test]
 fn a_slice_is_a_disk(rt: HostRuntime) -> Result<(), Fail> {
-    let bay = bay(&rt, rt.alloc())?;
+    let bay = bay(&rt, rt.alloc(), &[16], 99)?;
     assert!(rt; 0 < bay.disks());
     let mut slices = SliceRack::new(bay);
     slices.seat(15, 0);
-    assert_eq!(rt; slices.add_slice(15, 16, 8, 4), Ok(()));
+    assert_eq!(rt; add(&mut slices, 15, 16, 8, 4), Ok(()));
     assert!(rt; slices.sectors(271) == 4);
-    assert_eq!(rt; round_trip(&mut slices, 271, &[7; 512]), Ok([7; 512]));
-    assert_eq!(rt; slices.into_inner().sector_now(0, 11), [7; 512]);
+    let back = round_trip(&mut slices, 271, &[7; 512]);
+    let below = slices.into_inner().sector_now(0, 11);
+    assert_eq!(rt; (back, below), (Ok([7; 512]), [7; 512]));
     Ok(())
-}
-
-/// The disks of the bay below.
-const NAMES: [&str; 16] = [
-    "a", "b", "c", "d", "e", "f", "g", "h", "i", "j", "k", "l", "m", "n", "o", "p",
-];
-
-// A bay of sixteen disks with 34 sectors each, which aren't attached yet.
-fn shelf(rt: &impl Abort, alloc: Global) -> Result<MemBay, Fail> {
-    let mut shelf = Vec::new(alloc);
-    for name in NAMES {
-        let name = Name::of(alloc, name.as_bytes())?;
-        shelf.push(DiskSpec { name, sectors: 34 })?;
-    }
-    assert!(rt; shelf.len() == 16 && shelf.iter().all(|disk| disk.sectors < 1 << 48));
-    Ok(MemBay::new(alloc, shelf, Vec::new(alloc), 999)?)
-}
-
-// Attaches all of them.
-fn attach_all<B: Bay>(rt: &impl Abort, bay: &mut B) {
-    for name in NAMES {
-        assert!(rt; bay.attach(name).is_ok());
-    }
 }
 
 // Cuts the disk of a place into seventeen slices of two sectors.
@@ -95,7 +86,7 @@ fn cut<R: Rack>(rt: &impl Abort, slices: &mut SliceRack<R>, place: u32)
     ensures { (slices_of (tables slices.new) (R.seen (below_of slices.new))).fit }
 {
     for slice in 0..17 {
-        let added = slices.add_slice(place, slice, 2 * u64::from(slice), 2);
+        let added = add(slices, place, slice, 2 * u64::from(slice), 2);
         assert_eq!(rt; added, Ok(()));
     }
 }
@@ -139,15 +130,14 @@ fn read_all<R: Rack>(rt: &impl Abort, rack: &mut R)
     for disk in 0..272 {
         let mut value = [0; 512];
         assert!(rt; disk < rack.disks() && rack.sectors(disk) == 2);
-        assert_eq!(rt; rack.read(disk, 1, &mut value), Ok(()));
-        assert!(rt; value == value_of(disk), "at {disk}");
+        let answer = rack.read(disk, 1, &mut value);
+        assert!(rt; (answer, value) == (Ok(()), value_of(disk)), "at {disk}");
     }
 }
 
 #[test]
 fn sixteen_places_of_seventeen_slices(rt: HostRuntime) -> Result<(), Fail> {
-    let mut bay = shelf(&rt, rt.alloc())?;
-    attach_all(&rt, &mut bay);
+    let bay = bay(&rt, rt.alloc(), &[34; 16], 999)?;
     let mut slices = SliceRack::new(bay);
     cut_all(&rt, &mut slices);
     write_all(&rt, &mut slices);

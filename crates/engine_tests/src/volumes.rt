@@ -7,33 +7,38 @@ ghost use Rattle.rack_mem.specs.Memory.{seen_of};
 ghost use Rattle.lvm_group.specs.Shown.{volume_of};
 ghost use Rattle.lvm_group.specs.Volume.{below_of, linear};
 
+use crate::disks::{attach, bay, write};
 use arrayvec::ArrayVec;
 use lvm_group::{Volume, VolumeFault};
 use lvm_label::{Header, Location, decode_header, decode_label, encode_header};
 use lvm_text::parse;
-use rack::{Bay, Name, Rack};
-use rack_mem::{DiskSpec, MemBay, Pick};
+use rack::Rack;
+use rack_mem::{MemBay, Pick};
 use shr_base::Id;
 use std::alloc::Global;
 use std::process::Abort;
 use std::test::Fail;
 
-// A bay with three attached disks of so many sectors.
-fn three_arrays(rt: &impl Abort, alloc: Global, sectors: [u64; 3]) -> Result<MemBay, Fail> {
-    let mut shelf = Vec::new(alloc);
-    for (name, sectors) in ["a", "b", "c"].into_iter().zip(sectors) {
-        let name = Name::of(alloc, name.as_bytes())?;
-        shelf.push(DiskSpec { name, sectors })?;
-    }
-    assert!(rt; shelf.len() < 1 << 32 && shelf.iter().all(|disk| disk.sectors < 1 << 48));
-    let mut bay = MemBay::new(alloc, shelf, Vec::new(alloc), 500_000)?;
-    attach(rt, &mut bay);
-    Ok(bay)
-}
-
-fn attach(rt: &impl Abort, bay: &mut MemBay) {
-    for name in ["a", "b", "c"] {
-        assert!(rt; bay.attach(name).is_ok());
+// A volume of so many extents of each of three arrays, which have so many sectors.
+fn created(
+    rt: &impl Abort,
+    alloc: Global,
+    sectors: [u64; 3],
+    numbers: [u64; 3],
+) -> Result<Volume<MemBay>, Fail>
+    ensures fit { IfOk result (λ volume. (volume_of (linear volume) (seen_of (memory (below_of volume)))).fit) }
+    ensures sized { IfOk result (λ volume. (linear volume).extent ≡ 128) }
+{
+    let bay = bay(rt, alloc, &sectors, 500_000)?;
+    let [first, second, third] = numbers;
+    assert!(rt; first <= 512 && second <= 512 && third <= 512);
+    assert!(rt; bay.disks() == 3);
+    assert!(rt; 2048 + first * 128 <= bay.sectors(0));
+    assert!(rt; 2048 + second * 128 <= bay.sectors(1));
+    assert!(rt; 2048 + third * 128 <= bay.sectors(2));
+    match Volume::create(alloc, bay, &Id([7; 16]), 128, &[first, second, third]) {
+        Ok(volume) => Ok(volume),
+        Err(_) => panic!(rt; "no volume"),
     }
 }
 
@@ -42,31 +47,7 @@ fn three_runs(rt: &impl Abort, alloc: Global) -> Result<Volume<MemBay>, Fail>
     ensures fit { IfOk result (λ volume. (volume_of (linear volume) (seen_of (memory (below_of volume)))).fit) }
     ensures sized { IfOk result (λ volume. (linear volume).extent ≡ 128) }
 {
-    let bay = three_arrays(rt, alloc, [6656, 3328, 3328])?;
-    assert!(rt; bay.disks() == 3);
-    assert!(rt; bay.sectors(0) == 6656);
-    assert!(rt; bay.sectors(1) == 3328);
-    assert!(rt; bay.sectors(2) == 3328);
-    match Volume::create(alloc, bay, &Id([7; 16]), 128, &[20, 8, 5]) {
-        Ok(volume) => Ok(volume),
-        Err(_) => panic!(rt; "no volume"),
-    }
-}
-
-// A volume of one extent of each of three arrays that have room for many.
-fn room_for_many(rt: &impl Abort, alloc: Global) -> Result<Volume<MemBay>, Fail>
-    ensures fit { IfOk result (λ volume. (volume_of (linear volume) (seen_of (memory (below_of volume)))).fit) }
-    ensures sized { IfOk result (λ volume. (linear volume).extent ≡ 128) }
-{
-    let bay = three_arrays(rt, alloc, [45824, 45824, 45824])?;
-    assert!(rt; bay.disks() == 3);
-    assert!(rt; bay.sectors(0) == 45824);
-    assert!(rt; bay.sectors(1) == 45824);
-    assert!(rt; bay.sectors(2) == 45824);
-    match Volume::create(alloc, bay, &Id([7; 16]), 128, &[1, 1, 1]) {
-        Ok(volume) => Ok(volume),
-        Err(_) => panic!(rt; "no volume"),
-    }
+    created(rt, alloc, [6656, 3328, 3328], [20, 8, 5])
 }
 
 // The bytes of so many sectors of a disk, from one on.
@@ -80,14 +61,34 @@ fn bytes_at(alloc: Global, bay: &MemBay, disk: u32, first: u64, count: u64) -> R
     Ok(bytes)
 }
 
+// The text that the header of an array names.
+fn text_on(rt: &impl Abort, alloc: Global, bay: &MemBay, disk: u32) -> Result<Vec<u8>, Fail> {
+    let header = decode_header(&bay.sector_now(disk, 8))
+        .ok()
+        .ok_or("a header")?;
+    let text = header
+        .locations
+        .as_slice()
+        .first()
+        .copied()
+        .ok_or("a text")?;
+    let mut bytes = bytes_at(alloc, bay, disk, 9, 6)?;
+    bytes.truncate(text.size as usize);
+    let found = (header.locations.len(), text.offset, bytes.len());
+    assert_eq!(rt; found, (1, 512, text.size as usize));
+    Ok(bytes)
+}
+
 #[test]
 fn a_made_group_is_read(rt: HostRuntime) -> Result<(), Fail> {
-    let mut volume = three_runs(&rt, rt.alloc())?;
-    assert_eq!(rt; volume.extents(), 33);
-    assert!(rt;
-        volume.fits(&[20, 8, 5]) && volume.fits(&[30, 10, 5, 2]) && !volume.fits(&[20, 7, 5])
-    );
-    let bay = volume.inner();
+    let volume = three_runs(&rt, rt.alloc())?;
+    let fits = [
+        volume.fits(&[20, 8, 5]),
+        volume.fits(&[30, 10, 5, 2]),
+        volume.fits(&[20, 7, 5]),
+    ];
+    assert_eq!(rt; (volume.extents(), fits), (33, [true, true, false]));
+    let bay = volume.into_inner();
     let sectors = [
         bay.sector_now(1, 0),
         bay.sector_now(1, 1),
@@ -96,19 +97,11 @@ fn a_made_group_is_read(rt: HostRuntime) -> Result<(), Fail> {
     ];
     let label = decode_label(&sectors).ok().ok_or("a label")?;
     assert_eq!(rt; label.device_size, 3328 * 512);
-    let header = decode_header(&bay.sector_now(1, 8)).ok().ok_or("a header")?;
-    assert_eq!(rt; header.locations.len(), 1);
-    let text = header.locations[0];
-    assert_eq!(rt; text.offset, 512);
-    let bytes = bytes_at(rt.alloc(), bay, 1, 9, 6)?;
-    assert!(rt; text.size as usize <= bytes.len());
-    let group = parse(rt.alloc(), &bytes[..text.size as usize])
-        .ok()
-        .ok_or("a group")?;
-    assert_eq!(rt; group.seqno, 1);
-    assert_eq!(rt; group.pvs.as_slice().len(), 3);
-    assert!(rt; group.pvs.as_slice()[1].name.bytes() == b"pv1".as_slice());
-    assert_eq!(rt; group.lvs.as_slice().len(), 1);
+    let text = text_on(&rt, rt.alloc(), &bay, 1)?;
+    let group = parse(rt.alloc(), text.as_slice()).ok().ok_or("a group")?;
+    let (arrays, volumes) = (group.pvs.as_slice(), group.lvs.as_slice());
+    assert_eq!(rt; (group.seqno, arrays.len(), volumes.len()), (1, 3, 1));
+    assert!(rt; arrays.len() == 3 && arrays[1].name.bytes() == b"pv1".as_slice());
     Ok(())
 }
 
@@ -129,13 +122,13 @@ fn extend_to(rt: &impl Abort, volume: &mut Volume<MemBay>, numbers: [u64; 3])
     assert_eq!(rt; volume.extend(&numbers), Ok(()));
 }
 
-// The extents of the volume that three arrays keep.
-fn extents_in(rt: &impl Abort, alloc: Global, bay: MemBay) -> u64 {
+// The extents of the volume that three arrays keep, or why there is none.
+fn extents_in(rt: &impl Abort, alloc: Global, bay: MemBay) -> Result<u64, VolumeFault> {
     assert!(rt; bay.disks() == 3);
-    let opened = Volume::open(alloc, bay, &Id([7; 16]), 128, 3)
-        .ok()
-        .expect(rt, "a volume");
-    opened.extents()
+    match Volume::open(alloc, bay, &Id([7; 16]), 128, 3) {
+        Ok(volume) => Ok(volume.extents()),
+        Err(back) => Err(back.why),
+    }
 }
 
 #[test]
@@ -150,8 +143,9 @@ fn an_extended_group_is_opened(rt: HostRuntime) -> Result<(), Fail> {
     ] {
         extend_to(&rt, &mut volume, numbers);
     }
-    assert_eq!(rt; volume.extents(), 56);
-    assert_eq!(rt; extents_in(&rt, rt.alloc(), volume.into_inner()), 56);
+    let extents = volume.extents();
+    let opened = extents_in(&rt, rt.alloc(), volume.into_inner());
+    assert_eq!(rt; (extents, opened), (56, Ok(56)));
     Ok(())
 }
 
@@ -164,17 +158,17 @@ fn a_stop_in_an_extension_leaves_the_old_volume_or_the_new_one(
     let start = volume.below().calls();
     extend_to(&rt, &mut volume, [36, 10, 5]);
     let bay = volume.into_inner();
-    let mut last = 0;
+    let mut last = Ok(0);
     for moment in start..bay.calls() + 1 {
         for pick in [Pick::Oldest, Pick::Newest, Pick::Seeded { seed: moment }] {
             assert!(rt; moment <= bay.calls());
             let mut image = bay.image_at(rt.alloc(), moment, pick)?;
-            attach(&rt, &mut image);
+            attach(&rt, &mut image, 3);
             last = extents_in(&rt, rt.alloc(), image);
-            assert!(rt; last == 43 || last == 51, "at {moment}");
+            assert!(rt; last == Ok(43) || last == Ok(51), "at {moment}");
         }
     }
-    assert_eq!(rt; last, 51);
+    assert_eq!(rt; last, Ok(51));
     Ok(())
 }
 
@@ -196,65 +190,56 @@ fn header_sector(offset: u64) -> [u8; 512]
     })
 }
 
-// The answer of opening a group whose arrays were extended once, with one sector of an array replaced.
+// What opening a group answers whose arrays were extended once, with one sector of an array replaced.
 fn answer(
     rt: &impl Abort,
     alloc: Global,
     disk: u32,
     sector: u64,
     bytes: &[u8; 512],
-) -> Result<Option<VolumeFault>, Fail> {
+) -> Result<Result<u64, VolumeFault>, Fail> {
     let mut volume = three_runs(rt, alloc)?;
     extend_to(rt, &mut volume, [30, 10, 5]);
     let mut bay = volume.into_inner();
-    assert!(rt; bay.disks() == 3 && disk < 3);
-    assert!(rt; sector < bay.sectors(disk));
-    assert_eq!(rt; bay.write(disk, sector, bytes), Ok(()));
-    match Volume::open(alloc, bay, &Id([7; 16]), 128, 3) {
-        Ok(volume) => {
-            assert_eq!(rt; volume.extents(), 45);
-            Ok(None)
-        }
-        Err(back) => Ok(Some(back.why)),
-    }
-}
-
-// The header of the first text that the group had.
-fn old_header(rt: &impl Abort, alloc: Global) -> Result<[u8; 512], Fail> {
-    let volume = three_runs(rt, alloc)?;
-    assert!(rt; volume.below().disks() == 3);
-    assert!(rt; volume.below().sectors(1) == 3328);
-    Ok(volume.below().sector_now(1, 8))
+    assert_eq!(rt; write(rt, &mut bay, disk, sector, bytes), Ok(()));
+    Ok(extents_in(rt, alloc, bay))
 }
 
 #[test]
 fn what_array_is_bad(rt: HostRuntime) -> Result<(), Fail> {
     let zeros = [0; 512];
-    let old = old_header(&rt, rt.alloc())?;
+    let old = three_runs(&rt, rt.alloc())?.below().sector_now(1, 8);
     let outside = header_sector(1 << 20);
     let torn = header_sector(512);
-    let bad = |array| Some(VolumeFault::BadVolume { array });
-    // an array with an older text, and a sector that no text has any longer
-    assert_eq!(rt; answer(&rt, rt.alloc(), 1, 8, &old)?, None);
-    assert_eq!(rt; answer(&rt, rt.alloc(), 0, 9, &zeros)?, None);
-    // no header, a location outside, a torn text
-    assert_eq!(rt; answer(&rt, rt.alloc(), 1, 8, &zeros)?, bad(1));
-    assert_eq!(rt; answer(&rt, rt.alloc(), 1, 8, &outside)?, bad(1));
-    assert_eq!(rt; answer(&rt, rt.alloc(), 0, 8, &torn)?, bad(0));
-    assert_eq!(rt; answer(&rt, rt.alloc(), 0, 1, &zeros)?, bad(0));
+    let bad = |array| Err(VolumeFault::BadVolume { array });
+    let rows = [
+        // an array with an older text, and a sector that no text has any longer
+        (1, 8, old, Ok(45)),
+        (0, 9, zeros, Ok(45)),
+        // no header, a location outside, a torn text, no label
+        (1, 8, zeros, bad(1)),
+        (1, 8, outside, bad(1)),
+        (0, 8, torn, bad(0)),
+        (0, 1, zeros, bad(0)),
+    ];
+    for (disk, sector, bytes, wanted) in rows {
+        let opened = answer(&rt, rt.alloc(), disk, sector, &bytes)?;
+        assert_eq!(rt; opened, wanted, "{sector} of {disk}");
+    }
     Ok(())
 }
 
 // The texts of these extensions go round their area many times.
 #[test]
 fn no_more_segments_than_a_text_has(rt: HostRuntime) -> Result<(), Fail> {
-    let mut volume = room_for_many(&rt, rt.alloc())?;
+    let mut volume = created(&rt, rt.alloc(), [45824; 3], [1; 3])?;
     for extents in 2..342 {
-        extend_to(&rt, &mut volume, [extents, extents, extents]);
+        extend_to(&rt, &mut volume, [extents; 3]);
     }
     extend_to(&rt, &mut volume, [342, 341, 341]);
-    assert_eq!(rt; volume.extents(), 1024);
-    assert!(rt; volume.fits(&[342, 341, 341]) && !volume.fits(&[342, 342, 341]));
-    assert_eq!(rt; extents_in(&rt, rt.alloc(), volume.into_inner()), 1024);
+    let fits = [volume.fits(&[342, 341, 341]), volume.fits(&[342, 342, 341])];
+    let extents = volume.extents();
+    let opened = extents_in(&rt, rt.alloc(), volume.into_inner());
+    assert_eq!(rt; (extents, fits, opened), (1024, [true, false], Ok(1024)));
     Ok(())
 }
