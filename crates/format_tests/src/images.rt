@@ -22,7 +22,7 @@ fn bay_of(rt: &impl Abort, alloc: Global, sectors: u64, failing: Vec<u64>) -> Re
     let mut shelf = Vec::new(alloc);
     let name = Name::of(alloc, b"A")?;
     shelf.push(DiskSpec { name, sectors })?;
-    assert!(rt; shelf.len() < 1 << 32 && shelf.iter().all(|disk| disk.sectors < 1 << 48));
+    assert!(rt; shelf.len() == 1 && shelf.iter().all(|disk| disk.sectors <= SECTORS));
     let mut bay = MemBay::new(alloc, shelf, failing, 10000)?;
     assert_eq!(rt; bay.attach("A"), Ok(0));
     Ok(bay)
@@ -49,13 +49,14 @@ fn lay_volume(rt: &impl Abort, bay: &mut MemBay, start: u64, text: &[u8]) -> Res
     lay(rt, bay, start + 11, text)
 }
 
-// What is put of the disk, and how it ended.
+// What is put of the disk, to a sink of which a call may fail, and how it ended.
 fn text_of(
     rt: &impl Abort,
     alloc: Global,
     bay: &mut MemBay,
+    sink_fails_at: Option<u64>,
 ) -> Result<(Vec<u8>, Result<(), Stop>), Fail> {
-    let mut out = MemSink::new(alloc, 1 << 16, None)?;
+    let mut out = MemSink::new(alloc, 1 << 16, sink_fails_at)?;
     assert!(rt; bay.disks() == 1);
     let ended = examine(alloc, bay, 0, &mut out);
     Ok((out.bytes().to_vec(alloc)?, ended))
@@ -63,9 +64,8 @@ fn text_of(
 
 // The disk has this text.
 fn check(rt: &impl Abort, alloc: Global, bay: &mut MemBay, wanted: &str) -> Result<(), Fail> {
-    let (put, ended) = text_of(rt, alloc, bay)?;
-    assert_eq!(rt; put.as_slice(), wanted.as_bytes());
-    assert_eq!(rt; ended, Ok(()));
+    let (put, ended) = text_of(rt, alloc, bay, None)?;
+    assert_eq!(rt; (put.as_slice(), ended), (wanted.as_bytes(), Ok(())));
     Ok(())
 }
 
@@ -133,14 +133,23 @@ fn the_other_copy_of_a_table(rt: HostRuntime) -> Result<(), Fail> {
     )
 }
 
+// A disk of so many sectors with a physical volume of lvm2 and no table.
+fn volume_on(rt: &impl Abort, alloc: Global, sectors: u64) -> Result<MemBay, Fail> {
+    let mut bay = bay_of(rt, alloc, sectors, Vec::new(alloc))?;
+    lay_volume(rt, &mut bay, 0, TEXT.as_bytes())?;
+    Ok(bay)
+}
+
+#[test]
+fn a_volume_that_ends_outside_its_disk(rt: HostRuntime) -> Result<(), Fail> {
+    let mut bay = volume_on(&rt, rt.alloc(), 2000)?;
+    let cut = "image 2000\ntable none\nmd none\nlvm outside\n";
+    check(&rt, rt.alloc(), &mut bay, cut)
+}
+
 #[test]
 fn volumes_without_a_table(rt: HostRuntime) -> Result<(), Fail> {
-    let mut bay = bay_of(&rt, rt.alloc(), 2000, Vec::new(rt.alloc()))?;
-    lay_volume(&rt, &mut bay, 0, TEXT.as_bytes())?;
-    let cut = "image 2000\ntable none\nmd none\nlvm outside\n";
-    check(&rt, rt.alloc(), &mut bay, cut)?;
-    let mut bay = bay_of(&rt, rt.alloc(), 2048, Vec::new(rt.alloc()))?;
-    lay_volume(&rt, &mut bay, 0, TEXT.as_bytes())?;
+    let mut bay = volume_on(&rt, rt.alloc(), 2048)?;
     let wanted = format!(in rt.alloc();
         "image 2048\ntable none\nmd none\ntext 1021\n{TEXT}\ngroup vga seqno 2 extent 2048 pvs 1 lvs 1\n"
     )?;
@@ -150,39 +159,44 @@ fn volumes_without_a_table(rt: HostRuntime) -> Result<(), Fail> {
     check(&rt, rt.alloc(), &mut bay, broken)
 }
 
+// What is put before the second, the third and the fourth line.
+const PARTS: [&str; 4] = [
+    "",
+    "image 0\n",
+    "image 0\ntable none\n",
+    "image 0\ntable none\nmd none\n",
+];
+
+// The disk ends so once this is put.
+fn check_stop(rt: &impl Abort, found: (Vec<u8>, Result<(), Stop>), put: &str, why: Stop) {
+    let (text, ended) = found;
+    assert_eq!(rt; (text.as_slice(), ended), (put.as_bytes(), Err(why)));
+}
+
 #[test]
 fn a_disk_that_fails_at_each_call(rt: HostRuntime) -> Result<(), Fail> {
-    let whole = "image 12\ntable none\nmd none\nlvm none\n";
     let parts = ["image 12\ntable none\n", "image 12\ntable none\nmd none\n"];
     for call in 0..6 {
-        let mut failing = Vec::new(rt.alloc());
-        failing.push(call)?;
+        let failing = vec![in rt.alloc(); call]?;
         let mut bay = bay_of(&rt, rt.alloc(), 12, failing)?;
-        let (put, ended) = text_of(&rt, rt.alloc(), &mut bay)?;
-        assert_eq!(rt; ended, Err(Stop::Gone));
-        assert_eq!(rt;
-            put.as_slice(),
-            parts[(call / 2).min(1) as usize].as_bytes()
-        );
+        let found = text_of(&rt, rt.alloc(), &mut bay, None)?;
+        check_stop(&rt, found, parts[(call / 2).min(1) as usize], Stop::Gone);
     }
     let mut bay = bay_of(&rt, rt.alloc(), 12, Vec::new(rt.alloc()))?;
-    check(&rt, rt.alloc(), &mut bay, whole)
+    check(
+        &rt,
+        rt.alloc(),
+        &mut bay,
+        "image 12\ntable none\nmd none\nlvm none\n",
+    )
 }
 
 #[test]
 fn a_sink_that_fails_at_each_line(rt: HostRuntime) -> Result<(), Fail> {
-    let parts = [
-        "",
-        "image 0\n",
-        "image 0\ntable none\n",
-        "image 0\ntable none\nmd none\n",
-    ];
-    for (number, part) in parts.iter().enumerate() {
+    for (number, part) in PARTS.iter().enumerate() {
         let mut bay = bay_of(&rt, rt.alloc(), 0, Vec::new(rt.alloc()))?;
-        let mut out = MemSink::new(rt.alloc(), 100, Some(number as u64))?;
-        assert!(rt; bay.disks() == 1);
-        assert_eq!(rt; examine(rt.alloc(), &mut bay, 0, &mut out), Err(Stop::Sink));
-        assert_eq!(rt; out.bytes(), part.as_bytes());
+        let found = text_of(&rt, rt.alloc(), &mut bay, Some(number as u64))?;
+        check_stop(&rt, found, part, Stop::Sink);
     }
     Ok(())
 }

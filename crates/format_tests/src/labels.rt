@@ -42,60 +42,9 @@ fn outside_label(rt: &impl Abort) -> Label {
     decode_label(&sectors).ok().expect(rt, "a label")
 }
 
+// What is read of the label is written again so that it is read as the same.
 #[test]
 fn reads_the_label_of_lvm2(rt: HostRuntime) {
-    let label = outside_label(&rt);
-    assert_eq!(rt; label.pv_id, *b"FSpUtp0q5gLG1rOFt09xdFQuvT6BkFwj");
-    assert_eq!(rt; label.device_size, 45056 * 512);
-    assert_eq!(rt;
-        label.areas.as_slice(),
-        [Area {
-            offset: 1048576,
-            size: 0
-        }]
-        .as_slice()
-    );
-    assert_eq!(rt;
-        label.metadata.as_slice(),
-        [Area {
-            offset: 4096,
-            size: 1044480
-        }]
-        .as_slice()
-    );
-}
-
-#[test]
-fn reads_the_header_of_lvm2(rt: HostRuntime) {
-    let sector = sector_of(&HEADER_START);
-    let header = decode_header(&sector).ok().expect(&rt, "a header");
-    assert_eq!(rt; (header.start, header.size), (4096, 1044480));
-    let text = Location {
-        offset: 1536,
-        size: 1022,
-        crc: 0x7c30904b,
-        flags: 0,
-    };
-    assert_eq!(rt; header.locations.as_slice(), [text].as_slice());
-    assert_eq!(rt; encode_header(&header), sector);
-}
-
-#[test]
-fn refuses_by_the_first_fault(rt: HostRuntime) {
-    let label = sector_of(&LABEL_START);
-    assert!(rt; decode_label(&[[0; 512]; 4]) == Err(LabelFault::NoLabel));
-    assert!(rt;
-        decode_label(&[label, label, [0; 512], [0; 512]]) == Err(LabelFault::BadHeader),
-        "in sector 0"
-    );
-    let mut changed = label;
-    changed[511] = 1;
-    assert!(rt; decode_label(&[[0; 512], changed, label, label]) == Err(LabelFault::BadCrc));
-    assert!(rt; decode_header(&label) == Err(LabelFault::BadCrc));
-}
-
-#[test]
-fn writes_what_it_reads(rt: HostRuntime) {
     let label = outside_label(&rt);
     assert_eq!(rt;
         label.areas.as_slice(),
@@ -114,5 +63,40 @@ fn writes_what_it_reads(rt: HostRuntime) {
         .as_slice()
     );
     let sectors = [[0; 512], encode_label(&label), [0; 512], [0; 512]];
+    let said = (label.pv_id, label.device_size);
+    assert_eq!(rt; said, (*b"FSpUtp0q5gLG1rOFt09xdFQuvT6BkFwj", 45056 * 512));
     assert!(rt; decode_label(&sectors) == Ok(label));
+}
+
+#[test]
+fn reads_the_header_of_lvm2(rt: HostRuntime) {
+    let sector = sector_of(&HEADER_START);
+    let header = decode_header(&sector).ok().expect(&rt, "a header");
+    let text = Location {
+        offset: 1536,
+        size: 1022,
+        crc: 0x7c30904b,
+        flags: 0,
+    };
+    assert_eq!(rt; header.locations.as_slice(), [text].as_slice());
+    assert_eq!(rt;
+        (header.start, header.size, encode_header(&header)),
+        (4096, 1044480, sector)
+    );
+}
+
+#[test]
+fn refuses_by_the_first_fault(rt: HostRuntime) {
+    let label = sector_of(&LABEL_START);
+    let zeros = [0; 512];
+    let mut changed = label;
+    changed[511] = 1;
+    for (sectors, fault) in [
+        ([zeros; 4], LabelFault::NoLabel),
+        ([label, label, zeros, zeros], LabelFault::BadHeader),
+        ([zeros, changed, label, label], LabelFault::BadCrc),
+    ] {
+        assert!(rt; decode_label(&sectors) == Err(fault), "{fault:?}");
+    }
+    assert!(rt; decode_header(&label) == Err(LabelFault::BadCrc));
 }

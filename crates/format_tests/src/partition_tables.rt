@@ -1,8 +1,6 @@
 //! The table that sgdisk 1.0.9 wrote on a disk of 98304 sectors: both copies are read, and written again byte for
 //! byte. `tests/gpt.sh` takes these bytes from here, and has sgdisk verify them.
 
-ghost use Rattle.std.specs.Prelude.{◌≤◌, ◌+◌};
-
 use gpt_table::{Seen, TableCopy, TableFault, read_table, write_whole};
 use rack::{Bay, Name, Rack};
 use rack_mem::{DiskSpec, MemBay};
@@ -82,7 +80,7 @@ fn bay(rt: &impl Abort, alloc: Global, header: &[u8; 512]) -> Result<MemBay, Fai
         name,
         sectors: SECTORS,
     })?;
-    assert!(rt; shelf.len() == 1 && shelf.iter().all(|disk| disk.sectors < 1 << 48));
+    assert!(rt; shelf.len() == 1 && shelf.iter().all(|disk| disk.sectors <= SECTORS));
     let mut bay = MemBay::new(alloc, shelf, Vec::new(alloc), 1000)?;
     assert_eq!(rt; bay.attach("a"), Ok(0));
     put(rt, &mut bay, 1, header);
@@ -110,10 +108,8 @@ fn primary_with(rt: &impl Abort, bay: &mut MemBay, header: &[u8; 512]) -> bool {
 }
 
 /// The header of the primary with another number at `offset`, and with the sum of its first `size` bytes.
-fn with(offset: usize, number: u32, size: usize) -> [u8; 512]
-    requires inside { offset + 4 ≤ 512 }
-    requires size { size ≤ 512 }
-{
+fn with(rt: &impl Abort, offset: usize, number: u32, size: usize) -> [u8; 512] {
+    assert!(rt; offset <= 508 && size <= 512);
     let mut header = sector(1);
     put_u32(&mut header, offset, number);
     put_u32(&mut header, 16, 0);
@@ -139,21 +135,26 @@ fn reads_what_sgdisk_wrote(rt: HostRuntime) -> Result<(), Fail> {
     ] {
         let mut bay = bay(&rt, rt.alloc(), &header)?;
         let seen = found(&rt, &mut bay).ok().ok_or("a table")?;
-        assert_eq!(rt; seen.copy, copy);
-        assert_eq!(rt; seen.table.disk_id, Id(disk));
-        assert_eq!(rt; seen.table.entries.len(), 2);
-        let (first, second) = (seen.table.entries[0], seen.table.entries[1]);
-        assert_eq!(rt;
-            (first.number, first.slice.first, first.slice.last),
-            (1, 2048, 49151)
-        );
-        assert_eq!(rt;
-            (second.number, second.slice.first, second.slice.last),
-            (2, 49152, 98270)
-        );
-        assert!(rt; first.slice.kind == Id(raid) && second.slice.kind == Id(raid));
+        assert_eq!(rt; (seen.copy, seen.table.disk_id), (copy, Id(disk)));
+        let slices = [(1, 2048, 49151, Id(raid)), (2, 49152, 98270, Id(raid))];
+        assert!(rt; slices_of(&seen) == Some(slices));
     }
     Ok(())
+}
+
+// The number, the first sector, the last one and the type of each of two slices.
+fn slices_of(seen: &Seen) -> Option<[(u32, u64, u64, Id); 2]> {
+    match seen.table.entries.as_slice() {
+        [first, second] => Some([first, second].map(|entry| {
+            (
+                entry.number,
+                entry.slice.first,
+                entry.slice.last,
+                entry.slice.kind,
+            )
+        })),
+        _ => None,
+    }
 }
 
 #[test]
@@ -168,30 +169,36 @@ fn writes_what_sgdisk_wrote(rt: HostRuntime) -> Result<(), Fail> {
     }
     assert!(rt; 0 < bay.disks() && bay.sectors(0) == SECTORS);
     assert_eq!(rt; write_whole(&mut bay, 0, &seen.table), Ok(()));
-    for number in 0..34 {
-        assert!(rt; bay.sector_now(0, number) == sector(number), "at {number}");
-    }
-    for number in SECTORS - 33..SECTORS {
+    for number in (0..34).chain(SECTORS - 33..SECTORS) {
         assert!(rt; bay.sector_now(0, number) == sector(number), "at {number}");
     }
     Ok(())
 }
 
+// A number of the header, at an offset, the bytes that its sum is of, and whether the table is read then: a header of 92 to
+// 512 bytes, its own sector, the first one of its entries, their number and their size.
+static NUMBERS: [(usize, u32, usize, bool); 9] = [
+    (12, 92, 92, true),
+    (12, 512, 512, true),
+    (12, 91, 91, false),
+    (12, 513, 512, false),
+    (12, u32::MAX, 512, false),
+    (24, 2, 92, false),
+    (72, 3, 92, false),
+    (80, u32::MAX, 92, false),
+    (84, u32::MAX, 92, false),
+];
+
 #[test]
 fn refuses_what_breaks_a_rule(rt: HostRuntime) -> Result<(), Fail> {
     let mut bay = bay(&rt, rt.alloc(), &sector(1))?;
-    // the other copy's header, then a header of 92 to 512 bytes
+    for (offset, number, size, is_read) in NUMBERS.iter() {
+        let header = with(&rt, *offset, *number, *size);
+        let found = primary_with(&rt, &mut bay, &header);
+        assert!(rt; found == *is_read, "{number} at {offset}");
+    }
+    // the other copy's header
     assert!(rt; !primary_with(&rt, &mut bay, &sector(SECTORS - 1)));
-    assert!(rt; primary_with(&rt, &mut bay, &with(12, 92, 92)));
-    assert!(rt; primary_with(&rt, &mut bay, &with(12, 512, 512)));
-    assert!(rt; !primary_with(&rt, &mut bay, &with(12, 91, 91)));
-    assert!(rt; !primary_with(&rt, &mut bay, &with(12, 513, 512)));
-    assert!(rt; !primary_with(&rt, &mut bay, &with(12, u32::MAX, 512)));
-    // its own sector, the first one of its entries, their number and their size
-    assert!(rt; !primary_with(&rt, &mut bay, &with(24, 2, 92)));
-    assert!(rt; !primary_with(&rt, &mut bay, &with(72, 3, 92)));
-    assert!(rt; !primary_with(&rt, &mut bay, &with(80, u32::MAX, 92)));
-    assert!(rt; !primary_with(&rt, &mut bay, &with(84, u32::MAX, 92)));
     // a bit of the entries changed
     put(&rt, &mut bay, 33, &[1; 512]);
     assert!(rt; !primary_with(&rt, &mut bay, &sector(1)));

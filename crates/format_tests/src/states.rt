@@ -61,18 +61,19 @@ fn both_ways(rt: HostRuntime) -> Result<(), Fail> {
         joined: 1,
         serial: 2,
     };
-    assert_eq!(rt; encode_state(&state, 1), sector());
-    assert_eq!(rt; copied.own, 1);
-    assert_eq!(rt; copied.state, state);
+    assert!(rt; encode_state(&state, 1) == sector());
+    assert_eq!(rt; (copied.own, copied.state), (1, state));
     Ok(())
+}
+
+fn plan_of(edits: [(usize, u8); 2]) -> Result<Plan, Fail> {
+    Ok(decode_state(&changed(edits))?.state.plan)
 }
 
 #[test]
 fn plans(rt: HostRuntime) -> Result<(), Fail> {
-    let none = decode_state(&changed([(46, 0), (47, 0)]))?;
-    assert_eq!(rt; none.state.plan, Plan::Nothing);
-    let replaced = decode_state(&changed([(46, 2), (47, 0)]))?;
-    assert_eq!(rt; replaced.state.plan, Plan::Replace { place: 0 });
+    let plans = [plan_of([(46, 0), (47, 0)])?, plan_of([(46, 2), (47, 0)])?];
+    assert_eq!(rt; plans, [Plan::Nothing, Plan::Replace { place: 0 }]);
     Ok(())
 }
 
@@ -80,56 +81,60 @@ fn plans(rt: HostRuntime) -> Result<(), Fail> {
 fn faults_in_order(rt: HostRuntime) {
     let mut other_sum = sector();
     other_sum[32] = 0;
-    assert_eq!(rt; decode_state(&other_sum), Err(StateFault::BadSum));
     let mut other_version = other_sum;
     other_version[8] = 2;
-    assert_eq!(rt; decode_state(&other_version), Err(StateFault::NotState));
     let mut other_name = sector();
     other_name[7] = b'2';
-    assert_eq!(rt; decode_state(&other_name), Err(StateFault::NotState));
+    for (block, fault) in [
+        (other_sum, StateFault::BadSum),
+        (other_version, StateFault::NotState),
+        (other_name, StateFault::NotState),
+    ] {
+        assert!(rt; decode_state(&block) == Err(fault), "{fault:?}");
+    }
 }
 
+/// The last byte of the sector, as it is.
+const SAME: (usize, u8) = (511, 0);
+
 /// Each rule in turn, broken by one or two bytes.
+static BROKEN: [(&str, [(usize, u8); 2]); 29] = [
+    ("zeros behind joined", [(50, 1), SAME]),
+    ("zeros behind joined", [(55, 1), SAME]),
+    ("zeros behind serial", [(60, 1), SAME]),
+    ("zeros behind serial", [(63, 1), SAME]),
+    ("zeros behind the last drive", [(120, 1), SAME]),
+    ("zeros behind the last drive", [(511, 1), (511, 1)]),
+    ("extent 0", [(40, 0), SAME]),
+    ("extent 64", [(40, 64), SAME]),
+    ("extent 129", [(40, 129), SAME]),
+    ("extent 131072", [(40, 0), (42, 2)]),
+    ("no drive", [(44, 0), SAME]),
+    ("one drive", [(44, 1), (45, 0)]),
+    ("17 drives", [(44, 17), SAME]),
+    ("255 drives", [(44, 255), SAME]),
+    ("own place outside", [(45, 2), SAME]),
+    ("plan kind 3", [(46, 3), SAME]),
+    ("plan place outside", [(47, 2), SAME]),
+    ("place of no plan", [(46, 0), SAME]),
+    ("no array", [(48, 0), (49, 0)]),
+    ("17 arrays", [(48, 17), (49, 16)]),
+    ("none ready", [(49, 0), SAME]),
+    ("more ready than made", [(49, 2), SAME]),
+    ("two not ready", [(48, 3), SAME]),
+    ("flags 2", [(88, 2), SAME]),
+    ("flags 256", [(89, 1), SAME]),
+    ("no units", [(80, 0), SAME]),
+    ("units of 2^41", [(80, 0), (85, 2)]),
+    ("epoch 0", [(32, 0), SAME]),
+    ("epoch of 2^63", [(32, 0), (39, 0x80)]),
+];
+
 #[test]
 fn broken_rules(rt: HostRuntime) {
-    let same = (511, 0);
-    let broken = [
-        ("zeros behind joined", [(50, 1), same]),
-        ("zeros behind joined", [(55, 1), same]),
-        ("zeros behind serial", [(60, 1), same]),
-        ("zeros behind serial", [(63, 1), same]),
-        ("zeros behind the last drive", [(120, 1), same]),
-        ("zeros behind the last drive", [(511, 1), (511, 1)]),
-        ("extent 0", [(40, 0), same]),
-        ("extent 64", [(40, 64), same]),
-        ("extent 129", [(40, 129), same]),
-        ("extent 131072", [(40, 0), (42, 2)]),
-        ("no drive", [(44, 0), same]),
-        ("one drive", [(44, 1), (45, 0)]),
-        ("17 drives", [(44, 17), same]),
-        ("255 drives", [(44, 255), same]),
-        ("own place outside", [(45, 2), same]),
-        ("plan kind 3", [(46, 3), same]),
-        ("plan place outside", [(47, 2), same]),
-        ("place of no plan", [(46, 0), same]),
-        ("no array", [(48, 0), (49, 0)]),
-        ("17 arrays", [(48, 17), (49, 16)]),
-        ("none ready", [(49, 0), same]),
-        ("more ready than made", [(49, 2), same]),
-        ("two not ready", [(48, 3), same]),
-        ("flags 2", [(88, 2), same]),
-        ("flags 256", [(89, 1), same]),
-        ("no units", [(80, 0), same]),
-        ("units of 2^41", [(80, 0), (85, 2)]),
-        ("epoch 0", [(32, 0), same]),
-        ("epoch of 2^63", [(32, 0), (39, 0x80)]),
-    ];
-    for (rule, edits) in broken {
-        assert_eq!(rt;
-            decode_state(&changed(edits)),
-            Err(StateFault::BadField),
-            "{rule}"
-        );
+    for (rule, edits) in BROKEN.iter() {
+        let read = decode_state(&changed(*edits));
+        assert!(rt; read == Err(StateFault::BadField), "{rule}");
     }
-    assert!(rt; decode_state(&changed([same, same])).is_ok());
+    assert!(rt; decode_state(&changed([SAME, SAME])).is_ok());
 }

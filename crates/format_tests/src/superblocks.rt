@@ -61,43 +61,59 @@ fn good() -> Result<Super, Fail> {
     Ok(decode(&mirror())?)
 }
 
+/// Roles of 128 places, spares behind the first ones.
+fn roles(first: &[u16]) -> ArrayVec<u16, 384> {
+    let mut roles = ArrayVec::new();
+    for place in 0..128 {
+        if !roles.is_full() {
+            roles.push(first.get(place).copied().unwrap_or(0xffff));
+        }
+    }
+    roles
+}
+
 #[test]
-fn a_mirror_of_mdadm(rt: HostRuntime) -> Result<(), Fail> {
-    let seen = decode(&mirror())?;
-    assert_eq!(rt; seen.feature_map, 0);
-    let set_id = *b"\x0e\x61\xe4\x9d\xc7\x52\x00\x1e\x74\x0c\x88\x47\x36\xfd\x7b\xc0";
-    assert_eq!(rt; seen.set_id, Id(set_id));
-    assert_eq!(rt; &seen.set_name[..9], b"judge:a0\0".as_slice());
-    assert_eq!(rt; seen.ctime, 1_795_734_640);
-    assert_eq!(rt; seen.level, 1);
-    assert_eq!(rt; seen.raid_disks, 2);
-    assert_eq!(rt; seen.size, 45056);
-    assert_eq!(rt; seen.data_offset, 2048);
-    assert_eq!(rt; seen.data_size, 45056);
-    assert_eq!(rt; seen.super_offset, 8);
-    assert_eq!(rt; seen.dev_number, 0);
-    let device_id = *b"\xee\xd3\xe5\x5b\xea\x49\x48\xec\x12\xfb\xde\x5c\x53\x64\xed\x5c";
-    assert_eq!(rt; seen.device_id, Id(device_id));
-    assert_eq!(rt; seen.utime, 1_795_734_643);
-    assert_eq!(rt; seen.events, 17);
-    assert_eq!(rt; seen.resync_offset, u64::MAX);
-    assert_eq!(rt; seen.roles.len(), 128);
-    assert_eq!(rt; &seen.roles.as_slice()[..3], [0, 1, 0xffff].as_slice());
-    Ok(())
+fn a_mirror_of_mdadm(rt: HostRuntime) {
+    let mut set_name = [0; 32];
+    set_name[..8].copy_from_slice(b"judge:a0");
+    let seen = Super {
+        feature_map: 0,
+        set_id: Id(*b"\x0e\x61\xe4\x9d\xc7\x52\x00\x1e\x74\x0c\x88\x47\x36\xfd\x7b\xc0"),
+        set_name,
+        ctime: 1_795_734_640,
+        level: 1,
+        layout: 0,
+        size: 45056,
+        chunk: 0,
+        raid_disks: 2,
+        new_level: 0,
+        reshape_position: 0,
+        delta_disks: 0,
+        new_layout: 0,
+        new_chunk: 0,
+        data_offset: 2048,
+        data_size: 45056,
+        super_offset: 8,
+        recovery_offset: 0,
+        dev_number: 0,
+        device_id: Id(*b"\xee\xd3\xe5\x5b\xea\x49\x48\xec\x12\xfb\xde\x5c\x53\x64\xed\x5c"),
+        utime: 1_795_734_643,
+        events: 17,
+        resync_offset: u64::MAX,
+        roles: roles(&[0, 1]),
+    };
+    assert!(rt; decode(&mirror()) == Ok(seen));
 }
 
 #[test]
 fn a_raid5_of_mdadm(rt: HostRuntime) -> Result<(), Fail> {
     let seen = decode(&raid5())?;
-    assert_eq!(rt; seen.level, 5);
-    assert_eq!(rt; seen.layout, 2);
-    assert_eq!(rt; seen.chunk, 128);
-    assert_eq!(rt; seen.raid_disks, 3);
-    assert_eq!(rt; seen.dev_number, 1);
-    assert_eq!(rt; seen.events, 18);
-    assert_eq!(rt; seen.roles.len(), 128);
-    assert_eq!(rt; &seen.roles.as_slice()[..4], [0, 1, 0xffff, 2].as_slice());
-    assert_eq!(rt; profile(&seen, 128), Ok(()));
+    let place = (seen.raid_disks, seen.dev_number, seen.events);
+    assert_eq!(rt;
+        (seen.level, seen.layout, seen.chunk, place),
+        (5, 2, 128, (3, 1, 18))
+    );
+    assert!(rt; seen.roles == roles(&[0, 1, 0xffff, 2]) && profile(&seen, 128) == Ok(()));
     Ok(())
 }
 
@@ -105,15 +121,17 @@ fn a_raid5_of_mdadm(rt: HostRuntime) -> Result<(), Fail> {
 fn faults_in_order(rt: HostRuntime) {
     let mut other_sum = mirror();
     other_sum[200] = 18;
-    assert_eq!(rt; decode(&other_sum), Err(SuperFault::BadSum));
-
     let mut too_long = other_sum;
     too_long[220..224].copy_from_slice(&[0xff; 4]);
-    assert_eq!(rt; decode(&too_long), Err(SuperFault::TooLong));
-
     let mut other_version = too_long;
     other_version[4] = 0;
-    assert_eq!(rt; decode(&other_version), Err(SuperFault::NotMd));
+    for (block, fault) in [
+        (other_sum, SuperFault::BadSum),
+        (too_long, SuperFault::TooLong),
+        (other_version, SuperFault::NotMd),
+    ] {
+        assert!(rt; decode(&block) == Err(fault), "{fault:?}");
+    }
 }
 
 /// What is written for mdadm's fields is what mdadm wrote, but for its bad-block log.
@@ -133,107 +151,51 @@ fn written_as_mdadm_does(rt: HostRuntime) -> Result<(), Fail> {
     Ok(())
 }
 
+/// Each field of the profile and the one behind it are broken, some in two ways.
+static BROKEN: [(Field, u32); 12] = [
+    (Field::FeatureMap, 0),
+    (Field::Level, 0),
+    (Field::Level, 1),
+    (Field::Layout, 0),
+    (Field::Chunk, 0),
+    (Field::RaidDisks, 0),
+    (Field::Size, 0),
+    (Field::Size, 1),
+    (Field::DataOffset, 0),
+    (Field::SuperOffset, 0),
+    (Field::DevNumber, 0),
+    (Field::MaxDev, 0),
+];
+
+fn broken(mut seen: Super, field: Field, way: u32) -> Super {
+    match (field, way) {
+        (Field::FeatureMap, _) => (seen.feature_map, seen.level) = (8, 4),
+        (Field::Level, 0) => (seen.level, seen.layout) = (4, 1),
+        (Field::Level, _) => seen.level = -1,
+        (Field::Layout, _) => (seen.layout, seen.chunk) = (2, 128),
+        (Field::Chunk, _) => (seen.chunk, seen.raid_disks) = (128, 3),
+        (Field::RaidDisks, _) => (seen.raid_disks, seen.size) = (3, 2048),
+        (Field::Size, 0) => (seen.size, seen.data_size) = (2048, 2048),
+        (Field::Size, _) => (seen.data_size, seen.data_offset) = (45184, 0),
+        (Field::DataOffset, _) => (seen.data_offset, seen.super_offset) = (4096, 0),
+        (Field::SuperOffset, _) => (seen.super_offset, seen.dev_number) = (0, 16),
+        (Field::DevNumber, _) => (seen.dev_number, seen.roles) = (16, ArrayVec::new()),
+        (Field::MaxDev, _) => seen.roles.truncate(127),
+    }
+    seen
+}
+
 #[test]
 fn profile_fields(rt: HostRuntime) -> Result<(), Fail> {
-    assert_eq!(rt; profile(&good()?, 128), Ok(()));
-    let mut fewer_roles = good()?;
-    fewer_roles.roles.truncate(127);
-    let broken = [
-        (
-            Field::FeatureMap,
-            Super {
-                feature_map: 8,
-                level: 4,
-                ..good()?
-            },
-        ),
-        (
-            Field::Level,
-            Super {
-                level: 4,
-                layout: 1,
-                ..good()?
-            },
-        ),
-        (
-            Field::Level,
-            Super {
-                level: -1,
-                ..good()?
-            },
-        ),
-        (
-            Field::Layout,
-            Super {
-                layout: 2,
-                chunk: 128,
-                ..good()?
-            },
-        ),
-        (
-            Field::Chunk,
-            Super {
-                chunk: 128,
-                raid_disks: 3,
-                ..good()?
-            },
-        ),
-        (
-            Field::RaidDisks,
-            Super {
-                raid_disks: 3,
-                size: 2048,
-                ..good()?
-            },
-        ),
-        (
-            Field::Size,
-            Super {
-                size: 2048,
-                data_size: 2048,
-                ..good()?
-            },
-        ),
-        (
-            Field::Size,
-            Super {
-                data_size: 45184,
-                data_offset: 0,
-                ..good()?
-            },
-        ),
-        (
-            Field::DataOffset,
-            Super {
-                data_offset: 4096,
-                super_offset: 0,
-                ..good()?
-            },
-        ),
-        (
-            Field::SuperOffset,
-            Super {
-                super_offset: 0,
-                dev_number: 16,
-                ..good()?
-            },
-        ),
-        (
-            Field::DevNumber,
-            Super {
-                dev_number: 16,
-                roles: ArrayVec::new(),
-                ..good()?
-            },
-        ),
-        (Field::MaxDev, fewer_roles),
-    ];
-    for (field, seen) in &broken {
-        assert_eq!(rt; profile(seen, 128), Err(Unsupported { field: *field }));
+    for (field, way) in BROKEN.iter() {
+        let seen = broken(good()?, *field, *way);
+        assert_eq!(rt; profile(&seen, 128), Err(Unsupported { field: *field }));
     }
+    let seen = good()?;
+    let of_extents = [profile(&seen, 128), profile(&seen, 4096)];
     assert_eq!(rt;
-        profile(&good()?, 4096),
-        Err(Unsupported { field: Field::Size })
+        of_extents,
+        [Ok(()), Err(Unsupported { field: Field::Size })]
     );
     Ok(())
 }
