@@ -142,10 +142,14 @@ mod tests {
         let plan = layout(&[238457, 476922, 953852, 953852])
             .ok()
             .ok_or("a plan")?;
-        assert_eq!(rt; plan.layers.len(), 3);
-        assert!(rt; is_layer(&plan.layers[0], &[0, 1, 2, 3], 238457, 715371));
-        assert!(rt; is_layer(&plan.layers[1], &[1, 2, 3], 238465, 476930));
-        assert!(rt; is_layer(&plan.layers[2], &[2, 3], 476930, 476930));
+        let [first, second, third] = plan.layers.as_slice() else {
+            return Err("three layers")?;
+        };
+        assert!(rt;
+            is_layer(first, &[0, 1, 2, 3], 238457, 715371)
+                && is_layer(second, &[1, 2, 3], 238465, 476930)
+                && is_layer(third, &[2, 3], 476930, 476930)
+        );
         assert_eq!(rt;
             (plan.capacity, plan.bound, plan.spared),
             (1669231, 1669231, 2)
@@ -156,32 +160,48 @@ mod tests {
     #[test]
     fn a_part_of_one_drive_is_unused(rt: HostRuntime) -> Result<(), Fail> {
         let plan = layout(&[10, 10, 20]).ok().ok_or("a plan")?;
-        assert_eq!(rt; plan.layers.len(), 1);
-        assert!(rt; is_layer(&plan.layers[0], &[0, 1, 2], 10, 20));
+        let [layer] = plan.layers.as_slice() else {
+            return Err("one layer")?;
+        };
+        assert!(rt; is_layer(layer, &[0, 1, 2], 10, 20));
         assert_eq!(rt; (plan.capacity, plan.bound, plan.spared), (20, 20, 2));
         Ok(())
     }
 
     #[test]
     fn refusals(rt: HostRuntime) {
-        assert_eq!(rt;
+        let refused = [
             layout(&[0, 10]).err(),
-            Some(PlanError::NoRoom { drive: 0 })
-        );
-        assert_eq!(rt; layout(&[10]).err(), Some(PlanError::TooFew));
-        assert_eq!(rt; layout(&[10; 17]).err(), Some(PlanError::TooMany));
+            layout(&[10]).err(),
+            layout(&[10; 17]).err(),
+        ];
+        let wanted = [
+            Some(PlanError::NoRoom { drive: 0 }),
+            Some(PlanError::TooFew),
+            Some(PlanError::TooMany),
+        ];
+        assert_eq!(rt; refused, wanted);
+    }
+
+    fn capacity_of(units: &[u64]) -> Option<u64>
+        requires { All (λ own. own < 2 ^ 41) units.now }
+    {
+        layout(units).ok().map(|plan| plan.capacity)
     }
 
     /// Mixes that owners of such pools know, with the units that they offer.
     #[test]
-    fn known_mixes(rt: HostRuntime) -> Result<(), Fail> {
-        assert_eq!(rt; layout(&[2, 2, 4]).ok().ok_or("a plan")?.capacity, 4);
-        assert_eq!(rt; layout(&[1, 2, 3]).ok().ok_or("a plan")?.capacity, 3);
-        assert_eq!(rt; layout(&[4, 4, 8, 8]).ok().ok_or("a plan")?.capacity, 16);
-        assert_eq!(rt; layout(&[1, 8]).ok().ok_or("a plan")?.capacity, 1);
-        assert_eq!(rt; layout(&[7; 16]).ok().ok_or("a plan")?.capacity, 105);
+    fn known_mixes(rt: HostRuntime) {
         let steps = [1, 2, 3, 4, 5, 6, 7, 8, 9, 10, 11, 12, 13, 14, 15, 16];
-        assert_eq!(rt; layout(&steps).ok().ok_or("a plan")?.capacity, 120);
-        Ok(())
+        let offered = [
+            capacity_of(&[2, 2, 4]),
+            capacity_of(&[1, 2, 3]),
+            capacity_of(&[4, 4, 8, 8]),
+            capacity_of(&[1, 8]),
+            capacity_of(&[7; 16]),
+            capacity_of(&steps),
+        ];
+        let wanted = [Some(4), Some(3), Some(16), Some(1), Some(105), Some(120)];
+        assert_eq!(rt; offered, wanted);
     }
 }

@@ -25,56 +25,61 @@ fn asked(alloc: Global, words: &[&str]) -> Result<Option<LayoutRequest>, Fail>
     }
 }
 
-// Whether `layout` with these words prints this text and ends with this status.
-fn prints(alloc: Global, words: &[&str], want: &str, status: Status) -> Result<bool, Fail> {
-    let Some(request) = asked(alloc, words)? else {
-        return Ok(false);
-    };
-    let mut sink = MemSink::new(alloc, 1000, None)?;
-    let ended = print_layout(&request, &mut sink);
-    Ok(ended == status && sink.bytes() == want.as_bytes())
+// What `layout` is asked for, the text that it prints, and the status that it ends with.
+struct Printed {
+    words: &'static [&'static str],
+    put: &'static str,
+    status: Status,
 }
 
-#[test]
-fn drives_of_three_sizes(rt: HostRuntime) -> Result<(), Fail> {
-    let same = prints(
-        rt.alloc(),
-        &[
+static PRINTED: [Printed; 5] = [
+    Printed {
+        words: &[
             "8192",
             "1953525168",
             "3907029168",
             "7814037168",
             "7814037168",
         ],
-        "layer 0 members 0 1 2 3 height 238457 extents 715371\nlayer 1 members 1 2 3 height 238465 extents 476930\nlayer 2 members 2 3 height 476930 extents 476930\ncapacity 1669231\nbound 1669231 spared 2\n",
-        Status::Done,
-    )?;
-    assert!(rt; same);
-    Ok(())
-}
+        put: "layer 0 members 0 1 2 3 height 238457 extents 715371\n\
+            layer 1 members 1 2 3 height 238465 extents 476930\n\
+            layer 2 members 2 3 height 476930 extents 476930\n\
+            capacity 1669231\nbound 1669231 spared 2\n",
+        status: Status::Done,
+    },
+    Printed {
+        words: &["128", "79104", "79104", "80384"],
+        put: "layer 0 members 0 1 2 height 10 extents 20\nunused 2 10\ncapacity 20\nbound 20 spared 2\n",
+        status: Status::Done,
+    },
+    Printed {
+        words: &["128", "77824", "79104"],
+        put: "refused no-room 0\n",
+        status: Status::Refused,
+    },
+    Printed {
+        words: &["128", "79104"],
+        put: "refused too-few\n",
+        status: Status::Refused,
+    },
+    Printed {
+        words: &[
+            "128", "79104", "79104", "79104", "79104", "79104", "79104", "79104", "79104", "79104",
+            "79104", "79104", "79104", "79104", "79104", "79104", "79104", "79104",
+        ],
+        put: "refused too-many\n",
+        status: Status::Refused,
+    },
+];
 
 #[test]
-fn a_part_of_one_drive_is_unused(rt: HostRuntime) -> Result<(), Fail> {
-    let same = prints(
-        rt.alloc(),
-        &["128", "79104", "79104", "80384"],
-        "layer 0 members 0 1 2 height 10 extents 20\nunused 2 10\ncapacity 20\nbound 20 spared 2\n",
-        Status::Done,
-    )?;
-    assert!(rt; same);
-    Ok(())
-}
-
-#[test]
-fn refusals(rt: HostRuntime) -> Result<(), Fail> {
-    let mut too_many = ["79104"; 18];
-    too_many[0] = "128";
-    for (words, want) in [
-        (["128", "77824", "79104"].as_slice(), "refused no-room 0\n"),
-        (["128", "79104"].as_slice(), "refused too-few\n"),
-        (too_many.as_slice(), "refused too-many\n"),
-    ] {
-        assert!(rt; prints(rt.alloc(), words, want, Status::Refused)?);
+fn layers_and_refusals_are_printed(rt: HostRuntime) -> Result<(), Fail> {
+    for case in PRINTED.iter() {
+        let request = asked(rt.alloc(), case.words)?.ok_or("a request")?;
+        let mut sink = MemSink::new(rt.alloc(), 1000, None)?;
+        let ended = print_layout(&request, &mut sink);
+        let is_right = ended == case.status && sink.bytes() == case.put.as_bytes();
+        assert!(rt; is_right, "{}", case.put);
     }
     Ok(())
 }

@@ -1,8 +1,10 @@
 //! Runs in which calls of drives fail, and runs that lose drives and are stopped.
 
-use super::pools::{THREE, made_of_three};
-use super::{Ran, bay_with, flat_replies_of, made_of, now_of, serve_on};
-use crate::opening::{Task, open_attached};
+use super::{
+    Ran, Run, SERVE_THREE, THREE, bay_of, bay_with, check, check_number, flat_replies, follow,
+    made_of_three, now_of, run_after,
+};
+use crate::opening::{Task, open_online};
 use io_ends::{MemSink, MemSource};
 use itoa::Buffer;
 use rack::{Bay, Rack};
@@ -21,7 +23,7 @@ const THIRTY: &str = "write 0 11\nwrite 1 12\nread 0\nwrite 128 13\nread 128\nfl
     write 512 19\nread 384\nwrite 0 1a\nread 0\nflush\nread 1\nread 512\n\
     fill 300 3 1b\nread 301\nwrite 301 1c\nread 301\nread 256\n";
 
-/// The drives of the pool on which nothing else is attached.
+/// The disks of the pool of three drives are attached.
 fn attach_three(rt: &impl Abort, bay: &mut MemBay) {
     for (name, _) in THREE {
         assert!(rt; bay.attach(name).is_ok());
@@ -49,29 +51,38 @@ fn written_of(alloc: Global, pool: &MemBay) -> Result<Vec<Written>, Fail> {
     Ok(all)
 }
 
+/// The pool of three drives, and the sectors of it that aren't zeros.
+fn pool_and_written(rt: &impl Abort, alloc: Global) -> Result<(MemBay, Vec<Written>), Fail> {
+    let made = made_of_three(rt, alloc)?;
+    let mut pool = now_of(rt, alloc, &made)?;
+    attach_three(rt, &mut pool);
+    let written = written_of(alloc, &pool)?;
+    Ok((pool, written))
+}
+
 /// The pool's drives attached in a new bay, written anew. The calls of these numbers are to fail, none of those that write.
 fn copied(
     rt: &impl Abort,
     alloc: Global,
     pool: &MemBay,
     written: &[Written],
-    failing: Vec<u64>,
+    failing: &[u64],
 ) -> Result<MemBay, Fail> {
-    let mut bay = bay_with(rt, alloc, &THREE, failing, 20_000)?;
+    let mut bay = bay_with(rt, alloc, &THREE, failing.to_vec(alloc)?, 20_000)?;
     attach_three(rt, &mut bay);
     for at in written {
         assert!(rt; at.disk < bay.disks() && at.sector < bay.sectors(at.disk));
         let bytes = pool.sector_now(at.disk, at.sector);
-        assert_eq!(rt; bay.write(at.disk, at.sector, &bytes), Ok(()));
+        assert!(rt; bay.write(at.disk, at.sector, &bytes).is_ok());
     }
     Ok(bay)
 }
 
 /// Answers a script on the pool of attached disks.
-fn answered(alloc: Global, bay: &mut MemBay, script: &[u8]) -> Result<Ran, Fail> {
-    let mut input = MemSource::new(script.to_vec(alloc)?, None);
+fn answered(alloc: Global, bay: &mut MemBay, script: &str) -> Result<Ran, Fail> {
+    let mut input = MemSource::new(script.as_bytes().to_vec(alloc)?, None);
     let mut out = MemSink::new(alloc, 1 << 16, None)?;
-    let status = open_attached(alloc, bay, 0, Task::Serve, &mut input, &mut out);
+    let status = open_online(alloc, bay, 0, Task::Serve, &mut input, &mut out);
     Ok(Ran {
         status: status.code(),
         put: out.bytes().to_vec(alloc)?,
@@ -84,34 +95,24 @@ fn calls_after(
     alloc: Global,
     pool: &MemBay,
     written: &[Written],
-    script: &[u8],
+    script: &str,
 ) -> Result<u64, Fail> {
-    let mut bay = copied(rt, alloc, pool, written, Vec::new(alloc))?;
+    let mut bay = copied(rt, alloc, pool, written, &[])?;
     let ran = answered(alloc, &mut bay, script)?;
     assert_eq!(rt; ran.status, 0);
     Ok(bay.calls())
 }
 
-/// The numbers of the calls that are to fail.
-fn numbers(alloc: Global, calls: &[u64]) -> Result<Vec<u64>, Fail> {
-    Ok(calls.to_vec(alloc)?)
-}
-
 #[test]
 fn a_call_that_fails_changes_no_reply(rt: HostRuntime) -> Result<(), Fail> {
     let alloc = rt.alloc();
-    let mut pool = made_of_three(&rt, alloc)?;
-    attach_three(&rt, &mut pool);
-    let written = written_of(alloc, &pool)?;
-    let script = THIRTY.as_bytes();
-    let want = flat_replies_of(alloc, SIZE, script)?;
-    let end = calls_after(&rt, alloc, &pool, &written, script)?;
+    let (pool, written) = pool_and_written(&rt, alloc)?;
+    let want = flat_replies(alloc, SIZE, THIRTY.as_bytes())?;
+    let end = calls_after(&rt, alloc, &pool, &written, THIRTY)?;
     for number in written.len() as u64..end {
-        let failing = numbers(alloc, &[number])?;
-        let mut bay = copied(&rt, alloc, &pool, &written, failing)?;
-        let ran = answered(alloc, &mut bay, script)?;
-        assert_eq!(rt; ran.put.as_slice(), want.as_slice(), "call {number}");
-        assert_eq!(rt; ran.status, 0, "call {number}");
+        let mut bay = copied(&rt, alloc, &pool, &written, &[number])?;
+        let ran = answered(alloc, &mut bay, THIRTY)?;
+        check_number(&rt, &ran, want.as_slice(), 0, number);
     }
     Ok(())
 }
@@ -133,30 +134,37 @@ fn spent_among(put: &[u8], want: &[u8]) -> Option<u64> {
     Some(spent)
 }
 
+/// How many sectors are named as spent where these two calls fail.
+fn spent_where_two_fail(
+    rt: &impl Abort,
+    alloc: Global,
+    bay: &mut MemBay,
+    want: &[u8],
+    calls: [u64; 2],
+) -> Result<u64, Fail> {
+    let ran = answered(alloc, bay, THIRTY)?;
+    let spent = spent_among(ran.put.as_slice(), want).ok_or("a reply that no array gives")?;
+    assert!(rt;
+        ran.status == if spent == 0 { 0 } else { 8 },
+        "calls {calls:?}"
+    );
+    Ok(spent)
+}
+
 #[test]
 fn two_calls_that_fail_cost_no_sector_that_is_not_named(rt: HostRuntime) -> Result<(), Fail> {
     let alloc = rt.alloc();
-    let mut pool = made_of_three(&rt, alloc)?;
-    attach_three(&rt, &mut pool);
-    let written = written_of(alloc, &pool)?;
-    let script = THIRTY.as_bytes();
-    let want = flat_replies_of(alloc, SIZE, script)?;
+    let (pool, written) = pool_and_written(&rt, alloc)?;
+    let want = flat_replies(alloc, SIZE, THIRTY.as_bytes())?;
     // A drive that goes in the opening and another one leave no pool to open.
-    let start = calls_after(&rt, alloc, &pool, &written, b"")?;
-    let end = calls_after(&rt, alloc, &pool, &written, script)?;
+    let start = calls_after(&rt, alloc, &pool, &written, "")?;
+    let end = calls_after(&rt, alloc, &pool, &written, THIRTY)?;
     let mut named = 0u64;
     for first in (start..end).step_by(17) {
         for second in (first..end).skip(1).step_by(23) {
-            let failing = numbers(alloc, &[first, second])?;
-            let mut bay = copied(&rt, alloc, &pool, &written, failing)?;
-            let ran = answered(alloc, &mut bay, script)?;
-            let spent = spent_among(ran.put.as_slice(), want.as_slice());
-            let spent = spent.ok_or("a reply that no array gives")?;
-            assert_eq!(rt;
-                ran.status,
-                if spent == 0 { 0 } else { 8 },
-                "calls {first} {second}"
-            );
+            let calls = [first, second];
+            let mut bay = copied(&rt, alloc, &pool, &written, &calls)?;
+            let spent = spent_where_two_fail(&rt, alloc, &mut bay, want.as_slice(), calls)?;
             named = named.saturating_add(spent);
         }
     }
@@ -182,35 +190,41 @@ fn check_stops(
     rt: &impl Abort,
     alloc: Global,
     bay: &MemBay,
-    reads: &[u8],
+    reads: &str,
     lines: &[&[u8]],
 ) -> Result<(), Fail> {
     for moment in (0..=bay.calls()).step_by(50) {
         for pick in [Pick::Oldest, Pick::Newest, Pick::Seeded { seed: moment }] {
-            assert!(rt; moment <= bay.calls());
-            let mut image = bay.image_at(alloc, moment, pick)?;
-            let ran = serve_on(rt, alloc, &mut image, &["A", "B", "C"], reads)?;
-            assert!(rt; !ran.put.is_empty());
-            assert!(rt;
-                are_among(ran.put.as_slice(), lines),
-                "after {moment} calls"
-            );
+            let ran = run_after(rt, alloc, bay, (moment, pick), SERVE_THREE, reads)?;
+            let are_replies = !ran.put.is_empty() && are_among(ran.put.as_slice(), lines);
+            assert!(rt; are_replies, "after {moment} calls");
         }
     }
     Ok(())
 }
 
+static TWO_LOSSES: [Run<'static>; 2] = [
+    Run {
+        words: &["create", "128", "A", "B", "C"],
+        input: "",
+        put: "created 3840\n",
+        status: 0,
+    },
+    Run {
+        words: SERVE_THREE,
+        input: "lose 0\nlose 1\nread 0\nread 2560\nlose 2\n",
+        put: "ok\nok\nrefused spent 0\ndata -\nrefused last-drive\n",
+        status: 8,
+    },
+];
+
 #[test]
 fn a_stop_amid_two_losses_leaves_zeros_or_names_what_is_lost(rt: HostRuntime) -> Result<(), Fail> {
-    let alloc = rt.alloc();
-    let (mut bay, _) = made_of(&rt, alloc, &[("A", 79104), ("B", 80384), ("C", 80384)])?;
-    let script = b"lose 0\nlose 1\nread 0\nread 2560\nlose 2\n";
-    let ran = serve_on(&rt, alloc, &mut bay, &["A", "B", "C"], script)?;
-    let want = b"ok\nok\nrefused spent 0\ndata -\nrefused last-drive\n".as_slice();
-    assert_eq!(rt; ran.put.as_slice(), want);
-    assert_eq!(rt; ran.status, 8);
+    let disks = [("A", 79104), ("B", 80384), ("C", 80384)];
+    let blank = bay_of(&rt, rt.alloc(), &disks)?;
+    let bay = follow(&rt, rt.alloc(), &blank, &TWO_LOSSES)?;
     let lines: [&[u8]; 2] = [b"data -", b"refused too-few 0"];
-    check_stops(&rt, alloc, &bay, b"read 0\nread 2560\n", &lines)
+    check_stops(&rt, rt.alloc(), &bay, "read 0\nread 2560\n", &lines)
 }
 
 /// A script of thirty lines that writes a value to each 80th sector, on the way loses the second drive if it is to, and flushes.
@@ -228,25 +242,46 @@ fn thirty_lines(alloc: Global, value: &str, loses: bool) -> Result<String, Fail>
     Ok(text)
 }
 
-#[test]
-fn a_stop_amid_writes_and_a_loss_leaves_flushed_values_or_later_ones(
-    rt: HostRuntime,
-) -> Result<(), Fail> {
-    let alloc = rt.alloc();
-    let mut bay = made_of_three(&rt, alloc)?;
-    let first = thirty_lines(alloc, " 51\n", false)?;
-    let ran = serve_on(&rt, alloc, &mut bay, &["A", "B", "C"], first.as_bytes())?;
-    assert_eq!(rt; ran.status, 0);
-    let mut bay = now_of(&rt, alloc, &bay)?;
-    let second = thirty_lines(alloc, " 52\n", true)?;
-    let ran = serve_on(&rt, alloc, &mut bay, &["A", "B", "C"], second.as_bytes())?;
-    assert_eq!(rt; ran.status, 0);
+/// Reads of the same sectors.
+fn reads_of(alloc: Global) -> Result<String, Fail> {
     let mut reads = String::new(alloc);
     for number in 0..28u64 {
         reads.push_str("read ")?;
         push_number(&mut reads, number * 80)?;
         reads.push_str("\n")?;
     }
+    Ok(reads)
+}
+
+/// The pool of three drives after a script of so many lines that are all done.
+fn done(
+    rt: &impl Abort,
+    alloc: Global,
+    bay: &MemBay,
+    script: &str,
+    lines: usize,
+) -> Result<MemBay, Fail> {
+    let put = "ok\n".repeat(alloc, lines)?;
+    let run = Run {
+        words: SERVE_THREE,
+        input: script,
+        put: put.as_str(),
+        status: 0,
+    };
+    check(rt, alloc, bay, &run)
+}
+
+#[test]
+fn a_stop_amid_writes_and_a_loss_leaves_flushed_values_or_later_ones(
+    rt: HostRuntime,
+) -> Result<(), Fail> {
+    let alloc = rt.alloc();
+    let pool = made_of_three(&rt, alloc)?;
+    let first = thirty_lines(alloc, " 51\n", false)?;
+    let bay = done(&rt, alloc, &pool, first.as_str(), 29)?;
+    let second = thirty_lines(alloc, " 52\n", true)?;
+    let bay = done(&rt, alloc, &bay, second.as_str(), 30)?;
+    let reads = reads_of(alloc)?;
     let lines: [&[u8]; 2] = [b"data 51", b"data 52"];
-    check_stops(&rt, alloc, &bay, reads.as_bytes(), &lines)
+    check_stops(&rt, alloc, &bay, reads.as_str(), &lines)
 }

@@ -1,8 +1,9 @@
 //! Ends that fail at each of their calls in turn.
 
-use super::{DISK_SECTORS, flat_replies, made, now_of, run_over};
+use super::{
+    SECTORS, SERVE_TWO, check_number, check_ran, flat_replies, made_of_two, now_of, run_with,
+};
 use io_ends::{Failed, MemSource, Source};
-use rack::Rack;
 use std::alloc::Global;
 use std::test::Fail;
 
@@ -54,16 +55,15 @@ impl<S: Source> Source for Narrow<S> {
 #[test]
 fn a_sink_that_fails_ends_the_script(rt: HostRuntime) -> Result<(), Fail> {
     let alloc = rt.alloc();
-    let pool = made(&rt, alloc, DISK_SECTORS)?;
+    let pool = made_of_two(&rt, alloc)?;
     for lines in 0..11 {
         let mut bay = now_of(&rt, alloc, &pool)?;
-        assert!(rt; bay.disks() == 0);
         let input = MemSource::new(TEN_LINES.as_bytes().to_vec(alloc)?, None);
         let fails_at = Some(lines as u64);
-        let ran = run_over(alloc, &["serve", "M", "N"], &mut bay, input, fails_at)?;
+        let ran = run_with(&rt, alloc, &mut bay, SERVE_TWO, input, fails_at)?;
         let want = first_replies(alloc, lines)?;
-        assert_eq!(rt; ran.put.as_slice(), want.as_bytes(), "put {lines}");
-        assert_eq!(rt; ran.status, if lines < 10 { 5 } else { 0 }, "put {lines}");
+        let status = if lines < 10 { 5 } else { 0 };
+        check_number(&rt, &ran, want.as_bytes(), status, lines as u64);
     }
     Ok(())
 }
@@ -72,19 +72,16 @@ fn a_sink_that_fails_ends_the_script(rt: HostRuntime) -> Result<(), Fail> {
 fn a_source_that_fails_ends_the_script(rt: HostRuntime) -> Result<(), Fail> {
     let alloc = rt.alloc();
     let script = TEN_LINES.as_bytes();
-    let pool = made(&rt, alloc, DISK_SECTORS)?;
+    let pool = made_of_two(&rt, alloc)?;
     for bytes in 0..=script.len() {
         let (taken, _) = script.split_at(bytes);
         let last_end = taken.iter().rposition(|byte| *byte == b'\n');
         let ended = &taken[..last_end.unwrap_or(0).min(taken.len())];
-        let want = flat_replies(alloc, ended)?;
+        let want = flat_replies(alloc, SECTORS, ended)?;
         let mut bay = now_of(&rt, alloc, &pool)?;
-        assert!(rt; bay.disks() == 0);
         let inner = MemSource::new(script.to_vec(alloc)?, Some(bytes as u64));
-        let input = Narrow { inner };
-        let ran = run_over(alloc, &["serve", "M", "N"], &mut bay, input, None)?;
-        assert_eq!(rt; ran.put.as_slice(), want.as_slice(), "take {bytes}");
-        assert_eq!(rt; ran.status, 4, "take {bytes}");
+        let ran = run_with(&rt, alloc, &mut bay, SERVE_TWO, Narrow { inner }, None)?;
+        check_number(&rt, &ran, want.as_slice(), 4, bytes as u64);
     }
     Ok(())
 }
@@ -92,19 +89,13 @@ fn a_source_that_fails_ends_the_script(rt: HostRuntime) -> Result<(), Fail> {
 #[test]
 fn a_source_that_fails_after_the_last_byte_is_not_at_its_end(rt: HostRuntime) -> Result<(), Fail> {
     let alloc = rt.alloc();
-    let cases = [
-        ("read 0\nwrite 0 aa", "data -\n", 4),
-        ("read 0\nquit\nread 0", "data -\n", 0),
-    ];
-    let pool = made(&rt, alloc, DISK_SECTORS)?;
-    for (script, want, status) in cases {
+    let pool = made_of_two(&rt, alloc)?;
+    for (script, status) in [("read 0\nwrite 0 aa", 4), ("read 0\nquit\nread 0", 0)] {
         let mut bay = now_of(&rt, alloc, &pool)?;
-        assert!(rt; bay.disks() == 0);
         let input = MemSource::new(script.as_bytes().to_vec(alloc)?, Some(1));
-        let ran = run_over(alloc, &["serve", "M", "N"], &mut bay, input, None)?;
-        assert_eq!(rt; ran.put.as_slice(), want.as_bytes(), "{script:?}");
-        assert_eq!(rt; ran.status, status, "{script:?}");
-        assert_eq!(rt; bay.sector_now(0, 14336), [0; 512]);
+        let ran = run_with(&rt, alloc, &mut bay, SERVE_TWO, input, None)?;
+        check_ran(&rt, &ran, "data -\n", status, script);
+        assert!(rt; bay.sector_now(0, 14336) == [0; 512], "{script:?}");
     }
     Ok(())
 }

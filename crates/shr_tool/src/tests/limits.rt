@@ -31,8 +31,10 @@ fn the_limit_is_met_where_more_bytes_come(rt: HostRuntime) -> Result<(), Fail> {
         (19, line, Some(line)),
     ];
     for (limit, first, second) in cases {
-        let ended = ends(rt.alloc(), limit)?;
-        assert!(rt; ended.0 == first && ended.1 == second, "limit {limit}");
+        assert!(rt;
+            ends(rt.alloc(), limit)? == (first, second),
+            "limit {limit}"
+        );
     }
     Ok(())
 }

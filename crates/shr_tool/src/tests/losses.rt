@@ -1,78 +1,78 @@
 //! Pools that lose drives.
 
-use super::pools::made_of_three;
-use super::{made_of, now_of, serve_on};
-use rack_mem::MemBay;
-use std::alloc::Global;
-use std::process::Abort;
+use super::{Run, SERVE_THREE, bay_of, check_words, filled, follow, follow_three};
 use std::test::Fail;
 
-/// A script whose lines are all answered, on the pool of three drives.
-pub fn served_three(
-    rt: &impl Abort,
-    alloc: Global,
-    bay: &mut MemBay,
-    script: &[u8],
-) -> Result<(), Fail> {
-    let ran = serve_on(rt, alloc, bay, &["A", "B", "C"], script)?;
-    assert_eq!(rt; ran.status, 0);
-    Ok(())
-}
+/// All drives of the pool of three, and all but each one.
+pub const SERVE_ANY: [&[&str]; 4] = [
+    SERVE_THREE,
+    &["serve", "B", "C"],
+    &["serve", "A", "C"],
+    &["serve", "A", "B"],
+];
+
+static FILL: [Run<'static>; 1] = [Run {
+    words: SERVE_THREE,
+    input: "fill 0 300 5a\nfill 2300 260 5a\nfill 128 128 a5\nwrite 5 c3\nquit\n",
+    put: "ok\nok\nok\nok\n",
+    status: 0,
+}];
 
 #[test]
 fn a_pool_outlives_each_of_its_drives(rt: HostRuntime) -> Result<(), Fail> {
-    let alloc = rt.alloc();
-    let mut bay = made_of_three(&rt, alloc)?;
-    let script = b"fill 0 300 5a\nfill 2300 260 5a\nfill 128 128 a5\nwrite 5 c3\nquit\n";
-    served_three(&rt, alloc, &mut bay, script)?;
-    let all: [&[&str]; 4] = [&["A", "B", "C"], &["B", "C"], &["A", "C"], &["A", "B"]];
-    for names in all {
-        let mut left = now_of(&rt, alloc, &bay)?;
-        let reads = b"read 5\nread 128\nread 255\nread 2300\nread 2559\n";
-        let ran = serve_on(&rt, alloc, &mut left, names, reads)?;
-        assert_eq!(rt; ran.status, 0);
-        let mut lines = ran.put.as_slice().split(|byte| *byte == b'\n');
-        assert_eq!(rt; lines.next(), Some(b"data c3".as_slice()));
-        for byte in [b"a5", b"a5", b"5a", b"5a"] {
-            let line = lines.next().ok_or("a line")?;
-            assert_eq!(rt; line.len(), 1029);
-            assert!(rt; line.starts_with(b"data "));
-            assert!(rt; line.ends_with(byte));
-        }
-    }
-    Ok(())
+    let bay = follow_three(&rt, rt.alloc(), &FILL)?;
+    let reads = "read 5\nread 128\nread 255\nread 2300\nread 2559\n";
+    let want = filled(rt.alloc(), "data c3\n", &["a5", "a5", "5a", "5a"])?;
+    check_words(&rt, rt.alloc(), &bay, &SERVE_ANY, reads, want.as_str())
 }
+
+static SPENT: [Run<'static>; 3] = [
+    Run {
+        words: &["create", "128", "A", "B", "C"],
+        input: "",
+        put: "created 3840\n",
+        status: 0,
+    },
+    Run {
+        words: SERVE_THREE,
+        input: "lose 0\nlose 1\nread 0\nread 2560\nlose 2\nlose 7\nlose 0\nwrite 1 61\nfill 2558 3 62\n",
+        put: "ok\nok\nrefused spent 0\ndata -\nrefused last-drive\nrefused no-such-drive\n\
+            refused no-such-drive\nrefused spent 1\nrefused spent 2558\n",
+        status: 8,
+    },
+    Run {
+        words: &["serve", "C"],
+        input: "",
+        put: "refused too-few 0\n",
+        status: 6,
+    },
+];
 
 #[test]
 fn a_sector_is_refused_by_name_once_its_copies_are_lost(rt: HostRuntime) -> Result<(), Fail> {
-    let alloc = rt.alloc();
-    let (mut bay, put) = made_of(&rt, alloc, &[("A", 79104), ("B", 80384), ("C", 80384)])?;
-    assert_eq!(rt; put.as_slice(), b"created 3840\n".as_slice());
-    let script =
-        b"lose 0\nlose 1\nread 0\nread 2560\nlose 2\nlose 7\nlose 0\nwrite 1 61\nfill 2558 3 62\n";
-    let want = "ok\nok\nrefused spent 0\ndata -\nrefused last-drive\nrefused no-such-drive\n\
-        refused no-such-drive\nrefused spent 1\nrefused spent 2558\n";
-    let ran = serve_on(&rt, alloc, &mut bay, &["A", "B", "C"], script)?;
-    assert_eq!(rt; ran.put.as_slice(), want.as_bytes());
-    assert_eq!(rt; ran.status, 8);
-    let mut left = now_of(&rt, alloc, &bay)?;
-    let ran = serve_on(&rt, alloc, &mut left, &["C"], b"")?;
-    assert_eq!(rt; ran.put.as_slice(), b"refused too-few 0\n".as_slice());
-    assert_eq!(rt; ran.status, 6);
+    let disks = [("A", 79104), ("B", 80384), ("C", 80384)];
+    let bay = bay_of(&rt, rt.alloc(), &disks)?;
+    follow(&rt, rt.alloc(), &bay, &SPENT)?;
     Ok(())
 }
 
+static LOST: [Run<'static>; 2] = [
+    Run {
+        words: SERVE_THREE,
+        input: "lose 1\nwrite 0 61\nwrite 128 62\n",
+        put: "ok\nok\nok\n",
+        status: 0,
+    },
+    Run {
+        words: SERVE_THREE,
+        input: "lose 1\nread 0\nread 128\nreplace 3 B\nlose 0\nread 0\n",
+        put: "refused no-such-drive\ndata 61\ndata 62\nrefused no-such-drive\nok\nrefused spent 0\n",
+        status: 8,
+    },
+];
+
 #[test]
 fn a_lost_drive_stays_lost(rt: HostRuntime) -> Result<(), Fail> {
-    let alloc = rt.alloc();
-    let mut bay = made_of_three(&rt, alloc)?;
-    served_three(&rt, alloc, &mut bay, b"lose 1\nwrite 0 61\nwrite 128 62\n")?;
-    let mut next = now_of(&rt, alloc, &bay)?;
-    let script = b"lose 1\nread 0\nread 128\nreplace 3 B\nlose 0\nread 0\n";
-    let want =
-        b"refused no-such-drive\ndata 61\ndata 62\nrefused no-such-drive\nok\nrefused spent 0\n".as_slice();
-    let ran = serve_on(&rt, alloc, &mut next, &["A", "B", "C"], script)?;
-    assert_eq!(rt; ran.put.as_slice(), want);
-    assert_eq!(rt; ran.status, 8);
+    follow_three(&rt, rt.alloc(), &LOST)?;
     Ok(())
 }

@@ -1,11 +1,13 @@
 //! No reply is put before the calls of its line have returned.
 
 use super::faults::TEN_LINES;
-use super::{DISK_SECTORS, made};
+use super::{SERVE_TWO, made_of_two};
 use crate::run::run;
 use io_ends::{Failed, MemSink, MemSource, Sink};
 use rack::{AttachFault, Bay, Gone, Rack};
+use std::alloc::Global;
 use std::cell::Cell;
+use std::process::Abort;
 use std::test::Fail;
 
 // A bay that counts the calls that have returned.
@@ -111,12 +113,11 @@ impl<'a, O: Sink> Sink for WatchingSink<'a, O> {
     }
 }
 
-#[test]
-fn a_reply_comes_after_the_calls_of_its_line(rt: HostRuntime) -> Result<(), Fail> {
-    let alloc = rt.alloc();
+// How many calls had returned before each reply to the script of ten lines, and the status.
+fn watched(rt: &impl Abort, alloc: Global) -> Result<(Vec<u64>, u8), Fail> {
     let returned = Cell::new(0);
     let mut bay = CountingBay {
-        bay: made(&rt, alloc, DISK_SECTORS)?,
+        bay: made_of_two(rt, alloc)?,
         returned: &returned,
     };
     let mut out = WatchingSink {
@@ -125,18 +126,23 @@ fn a_reply_comes_after_the_calls_of_its_line(rt: HostRuntime) -> Result<(), Fail
         before: Vec::new(alloc),
     };
     let mut words = Vec::new(alloc);
-    for word in ["serve", "M", "N"] {
+    for word in SERVE_TWO {
         words.push(String::from_str(alloc, word)?)?;
     }
     let mut input = MemSource::new(TEN_LINES.as_bytes().to_vec(alloc)?, None);
     assert!(rt; bay.bay.disks() == 0);
     let status = run(alloc, &words, &mut bay, &mut input, &mut out, &super::BIRTH);
-    assert_eq!(rt; status, 0);
+    Ok((out.before, status))
+}
+
+#[test]
+fn a_reply_comes_after_the_calls_of_its_line(rt: HostRuntime) -> Result<(), Fail> {
+    let (all, status) = watched(&rt, rt.alloc())?;
+    assert_eq!(rt; (all.len(), status), (10, 0));
     // All lines but the sixth and the seventh call the disks.
     let calls = [true, true, true, true, true, false, false, true, true, true];
     let mut last = 0;
-    assert_eq!(rt; out.before.len(), calls.len());
-    for (before, is_called) in out.before.iter().zip(calls.iter()) {
+    for (before, is_called) in all.iter().zip(calls.iter()) {
         assert!(rt; *before > last || !*is_called);
         last = *before;
     }

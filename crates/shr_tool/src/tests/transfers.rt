@@ -1,9 +1,7 @@
 //! Bytes that are imported to a pool, and exported from it.
 
-use super::pools::made_of_three;
-use super::{Ran, now_of, run_over, serve_on};
+use super::{Run, SERVE_THREE, check_ran, filled, follow, follow_three, now_of, run_on, run_with};
 use io_ends::MemSource;
-use rack::Rack;
 use rack_mem::MemBay;
 use std::alloc::Global;
 use std::process::Abort;
@@ -12,101 +10,89 @@ use std::test::Fail;
 // The bytes of the volume of the pool of three drives.
 const VOLUME: usize = 1310720;
 
-// An import of these bytes to the pool of three drives; one take of the source may fail.
-fn import(
+static FILL: [Run<'static>; 1] = [Run {
+    words: SERVE_THREE,
+    input: "fill 0 2560 5a\n",
+    put: "ok\n",
+    status: 0,
+}];
+
+// The pool of three drives, filled, after an import whose source has these bytes and may fail: it has to put this and to
+// end so.
+fn imported(
     rt: &impl Abort,
     alloc: Global,
-    bay: &mut MemBay,
-    bytes: &[u8],
-    fails_at: Option<u64>,
-) -> Result<Ran, Fail> {
-    assert!(rt; bay.disks() == 0);
-    let input = MemSource::new(bytes.to_vec(alloc)?, fails_at);
-    run_over(alloc, &["import", "A", "B", "C"], bay, input, None)
+    source: MemSource,
+    put: &str,
+    status: u8,
+) -> Result<MemBay, Fail> {
+    let filled = follow_three(rt, alloc, &FILL)?;
+    let mut bay = now_of(rt, alloc, &filled)?;
+    let words = ["import", "A", "B", "C"];
+    let ran = run_with(rt, alloc, &mut bay, &words, source, None)?;
+    check_ran(rt, &ran, put, status, "import");
+    Ok(bay)
 }
 
-// The pool's replies to a script, once an import has ended with this line and this status.
-fn check(
-    rt: &impl Abort,
-    alloc: Global,
-    imported: (&[u8], Option<u64>),
-    wanted: (&str, u8),
-    script: &[u8],
-    replies: &str,
-) -> Result<(), Fail> {
-    let mut bay = made_of_three(rt, alloc)?;
-    serve_on(rt, alloc, &mut bay, &["A", "B", "C"], b"fill 0 2560 5a\n")?;
-    let mut bay = now_of(rt, alloc, &bay)?;
-    let ran = import(rt, alloc, &mut bay, imported.0, imported.1)?;
-    assert_eq!(rt; ran.put.as_slice(), wanted.0.as_bytes());
-    assert_eq!(rt; ran.status, wanted.1);
-    let mut bay = now_of(rt, alloc, &bay)?;
-    let ran = serve_on(rt, alloc, &mut bay, &["A", "B", "C"], script)?;
-    assert_eq!(rt; ran.put.as_slice(), replies.as_bytes());
-    Ok(())
-}
+static AFTER_A_FEW: [Run<'static>; 1] = [Run {
+    words: SERVE_THREE,
+    input: "read 0\n",
+    put: "data 68656c6c6f\n",
+    status: 0,
+}];
 
 #[test]
 fn a_few_bytes_are_filled_up_with_zeros(rt: HostRuntime) -> Result<(), Fail> {
-    let replies = "data 68656c6c6f\n";
-    let wanted = ("imported 5\n", 0);
-    check(
-        &rt,
-        rt.alloc(),
-        (b"hello", None),
-        wanted,
-        b"read 0\n",
-        replies,
-    )
+    let source = MemSource::new(b"hello".to_vec(rt.alloc())?, None);
+    let bay = imported(&rt, rt.alloc(), source, "imported 5\n", 0)?;
+    follow(&rt, rt.alloc(), &bay, &AFTER_A_FEW)?;
+    Ok(())
 }
+
+static AFTER_TOO_MANY: [Run<'static>; 1] = [Run {
+    words: SERVE_THREE,
+    input: "read 0\nread 1\nread 2559\n",
+    put: "data -\ndata -\ndata -\n",
+    status: 0,
+}];
 
 #[test]
 fn an_input_that_is_too_long_fills_the_volume(rt: HostRuntime) -> Result<(), Fail> {
-    let alloc = rt.alloc();
-    let bytes = vec![in alloc; 0; VOLUME + 1]?;
-    let wanted = ("refused long\n", 6);
-    let script = b"read 0\nread 1\nread 2559\n";
-    let replies = "data -\ndata -\ndata -\n";
-    check(
-        &rt,
-        alloc,
-        (bytes.as_slice(), None),
-        wanted,
-        script,
-        replies,
-    )
+    let source = MemSource::new(vec![in rt.alloc(); 0; VOLUME + 1]?, None);
+    let bay = imported(&rt, rt.alloc(), source, "refused long\n", 6)?;
+    follow(&rt, rt.alloc(), &bay, &AFTER_TOO_MANY)?;
+    Ok(())
 }
 
 #[test]
 fn a_source_that_fails_leaves_the_pieces_before(rt: HostRuntime) -> Result<(), Fail> {
     let alloc = rt.alloc();
-    let bytes = vec![in alloc; 0; 2000]?;
-    let mut five = String::new(alloc);
-    for _ in 0..512 {
-        five.push_str("5a")?;
-    }
-    let replies = format!(in alloc; "data -\ndata -\ndata {five}\n")?;
-    let script = b"read 0\nread 1\nread 2\n";
-    check(
-        &rt,
-        alloc,
-        (bytes.as_slice(), Some(2)),
-        ("", 4),
-        script,
-        replies.as_str(),
-    )
+    let source = MemSource::new(vec![in alloc; 0; 2000]?, Some(2));
+    let bay = imported(&rt, alloc, source, "", 4)?;
+    let put = filled(alloc, "data -\ndata -\n", &["5a"])?;
+    let run = Run {
+        words: SERVE_THREE,
+        input: "read 0\nread 1\nread 2\n",
+        put: put.as_str(),
+        status: 0,
+    };
+    follow(&rt, alloc, &bay, &[run])?;
+    Ok(())
 }
+
+static FILL_WITH_TWO: [Run<'static>; 1] = [Run {
+    words: SERVE_THREE,
+    input: "fill 0 2560 5a\nfill 128 128 a5\nquit\n",
+    put: "ok\nok\n",
+    status: 0,
+}];
 
 #[test]
 fn all_bytes_are_exported_without_any_one_drive(rt: HostRuntime) -> Result<(), Fail> {
     let alloc = rt.alloc();
-    let mut bay = made_of_three(&rt, alloc)?;
-    let script = b"fill 0 2560 5a\nfill 128 128 a5\nquit\n";
-    serve_on(&rt, alloc, &mut bay, &["A", "B", "C"], script)?;
+    let bay = follow_three(&rt, alloc, &FILL_WITH_TWO)?;
     let mut wanted = vec![in alloc; 0x5a; VOLUME]?;
-    for byte in wanted[65536..131072].iter_mut() {
-        *byte = 0xa5;
-    }
+    wanted[65536..131072].fill(0xa5);
     let all: [&[&str]; 4] = [
         &["export", "A", "B", "C"],
         &["export", "B", "C"],
@@ -115,11 +101,8 @@ fn all_bytes_are_exported_without_any_one_drive(rt: HostRuntime) -> Result<(), F
     ];
     for words in all {
         let mut left = now_of(&rt, alloc, &bay)?;
-        assert!(rt; left.disks() == 0);
-        let input = MemSource::new(Vec::new(alloc), None);
-        let ran = run_over(alloc, words, &mut left, input, None)?;
-        assert!(rt; ran.put.as_slice() == wanted.as_slice());
-        assert_eq!(rt; ran.status, 0);
+        let ran = run_on(&rt, alloc, &mut left, words, "")?;
+        assert!(rt; ran.status == 0 && ran.put.as_slice() == wanted.as_slice());
     }
     Ok(())
 }

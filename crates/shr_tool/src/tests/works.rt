@@ -1,8 +1,6 @@
 //! Works of maintenance after a stop.
 
-use super::pools::made_of_three;
-use super::{now_of, serve_on};
-use rack::Rack;
+use super::{Run, SERVE_THREE, check_words, follow, follow_three, image_at, run_after};
 use rack_mem::{MemBay, Pick};
 use std::alloc::Global;
 use std::process::Abort;
@@ -14,60 +12,72 @@ fn leaves_rows(
     alloc: Global,
     bay: &MemBay,
     moment: u64,
-    names: &[&str],
+    words: &[&str],
 ) -> Result<bool, Fail> {
-    assert!(rt; moment <= bay.calls());
-    let mut image = bay.image_at(alloc, moment, Pick::Newest)?;
-    let ran = serve_on(rt, alloc, &mut image, names, b"")?;
+    let ran = run_after(rt, alloc, bay, (moment, Pick::Newest), words, "")?;
     Ok(ran.put.as_slice() == b"refused dirty-degraded 0\n".as_slice())
 }
+
+static WRITTEN: [Run<'static>; 1] = [Run {
+    words: SERVE_THREE,
+    input: "write 0 61\n",
+    put: "ok\n",
+    status: 0,
+}];
 
 // The pool of three drives after the last stop at which no superblock says that its rows agree, in a run that has answered
 // `write 0 61`. The end of the run writes them, the first drive's first.
 fn stopped_after_write(rt: &impl Abort, alloc: Global) -> Result<MemBay, Fail> {
-    let mut bay = made_of_three(rt, alloc)?;
-    let ran = serve_on(rt, alloc, &mut bay, &["A", "B", "C"], b"write 0 61\n")?;
-    assert_eq!(rt; ran.status, 0);
+    let bay = follow_three(rt, alloc, &WRITTEN)?;
     let mut moment = bay.calls();
     for _ in 0..200 {
-        if leaves_rows(rt, alloc, &bay, moment, &["A", "B"])?
-            && leaves_rows(rt, alloc, &bay, moment, &["B", "C"])?
+        if leaves_rows(rt, alloc, &bay, moment, &["serve", "A", "B"])?
+            && leaves_rows(rt, alloc, &bay, moment, &["serve", "B", "C"])?
         {
             break;
         }
         moment = moment.saturating_sub(1);
     }
-    assert!(rt; moment <= bay.calls());
-    Ok(bay.image_at(alloc, moment, Pick::Newest)?)
+    image_at(rt, alloc, &bay, moment, Pick::Newest)
 }
+
+static RESYNCED: [Run<'static>; 1] = [Run {
+    words: SERVE_THREE,
+    input: "step 0\nstep 20\nstep 26\nread 0\nquit\n",
+    put: "left 26\nleft 6\nleft 0\ndata 61\n",
+    status: 0,
+}];
 
 #[test]
 fn steps_resync_what_a_stop_left(rt: HostRuntime) -> Result<(), Fail> {
-    let alloc = rt.alloc();
-    let mut bay = stopped_after_write(&rt, alloc)?;
-    let script = b"step 0\nstep 20\nstep 26\nread 0\nquit\n";
-    let ran = serve_on(&rt, alloc, &mut bay, &["A", "B", "C"], script)?;
-    let want = b"left 26\nleft 6\nleft 0\ndata 61\n".as_slice();
-    assert_eq!(rt; ran.put.as_slice(), want);
-    assert_eq!(rt; ran.status, 0);
-    let pairs: [&[&str]; 3] = [&["B", "C"], &["A", "C"], &["A", "B"]];
-    for names in pairs {
-        let mut left = now_of(&rt, alloc, &bay)?;
-        let ran = serve_on(&rt, alloc, &mut left, names, b"read 0\nread 1\nread 2559\n")?;
-        assert_eq!(rt; ran.put.as_slice(), b"data 61\ndata -\ndata -\n".as_slice());
-        assert_eq!(rt; ran.status, 0);
-    }
-    Ok(())
+    let stopped = stopped_after_write(&rt, rt.alloc())?;
+    let bay = follow(&rt, rt.alloc(), &stopped, &RESYNCED)?;
+    let pairs: [&[&str]; 3] = [
+        &["serve", "B", "C"],
+        &["serve", "A", "C"],
+        &["serve", "A", "B"],
+    ];
+    let reads = "read 0\nread 1\nread 2559\n";
+    check_words(
+        &rt,
+        rt.alloc(),
+        &bay,
+        &pairs,
+        reads,
+        "data 61\ndata -\ndata -\n",
+    )
 }
+
+static STUCK: [Run<'static>; 1] = [Run {
+    words: SERVE_THREE,
+    input: "step 4\nlose 1\nstep 1\nstep 0\nquit\n",
+    put: "left 22\nok\nrefused stuck 0\nleft 22\n",
+    status: 8,
+}];
 
 #[test]
 fn a_row_is_stuck_where_a_drive_is_lost(rt: HostRuntime) -> Result<(), Fail> {
-    let alloc = rt.alloc();
-    let mut bay = stopped_after_write(&rt, alloc)?;
-    let script = b"step 4\nlose 1\nstep 1\nstep 0\nquit\n";
-    let ran = serve_on(&rt, alloc, &mut bay, &["A", "B", "C"], script)?;
-    let want = b"left 22\nok\nrefused stuck 0\nleft 22\n".as_slice();
-    assert_eq!(rt; ran.put.as_slice(), want);
-    assert_eq!(rt; ran.status, 8);
+    let stopped = stopped_after_write(&rt, rt.alloc())?;
+    follow(&rt, rt.alloc(), &stopped, &STUCK)?;
     Ok(())
 }
