@@ -34,26 +34,18 @@ fn fail_others(rt: &impl Abort, run: &mut Run, gone: u32) {
 /// Two writes during which the call of a number fails, and reads of what they left. Then everybody goes.
 fn goes_at(rt: &impl Abort, alloc: Global, geometry: Geometry, call: u64) -> Result<(), Fail> {
     let mut run = Run::new(rt, alloc, geometry, &[call], 9000)?;
-    assert!(rt;
-        run.write(rt, 5, 0x1234_5678_9abc_def1).is_ok(),
-        "at {call}"
-    );
-    assert!(rt;
-        run.write(rt, 133, 0xfedc_ba98_7654_3211).is_ok(),
-        "at {call}"
-    );
-    assert_eq!(rt; run.array.went().len(), 1, "at {call}");
-    let gone = run.array.went()[0];
     let values = [(5, 0x1234_5678_9abc_def1), (133, 0xfedc_ba98_7654_3211)];
+    for (sector, value) in values {
+        assert_eq!(rt; run.write(rt, sector, value), Ok(()), "at {call}");
+    }
+    let gone = run.gone(rt, call);
     assert_holds(rt, &mut run, values, call);
 
     fail_others(rt, &mut run, gone);
     for sector in [5, 133, 200] {
-        assert!(rt;
-            run.write(rt, sector, 1) == Err(Spent { sector }),
-            "at {call}"
-        );
-        assert!(rt; run.read(rt, sector) == Err(Spent { sector }), "at {call}");
+        let answers = (run.write(rt, sector, 1), run.read(rt, sector));
+        let spent = Spent { sector };
+        assert_eq!(rt; answers, (Err(spent), Err(spent)), "at {call}");
     }
     Ok(())
 }

@@ -39,9 +39,13 @@ fn rebuilt(
     for row in 0..ROWS {
         let next = (row * 7 + 3) % ROWS;
         let value = row as u64 + 100;
-        assert!(rt; run.write(rt, next as u64 * 128 + 5, value).is_ok());
+        let written = run.write(rt, next as u64 * 128 + 5, value);
         values[next] = value;
-        assert!(rt; run.rebuild(rt, place).is_ok(), "{row}");
+        assert_eq!(rt;
+            (written, run.rebuild(rt, place)),
+            (Ok(()), Ok(())),
+            "{row}"
+        );
     }
     assert!(rt; run.array.seat(place) == Some(Seat::Whole));
     run.lose(other);
@@ -65,14 +69,14 @@ fn goes_at(rt: &impl Abort, alloc: Global, geometry: Geometry, call: u64) -> Res
     run.lose(1);
     run.renew(rt, 1);
     let answer = run.rebuild(rt, 1);
-    assert_eq!(rt; run.array.went().len(), 1, "at {call}");
-    let gone = run.array.went()[0];
-    assert!(rt; run.array.seat(gone) == Some(Seat::Missing), "at {call}");
-    if gone == 1 {
-        assert!(rt; answer == Ok(()), "at {call}");
+    let gone = run.gone(rt, call);
+    let wanted = if gone == 1 {
+        Ok(())
     } else {
-        assert!(rt; answer == Err(Spent { sector: 0 }), "at {call}");
-    }
+        Err(Spent { sector: 0 })
+    };
+    let found = (answer, run.array.seat(gone));
+    assert_eq!(rt; found, (wanted, Some(Seat::Missing)), "at {call}");
     Ok(())
 }
 
@@ -82,7 +86,7 @@ fn a_member_may_go_at_any_call_of_a_row(rt: HostRuntime) -> Result<(), Fail> {
         let mut run = Run::new(&rt, rt.alloc(), geometry, &[], 5000)?;
         run.lose(1);
         run.renew(&rt, 1);
-        assert!(&rt; run.rebuild(&rt, 1).is_ok());
+        assert!(rt; run.rebuild(&rt, 1).is_ok());
         for call in (0..run.calls()).step_by(37) {
             goes_at(&rt, rt.alloc(), geometry, call)?;
         }

@@ -4,6 +4,8 @@ ghost use Rattle.std.specs.Prelude.{◌≡◌, ◌<◌, true};
 ghost use Rattle.array_model.specs.Members.{HasSlices};
 ghost use Rattle.array_sync.specs.Steps.{HasRowLeft};
 ghost use Rattle.commit_log.specs.Phases.{AreLogs};
+ghost use Rattle.rack_mem.specs.MemBay.{memory};
+ghost use Rattle.rack_mem.specs.Memory.{seen_of};
 
 use crate::geometries::{Geometry, NUMBER, SIZE};
 use array_core::{Array, Seat, Spent};
@@ -133,12 +135,20 @@ impl Run {
         self.on = first_places(self.array.truth().raid_disks, None);
     }
 
+    /// Whether the bay has all that a call of the array needs.
+    fn is_ready(&self) -> bool
+        ensures disks { result ≡ true → (seen_of (memory self.now.bay)).disks ≡ 272 }
+        ensures slices { result ≡ true → HasSlices self.now.array (seen_of (memory self.now.bay)) }
+        ensures logs { result ≡ true → AreLogs (seen_of (memory self.now.bay)).sectors self.now.on.items }
+    {
+        self.bay.disks() == 272
+            && has_slices(&self.bay, &self.array)
+            && are_logs(&self.bay, self.on.as_slice())
+    }
+
     /// Rebuilds a row of a member, once all that it needs has been tested.
     pub(crate) fn rebuild(&mut self, rt: &impl Abort, place: u32) -> Result<(), Spent> {
-        assert!(rt; self.bay.disks() == 272);
-        assert!(rt; has_slices(&self.bay, &self.array));
-        assert!(rt; are_logs(&self.bay, self.on.as_slice()));
-        assert!(rt; has_row_left(&self.array, place));
+        assert!(rt; self.is_ready() && has_row_left(&self.array, place));
         self.log.clear();
         rebuild_row(
             &mut self.array,
@@ -151,10 +161,7 @@ impl Run {
 
     /// Writes a value, once all that it needs has been tested.
     pub(crate) fn write(&mut self, rt: &impl Abort, sector: u64, value: u64) -> Result<(), Spent> {
-        assert!(rt; self.bay.disks() == 272);
-        assert!(rt; has_slices(&self.bay, &self.array));
-        assert!(rt; are_logs(&self.bay, self.on.as_slice()));
-        assert!(rt; sector < self.array.sectors());
+        assert!(rt; self.is_ready() && sector < self.array.sectors());
         self.log.clear();
         self.array.write(
             &mut self.bay,
@@ -167,12 +174,17 @@ impl Run {
 
     /// Reads a sector.
     pub(crate) fn read(&mut self, rt: &impl Abort, sector: u64) -> Result<[u8; 512], Spent> {
-        assert!(rt; self.bay.disks() == 272);
-        assert!(rt; has_slices(&self.bay, &self.array));
-        assert!(rt; sector < self.array.sectors());
+        assert!(rt; self.is_ready() && sector < self.array.sectors());
         let mut block = [0; 512];
         self.array.read(&mut self.bay, sector, &mut block)?;
         Ok(block)
+    }
+
+    /// The place that went: it alone did, at the call of a number.
+    pub(crate) fn gone(&self, rt: &impl Abort, call: u64) -> u32 {
+        let went = self.array.went();
+        assert_eq!(rt; went.len(), 1, "at {call}");
+        went[0]
     }
 
     /// The calls of the bay so far.
