@@ -198,36 +198,38 @@ pub(crate) fn apply(rt: &impl Abort, new: &MemBay, bay: &mut MemBay, plan: &Plan
     }
 }
 
-/// Appends the damages of a place's drive.
-fn add_damages_on(all: &mut Vec<Damage>, place: u32) -> Result<(), Fail> {
-    all.push(Damage::Table { place })?;
-    all.push(Damage::Copy { place })?;
-    all.push(Damage::Gate { place })?;
-    all.push(Damage::Superblock { place })?;
-    Ok(())
+/// The damages of a place's drive.
+fn damages_on(place: u32) -> [Damage; 4] {
+    [
+        Damage::Table { place },
+        Damage::Copy { place },
+        Damage::Gate { place },
+        Damage::Superblock { place },
+    ]
 }
 
-/// Appends the damages of an array.
-fn add_damages_of(all: &mut Vec<Damage>, array: u32) -> Result<(), Fail> {
-    all.push(Damage::TwoRebuilt { array })?;
-    all.push(Damage::UnevenRebuilt { array })?;
-    all.push(Damage::Label { array })?;
-    Ok(())
+/// The damages of an array.
+fn damages_of(array: u32) -> [Damage; 3] {
+    [
+        Damage::TwoRebuilt { array },
+        Damage::UnevenRebuilt { array },
+        Damage::Label { array },
+    ]
 }
 
 /// The damages of a pool: of its first two drives, and of its first and last array.
 pub(crate) fn damages(alloc: Global, plan: &Plan) -> Result<Vec<Damage>, Fail> {
     let mut all = Vec::new(alloc);
-    all.push(Damage::NoCopies)?;
-    all.push(Damage::OtherPool)?;
+    all.extend_from_slice(&[Damage::NoCopies, Damage::OtherPool])?;
     if plan.drives > 2 {
         all.push(Damage::NoDisks)?;
     }
-    add_damages_on(&mut all, 0)?;
-    add_damages_on(&mut all, 1)?;
-    add_damages_of(&mut all, 0)?;
+    for place in [0, 1] {
+        all.extend_from_slice(&damages_on(place))?;
+    }
+    all.extend_from_slice(&damages_of(0))?;
     if plan.arrays > 1 {
-        add_damages_of(&mut all, plan.last_array())?;
+        all.extend_from_slice(&damages_of(plan.last_array()))?;
     }
     Ok(all)
 }

@@ -36,36 +36,47 @@ const OPENING: u64 = 9_000;
 /// No place.
 pub(crate) const NONE: [bool; 5] = [false; 5];
 
+/// The name of the drive of a place, and of the stray disk behind all places.
+fn name_of(place: u32) -> &'static str {
+    match NAMES.as_slice().get(place as usize) {
+        Some(name) => name,
+        None => STRAY,
+    }
+}
+
+/// Its sectors.
+fn sectors_of(plan: &Plan, place: u32) -> u64 {
+    if place < 5 {
+        plan.sectors(place)
+    } else {
+        STRAY_SECTORS
+    }
+}
+
 /// A bay with the drives of a pool and the stray disk on its shelf, all zeros.
 fn blank(rt: &impl Abort, alloc: Global, plan: &Plan, room: u64) -> Result<MemBay, Fail> {
     let mut shelf = Vec::new(alloc);
-    for (place, name) in NAMES.into_iter().enumerate() {
-        shelf.push(DiskSpec {
-            name: Name::of(alloc, name.as_bytes())?,
-            sectors: plan.sectors(place as u32),
-        })?;
+    for place in 0..6 {
+        let name = Name::of(alloc, name_of(place).as_bytes())?;
+        let sectors = sectors_of(plan, place);
+        shelf.push(DiskSpec { name, sectors })?;
     }
-    shelf.push(DiskSpec {
-        name: Name::of(alloc, STRAY.as_bytes())?,
-        sectors: STRAY_SECTORS,
-    })?;
     assert!(rt; shelf.len() < 1 << 32 && shelf.iter().all(|disk| disk.sectors < 1 << 48));
     Ok(MemBay::new(alloc, shelf, Vec::new(alloc), room)?)
 }
 
 /// Attaches the drives of a pool in the order of their places, but for those that are left out.
 fn attach_drives(rt: &impl Abort, bay: &mut MemBay, plan: &Plan, without: [bool; 5]) {
-    for (place, name) in NAMES.into_iter().enumerate() {
-        if place < plan.drives as usize && !without[place] {
-            assert!(rt; bay.attach(name).is_ok());
+    for place in 0..5 {
+        if place < plan.drives && !without[place as usize] {
+            assert!(rt; bay.attach(name_of(place)).is_ok());
         }
     }
 }
 
 /// Writes a sector of a disk.
 pub(crate) fn put(rt: &impl Abort, bay: &mut MemBay, disk: u32, sector: u64, bytes: &[u8; 512]) {
-    assert!(rt; disk < bay.disks());
-    assert!(rt; sector < bay.sectors(disk));
+    assert!(rt; disk < bay.disks() && sector < bay.sectors(disk));
     assert_eq!(rt; bay.write(disk, sector, bytes), Ok(()));
 }
 

@@ -22,10 +22,8 @@ fn open_quietly(rt: &impl Abort, alloc: Global, plan: &Plan) -> Result<u64, Fail
 
 #[test]
 fn an_opening_makes_few_calls(rt: HostRuntime) -> Result<(), Fail> {
-    let alloc = rt.alloc();
-    let two = open_quietly(&rt, alloc, &PLANS[0])?;
-    let three = open_quietly(&rt, alloc, &PLANS[1])?;
-    let five = open_quietly(&rt, alloc, &PLANS[2])?;
-    assert_eq!(rt; [two, three, five], CALLS);
+    for (plan, calls) in PLANS.into_iter().zip(CALLS) {
+        assert_eq!(rt; open_quietly(&rt, rt.alloc(), &plan)?, calls, "{plan:?}");
+    }
     Ok(())
 }

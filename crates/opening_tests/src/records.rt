@@ -234,15 +234,9 @@ fn stop_in_mending(
     let _pending = stop_from(rt, alloc, &run, plan, lost, awaited, 0)?;
     let after = now_without(rt, alloc, &run, plan, NONE)?;
     let sectors = plan.sectors(mended);
-    assert!(rt; are_same((&after, mended), (new, mended), 0, 34));
-    assert!(rt;
-        are_same(
-            (&after, mended),
-            (new, mended),
-            sectors.wrapping_sub(33),
-            sectors
-        )
-    );
+    let copies = [(0, 34), (sectors.wrapping_sub(33), sectors)];
+    let are_mended = copies.map(|(from, to)| are_same((&after, mended), (new, mended), from, to));
+    assert_eq!(rt; are_mended, [true, true]);
     Ok(())
 }
 

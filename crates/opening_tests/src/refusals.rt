@@ -84,15 +84,16 @@ fn assert_refused(
     apply(rt, new, &mut damaged, plan, first);
     let without = left_out(plan, first, second);
     let bay = now_without(rt, alloc, &damaged, plan, without)?;
-    match refused(alloc, bay) {
-        None => assert_eq!(rt; awaited(plan, first, second), None, "{case:?}"),
+    let (why, is_written) = match refused(alloc, bay) {
+        None => (None, false),
         Some((why, bay)) => {
-            assert_eq!(rt; Some(why), awaited(plan, first, second), "{case:?}");
             let stray = bay.disks().wrapping_sub(1);
-            let unwritten = are_same((&bay, stray), (&damaged, plan.drives), 0, STRAY_SECTORS);
-            assert!(rt; unwritten, "{case:?}");
+            let same = are_same((&bay, stray), (&damaged, plan.drives), 0, STRAY_SECTORS);
+            (Some(why), !same)
         }
-    }
+    };
+    let wanted = (awaited(plan, first, second), false);
+    assert_eq!(rt; (why, is_written), wanted, "{case:?}");
     Ok(())
 }
 

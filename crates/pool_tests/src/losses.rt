@@ -32,13 +32,12 @@ fn assert_reads(rt: &impl Abort, run: &mut Run, plain: &Plain, spots: &[Spot], c
 {
     for spot in spots {
         let answer = run.read(rt, *spot);
-        if is_spent(spot.array, lost_in(rt, run, case)) {
-            let refused = Err(Gone { disk: spot.array });
-            assert!(rt; answer == refused, "{spot:?} {case:?}");
+        let wanted = if is_spent(spot.array, lost_in(rt, run, case)) {
+            Err(Gone { disk: spot.array })
         } else {
-            let wanted = sector_of(plain.at(rt, *spot));
-            assert!(rt; answer == Ok(wanted), "{spot:?} {case:?}");
-        }
+            Ok(sector_of(plain.at(rt, *spot)))
+        };
+        assert!(rt; answer == wanted, "{spot:?} {case:?}");
     }
 }
 
@@ -49,11 +48,13 @@ fn write(rt: &impl Abort, run: &mut Run, plain: &mut Plain, number: usize, case:
 {
     let spot = spot_of(rt, number);
     let answer = run.write(rt, spot, value_of(number));
-    if is_spent(spot.array, lost_in(rt, run, case)) {
-        let refused = Err(Gone { disk: spot.array });
-        assert!(rt; answer == refused, "{number} {case:?}");
+    let wanted = if is_spent(spot.array, lost_in(rt, run, case)) {
+        Err(Gone { disk: spot.array })
     } else {
-        assert!(rt; answer == Ok(()), "{number} {case:?}");
+        Ok(())
+    };
+    assert!(rt; answer == wanted, "{number} {case:?}");
+    if wanted.is_ok() {
         plain.set(rt, spot, value_of(number));
     }
 }
@@ -79,13 +80,13 @@ fn assert_marks(rt: &impl Abort, bay: &MemBay, lost: [bool; 5], case: [u64; 2]) 
     let epoch = newest_epoch(rt, bay);
     for place in 0..5 {
         let state = state_on(rt, bay, place);
-        if lost[place as usize] {
-            assert!(rt; state.epoch < epoch, "{place} {case:?}");
+        let marks = state.drives.as_slice().iter().map(|drive| drive.missing);
+        let is_right = if lost[place as usize] {
+            state.epoch < epoch
         } else {
-            assert_eq!(rt; state.epoch, epoch, "{place} {case:?}");
-            let marks = state.drives.as_slice().iter().map(|drive| drive.missing);
-            assert!(rt; marks.eq(lost), "{place} {case:?}");
-        }
+            state.epoch == epoch && marks.eq(lost)
+        };
+        assert!(rt; is_right, "{place} {case:?}");
     }
     epoch
 }
@@ -125,10 +126,12 @@ fn assert_holds(
 fn arrays_hold_what_was_written(rt: HostRuntime) -> Result<(), Fail> {
     let alloc = rt.alloc();
     let mut run = Run::new(&rt, alloc)?;
-    assert_eq!(rt; run.arrays(), 3);
-    for array in 0..3 {
-        assert_eq!(rt; run.sectors(&rt, array), SECTORS[array as usize]);
-    }
+    let sectors = [
+        run.sectors(&rt, 0),
+        run.sectors(&rt, 1),
+        run.sectors(&rt, 2),
+    ];
+    assert_eq!(rt; (run.arrays(), sectors), (3, SECTORS));
     let plain = write_all(&rt, alloc, &mut run, [0, 0])?;
     let bay = run.into_bay();
     assert_eq!(rt; assert_marks(&rt, &bay, [false; 5], [0, 0]), 1);
@@ -185,10 +188,10 @@ fn fails_once(rt: &impl Abort, alloc: Global, run: Run, case: [u64; 2]) -> Resul
         assert_eq!(rt; assert_marks(rt, &bay, [false; 5], case), 1, "{case:?}");
         return Ok(None);
     };
-    assert_eq!(rt; count(lost), 1, "{case:?}");
-    assert_eq!(rt; assert_marks(rt, &bay, lost, case), 2, "{case:?}");
+    let epoch = assert_marks(rt, &bay, lost, case);
+    let found = (count(lost), epoch, met.refusals);
+    assert_eq!(rt; found, (1, 2, marked.refusals), "{case:?}");
     assert_holds(rt, alloc, &bay, lost, &plain, case)?;
-    assert_eq!(rt; met.refusals, marked.refusals, "{case:?}");
     assert_rests(rt, alloc, &bay, lost, marked.calls)?;
     Ok(met.hits.into_iter().min())
 }

@@ -6,11 +6,11 @@ ghost use Rattle.raid_rack.specs.RaidRack.{raid_seen};
 ghost use Rattle.rack_mem.specs.MemBay.{memory};
 ghost use Rattle.rack_mem.specs.Memory.{seen_of};
 
-use crate::formats::{drives, made};
+use crate::formats::{MAKING, drives, made};
 use assembler::{Part, Refusal, assemble};
 use lvm_group::Volume;
 use pool_state::{State, decode_state};
-use rack::Rack;
+use rack::{Gone, Rack};
 use rack_mem::MemBay;
 use raid_rack::RaidRack;
 use std::alloc::Global;
@@ -20,9 +20,9 @@ use std::test::Fail;
 /// A volume over disks in memory.
 type Pool = Volume<RaidRack<MemBay>>;
 
-/// The disks of a new pool of drives of so many sectors.
-fn disks(rt: &impl Abort, alloc: Global, sizes: &[u64]) -> Result<MemBay, Fail> {
-    Ok(disks_of(made(rt, alloc, sizes)?))
+/// The disks of a new pool of three drives.
+fn disks(rt: &impl Abort, alloc: Global) -> Result<MemBay, Fail> {
+    Ok(disks_of(made(rt, alloc, &[79104, 79104, 80384])?))
 }
 
 /// The disks below a volume.
@@ -38,6 +38,26 @@ fn opened(rt: &impl Abort, alloc: Global, bay: MemBay) -> Pool
         Ok(volume) => volume,
         Err(_) => panic!(rt; "no volume"),
     }
+}
+
+/// Writes a sector of a volume.
+fn write(rt: &impl Abort, volume: &mut Pool, sector: u64, bytes: &[u8; 512]) -> Result<(), Gone>
+    requires fit { (volume_of (linear volume.old) (raid_seen (λ bay. seen_of (memory bay)) (below_of volume.old))).fit }
+    ensures fit { (volume_of (linear volume.new) (raid_seen (λ bay. seen_of (memory bay)) (below_of volume.new))).fit }
+{
+    assert!(rt; sector < volume.sectors(0));
+    volume.write(0, sector, bytes)
+}
+
+/// Reads one.
+fn read(rt: &impl Abort, volume: &mut Pool, sector: u64) -> Result<[u8; 512], Gone>
+    requires fit { (volume_of (linear volume.old) (raid_seen (λ bay. seen_of (memory bay)) (below_of volume.old))).fit }
+    ensures fit { (volume_of (linear volume.new) (raid_seen (λ bay. seen_of (memory bay)) (below_of volume.new))).fit }
+{
+    assert!(rt; sector < volume.sectors(0));
+    let mut bytes = [1; 512];
+    volume.read(0, sector, &mut bytes)?;
+    Ok(bytes)
 }
 
 /// Why no pool is opened.
@@ -58,55 +78,41 @@ pub(crate) fn state_on(rt: &impl Abort, bay: &MemBay, disk: u32) -> State {
 
 #[test]
 fn blank_disks_have_no_pool(rt: HostRuntime) -> Result<(), Fail> {
-    let bay = drives(&rt, rt.alloc(), &[79104, 79104])?;
+    let bay = drives(&rt, rt.alloc(), &[79104, 79104], &[], MAKING)?;
     assert_eq!(rt; refusal(&rt, rt.alloc(), bay), Refusal::NoPool);
     Ok(())
 }
 
 #[test]
 fn an_absent_drive_is_marked(rt: HostRuntime) -> Result<(), Fail> {
-    let alloc = rt.alloc();
-    let mut bay = disks(&rt, alloc, &[79104, 79104, 80384])?;
+    let mut bay = disks(&rt, rt.alloc())?;
     assert!(rt; bay.disks() == 3);
     bay.fail_disk(1);
-    let mut volume = opened(&rt, alloc, bay);
+    let mut volume = opened(&rt, rt.alloc(), bay);
     assert_eq!(rt; volume.sectors(0), 2560);
-    assert!(rt; 2559 < volume.sectors(0));
-    let mut sector = [1; 512];
-    assert_eq!(rt; volume.write(0, 2559, &[5; 512]), Ok(()));
-    assert_eq!(rt; volume.read(0, 2559, &mut sector), Ok(()));
-    assert_eq!(rt; sector, [5; 512]);
-    assert_eq!(rt; volume.read(0, 200, &mut sector), Ok(()));
-    assert_eq!(rt; sector, [0; 512]);
-    let bay = disks_of(volume);
-    let state = state_on(&rt, &bay, 0);
-    assert_eq!(rt; state.epoch, 2);
-    assert!(rt;
-        state
-            .drives
-            .as_slice()
-            .iter()
-            .map(|drive| drive.missing)
-            .eq([false, true, false])
-    );
+    let answer = write(&rt, &mut volume, 2559, &[5; 512]);
+    let last = read(&rt, &mut volume, 2559);
+    let blank = read(&rt, &mut volume, 200);
+    assert!(rt; (answer, last, blank) == (Ok(()), Ok([5; 512]), Ok([0; 512])));
+    let state = state_on(&rt, &disks_of(volume), 0);
+    let marks = state.drives.as_slice().iter().map(|drive| drive.missing);
+    assert!(rt; state.epoch == 2 && marks.eq([false, true, false]));
     Ok(())
 }
 
 #[test]
 fn two_absent_drives_are_too_many(rt: HostRuntime) -> Result<(), Fail> {
-    let alloc = rt.alloc();
-    let mut bay = disks(&rt, alloc, &[79104, 79104, 80384])?;
+    let mut bay = disks(&rt, rt.alloc())?;
     assert!(rt; bay.disks() == 3);
     bay.fail_disk(0);
     bay.fail_disk(2);
-    assert_eq!(rt; refusal(&rt, alloc, bay), Refusal::Absent { count: 2 });
+    assert_eq!(rt; refusal(&rt, rt.alloc(), bay), Refusal::Absent { count: 2 });
     Ok(())
 }
 
 #[test]
 fn a_damaged_superblock_is_named(rt: HostRuntime) -> Result<(), Fail> {
-    let alloc = rt.alloc();
-    let mut bay = disks(&rt, alloc, &[79104, 79104, 80384])?;
+    let mut bay = disks(&rt, rt.alloc())?;
     assert!(rt; 1 < bay.disks() && 10248 < bay.sectors(1));
     let mut superblock = bay.sector_now(1, 10248);
     superblock[200] ^= 1;
@@ -115,6 +121,6 @@ fn a_damaged_superblock_is_named(rt: HostRuntime) -> Result<(), Fail> {
         place: 1,
         part: Part::Superblock,
     };
-    assert_eq!(rt; refusal(&rt, alloc, bay), why);
+    assert_eq!(rt; refusal(&rt, rt.alloc(), bay), why);
     Ok(())
 }

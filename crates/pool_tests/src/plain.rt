@@ -157,8 +157,7 @@ impl Plain {
 
 /// Where the list of all arrays has a sector of one.
 fn place_in_list(rt: &impl Abort, spot: Spot) -> usize {
-    assert!(rt; spot.array < 3);
-    assert!(rt; spot.sector < SECTORS[spot.array as usize]);
+    assert!(rt; spot.array < 3 && spot.sector < SECTORS[spot.array as usize]);
     let before = match spot.array {
         0 => 0,
         1 => SECTORS[0],

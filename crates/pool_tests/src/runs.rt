@@ -9,20 +9,17 @@ ghost use Rattle.rack_mem.specs.Memory.{seen_of};
 ghost use Rattle.pool_tests.specs.Counted.{IsReady, counted};
 
 use crate::failing::Failing;
-use crate::formats::{BIRTH, drives};
+use crate::formats::{BIRTH, MAKING, attach, drives};
 use crate::plain::{SIZES, Spot, count, is_synced_after, sector_of};
 use assembler::assemble;
 use lvm_group::Volume;
 use pool_format::format;
-use rack::{Bay, Gone, Name, Rack};
-use rack_mem::{DiskSpec, MemBay};
+use rack::{Gone, Rack};
+use rack_mem::MemBay;
 use raid_rack::RaidRack;
 use std::alloc::Global;
 use std::process::Abort;
 use std::test::Fail;
-
-/// The names of the drives, by place.
-const NAMES: [&str; 5] = ["a", "b", "c", "d", "e"];
 
 /// How many calls the disks of a run keep.
 const ROOM: u64 = 20_000;
@@ -76,28 +73,12 @@ fn parts_of(alloc: Global, bay: &MemBay) -> Result<Vec<Part>, Fail> {
 
 /// Attaches all drives, in their order.
 pub(crate) fn attach_all(rt: &impl Abort, bay: &mut MemBay) {
-    for name in NAMES {
-        assert!(rt; bay.attach(name).is_ok());
-    }
-}
-
-/// A bay with the drives, all zeros, where the calls of some numbers fail.
-fn blank(rt: &impl Abort, alloc: Global, failing: &[u64]) -> Result<MemBay, Fail> {
-    let mut shelf = Vec::new(alloc);
-    for (name, sectors) in NAMES.into_iter().zip(SIZES) {
-        let name = Name::of(alloc, name.as_bytes())?;
-        shelf.push(DiskSpec { name, sectors })?;
-    }
-    assert!(rt; shelf.len() < 1 << 32 && shelf.iter().all(|disk| disk.sectors < 1 << 48));
-    let mut bay = MemBay::new(alloc, shelf, failing.to_vec(alloc)?, ROOM)?;
-    attach_all(rt, &mut bay);
-    Ok(bay)
+    attach(rt, bay, SIZES.len());
 }
 
 /// Writes a sector of a disk.
 fn put(rt: &impl Abort, bay: &mut MemBay, part: &Part) {
-    assert!(rt; part.disk < bay.disks());
-    assert!(rt; part.sector < bay.sectors(part.disk));
+    assert!(rt; part.disk < bay.disks() && part.sector < bay.sectors(part.disk));
     assert_eq!(rt; bay.write(part.disk, part.sector, &part.bytes), Ok(()));
 }
 
@@ -113,7 +94,7 @@ fn sync_disks(rt: &impl Abort, bay: &mut MemBay) {
 fn formatted(rt: &impl Abort, alloc: Global) -> Result<Pool, Fail>
     ensures fit { IfOk result (λ volume. (volume_of (linear volume) (raid_seen (λ bay. counted (seen_of (memory bay.bay)) bay.refusals) (below_of volume))).fit) }
 {
-    let bay = Failing::new(drives(rt, alloc, &SIZES)?, NEVER);
+    let bay = Failing::new(drives(rt, alloc, &SIZES, &[], MAKING)?, NEVER);
     match format(alloc, bay, 128, &BIRTH) {
         Ok(volume) => Ok(volume),
         Err(_) => panic!(rt; "no pool"),
@@ -148,7 +129,7 @@ impl NewPool {
 
     /// Its disks, where the calls of some numbers fail.
     fn disks(&self, rt: &impl Abort, alloc: Global, failing: &[u64]) -> Result<MemBay, Fail> {
-        let mut bay = blank(rt, alloc, failing)?;
+        let mut bay = drives(rt, alloc, &SIZES, failing, ROOM)?;
         for part in self.parts.as_slice() {
             put(rt, &mut bay, part);
         }
@@ -273,15 +254,12 @@ impl Run {
         requires fit { IsReady (λ bay. counted (seen_of (memory bay.bay)) bay.refusals) self.old.raid }
         ensures fit { IsReady (λ bay. counted (seen_of (memory bay.bay)) bay.refusals) self.new.raid }
     {
-        assert!(rt; spot.array < self.raid.disks());
-        assert!(rt; spot.sector < self.raid.sectors(spot.array));
+        assert!(rt; spot.array < self.raid.disks() && spot.sector < self.raid.sectors(spot.array));
         let mut bytes = [0; 512];
         let answer = self.raid.read(spot.array, spot.sector, &mut bytes);
         self.look();
-        match answer {
-            Ok(()) => Ok(bytes),
-            Err(gone) => Err(gone),
-        }
+        answer?;
+        Ok(bytes)
     }
 
     /// Writes a value to a sector.
@@ -289,8 +267,7 @@ impl Run {
         requires fit { IsReady (λ bay. counted (seen_of (memory bay.bay)) bay.refusals) self.old.raid }
         ensures fit { IsReady (λ bay. counted (seen_of (memory bay.bay)) bay.refusals) self.new.raid }
     {
-        assert!(rt; spot.array < self.raid.disks());
-        assert!(rt; spot.sector < self.raid.sectors(spot.array));
+        assert!(rt; spot.array < self.raid.disks() && spot.sector < self.raid.sectors(spot.array));
         let answer = self.raid.write(spot.array, spot.sector, &sector_of(value));
         self.look();
         answer
