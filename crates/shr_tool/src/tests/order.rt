@@ -1,7 +1,7 @@
 //! No reply is put before the calls of its line have returned.
 
 use super::faults::TEN_LINES;
-use super::{SERVE_TWO, made_of_two};
+use super::{SERVE_TWO, made_of_two, now_of};
 use crate::run::run;
 use io_ends::{Failed, MemSink, MemSource, Sink};
 use rack::{AttachFault, Bay, Gone, Rack};
@@ -116,8 +116,9 @@ impl<'a, O: Sink> Sink for WatchingSink<'a, O> {
 // How many calls had returned before each reply to the script of ten lines, and the status.
 fn watched(rt: &impl Abort, alloc: Global) -> Result<(Vec<u64>, u8), Fail> {
     let returned = Cell::new(0);
+    let made = made_of_two(rt, alloc)?;
     let mut bay = CountingBay {
-        bay: made_of_two(rt, alloc)?,
+        bay: now_of(rt, alloc, &made)?,
         returned: &returned,
     };
     let mut out = WatchingSink {
