@@ -71,6 +71,7 @@ mod SettledWhole
 pub mod LayingDrive
 pub mod Enlisted
 pub mod Apart
+mod NotTaken
 pub mod Seating
 pub mod Others
 pub mod Renewed

@@ -24,7 +24,7 @@ use Rattle.raid_rack.specs.Enlisting.{Enlists, FindsEach, HasLost, HasNewSlices,
 use Rattle.raid_rack.specs.Moves.{IsSet, IsUnmarked, Mends}
 use Rattle.raid_rack.specs.NewDrive.{IsOfDrive, LaysDrive, ReachesAll, SeatsDrive, drive_table, joins}
 use Rattle.raid_rack.specs.RaidRack.{IsFit, IsRunning, raid_by, slices_in}
-use Rattle.raid_rack.proofs.Apart.{fit_still, not_whole, refused_lay, running_still}
+use Rattle.raid_rack.proofs.NotTaken.{fit_still, not_whole, refused_lay, running_still}
 use Rattle.raid_rack.proofs.Enlisted.{table_writable}
 use Rattle.raid_rack.proofs.EnlistRetired.{back_each, back_finds, back_joined, back_less, back_raises, back_truths, retired_heeded, retired_members, retired_missing, retired_raid, retired_set}
 use Rattle.raid_rack.proofs.Missing.{current_marked, length_marked, units_marked}
