@@ -9,20 +9,20 @@ use Rattle.slice_rack.specs.Slices.{Slices, IsOrderly, seat_of, disk_of}
 use Rattle.slice_rack.specs.Sliced.{IsInside, slices_of}
 use Rattle.slice_rack.specs.Runs.{IsSliced, inside_still}
 use Rattle.raid_rack.specs.declared.arrays.Arrays.{Arrays}
-use Rattle.raid_rack.specs.Book.{after_same}
-use Rattle.raid_rack.specs.Enlisting.{HasLost, IsNotWhole, IsRefused, IsWrittenBy}
-use Rattle.raid_rack.specs.Laws.{stops_inside}
-use Rattle.raid_rack.specs.Moves.{Mends, Moves, RaisesBy}
-use Rattle.raid_rack.specs.NewDrive.{IsOfDrive}
+use Rattle.raid_laws.specs.Book.{after_same}
+use Rattle.raid_laws.specs.Enlisting.{HasLost, IsNotWhole, IsRefused, IsWrittenBy}
+use Rattle.raid_laws.specs.Laws.{stops_inside}
+use Rattle.raid_laws.specs.Moves.{Mends, Moves, RaisesBy}
+use Rattle.raid_laws.specs.NewDrive.{IsOfDrive}
 use Rattle.raid_rack.specs.RaidRack.{IsFit, IsRunning, raid_by}
-use Rattle.raid_rack.specs.Runs.{KeepsMoments}
-use Rattle.raid_rack.proofs.Moving.{moves_bring, moves_then}
+use Rattle.raid_laws.specs.Runs.{KeepsMoments}
+use Rattle.raid_laws.proofs.Moving.{moves_bring, moves_then}
 use Rattle.raid_rack.proofs.Serving.{moments_call}
-use Rattle.raid_rack.specs.Truths.{KeepsTruths}
-use Rattle.raid_rack.specs.Unlost.{KeepsUnlost}
+use Rattle.raid_laws.specs.Truths.{KeepsTruths}
+use Rattle.raid_laws.specs.Unlost.{KeepsUnlost}
 use Rattle.raid_rack.proofs.Truths.{truths_reads, truths_then}
-use Rattle.raid_rack.proofs.Unlost.{unlost_reads, unlost_then}
-use Rattle.raid_rack.proofs.Apart.{moves_quiet, reads_apart, set_still}
+use Rattle.raid_laws.proofs.Unlost.{unlost_reads, unlost_then}
+use Rattle.raid_laws.proofs.Apart.{moves_quiet, reads_apart, set_still}
 
 pub running_still : (r : Arrays) (a b : Seen) → Stays a b → IsRunning r a → IsRunning r b
 running_still r a b stays running = record { count = running.count; set = set_still (raid_by r) a b stays running.set }
