@@ -78,8 +78,6 @@ impl<R: Rack> Rack for Volume<R> {
 
     ghost unwritten = { λ old new. R.unwritten old.rack new.rack };
 
-    ghost lenders = { λ volume. R.lenders volume.rack };
-
     fn disks(&self) -> u32 {
         1
     }
@@ -120,8 +118,6 @@ impl<R: Rack> Rack for Volume<R> {
     ghost unwritten_same = { λ volume. R.unwritten_same volume.rack };
 
     ghost unwritten_then = { λ x y z. R.unwritten_then x.rack y.rack z.rack };
-
-    ghost runs_lenders = { λ x y runs. R.runs_lenders x.rack y.rack runs.0 };
 }
 
 impl<R: Rack> Volume<R> {

@@ -17,7 +17,8 @@ use Rattle.raid_laws.specs.NewDrive.{IsOfDrive as IsLaid}
 use Rattle.raid_laws.specs.Raid.{Raid}
 use Rattle.pool.specs.declared.replacing.GrowFault.{GrowFault}
 use Rattle.pool.specs.declared.replacing.GrowFault.TheVariants.{NoSuchDrive, Attach, Twice, Memory, Gone, NotWhole}
-use Rattle.pool.specs.Continuing.{KeepsDisk, NoDisk}
+use Rattle.rack.specs.Untouched.{KeepsDisk}
+use Rattle.pool.specs.Continuing.{NoDisk}
 use Rattle.pool.specs.Moment.{IsImage, IsNamed, moment_of, views_of}
 use Rattle.pool.specs.Replaced.{DriveWentFrom, DriveWentSince, HasMarkedOther, HasTable, IsAnswer, IsDeclined, IsLaidOn, IsLookedAt, IsOfDrive, IsReplaced, LeavesNew, MeansFormer, MeansWith, faults_before}
 use Rattle.pool.specs.Naming.{EntersDrive, EntersNamed, ReplacesDrive}

@@ -45,7 +45,7 @@ use Rattle.raid_laws.proofs.Whole.{heeded_left}
 use Rattle.shr_base.specs.Units.{units_of}
 use Rattle.pool.specs.declared.replacing.GrowFault.{GrowFault}
 use Rattle.pool.specs.declared.replacing.GrowFault.TheVariants.{Gone, NotWhole}
-use Rattle.pool.specs.Continuing.{KeepsDisk}
+use Rattle.rack.specs.Untouched.{KeepsDisk}
 use Rattle.pool.specs.Entering.{IsVacating}
 use Rattle.pool.specs.Moment.{views_of}
 use Rattle.pool.specs.Replaced.{MeansBy, MeansFormer, MeansWith, table_for}

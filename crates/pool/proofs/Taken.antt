@@ -27,7 +27,8 @@ use Rattle.raid_rack.proofs.Raises.{raises_more, raises_none}
 use Rattle.raid_laws.proofs.Whole.{heeded_left}
 use Rattle.pool.specs.declared.replacing.GrowFault.{GrowFault}
 use Rattle.pool.specs.declared.replacing.GrowFault.TheVariants.{Gone, NotWhole}
-use Rattle.pool.specs.Continuing.{Continues, KeepsDisk, KeepsOutside, NoDisk}
+use Rattle.rack.specs.Untouched.{KeepsDisk}
+use Rattle.pool.specs.Continuing.{Continues, KeepsOutside, NoDisk}
 use Rattle.pool.specs.Entering.{IsVacating, LeavesOut, Vacates, table_on}
 use Rattle.pool_state.specs.declared.contents.State.{State}
 use Rattle.log_laws.proofs.Kept.{place_of_log}

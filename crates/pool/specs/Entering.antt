@@ -14,7 +14,7 @@ use Rattle.raid_rack.specs.RaidRack.{IsFit}
 use Rattle.raid_laws.specs.Unlost.{KeepsUnlost}
 use Rattle.pool.specs.Moment.{views_of}
 use Rattle.pool.specs.Calls.{Ends}
-use Rattle.pool.specs.Continuing.{KeepsDisk}
+use Rattle.rack.specs.Untouched.{KeepsDisk}
 use Rattle.pool.specs.Replacing.{IsAdmitted}
 use Rattle.pool.specs.View.{View, book, slices_shown}
 

@@ -26,7 +26,8 @@ use Rattle.pool.specs.declared.replacing.GrowFault.{GrowFault}
 use Rattle.pool.specs.declared.replacing.GrowFault.TheVariants.{NoSuchDrive, Attach, Twice, Memory, NotWhole, Gone}
 use Rattle.lvm_group.specs.Runs.{Linear}
 use Rattle.pool.specs.Calls.{DriveWent}
-use Rattle.pool.specs.Continuing.{KeepsDisk, KeepsOutside, NoDisk}
+use Rattle.rack.specs.Untouched.{KeepsDisk}
+use Rattle.pool.specs.Continuing.{KeepsOutside, NoDisk}
 use Rattle.pool.specs.Held.{KeepsHeld}
 use Rattle.pool.specs.Moment.{IsImage, IsNamed, Moment, moment_of, views_of}
 use Rattle.pool.specs.Replacing.{refusal_of}

@@ -10,7 +10,8 @@ use Rattle.raid_laws.specs.Truths.{KeepsTruths}
 use Rattle.pool.specs.declared.replacing.GrowFault.{GrowFault}
 use Rattle.pool.specs.declared.replacing.GrowFault.TheVariants.{Attach, Twice, Memory, NotWhole, Gone}
 use Rattle.raid_laws.specs.NewDrive.{IsOfDrive as IsLaid}
-use Rattle.pool.specs.Continuing.{Continues, KeepsDisk, KeepsOutside, NoDisk}
+use Rattle.rack.specs.Untouched.{KeepsDisk}
+use Rattle.pool.specs.Continuing.{Continues, KeepsOutside, NoDisk}
 use Rattle.pool.specs.Entering.{Declines, Enters, EntersBy, LeavesBy, LeavesOut, StaysStill, table_on}
 use Rattle.pool.specs.Held.{KeepsHeld}
 use Rattle.pool.specs.Keeping.{KeepsBook, KeepsBookBut, Raises}

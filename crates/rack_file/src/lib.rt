@@ -118,8 +118,6 @@ where
 
     ghost unwritten = { λ old new. Unit {0} };
 
-    ghost lenders = { λ b. [] };
-
     fn disks(&self) -> u32 {
         self.disks.len() as u32
     }
@@ -169,8 +167,6 @@ where
     ghost unwritten_same = { λ x. tt };
 
     ghost unwritten_then = { λ x y z one two. tt };
-
-    ghost runs_lenders = { λ x y runs. refl };
 }
 
 impl<'a, R: Files> Bay for FileBay<'a, R>
@@ -204,7 +200,15 @@ where
 
     ghost bounded = { λ b d inside. bounded_files b.disks.items d };
 
+    ghost frame = { λ old new. Unit {0} };
+
     ghost runs_shelf = { λ x y runs. runs };
+
+    ghost runs_frame = { λ x y runs. tt };
+
+    ghost frame_same = { λ x. tt };
+
+    ghost frame_then = { λ x y z one two. tt };
 
     ghost numbered = { λ b. names-length b.disks.items };
 }

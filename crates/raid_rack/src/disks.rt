@@ -27,8 +27,6 @@ impl<R: Rack> Rack for RaidRack<R> {
 
     ghost unwritten = { λ old new. (n : ℕ) → written_in new n ≡ written_in old n };
 
-    ghost lenders = { λ rack. R.lenders (below_of (slices_in rack)) };
-
     fn disks(&self) -> u32 {
         self.arrays.state.made
     }
@@ -104,8 +102,6 @@ impl<R: Rack> Rack for RaidRack<R> {
     ghost unwritten_same = { λ rack n. refl };
 
     ghost unwritten_then = { λ x y z one two n. two n ∙ one n };
-
-    ghost runs_lenders = { λ x y runs. R.runs_lenders (below_of (slices_in x)) (below_of (slices_in y)) runs.0.below };
 }
 
 impl<R: Rack> RaidRack<R> {

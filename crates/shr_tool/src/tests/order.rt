@@ -31,8 +31,6 @@ impl<'a, R: Rack> Rack for CountingBay<'a, R> {
 
     ghost unwritten = { λ old new. R.unwritten old.bay new.bay };
 
-    ghost lenders = { λ counting. R.lenders counting.bay };
-
     fn disks(&self) -> u32 {
         self.bay.disks()
     }
@@ -68,12 +66,12 @@ impl<'a, R: Rack> Rack for CountingBay<'a, R> {
     ghost unwritten_same = { λ counting. R.unwritten_same counting.bay };
 
     ghost unwritten_then = { λ x y z. R.unwritten_then x.bay y.bay z.bay };
-
-    ghost runs_lenders = { λ x y runs. R.runs_lenders x.bay y.bay runs };
 }
 
 impl<'a, R: Bay> Bay for CountingBay<'a, R> {
     ghost shelf = { λ counting. R.shelf counting.bay };
+
+    ghost frame = { λ old new. R.frame old.bay new.bay };
 
     fn attach(&mut self, name: &str) -> Result<u32, AttachFault> {
         self.bay.attach(name)
@@ -88,6 +86,12 @@ impl<'a, R: Bay> Bay for CountingBay<'a, R> {
     ghost bounded = { λ counting. R.bounded counting.bay };
 
     ghost runs_shelf = { λ x y runs. R.runs_shelf x.bay y.bay runs };
+
+    ghost runs_frame = { λ x y runs. R.runs_frame x.bay y.bay runs };
+
+    ghost frame_same = { λ counting. R.frame_same counting.bay };
+
+    ghost frame_then = { λ x y z one two. R.frame_then x.bay y.bay z.bay one two };
 
     ghost numbered = { λ counting. R.numbered counting.bay };
 }
