@@ -8,9 +8,9 @@ ghost use Rattle.raid_rack.specs.AllRuns.{AreRuns, IsOneCall, serves_same, serve
 ghost use Rattle.slice_rack.specs.SliceRack.{below_of, tables};
 ghost use Rattle.slice_rack.specs.Laws.{is_sound};
 ghost use Rattle.slice_rack.specs.Runs.{runs_join, runs_none};
-ghost use Rattle.raid_rack.specs.Laws.{raid_sound, stops_inside};
-ghost use Rattle.raid_rack.specs.Raid.{spent_of};
-ghost use Rattle.raid_rack.specs.Runs.{RaidRuns, raid_runs_same, raid_runs_then};
+ghost use Rattle.raid_laws.specs.Laws.{raid_sound, stops_inside};
+ghost use Rattle.raid_laws.specs.Raid.{spent_of};
+ghost use Rattle.raid_laws.specs.Runs.{RaidRuns, raid_runs_same, raid_runs_then};
 ghost use Rattle.raid_rack.specs.RaidRack.{IsFit, is_written, SliceRuns, arrays_in, raid_in, raid_seen, refused_in, slices_in, slices_seen, written_in};
 
 use crate::arrays::RaidRack;
