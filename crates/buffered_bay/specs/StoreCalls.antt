@@ -28,7 +28,7 @@ pub record Puts (a b : View) (disk sector place : ℕ) (from : List ℕ) {X : Ty
   pub failed : OnErr result (KeepsAll a.seen b.seen)
   pub stored : (d s : ℕ) → IsLive a.seen b.seen d s → (d ≢ disk) ⊎ (s ≢ sector) → b.stored d s ≡ a.stored d s
   pub others : (d p : ℕ) → (d ≢ disk) ⊎ (p ≢ place) → b.buffer d p ≡ a.buffer d p
-  pub put : OnOk result (b.buffer disk place ≡ from)
+  pub put : OnOk result (a.seen.told disk → b.buffer disk place ≡ from)
   pub unput : OnErr result ((b.buffer disk place ≡ a.buffer disk place) × KeepsStored a b)
 
 -- a sector is read from its file

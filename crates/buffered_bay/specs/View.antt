@@ -19,3 +19,11 @@ pub record IsPlain (tells : Type 0) (x : Seen) : Type 0 where
   pub unspent : (d s : ℕ) → x.spent d s ≡ false
   pub lasting : x.lasting
   pub bounded : (d : ℕ) → d < x.disks → x.sectors d < 2 ^ 48
+
+-- the file has the current value of each of its sectors
+abbrev pub IsWritten : Type 0 → View → ℕ → Type 0
+IsWritten tells x d = tells → (s : ℕ) → s < x.seen.sectors d → x.stored d s ≡ (x.seen.held d s).current
+
+-- a file stays as it is
+abbrev pub KeepsFile : Type 0 → View → View → ℕ → Type 0
+KeepsFile tells a b d = tells → (s : ℕ) → s < a.seen.sectors d → b.stored d s ≡ a.stored d s

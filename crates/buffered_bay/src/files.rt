@@ -34,6 +34,7 @@ pub trait FileStore: Drop {
     /// The number of the file that is attached by a name.
     fn named(&self, name: &str) -> Option<u32>
         ensures found { IfSome result (λ d. slice_get (shelf self.now).names d ≡ Some name.now) }
+        ensures only { IfSome result (λ d. (e : ℕ) → slice_get (shelf self.now).names e ≡ Some name.now → e ≡ d) }
         ensures none { IfNone result ((d : ℕ) → slice_get (shelf self.now).names d ≢ Some name.now) };
 
     /// Attaches a file by a name that isn't attached, with room for its buffer.
