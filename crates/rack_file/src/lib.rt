@@ -5,10 +5,10 @@
 //! told. `Gone` comes only where the disk's count rose, and `Failed` of attaching only where the
 //! bay's did.
 //!
-//! **Buffers.** The files themselves are [`ImageFiles`]: positioned reads and writes of many sectors, a sync, and a buffer of
-//! 64 KiB for each, as the crate `buffered_bay` asks. The bay is that crate's over them, so neighbouring sectors go to a file
-//! in one call, and its contract says what of it is proved over files that tell what they hold. What is dirty is
-//! written when the bay goes.
+//! **Buffers.** The files themselves are [`ImageFiles`]: positioned reads and writes of many sectors,
+//! a sync, and a buffer of 64 KiB for each, as the crate `buffered_bay` asks. The bay is that crate's
+//! over them, so neighbouring sectors go to a file in one call, and its contract says what of it is
+//! proved over files that tell what they hold. What is dirty is written when the bay goes.
 //!
 //! **One bay a file.** A file's exclusive lock is taken when it is attached and kept until the bay
 //! goes, so a file that another program has open as an image, or this bay by another path, can't be
