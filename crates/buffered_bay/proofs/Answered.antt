@@ -1,17 +1,16 @@
 -- The clauses of a rack, of the answers of a bay with buffers.
-use Rattle.std.proofs.Common.{◌≡◌, ◌⊎◌, ℕ, ◌+◌, ◌-◌, ◌<◌, ◌≤◌, List, Ok, Err, Result, OnOk, true, false, refl, sym, ap, subst, ◌∙◌, inl, inr, arith}
+use Rattle.std.proofs.Common.{◌≡◌, ◌⊎◌, ℕ, ◌+◌, ◌-◌, ◌<◌, ◌≤◌, List, Ok, Err, Result, OnOk, false, refl, sym, ap, subst, ◌∙◌, inl, inr, arith}
 use Rattle.std.proofs.lemmas.Bool.{cases_lt}
 use Rattle.rack.specs.declared.Gone.{Gone}
 use Rattle.rack.specs.Values.{MayLeave}
-use Rattle.rack.specs.Seen.{Seen, IsLive, IsPick, appended}
-use Rattle.rack.specs.Calls.{HasCause, Reads, Writes, Syncs}
+use Rattle.rack.specs.Seen.{IsLive, IsPick, appended}
+use Rattle.rack.specs.Calls.{Reads, Writes, Syncs}
 use Rattle.rack.specs.Joins.{leaves_weaker}
-use Rattle.rack.specs.Sequences.{OnlyReads}
 use Rattle.rack.specs.Shelf.{Shelf}
 use Rattle.rack.proofs.Durably.{appended_more}
 use Rattle.rack.proofs.Reading.{only_reads_start}
 use Rattle.buffered_bay.specs.View.{View, IsPlain}
-use Rattle.buffered_bay.specs.StoreCalls.{HasFault, ReadsFile, SyncsFile}
+use Rattle.buffered_bay.specs.StoreCalls.{ReadsFile, SyncsFile}
 use Rattle.buffered_bay.specs.Buffered.{IsWindow, Quiet}
 use Rattle.buffered_bay.specs.declared.windows.Window.{Window}
 use Rattle.buffered_bay.proofs.WindowsKept.{live}

@@ -1,9 +1,8 @@
 -- A disk is attached, or a name is refused.
-use Rattle.std.proofs.Common.{◌≡◌, ◌≢◌, ◌⊎◌, ℕ, zero, suc, ◌+◌, ◌<◌, ◌≤◌, List, [], ◌∷◌, ◌++◌, length, length-append, Some, slice_get, Ok, Err, true, false, refl, sym, ap, subst, ◌∙◌, inl, inr, arith}
-use Rattle.std.proofs.lemmas.Bool.{cases_lt}
+use Rattle.std.proofs.Common.{◌≡◌, ◌≢◌, ◌⊎◌, ℕ, zero, suc, ◌+◌, List, [], ◌∷◌, ◌++◌, length, length-append, Some, slice_get, Ok, Err, true, refl, sym, ap, subst, ◌∙◌, inl, inr, arith}
 use Rattle.rack.specs.declared.AttachFault.{AttachFault}
 use Rattle.rack.specs.declared.AttachFault.TheVariants.{Memory, Twice}
-use Rattle.rack.specs.Values.{Values, Keeps}
+use Rattle.rack.specs.Values.{Keeps}
 use Rattle.rack.specs.Seen.{Seen}
 use Rattle.rack.specs.Joins.{keeps_same}
 use Rattle.rack.specs.Shelf.{Attaches, IsSame, SameDisk, Shelf}

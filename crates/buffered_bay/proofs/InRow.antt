@@ -1,5 +1,5 @@
 -- A call after one that brings no value is as if it were the only one.
-use Rattle.std.proofs.Common.{◌≡◌, ℕ, ◌<◌, List, Bool, true, false, if◌then◌else◌, Ok, Err, Result, IfErr, OnOk, OnErr, ◌⊎◌, ◌==◌, ◌&&◌, sym, ap, subst, ◌∙◌, inl, inr}
+use Rattle.std.proofs.Common.{◌≡◌, ℕ, ◌<◌, List, Bool, true, false, if◌then◌else◌, Ok, Err, Result, IfErr, OnOk, OnErr, ◌⊎◌, ◌==◌, ◌&&◌, ◌∙◌, inl, inr}
 use Rattle.rack.specs.declared.Gone.{Gone}
 use Rattle.rack.specs.Values.{Values, MayLeave, Keeps, append}
 use Rattle.rack.specs.Seen.{Held, Seen, IsLive, IsPick, Rose, Stays, appended}

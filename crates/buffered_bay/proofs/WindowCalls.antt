@@ -2,12 +2,11 @@
 use Rattle.std.proofs.Common.{◌≡◌, ◌≢◌, ◌⊎◌, ℕ, ◌+◌, ◌-◌, ◌<◌, ◌≤◌, List, Ok, Err, Result, refl, sym, ap, subst, ◌∙◌, inl, inr, arith}
 use Rattle.std.proofs.lemmas.Bool.{cases_eq, cases_lt}
 use Rattle.rack.specs.declared.Gone.{Gone}
-use Rattle.rack.specs.Values.{Values, Keeps}
-use Rattle.rack.specs.Seen.{IsLive, Stays, appended}
+use Rattle.rack.specs.Values.{Keeps}
 use Rattle.rack.proofs.Writing.{appended_elsewhere, appended_here}
 use Rattle.buffered_bay.specs.View.{View, IsPlain}
 use Rattle.buffered_bay.specs.StoreCalls.{Puts, Loads, Stores, SyncsFile}
-use Rattle.buffered_bay.specs.Buffered.{IsWindow, IsEmptyAt, Marks, Takes}
+use Rattle.buffered_bay.specs.Buffered.{IsWindow, IsEmptyAt, Marks}
 use Rattle.buffered_bay.specs.declared.windows.Window.{Window}
 use Rattle.buffered_bay.proofs.WindowsKept.{KeepsDisk, live, keeps_disk, single_kept}
 

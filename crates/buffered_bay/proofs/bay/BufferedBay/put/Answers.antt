@@ -1,5 +1,5 @@
 -- A value that was put is dirty; a refused one changed nothing.
-use Rattle.std.proofs.Common.{◌≡◌, ◌+◌, ◌-◌, ◌<◌, Some, slice_get, length, refl, sym, ap, subst, arith}
+use Rattle.std.proofs.Common.{◌≡◌, ◌<◌, Some, slice_get, length, refl, sym, subst, arith}
 use Rattle.std.proofs.lemmas.Option.{slice_get_read}
 use Rattle.buffered_bay.specs.Buffered.{Takes}
 use Rattle.buffered_bay.specs.declared.windows.Window.{Window}

@@ -1,5 +1,5 @@
 -- Where the file doesn't give the sectors the window has none.
-use Rattle.std.proofs.Common.{◌≡◌, ◌<◌, Some, slice_get, length, refl, sym, subst, ◌∙◌}
+use Rattle.std.proofs.Common.{◌≡◌, ◌<◌, Some, slice_get, length, refl, sym, subst}
 use Rattle.std.proofs.lemmas.Option.{slice_get_read}
 use Rattle.buffered_bay.specs.declared.windows.Window.{Window}
 use Rattle.buffered_bay.proofs.WindowsKept.{windows_kept}

@@ -1,7 +1,6 @@
 -- A disk of which nothing is dirty is synced, or needs no sync.
 use Rattle.std.proofs.Common.{◌≡◌, ◌<◌, Some, slice_get, length, refl, sym, subst}
 use Rattle.std.proofs.lemmas.Option.{slice_get_read}
-use Rattle.buffered_bay.specs.Buffered.{AreWindows}
 use Rattle.buffered_bay.specs.declared.windows.Window.{Window}
 use Rattle.buffered_bay.proofs.WindowsKept.{windows_set, windows_kept, window_kept}
 use Rattle.buffered_bay.proofs.WindowCalls.{sync_kept}

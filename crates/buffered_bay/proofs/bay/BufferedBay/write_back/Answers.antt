@@ -1,8 +1,6 @@
 -- What was dirty is stored, or stays dirty.
-use Rattle.std.proofs.Common.{◌≡◌, ◌+◌, ◌-◌, ◌<◌, Some, slice_get, length, refl, sym, ap, subst, arith}
+use Rattle.std.proofs.Common.{◌≡◌, ◌<◌, Some, slice_get, length, refl, sym, subst, arith}
 use Rattle.std.proofs.lemmas.Option.{slice_get_read}
-use Rattle.buffered_bay.specs.View.{View, IsPlain}
-use Rattle.buffered_bay.specs.Buffered.{AreWindows, IsWindow}
 use Rattle.buffered_bay.specs.declared.windows.Window.{Window}
 use Rattle.buffered_bay.proofs.WindowsKept.{get_set_same, windows_set, windows_kept}
 use Rattle.buffered_bay.proofs.WindowCalls.{store_others, store_done, store_refused}

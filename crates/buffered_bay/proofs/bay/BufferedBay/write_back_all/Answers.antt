@@ -1,4 +1,4 @@
-use Rattle.std.proofs.Common.{◌≡◌, ◌<◌, ◌≤◌, sym, subst, arith}
+use Rattle.std.proofs.Common.{◌<◌, sym, subst, arith}
 use Rattle.rack.specs.Shelf.{keeps_shelf_then}
 use Rattle.rack.proofs.Reading.{only_reads_join}
 use Rattle.buffered_bay.proofs.Written.{written_more}

@@ -1,4 +1,4 @@
-use Rattle.std.proofs.Common.{◌≡◌, ◌++◌, ◌∷◌, [], sym, subst, ap, ◌∙◌}
+use Rattle.std.proofs.Common.{◌++◌, ◌∷◌, [], sym, subst, ap, ◌∙◌}
 use Rattle.buffered_bay.specs.Buffered.{AreWindows}
 use Rattle.buffered_bay.proofs.Attached.{windows_push, windows_unattached}
 use Rattle.buffered_bay.proofs.bay.BufferedBayBay.attach.Goals as goal

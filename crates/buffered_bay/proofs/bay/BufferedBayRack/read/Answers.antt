@@ -1,4 +1,4 @@
-use Rattle.std.proofs.Common.{sym, subst, ◌<◌, ◌≡◌}
+use Rattle.std.proofs.Common.{subst}
 use Rattle.rack.specs.Calls.{Reads}
 use Rattle.buffered_bay.proofs.InRow.{reads_then}
 use Rattle.buffered_bay.proofs.Answered.{read_refused}
