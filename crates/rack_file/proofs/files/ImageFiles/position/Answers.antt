@@ -4,10 +4,10 @@ use Rattle.std.proofs.lemmas.Bool.Decides.{Decides-eqb}
 use Rattle.std.proofs.lemmas.Option.{slice_get_read}
 use Rattle.std.proofs.lemmas.Slice.Eq.{slice_eq-Decides}
 use Rattle.rack_file.proofs.FilesLemmas.{name_at, name_is, none_named}
-use Rattle.rack_file.proofs.FileBay.position.Goals as goal
+use Rattle.rack_file.proofs.files.ImageFiles.position.Goals as goal
 
 pub returns-then-eq-clause-found : goal.returns-then-eq-clause-found
-returns-then-eq-clause-found g c =
+returns-then-eq-clause-found c =
     let disks = c.args.self.now.disks.items in
     let here = slice_get_read c.deref-disk-items.result.now _ c.loop-at.at _ refl c.loop-at-test.true c.disk-item.is in
     let at = subst (λ xs. slice_get xs c.loop-at.at ≡ Some c.disk-item.result) c.deref-disk-items.ensures.value here in
@@ -15,7 +15,7 @@ returns-then-eq-clause-found g c =
     name_at disks _ _ at ∙ ap Some (sym c.bytes.ensures ∙ (same ∙ c.as_bytes.ensures.value))
 
 pub loop-at-preserved : goal.loop-at-preserved
-loop-at-preserved g c =
+loop-at-preserved c =
     let disks = c.args.self.now.disks.items in
     let here = slice_get_read c.deref-disk-items.result.now _ c.loop-at.at _ refl c.loop-at-test.true c.disk-item.is in
     let at = subst (λ xs. slice_get xs c.loop-at.at ≡ Some c.disk-item.result) c.deref-disk-items.ensures.value here in
@@ -28,7 +28,7 @@ loop-at-preserved g c =
     cc (c.if-eq.false))
 
 pub returns-clause-none : goal.returns-clause-none
-returns-clause-none g c =
+returns-clause-none c =
     let disks = c.args.self.now.disks.items in
     let same = ap length c.deref-disk-items.ensures.value in
     let past = c.loop-at-test.false in
