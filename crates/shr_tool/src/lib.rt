@@ -20,6 +20,3 @@ mod showing;
 mod status;
 
 pub use run::run;
-
-#[cfg(test)]
-mod tests;
