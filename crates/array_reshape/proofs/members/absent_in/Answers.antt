@@ -1,4 +1,4 @@
-use Rattle.std.proofs.Common.{◌≡◌, ◌<◌, ap, subst, sym, ◌∙◌}
+use Rattle.std.proofs.Common.{◌<◌, subst, sym, ◌∙◌}
 use Rattle.md_super.specs.declared.superblock.Super.{Super}
 use Rattle.reshape_laws.proofs.RowCall.{absent_one}
 use Rattle.array_reshape.proofs.members.absent_in.Goals as goal

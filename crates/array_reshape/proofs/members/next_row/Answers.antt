@@ -1,4 +1,4 @@
-use Rattle.std.proofs.Common.{◌≡◌, ℕ, ◌-◌, ◌*◌, ◌/◌, ◌<◌, subst, sym}
+use Rattle.std.proofs.Common.{ℕ, ◌-◌, ◌*◌, ◌/◌, ◌<◌, subst, sym}
 use Rattle.md_super.specs.declared.superblock.Super.{Super}
 use Rattle.array_model.specs.View.{rows_of}
 use Rattle.reshape_laws.proofs.Arrays.{row_left}

@@ -1,9 +1,9 @@
-use Rattle.std.proofs.Common.{◌∙◌, ◌≤◌, ◌≡◌, ◌<◌, subst, sym, ap}
+use Rattle.std.proofs.Common.{◌∙◌, ◌≤◌, ◌<◌, subst, sym}
 use Rattle.array_model.proofs.Views.{notes_none}
 use Rattle.reshape_laws.specs.Rows.{past}
 use Rattle.reshape_laws.proofs.Old.{read_old, read_only}
 use Rattle.md_super.specs.declared.superblock.Super.{Super}
-use Rattle.array_model.specs.View.{View, sectors_of}
+use Rattle.array_model.specs.View.{sectors_of}
 use Rattle.reshape_laws.proofs.RowCall.{blank_zeros, rows_same, spent_two}
 use Rattle.array_reshape.proofs.rows.old_sector.Goals as goal
 

@@ -1,4 +1,4 @@
-use Rattle.std.proofs.Common.{◌≡◌, ◌*◌, ◌-◌, ◌/◌, ◌<◌, ℕ, ap, subst, sym, ◌∙◌}
+use Rattle.std.proofs.Common.{◌*◌, ◌-◌, ◌/◌, ◌<◌, ℕ, ap, subst, sym, ◌∙◌}
 use Rattle.raid_map.specs.LeftSymmetric.{parity_at}
 use Rattle.raid_map.proofs.Rows.{row_members_differ}
 use Rattle.reshape_laws.proofs.RowCall.{parity_first}

@@ -1,4 +1,4 @@
-use Rattle.std.proofs.Common.{ap, ◌≡◌, ◌<◌, ◌∙◌, ◌+◌, ℕ, sym, subst, refl, arith}
+use Rattle.std.proofs.Common.{ap, ◌≡◌, ◌<◌, ◌∙◌, ℕ, sym, subst, refl, arith}
 use Rattle.rack.proofs.Reading.{only_reads_join, only_reads_start}
 use Rattle.log_laws.specs.View.{LogView}
 use Rattle.md_super.specs.declared.superblock.Super.{Super}
@@ -7,7 +7,7 @@ use Rattle.array_model.proofs.Views.{notes_none, notes_then}
 use Rattle.raid_map.specs.LeftSymmetric.{IsMemberCount, parity_at}
 use Rattle.array_image.specs.Supers.{is_reshaping}
 use Rattle.reshape_laws.specs.Ahead.{InRow, next_row}
-use Rattle.reshape_laws.specs.Rows.{AddsData, AddsPieces, IsNewBytes, OfOne, OfSector}
+use Rattle.reshape_laws.specs.Rows.{AddsData, OfOne}
 use Rattle.reshape_laws.proofs.Pieces.{pieces_by, pieces_length}
 use Rattle.reshape_laws.proofs.RowCall.{blank_zeros, few_disks, member_count, rows_same}
 use Rattle.reshape_laws.proofs.RowPieces.{data_next, data_none, sector_pieces}

@@ -1,4 +1,4 @@
-use Rattle.std.proofs.Common.{ap, ◌≡◌, ◌<◌, ◌-◌, ◌+◌, ◌*◌, ℕ, ◌∙◌, sym, subst, refl, arith}
+use Rattle.std.proofs.Common.{ap, ◌≡◌, ◌<◌, ◌-◌, ◌*◌, ℕ, ◌∙◌, sym, subst, refl, arith}
 use Rattle.rack.proofs.Reading.{only_reads_join, only_reads_start}
 use Rattle.log_laws.specs.View.{LogView}
 use Rattle.md_super.specs.declared.superblock.Super.{Super}

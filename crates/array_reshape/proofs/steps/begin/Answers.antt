@@ -1,15 +1,13 @@
-use Rattle.std.proofs.Common.{◌≡◌, ◌++◌, ◌∷◌, ℕ, false, List, [], is_ok, sym, ap, subst, ◌∙◌, refl, append-nil}
+use Rattle.std.proofs.Common.{◌≡◌, ℕ, false, List, [], is_ok, sym, ap, subst, ◌∙◌, refl, append-nil}
 use Rattle.rack.proofs.Reading.{only_reads_start}
 use Rattle.rack.specs.Targets.{Target}
-use Rattle.shr_base.specs.declared.Id.{Id}
 use Rattle.log_laws.specs.View.{LogView, names}
-use Rattle.array_image.specs.Places.{member_id}
 use Rattle.array_model.specs.View.{View, LosesPlaces, member_on}
 use Rattle.array_model.specs.Members.{IsSameButSeats}
 use Rattle.array_model.proofs.Views.{notes_none}
 use Rattle.array_core.specs.Staging.{AddsSupersOf}
-use Rattle.array_core.proofs.LogWrites.{few_in_order, reads_goes}
-use Rattle.reshape_laws.specs.Reshapes.{Reshapes, joined, joining_seat, lacks_two}
+use Rattle.array_core.proofs.LogWrites.{few_in_order}
+use Rattle.reshape_laws.specs.Reshapes.{Reshapes, joined}
 use Rattle.reshape_laws.proofs.Beginning.{IsBeginning, begin_reshapes, beginning_step}
 use Rattle.reshape_laws.proofs.Calling.{call_apart, call_elsewhere, call_had, call_some, call_valid}
 use Rattle.reshape_laws.proofs.Committing.{refused_reshapes}

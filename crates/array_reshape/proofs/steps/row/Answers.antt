@@ -1,9 +1,7 @@
-use Rattle.std.proofs.Common.{◌≡◌, ◌+◌, ◌*◌, ◌++◌, ℕ, List, [], false, not, is_ok, sym, ap, subst, ◌∙◌, refl, arith}
+use Rattle.std.proofs.Common.{◌≡◌, ℕ, false, is_ok, sym, ap, subst, ◌∙◌, refl, arith}
 use Rattle.rack.proofs.Reading.{only_reads_start}
-use Rattle.rack.specs.Targets.{Target}
 use Rattle.log_laws.specs.View.{LogView}
 use Rattle.md_super.specs.declared.superblock.Super.{Super}
-use Rattle.array_model.specs.View.{View}
 use Rattle.array_model.proofs.Views.{notes_none, same_view_then}
 use Rattle.array_core.proofs.Elsewhere.{reads_elsewhere}
 use Rattle.array_core.proofs.LogWrites.{few_in_order, goes_then, reads_goes}

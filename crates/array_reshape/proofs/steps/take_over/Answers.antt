@@ -1,4 +1,4 @@
-use Rattle.std.proofs.Common.{◌≡◌, ◌++◌, ℕ, List, [], false, is_ok, sym, ap, subst, ◌∙◌, refl, append-nil}
+use Rattle.std.proofs.Common.{◌≡◌, ℕ, [], false, is_ok, sym, ap, subst, ◌∙◌, refl, append-nil}
 use Rattle.log_laws.specs.View.{LogView}
 use Rattle.array_model.proofs.Views.{same_view_then}
 use Rattle.array_core.proofs.Elsewhere.{reads_elsewhere}
