@@ -1,5 +1,5 @@
 -- The call that begins a reshape, as one commit of superblocks.
-use Rattle.std.proofs.Common.{◌≡◌, ◌<◌, ◌≤◌, ℕ, ℤ, pos, Bool, true, false, ◌||◌, List, [], ◌∷◌, ◌++◌, slice_get, option_map, None, if◌then◌else◌, refl, sym, ap, subst, ◌∙◌, append-nil}
+use Rattle.std.proofs.Common.{◌≡◌, ◌<◌, ◌≤◌, ℕ, ℤ, pos, Bool, true, false, ◌||◌, List, [], ◌∷◌, ◌++◌, slice_get, option_map, None, if◌then◌else◌, refl, sym, ap, ◌∙◌, append-nil}
 use Rattle.std.proofs.lemmas.Bool.{both_ways}
 use Rattle.std.proofs.lemmas.Bool.Decides.{Decides-int_eq}
 use Rattle.std.specs.Ordering.{int_eq}
@@ -10,7 +10,6 @@ use Rattle.md_super.specs.Profile.{is_mirror, is_raid5}
 use Rattle.array_image.specs.Places.{member_id}
 use Rattle.array_image.specs.Supers.{is_reshaping}
 use Rattle.array_image.specs.SoundArray.{first_unsynced}
-use Rattle.array_image.specs.Arrays.{Member}
 use Rattle.log_laws.specs.View.{LogView, names, next_number}
 use Rattle.log_laws.specs.Commits.{CommitCall}
 use Rattle.array_model.specs.declared.Seat.{Seat}
@@ -23,8 +22,7 @@ use Rattle.array_core.specs.Seats.{seat_of}
 use Rattle.array_core.specs.Seats as seats
 use Rattle.array_core.specs.Staging.{AddsSupersOf}
 use Rattle.array_core.specs.Superblocks.{raised}
-use Rattle.reshape_laws.specs.Ahead.{begun}
-use Rattle.reshape_laws.specs.Reshapes.{Reshapes, joined, joining_seat, lacks_joined, lacks_two}
+use Rattle.reshape_laws.specs.Reshapes.{Reshapes, joined, joining_seat, lacks_joined}
 use Rattle.reshape_laws.proofs.Committing.{Step, committed_reshapes}
 use Rattle.reshape_laws.proofs.Joining.{joined_few, nobody_has, roles_long, room_for, spare_role}
 use Rattle.reshape_laws.proofs.StepsOf.{begin_step}

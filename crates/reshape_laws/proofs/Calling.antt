@@ -1,5 +1,5 @@
 -- A call that is one commit, from what it has staged to the array after it.
-use Rattle.std.proofs.Common.{length, ◌<◌, ◌≤◌, ◌+◌, ◌-◌, slice_get, option_map, unwrap_or, ◌∷◌, not, suc, zero, ◌≡◌, ℕ, Bool, true, false, ◌||◌, nat_lt, if◌then◌else◌, List, [], ◌++◌, Option, Some, None, refl, sym, ap, subst, ◌∙◌, ltb-false, le-ltb, arith}
+use Rattle.std.proofs.Common.{length, ◌<◌, ◌≤◌, ◌+◌, ◌-◌, slice_get, option_map, unwrap_or, ◌∷◌, not, suc, zero, ◌≡◌, ℕ, Bool, true, false, ◌||◌, if◌then◌else◌, List, [], ◌++◌, Some, None, refl, sym, ap, subst, ◌∙◌, ltb-false, le-ltb, arith}
 use Rattle.std.proofs.lemmas.Bool.{both_ways}
 use Rattle.std.proofs.lemmas.List.{length-append}
 use Rattle.std.specs.List.{list_all}

@@ -11,7 +11,6 @@ use Rattle.pool_state.specs.declared.contents.State.{State}
 use Rattle.array_image.specs.Places.{member_slice, super_sector, data_sector}
 use Rattle.array_image.specs.Record.{are_apart}
 use Rattle.array_image.specs.Arrays.{Member, replayed}
-use Rattle.array_image.specs.Even.{AreEven}
 use Rattle.array_image.specs.SoundArray.{IsWrittenSuper, first_unsynced}
 use Rattle.array_image.specs.Held.{Among, IsSettled, current_in}
 use Rattle.array_image.specs.Left.{IsLeft, PicksLogs}

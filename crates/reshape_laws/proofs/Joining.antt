@@ -1,6 +1,6 @@
 -- A member that joins: its place had no role, and takes the last position.
-use Rattle.std.proofs.Common.{◌≡◌, ◌≢◌, ℕ, zero, suc, ◌+◌, ◌-◌, ◌<◌, ◌≤◌, Bool, true, false, ◌==◌, ◌&&◌, ◌||◌, nat_lt, if◌then◌else◌, List, [], ◌∷◌, ◌++◌, map, length, get_or, slice_get, count_by, Option, Some, None, option_map, unwrap_or, refl, sym, ap, ap₂, subst, ◌∙◌, inl, inr, eq-eqb, eqb-true, lt-ltb, ltb-true, le-ltb, ltb-false, arith}
-use Rattle.std.proofs.lemmas.Bool.{and_from, and_parts, both_ways, cases_eq, cases_lt, ne_eqb}
+use Rattle.std.proofs.Common.{◌≡◌, ℕ, zero, suc, ◌+◌, ◌-◌, ◌<◌, ◌≤◌, Bool, true, false, ◌==◌, ◌&&◌, ◌||◌, nat_lt, if◌then◌else◌, List, [], ◌∷◌, ◌++◌, map, length, get_or, slice_get, count_by, Option, Some, None, option_map, unwrap_or, refl, sym, ap, ap₂, ◌∙◌, inl, inr, eq-eqb, eqb-true, lt-ltb, ltb-true, le-ltb, ltb-false, arith}
+use Rattle.std.proofs.lemmas.Bool.{and_from, and_parts, cases_eq, cases_lt, ne_eqb}
 use Rattle.std.proofs.lemmas.List.{map-append}
 use Rattle.std.proofs.lemmas.List.FromFn.{map-range_with_len_more}
 use Rattle.std.proofs.lemmas.Option.{slice_get-get_or, slice_get-map, slice_get_past}
@@ -8,7 +8,6 @@ use Rattle.std.proofs.lemmas.List.{length-append}
 use Rattle.std.specs.List.{range_with_len}
 use Rattle.std.specs.Option.{option_map_or}
 use Rattle.shr_base.specs.declared.Id.{Id}
-use Rattle.md_super.specs.declared.superblock.Super.{Super}
 use Rattle.md_super.specs.Profile.{is_mirror, is_raid5}
 use Rattle.array_image.specs.Supers.{has_roles, is_named, is_reshaping, named_places}
 use Rattle.array_image.specs.Spent.{wanting}
@@ -25,7 +24,7 @@ use Rattle.array_core.specs.Slots.{place_by, places_by, slots_of}
 use Rattle.array_core.specs.Superblocks.{adopted, adopted_resync, adopted_seat, adopted_slot, keeps_rows}
 use Rattle.array_core.specs.Opening.{resync_by}
 use Rattle.array_core.proofs.Opened.{named_place}
-use Rattle.array_core.proofs.Staged.{got, no_device, slots_zipped}
+use Rattle.array_core.proofs.Staged.{got, slots_zipped}
 use Rattle.sync_laws.proofs.Adopted.{adopted_kept, same_lists}
 use Rattle.sync_laws.proofs.Supers.{slot_facts}
 use Rattle.reshape_laws.specs.Ahead.{begun}

@@ -24,5 +24,6 @@ pub mod StepMoves
 pub mod StepsOf
 pub mod Stripe
 pub mod Sums
+pub mod Tail
 pub mod Taking
 pub mod Truths

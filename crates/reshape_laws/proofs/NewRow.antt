@@ -1,11 +1,11 @@
 -- From what a call adds to the log for a row, sector by sector, to the new row.
-use Rattle.std.proofs.Common.{◌≡◌, ℕ, ◌+◌, ◌-◌, ◌*◌, ◌%◌, ◌<◌, ◌≤◌, Bool, true, false, ◌==◌, nat_lt, if◌then◌else◌, List, map, slice_get, Option, Some, None, sym, ap, subst, ◌∙◌, inl, inr, eq-eqb, ltb-true, ltb-false, arith}
-use Rattle.std.proofs.lemmas.Bool.{both_ways, cases_eq, ne_eqb}
+use Rattle.std.proofs.Common.{◌≡◌, ℕ, ◌+◌, ◌*◌, ◌%◌, ◌<◌, Bool, true, false, ◌==◌, if◌then◌else◌, List, map, slice_get, Option, Some, None, sym, ap, ◌∙◌, inl, inr, eq-eqb, ltb-true, ltb-false, arith}
+use Rattle.std.proofs.lemmas.Bool.{cases_eq, ne_eqb}
 use Rattle.std.specs.Option.{option_map_or}
 use Rattle.std.specs.List.{range_with_len}
 use Rattle.rack.specs.Values.{Values}
-use Rattle.rack.specs.Seen.{Image, Seen}
-use Rattle.rack.specs.Targets.{Target, look}
+use Rattle.rack.specs.Seen.{Seen}
+use Rattle.rack.specs.Targets.{Target}
 use Rattle.rack.specs.Sequences.{IsPayload, OnlyReads}
 use Rattle.raid_map.specs.LeftSymmetric.{parity_at}
 use Rattle.parity.specs.Xor.{xor_all, zeros}
@@ -13,8 +13,8 @@ use Rattle.pool_state.specs.declared.contents.State.{State}
 use Rattle.array_image.specs.Places.{member_slice, data_sector}
 use Rattle.array_image.specs.Supers.{is_reshaping}
 use Rattle.array_image.specs.Stripes.{sector_in}
-use Rattle.array_image.specs.Arrays.{Member, Shape, layout_at, value_by}
-use Rattle.array_image.specs.Held.{Among, current_in}
+use Rattle.array_image.specs.Arrays.{layout_at, value_by}
+use Rattle.array_image.specs.Held.{current_in}
 use Rattle.array_image.proofs.Frames.{value_by_data}
 use Rattle.commit_log.proofs.Story.{payload_is}
 use Rattle.array_model.specs.declared.Seat.{Seat}

@@ -1,11 +1,10 @@
 -- Bytes that were read of an array for a new row, maybe when some members had gone: they are what the array had before.
-use Rattle.std.proofs.Common.{◌≡◌, ◌≢◌, ℕ, ◌≤◌, Bool, true, false, ◌||◌, List, [], refl, sym, ap, subst, ◌∙◌}
+use Rattle.std.proofs.Common.{◌≡◌, ℕ, ◌≤◌, Bool, true, false, ◌||◌, List, [], refl, sym, subst, ◌∙◌}
 use Rattle.std.proofs.lemmas.Bool.{both_ways}
 use Rattle.rack.specs.Values.{Values, only}
 use Rattle.rack.specs.Seen.{Seen}
 use Rattle.rack.specs.Sequences.{OnlyReads}
 use Rattle.md_super.specs.declared.superblock.Super.{Super}
-use Rattle.parity.specs.Xor.{zeros}
 use Rattle.pool_state.specs.declared.contents.State.{State}
 use Rattle.pool_state.specs.declared.contents.Plan.TheVariants.{Nothing}
 use Rattle.array_image.specs.Supers.{is_reshaping}
@@ -14,7 +13,7 @@ use Rattle.array_image.specs.Held.{Among, current_in, held_by}
 use Rattle.array_image.proofs.Sources.{held_current}
 use Rattle.array_model.specs.View.{View, IsArray, may_vary, sectors_of, shape_of, spent_in}
 use Rattle.array_model.specs.Says.{Holds}
-use Rattle.array_model.specs.Members.{IsSameButSeats, Notes}
+use Rattle.array_model.specs.Members.{Notes}
 use Rattle.array_model.specs.ArrayCalls.{Covers, ReadsArray}
 use Rattle.array_model.proofs.Noting.{covers_before, losing_by, read_acts}
 use Rattle.reshape_laws.specs.Rows.{IsOld, past, read}

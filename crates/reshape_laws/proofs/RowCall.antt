@@ -1,10 +1,10 @@
 -- The call that moves a row: which sectors of the array it reads, who gets a sector, and its commit.
 use Rattle.std.proofs.Common.{◌≡◌, ℕ, ◌+◌, ◌-◌, ◌*◌, ◌/◌, ◌<◌, ◌≤◌, Bool, true, false, ◌==◌, nat_lt, if◌then◌else◌, List, [], length, Option, Some, None, refl, sym, ap, subst, ◌∙◌, inl, inr, eq-eqb, eqb-true, lt-ltb, le-ltb, ltb-false, arith}
-use Rattle.std.proofs.lemmas.Bool.{both_ways, cases_eq, cases_lt, ne_eqb}
+use Rattle.std.proofs.lemmas.Bool.{both_ways, cases_lt}
 use Rattle.rack.specs.Seen.{Seen}
 use Rattle.rack.specs.Targets.{Target}
 use Rattle.rack.specs.Sequences.{OnlyReads}
-use Rattle.raid_map.specs.LeftSymmetric.{IsMemberCount, StandsAt, member_of, parity_at, parity_of, row_at, row_of, sector_of}
+use Rattle.raid_map.specs.LeftSymmetric.{IsMemberCount, StandsAt, parity_at, parity_of, row_at, row_of, sector_of}
 use Rattle.raid_map.proofs.Rows.{row_at-sector_of}
 use Rattle.parity.specs.Xor.{xor, zeros}
 use Rattle.md_super.specs.Profile.{is_mirror}

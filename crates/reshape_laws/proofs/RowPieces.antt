@@ -1,5 +1,5 @@
 -- The sectors of a new row: one position after the other, and one sector of the members' data after the other.
-use Rattle.std.proofs.Common.{◌≡◌, ◌⊎◌, ℕ, zero, suc, ◌+◌, ◌-◌, ◌*◌, ◌<◌, ◌≤◌, Bool, true, false, ◌==◌, if◌then◌else◌, List, [], ◌∷◌, map, length, Option, refl, sym, ap, ap₂, subst, ◌∙◌, inl, inr, eq-eqb, arith}
+use Rattle.std.proofs.Common.{◌≡◌, ℕ, zero, suc, ◌+◌, ◌-◌, ◌*◌, ◌<◌, ◌≤◌, Bool, ◌==◌, if◌then◌else◌, List, [], ◌∷◌, map, Option, refl, sym, ap, ap₂, subst, ◌∙◌, inl, inr, eq-eqb, arith}
 use Rattle.std.proofs.lemmas.Bool.{cases_eq, cases_lt, ne_eqb}
 use Rattle.std.specs.List.{range_with_len}
 use Rattle.rack.specs.Seen.{Seen}
@@ -12,7 +12,7 @@ use Rattle.array_model.specs.View.{View, IsArray}
 use Rattle.array_model.specs.Members.{Notes}
 use Rattle.array_model.proofs.Views.{same_view}
 use Rattle.reshape_laws.specs.Ahead.{sector_on}
-use Rattle.reshape_laws.specs.Rows.{AddsData, AddsPiece, AddsPieces, HasData, HasPieces, IsNewBytes, IsOld, OfData, OfOne, OfOneData, OfSector, OfSectors, data_sum, is_absent}
+use Rattle.reshape_laws.specs.Rows.{AddsData, AddsPiece, AddsPieces, HasPieces, IsNewBytes, IsOld, OfData, OfOne, OfOneData, OfSector, OfSectors, data_sum}
 use Rattle.reshape_laws.proofs.Old.{old_before}
 use Rattle.reshape_laws.proofs.Pieces.{no_pieces, pieces_by, pieces_then}
 use Rattle.reshape_laws.proofs.Sums.{total_more, total_none}

@@ -8,18 +8,17 @@ use Rattle.rack.specs.Sequences.{IsPayload}
 use Rattle.shr_base.specs.declared.Id.{Id}
 use Rattle.md_super.specs.Profile.{is_mirror, is_raid5}
 use Rattle.pool_state.specs.declared.contents.State.{State}
-use Rattle.array_image.specs.Places.{member_slice, data_sector}
+use Rattle.array_image.specs.Places.{data_sector}
 use Rattle.array_image.specs.Record.{are_apart}
 use Rattle.array_image.specs.Supers.{is_reshaping}
 use Rattle.array_image.specs.Arrays.{Member}
-use Rattle.array_image.specs.Even.{AreEven}
 use Rattle.array_image.specs.SoundArray.{first_unsynced}
 use Rattle.array_image.specs.Held.{Among, IsSettled, current_in}
 use Rattle.array_image.specs.Spent.{wanting}
 use Rattle.array_model.specs.declared.Seat.{Seat}
 use Rattle.array_model.specs.declared.Seat.TheVariants.{Whole, Missing, Rebuilding}
 use Rattle.array_model.specs.View.{View, IsArray, may_vary, member_on, rows_of, seat_reach, shape_of}
-use Rattle.array_model.specs.Says.{Holds, IsOpen}
+use Rattle.array_model.specs.Says.{Holds}
 use Rattle.array_model.specs.Members.{members_of, slice_on}
 use Rattle.array_model.proofs.Firsts.{member_among, position_of}
 use Rattle.array_model.proofs.Noting.{length_members}

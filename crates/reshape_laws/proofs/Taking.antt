@@ -1,11 +1,11 @@
 -- A takeover: the members of a mirror are synced first, so each sector of theirs has one value.
-use Rattle.std.proofs.Common.{◌≡◌, ◌≢◌, ℕ, zero, suc, ◌+◌, ◌-◌, ◌<◌, ◌≤◌, Bool, true, false, ◌&&◌, ◌||◌, nat_lt, nat_le, if◌then◌else◌, List, [], ◌∷◌, length, slice_get, Option, Some, None, unwrap_or, refl, sym, ap, subst, ◌∙◌, inl, inr, lt-ltb, le-ltb, arith}
+use Rattle.std.proofs.Common.{◌≡◌, ◌≢◌, ℕ, zero, suc, ◌-◌, ◌<◌, ◌≤◌, Bool, true, false, ◌&&◌, ◌||◌, nat_lt, nat_le, if◌then◌else◌, List, [], ◌∷◌, length, slice_get, Some, refl, sym, ap, subst, ◌∙◌, lt-ltb, le-ltb, arith}
 use Rattle.std.proofs.lemmas.Bool.{both_ways}
 use Rattle.std.specs.Option.{option_map_or}
 use Rattle.rack.specs.Values.{Values, IsSingle}
 use Rattle.rack.specs.Seen.{Seen}
 use Rattle.md_super.specs.declared.superblock.Super.{Super}
-use Rattle.md_super.specs.Profile.{is_mirror, is_raid5}
+use Rattle.md_super.specs.Profile.{is_mirror}
 use Rattle.pool_state.specs.declared.contents.State.{State}
 use Rattle.array_image.specs.Supers.{is_reshaping}
 use Rattle.array_image.specs.SoundArray.{first_unsynced}
@@ -15,7 +15,7 @@ use Rattle.array_image.specs.Held.{Among, IsSettled, held_of}
 use Rattle.array_image.specs.Marks.{unless_gone}
 use Rattle.array_model.specs.declared.Seat.{Seat}
 use Rattle.array_model.specs.declared.Seat.TheVariants.{Whole, Missing, Rebuilding}
-use Rattle.array_model.specs.View.{View, IsArray, is_alone, is_missing_seat, member_on, place_at, present, rows_of, seat_reach, shape_of}
+use Rattle.array_model.specs.View.{View, IsArray, is_alone, member_on, place_at, present, rows_of, seat_reach, shape_of}
 use Rattle.array_model.specs.Says.{Holds}
 use Rattle.array_model.specs.Members.{Notes, members_of}
 use Rattle.array_model.specs.ArrayCalls.{Covers, SyncsArray}

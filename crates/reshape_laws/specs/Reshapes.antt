@@ -1,14 +1,14 @@
 -- What takeover, begin, a row and finish do to an array.
-use Rattle.std.specs.Prelude.{◌⊎◌, ◌%◌, ◌^◌, ◌≡◌, ℕ, ◌+◌, ◌-◌, ◌<◌, ◌≤◌, Bool, true, false, nat_lt, if◌then◌else◌, List, length, None}
+use Rattle.std.specs.Prelude.{◌⊎◌, ◌%◌, ◌^◌, ◌≡◌, ℕ, ◌+◌, ◌-◌, ◌<◌, Bool, true, false, not, nat_lt, if◌then◌else◌, List, length, None}
 use Rattle.rack.specs.Values.{Values, IsSingle}
 use Rattle.rack.specs.Seen.{Seen, Image}
-use Rattle.parity.specs.Xor.{zeros}
 use Rattle.pool_state.specs.declared.contents.State.{State}
 use Rattle.array_image.specs.Places.{member_id, member_slice, data_sector}
-use Rattle.array_image.specs.Arrays.{Member, value_by}
+use Rattle.array_image.specs.Arrays.{Member, layout_at}
 use Rattle.array_image.specs.Held.{Among}
 use Rattle.array_image.specs.Left.{IsLeft}
 use Rattle.array_image.specs.Spent.{wanting}
+use Rattle.array_image.specs.Stripes.{sector_in}
 use Rattle.shr_base.specs.declared.Id.{Id}
 use Rattle.log_laws.specs.Kept.{LogKept}
 use Rattle.array_model.specs.declared.Seat.{Seat}
@@ -86,12 +86,9 @@ pub record Reshapes (v next w : View) (number next_number : ℕ) (on : List ℕ)
   -- superblocks that said the array's truth do so after it, where those of the next array are told
   pub truth : HasFewBits v.truth → TellSupers next a → HoldTruth v a → HoldTruth w b
 
--- past the old end a new row has zeros, durably
-pub record HasTail (v next w : View) (number : ℕ) (on : List ℕ) (a b : Seen) : Type 0 where
-  pub zeros :
-      (s : State) (vals : ℕ → Values) (spent : ℕ → Bool) → Covers w spent → MayReshape s v next w number on a
-      → Holds s (shape_of v) v vals spent a → (r : Image) → IsLeft b r
-      → (y : ℕ) → sectors_of v ≤ y → v.truth.reshape_position ≤ y → y < next.truth.reshape_position → value_by (shape_of next) r v.number y ≡ zeros 512
+-- a sector of an array stands past the end of its members' data, where there are zeros
+abbrev pub past_end : View → ℕ → Bool
+past_end v y = not (nat_lt (sector_in (layout_at (shape_of v) y) y) v.truth.size)
 
 -- the change of each step
 abbrev pub step_to : View → View → Change

@@ -15,7 +15,7 @@ use Rattle.array_image.specs.Arrays.{Shape}
 use Rattle.array_model.specs.View.{View, member_on, sectors_of, spent_in}
 use Rattle.array_model.specs.Says.{Holds}
 use Rattle.array_model.specs.Members.{slice_on}
-use Rattle.reshape_laws.specs.Ahead.{InRow, sector_on}
+use Rattle.reshape_laws.specs.Ahead.{sector_on}
 
 -- ---- sectors of members' data that are added to the targets of a log
 
