@@ -15,22 +15,22 @@ def u8(data: bytes, at: int) -> int:
 
 def u16(data: bytes, at: int) -> int:
     """Two bytes as a number."""
-    return struct.unpack_from("<H", data, at)[0]
+    return int.from_bytes(data[at : at + 2], "little")
 
 
 def u32(data: bytes, at: int) -> int:
     """Four bytes as a number."""
-    return struct.unpack_from("<I", data, at)[0]
+    return int.from_bytes(data[at : at + 4], "little")
 
 
 def i32(data: bytes, at: int) -> int:
     """Four bytes as a signed number."""
-    return struct.unpack_from("<i", data, at)[0]
+    return int.from_bytes(data[at : at + 4], "little", signed=True)
 
 
 def u64(data: bytes, at: int) -> int:
     """Eight bytes as a number."""
-    return struct.unpack_from("<Q", data, at)[0]
+    return int.from_bytes(data[at : at + 8], "little")
 
 
 def cleared(data: bytes, at: int, length: int) -> bytes:

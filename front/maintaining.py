@@ -20,12 +20,13 @@ from front.engine import Session, plain_path
 from front.explain import explain_line
 from front.guard import Objection, Permits, before_opening, held
 from front.layers import Standing, add, units_of
-from front.look import ARRAYS_FIRST, SLICE_HEAD, Look, drive_sectors, look_at
+from front.look import SLICE_HEAD, Look, drive_sectors, look_at
 from front.planning import standing_of
 from front.progress import Progress
 from front.sizes import show
 from front.space import too_little
 from front.superblocks import ROW
+from front.tables import ARRAYS_FIRST
 from front.verdict import expected_refusal, status_of, works_left
 from front.words import Call, WrongWords, tell
 

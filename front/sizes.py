@@ -30,7 +30,7 @@ def parse_size(word: str) -> int:
     scale = _unit(unit or "")
     digits = part or ""
     total = int(whole + digits) * scale
-    return total // 10 ** len(digits)
+    return total // int(10 ** len(digits))
 
 
 def show(size: int) -> str:

@@ -130,7 +130,8 @@ class Slips(PoolCase):
         for words in (["help"], ["--help"], ["help", "check"], ["help", "dirty-degraded"], ["--version"]):
             self.assertEqual(self.call(*words), 0)
             self.assertNotEqual(self.out, "")
-        for words, said in (([], "usage"), (["mount"], "help"), (["check", "--all", "a"], "--json"), (["1TB"], "help"), (["help", "x"], "x")):
+        wrong: list[tuple[list[str], str]] = [([], "usage"), (["mount"], "help"), (["check", "--all", "a"], "--json"), (["1TB"], "help"), (["help", "x"], "x")]
+        for words, said in wrong:
             self.assertEqual(self.call(*words), 2)
             self.assertIn(said, self.err)
 

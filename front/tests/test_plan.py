@@ -53,7 +53,7 @@ class Growths(unittest.TestCase):
         return grown
 
     def test_rows(self) -> None:
-        for units, new, place, wanted in (
+        rows: tuple[tuple[tuple[int, ...], int, int | None, int | str], ...] = (
             ((10, 10, 20), 20, None, 40),
             ((10, 10, 20), 15, None, "size"),
             ((10, 10, 20), 5, None, "size"),
@@ -68,7 +68,8 @@ class Growths(unittest.TestCase):
             ((10, 20, 30), 25, 2, "smaller"),
             ((10, 20, 30), 25, 0, "size"),
             ((10,) * 16, 10, None, "too-many-drives"),
-        ):
+        )
+        for units, new, place, wanted in rows:
             self.row(units, new, place, wanted)
 
     def test_the_most_layers(self) -> None:

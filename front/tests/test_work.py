@@ -159,7 +159,7 @@ class FullFileSystem(FilledCase):
         )
         if done.returncode:
             self.skipTest("no file system can be mounted here")
-        self.addCleanup(subprocess.run, ["umount", self.path("small")], check=False)
+        self.addCleanup(lambda: subprocess.run(["umount", self.path("small")], check=False))
         return "small/new"
 
     def test_said_before(self) -> None:
