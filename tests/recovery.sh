@@ -95,7 +95,8 @@ for name in dirty-degraded:stopped gone:bytes written:written; do
   expect "${name%:*}: the volume" grep -qx "volume ${name%:*}: $sum  - $((sectors * 512))" console
 done
 for image in first third; do debugfs -R "dump written/$image.img $image.img" disk.img 2>/dev/null; done
-"$tool" serve first.img third.img </dev/null >out 2>err
-expect 'the engine refuses what Linux wrote to' grep -q '^refused damaged . superblock$' out
+: >script
+check 'the engine refuses what Linux wrote to' 6 'refused too-few 0\n' serve first.img third.img
+check 'with the drive that was absent too' 6 'refused damaged 0 superblock\n' serve first.img disk/gone/second.img third.img
 [ "$failed" -eq 0 ] || tail -n 80 console
 close
