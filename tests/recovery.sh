@@ -3,7 +3,6 @@
 # our program; and after that Linux wrote to the pool without one drive, which the engine refuses then. Where Debian's packages for this aren't at
 # hand, the check is passed over. The recipes by our own words are run by tests/front.sh.
 # usage: tests/recovery.sh
-[ "${1:-}" != --help ] || { sed -n '2,5s/^# //p' "$0"; exit; }
 . "$(dirname "$(readlink -f "${BASH_SOURCE[0]}")")/lib/program.sh"
 . "$top/tests/lib/guest.sh"
 

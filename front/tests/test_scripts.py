@@ -1,0 +1,28 @@
+"""Each script of tests/ and tools/ is executable, and says its usage."""
+
+import glob
+import os
+import subprocess
+import unittest
+
+from front.engine import TOP
+
+# It is run by whoever makes a release, and has no words.
+WITHOUT = {"release"}
+
+
+class Scripts(unittest.TestCase):
+    """All of them, as a user would ask."""
+
+    def test_usage(self) -> None:
+        for path in sorted(glob.glob(os.path.join(TOP, "tests", "*.sh")) + glob.glob(os.path.join(TOP, "tools", "*"))):
+            if os.path.isdir(path) or os.path.basename(path) in WITHOUT:
+                continue
+            self.assertTrue(os.access(path, os.X_OK), path)
+            done = subprocess.run([path, "--help"], capture_output=True, text=True, timeout=20, check=False)
+            self.assertEqual((done.returncode, done.stderr), (0, ""), path)
+            self.assertIn("usage:", done.stdout, path)
+
+
+if __name__ == "__main__":
+    unittest.main()
