@@ -109,8 +109,25 @@ def _expected(names: list[str]) -> str:
         return refusal.line() if refusal else ""
 
 
+def _after(call: Call, before: Look) -> None:
+    """Says which drives were lost in a run that answered as if nothing had happened."""
+    try:
+        with Disks(call.rest) as disks:
+            after = look_at(disks.disks)
+    except CannotRead:
+        return
+    known = {*before.missing(), *before.absent()}
+    for place in after.missing():
+        if place not in known:
+            path = before.path(place) or after.path(place)
+            tell(
+                f"the drive of place {place} ({path}) is marked missing since this run: a line lost it, or it refused a call; "
+                "see whether its file system is full, and the host's log"
+            )
+
+
 def run(form: str, words: list[str]) -> int:
-    """A form of the engine, guarded. Answers the engine's status, or that of an Objection is raised."""
+    """A form of the engine, guarded. Answers the engine's status; an Objection is raised where it isn't called."""
     call = parse(words, PERMITS, ())
     look = None
     if form in OPENING and call.rest:
@@ -126,4 +143,6 @@ def run(form: str, words: list[str]) -> int:
     else:
         status, head = run_form([form, *call.rest])
     _explain(form, status, head, names, look)
+    if form in OPENING and look is not None and status != 6:
+        _after(call, look)
     return status

@@ -105,9 +105,6 @@ def _refused(words: list[str]) -> int:
 
 def main(words: list[str]) -> int:
     """Runs a word. Answers the status."""
-    if sys.version_info < (3, 11):
-        print(f"roskubel: Python 3.11 is wanted, and this is {sys.version.split()[0]}; ROSKUBEL_PYTHON names another one", file=sys.stderr)
-        return 1
     for stream in (sys.stdout, sys.stderr):
         if isinstance(stream, io.TextIOWrapper):
             stream.reconfigure(errors="backslashreplace")

@@ -105,11 +105,14 @@ def new(call: Call) -> int:
             if not call.permits().yes:
                 found += what_they_hold(disks.disks)
             total, used = _written(standing, extent, disks.disks)
+            on_one = len({disk.status.st_dev for disk in disks.disks}) == 1
             found += too_little(disks.disks, used)
     except CannotRead as error:
         raise _missing_file(call, error) from error
     if found:
         raise Objection(*found)
+    if on_one:
+        tell("note: all images are on one file system, so one lost disk may lose them all")
     status, line = run_create(["create", str(extent), *map(plain_path, call.rest)], total)
     if status == 0:
         print(f"{line}\na volume of {show(standing.capacity * extent * 512)} on {len(call.rest)} images, extents of {show_extent(extent)}")

@@ -188,6 +188,13 @@ class Through(PoolCase):
         self.assertEqual(self.call("--engine", "status", "a"), 0)
         self.assertIn("drive 1 units 10 missing", self.out)
 
+    def test_a_lost_drive_is_told(self) -> None:
+        images = self.make(TEN, TEN)
+        self.assertEqual(self.call("serve", *images, script="lose 1\n"), 0)
+        self.assertIn("the drive of place 1 (b) is marked missing since this run", self.err)
+        self.assertEqual(self.call("serve", *images, script="size\n"), 0)
+        self.assertEqual(self.err, "")
+
     def test_a_full_output(self) -> None:
         images = self.make(TEN, TEN)
         for form in ("status", "export", "serve"):
