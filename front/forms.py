@@ -2,7 +2,6 @@
 
 import os
 import stat
-import sys
 
 from front.contents import volume_contents, what_they_hold
 from front.disks import CannotRead, Disks
@@ -34,7 +33,7 @@ def _volume_bytes(look: Look) -> int | None:
 
 def _before_import(look: Look, call: Call) -> list[str]:
     """Objections to an import: no file on the input, one that is too long, and a volume that holds something."""
-    if sys.stdin is None or os.isatty(0):
+    if os.isatty(0):
         return ["import takes the file from standard input: roskubel import IMAGE.. <FILE"]
     room = _volume_bytes(look)
     status = os.fstat(0)

@@ -16,7 +16,7 @@ run() { (cd "$top" && "$python" -m unittest "front.tests.$1") >"$folder/$1" 2>&1
 
 for module in "${modules[@]}"; do
   run "$module" &
-  [ "$(jobs -rp | wc -l)" -lt 4 ] || wait -n
+  [ "$(jobs -rp | wc -l)" -lt 6 ] || wait -n
 done
 wait
 for module in "${modules[@]}"; do

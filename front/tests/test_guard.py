@@ -8,7 +8,7 @@ import unittest
 
 from front.engine import find_engine
 from front.guard import STATUS
-from front.tests.pools import ONE, TEN, THIRTY, TWENTY, PoolCase
+from front.tests.pools import ONE, ROSKUBEL, TEN, THIRTY, TWENTY, PoolCase
 
 
 class Slips(PoolCase):
@@ -118,7 +118,7 @@ class Slips(PoolCase):
         with open(self.path("long"), "wb") as it:
             it.truncate(1280 * 512 + 1)
         with open(self.path("long"), "rb") as it:
-            done = subprocess.run([f"{find_front()}", "import", *images], stdin=it, capture_output=True, cwd=self.folder, check=False)
+            done = subprocess.run([ROSKUBEL, "import", *images], stdin=it, capture_output=True, cwd=self.folder, check=False)
         self.assertEqual(done.returncode, STATUS)
         self.assertIn(b"655361 bytes, and the volume 655360", done.stderr)
         self.write(images, "write 2 " + "00" * 56 + "53ef")
@@ -152,57 +152,6 @@ class Slips(PoolCase):
             self.assertEqual(self.call(*words), status, words)
             self.assertEqual(self.out, line + "\n")
             self.assertIn(said, self.err)
-
-
-def find_front() -> str:
-    """The launcher."""
-    from front.tests.pools import ROSKUBEL
-
-    return ROSKUBEL
-
-
-class Through(PoolCase):
-    """What the engine's own forms print and answer, the same with the front before them."""
-
-    def test_same_output_and_status(self) -> None:
-        images = self.make(TEN, TWENTY, THIRTY)
-        self.write(images, "fill 0 3840 5a")
-        for words, script in (
-            (["layout", "128", "79104", "80384"], ""),
-            (["layout", "128", "79104"], ""),
-            (["status", *images], ""),
-            (["examine", "b"], ""),
-            (["examine", "none"], ""),
-            (["export", *images], ""),
-            (["serve", *images], "size\nread 0\nread 3840\nreed\n"),
-            (["serve", *reversed(images)], ""),
-            (["trial", "7", *images, "--yes"], ""),
-        ):
-            status = self.call(*words, script=script)
-            own, raw = self.err, self.raw
-            self.assertEqual(self.engine(*(word for word in words if word != "--yes"), script=script), status, own)
-            self.assertEqual(self.raw, raw)
-
-    def test_engine_alone(self) -> None:
-        self.make(TEN, TEN)
-        self.assertEqual(self.call("--engine", "status", "a"), 0)
-        self.assertIn("drive 1 units 10 missing", self.out)
-
-    def test_a_lost_drive_is_told(self) -> None:
-        images = self.make(TEN, TEN)
-        self.assertEqual(self.call("serve", *images, script="lose 1\n"), 0)
-        self.assertIn("the drive of place 1 (b) is marked missing since this run", self.err)
-        self.assertEqual(self.call("serve", *images, script="size\n"), 0)
-        self.assertEqual(self.err, "")
-
-    def test_a_full_output(self) -> None:
-        images = self.make(TEN, TEN)
-        for form in ("status", "export", "serve"):
-            with open("/dev/full", "wb") as full:
-                done = subprocess.run(
-                    [find_front(), form, *images], input=b"size\n", stdout=full, stderr=subprocess.PIPE, cwd=self.folder, check=False
-                )
-            self.assertEqual(done.returncode, 5)
 
 
 if __name__ == "__main__":

@@ -33,7 +33,7 @@ use Rattle.array_core.specs.Pool.{MayRenew}
 use Rattle.array_core.proofs.Direct.{restated, renew_moves}
 use Rattle.array_core.proofs.Settled.{spent_same}
 use Rattle.array_core.proofs.LogFrames.{kept_logs}
-use Rattle.commit_log.specs.Kept.{LogKept}
+use Rattle.log_laws.specs.Kept.{LogKept}
 use Rattle.array_image.proofs.Frames.{map_same}
 use Rattle.array_image.specs.Places.{array_id}
 use Rattle.array_image.specs.States.{is_current}

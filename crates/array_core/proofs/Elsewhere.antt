@@ -10,8 +10,8 @@ use Rattle.md_super.specs.declared.superblock.Super.{Super}
 use Rattle.array_image.specs.Places.{data_sector, log_slice, member_slice, place_of, slice_of}
 use Rattle.array_image.specs.Arrays.{Member}
 use Rattle.array_image.specs.Held.{Among}
-use Rattle.commit_log.specs.View.{LogView, names}
-use Rattle.commit_log.specs.Commits.{CommitCall}
+use Rattle.log_laws.specs.View.{LogView, names}
+use Rattle.log_laws.specs.Commits.{CommitCall}
 use Rattle.array_model.specs.declared.Seat.{Seat}
 use Rattle.array_model.specs.declared.Seat.TheVariants.{Missing, Rebuilding, Whole}
 use Rattle.array_model.specs.View.{View, IsArray, is_missing_seat, is_whole_array, member_on, seat_reach}

@@ -10,9 +10,9 @@ use Rattle.array_image.specs.Places.{log_slice}
 use Rattle.array_image.specs.Record.{gate_sector, pending}
 use Rattle.array_image.specs.Arrays.{replayed}
 use Rattle.array_image.proofs.Replays.{replayed_as_is}
-use Rattle.commit_log.specs.Standing.{LogsStand, deciding}
-use Rattle.commit_log.specs.Commits.{Stands}
-use Rattle.commit_log.specs.Kept.{LogKept}
+use Rattle.log_laws.specs.Standing.{LogsStand, deciding}
+use Rattle.log_laws.specs.Commits.{Stands}
+use Rattle.log_laws.specs.Kept.{LogKept}
 use Rattle.commit_log.proofs.WholeLogs.{whole_logs}
 use Rattle.array_model.proofs.Keeping.{live_on, live_after, logs_before}
 

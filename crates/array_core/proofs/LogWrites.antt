@@ -10,11 +10,11 @@ use Rattle.rack.specs.Sequences.{OnlyReads}
 use Rattle.rack.specs.Targets.{Target, look}
 use Rattle.pool_state.specs.declared.contents.State.{State}
 use Rattle.array_image.specs.Places.{data_sector}
-use Rattle.commit_log.specs.View.{LogView, names, in_order, next_number}
-use Rattle.commit_log.specs.Commits.{CommitCall}
-use Rattle.commit_log.specs.Kept.{LogKept, gone_with}
-use Rattle.commit_log.specs.Phases.{IsHad}
-use Rattle.commit_log.proofs.KeptAfter.{kept_keeps, kept_more}
+use Rattle.log_laws.specs.View.{LogView, names, in_order, next_number}
+use Rattle.log_laws.specs.Commits.{CommitCall}
+use Rattle.log_laws.specs.Kept.{LogKept, gone_with}
+use Rattle.log_laws.specs.Phases.{IsHad}
+use Rattle.log_laws.proofs.KeptAfter.{kept_keeps, kept_more}
 use Rattle.array_model.specs.declared.Seat.TheVariants.{Missing}
 use Rattle.array_model.specs.View.{View, IsArray, LosesPlaces, has_gone, member_on, seat_reach, sectors_of, shape_of, spent_in}
 use Rattle.array_model.specs.Says.{Says, Holds}

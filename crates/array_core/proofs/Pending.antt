@@ -6,9 +6,9 @@ use Rattle.rack.specs.Targets.{Target, look}
 use Rattle.array_image.specs.Left.{IsBounded, TargetsInside}
 use Rattle.array_image.specs.Places.{log_slice}
 use Rattle.array_image.specs.Record.{pending}
-use Rattle.commit_log.specs.View.{LogView}
-use Rattle.commit_log.specs.Standing.{IsReady, SomeoneDecides, deciding}
-use Rattle.commit_log.specs.Commits.{CommitCall, Rests, StandsMidway}
+use Rattle.log_laws.specs.View.{LogView}
+use Rattle.log_laws.specs.Standing.{IsReady, SomeoneDecides, deciding}
+use Rattle.log_laws.specs.Commits.{CommitCall, Rests, StandsMidway}
 use Rattle.array_core.proofs.LogFrames.{look_nothing}
 
 -- what is pending midway is for sectors that slices have, where it was so before

@@ -22,12 +22,12 @@ use Rattle.array_image.proofs.Frames.{value_by_data}
 use Rattle.array_image.proofs.Marked.{among_lowered}
 use Rattle.array_image.proofs.Replays.{replayed_as_is}
 use Rattle.array_image.proofs.Sources.{source_counts}
-use Rattle.commit_log.specs.View.{LogView, names, next_number}
-use Rattle.commit_log.specs.Standing.{IsLogPart, IsAlike, IsReady, SomeoneDecides}
-use Rattle.commit_log.specs.Commits.{Commits, CommitCall, StandsMidway}
+use Rattle.log_laws.specs.View.{LogView, names, next_number}
+use Rattle.log_laws.specs.Standing.{IsLogPart, IsAlike, IsReady, SomeoneDecides}
+use Rattle.log_laws.specs.Commits.{Commits, CommitCall, StandsMidway}
 use Rattle.commit_log.proofs.Saying.{commit_moments, midway_none}
-use Rattle.commit_log.specs.Kept.{LogKept, gone_with}
-use Rattle.commit_log.proofs.Kept.{stands_of, before_inside}
+use Rattle.log_laws.specs.Kept.{LogKept, gone_with}
+use Rattle.log_laws.proofs.Kept.{stands_of, before_inside}
 use Rattle.array_model.specs.View.{View, IsArray, shape_of, spent_in, may_vary, is_alone}
 use Rattle.array_model.specs.Says.{Says, HoldsShape, Holds, IsEarlier, HasNoOthers}
 use Rattle.array_model.specs.ArrayCalls.{Turns, Covers, appended_at}

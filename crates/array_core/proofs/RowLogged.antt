@@ -25,12 +25,12 @@ use Rattle.std.specs.Option.{option_map_or}
 use Rattle.array_image.specs.Left.{PicksLogs}
 use Rattle.array_image.specs.Arrays.{Member, Shape, layout_at, replayed}
 use Rattle.array_image.proofs.Replays.{replayed_as_is}
-use Rattle.commit_log.specs.View.{LogView, names, next_number}
-use Rattle.commit_log.specs.Standing.{IsReady, SomeoneDecides}
-use Rattle.commit_log.specs.Commits.{CommitCall}
-use Rattle.commit_log.specs.Kept.{LogKept, Brings, gone_with}
-use Rattle.commit_log.proofs.Kept.{brings_nothing, kept_ready, kept_decides, kept_idle}
-use Rattle.commit_log.proofs.KeptAfter.{kept_after, kept_keeps}
+use Rattle.log_laws.specs.View.{LogView, names, next_number}
+use Rattle.log_laws.specs.Standing.{IsReady, SomeoneDecides}
+use Rattle.log_laws.specs.Commits.{CommitCall}
+use Rattle.log_laws.specs.Kept.{LogKept, Brings, gone_with}
+use Rattle.log_laws.proofs.Kept.{brings_nothing, kept_ready, kept_decides, kept_idle}
+use Rattle.log_laws.proofs.KeptAfter.{kept_after, kept_keeps}
 use Rattle.array_model.specs.declared.Seat.{Seat}
 use Rattle.array_model.specs.declared.Seat.TheVariants.{Whole, Missing, Rebuilding}
 use Rattle.array_model.specs.View.{View, IsArray, shape_of, spent_in, sectors_of, member_on, place_at, has_gone, seat_reach, is_missing_seat}

@@ -20,7 +20,7 @@ use Rattle.array_core.specs.declared.members.Spread.{Spread}
 use Rattle.array_core.specs.declared.members.Spread.TheVariants.{Parity}
 use Rattle.array_core.specs.declared.members.Stand.{Stand}
 use Rattle.array_core.specs.Stands.{IsStand, layout_of}
-use Rattle.commit_log.specs.View.{LogView}
+use Rattle.log_laws.specs.View.{LogView}
 use Rattle.array_model.specs.View.{View}
 use Rattle.array_core.specs.Logging.{is_due, one_if, sector_target, due_copies, StagesChange, Stages, IsRowAt, staged_change, IsChange, data_alone, with_parity, MakesParity}
 use Rattle.array_core.proofs.Gathering.{spent_after}

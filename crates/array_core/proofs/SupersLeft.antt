@@ -12,10 +12,10 @@ use Rattle.array_image.specs.Places.{data_sector, log_slice, member_slice, slice
 use Rattle.array_image.specs.Arrays.{replayed}
 use Rattle.array_image.specs.Left.{IsInside, IsLeft, LogsInside, Picks, PicksLogs, reading}
 use Rattle.array_image.proofs.Replays.{SameLogs, replayed_same}
-use Rattle.commit_log.specs.View.{LogView}
-use Rattle.commit_log.specs.Standing.{IsLogPart, IsReady, SomeoneDecides}
-use Rattle.commit_log.specs.Commits.{CommitCall, Commits}
-use Rattle.commit_log.proofs.Kept.{before_inside, stands_of}
+use Rattle.log_laws.specs.View.{LogView}
+use Rattle.log_laws.specs.Standing.{IsLogPart, IsReady, SomeoneDecides}
+use Rattle.log_laws.specs.Commits.{CommitCall, Commits}
+use Rattle.log_laws.proofs.Kept.{before_inside, stands_of}
 use Rattle.array_model.specs.Rows.{Wrote, refused, row}
 use Rattle.array_model.specs.ArrayCalls.{KeepsSupers}
 use Rattle.array_model.specs.View.{View}

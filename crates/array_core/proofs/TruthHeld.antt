@@ -8,8 +8,8 @@ use Rattle.md_super.specs.declared.superblock.Super.{Super}
 use Rattle.array_image.specs.Arrays.{place_with}
 use Rattle.array_image.specs.Places.{data_sector, member_slice, place_of, slice_of, super_sector}
 use Rattle.array_image.specs.SoundArray.{array_fields}
-use Rattle.commit_log.specs.Commits.{CommitCall}
-use Rattle.commit_log.specs.View.{LogView}
+use Rattle.log_laws.specs.Commits.{CommitCall}
+use Rattle.log_laws.specs.View.{LogView}
 use Rattle.array_model.specs.declared.Seat.TheVariants.{Missing}
 use Rattle.array_model.specs.Members.{Notes, slice_on}
 use Rattle.array_model.specs.Rows.{Wrote, refused, row}

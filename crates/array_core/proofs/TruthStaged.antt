@@ -4,8 +4,8 @@ use Rattle.rack.specs.Seen.{Image, Seen}
 use Rattle.rack.specs.Targets.{Target, look}
 use Rattle.md_super.specs.declared.superblock.Super.{Super}
 use Rattle.array_image.specs.Places.{member_slice, place_of, super_sector}
-use Rattle.commit_log.specs.Commits.{CommitCall}
-use Rattle.commit_log.specs.View.{LogView, names}
+use Rattle.log_laws.specs.Commits.{CommitCall}
+use Rattle.log_laws.specs.View.{LogView, names}
 use Rattle.array_model.specs.declared.Seat.{Seat}
 use Rattle.array_model.specs.declared.Seat.TheVariants.{Whole, Missing, Rebuilding}
 use Rattle.array_model.specs.Members.{slice_on}

@@ -10,8 +10,8 @@ use Rattle.pool_state.specs.declared.contents.State.{State}
 use Rattle.array_image.specs.Places.{data_sector, log_slice}
 use Rattle.array_image.specs.Stripes.{capacity}
 use Rattle.array_image.specs.Arrays.{Shape, first_layout}
-use Rattle.commit_log.specs.Kept.{LogKept}
-use Rattle.commit_log.proofs.KeptAfter.{kept_keeps, kept_more}
+use Rattle.log_laws.specs.Kept.{LogKept}
+use Rattle.log_laws.proofs.KeptAfter.{kept_keeps, kept_more}
 use Rattle.array_model.specs.declared.Seat.TheVariants.{Missing, Whole}
 use Rattle.array_model.specs.View.{View, IsArray, IsNoted, has_gone, is_alone, is_whole_array, may_vary, member_on, sectors_of, shape_of}
 use Rattle.array_model.specs.Says.{IsOpen, Says, Holds}

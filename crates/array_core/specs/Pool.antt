@@ -5,7 +5,7 @@ use Rattle.rack.specs.Moments.{Leaves}
 use Rattle.pool_state.specs.declared.contents.State.{State}
 use Rattle.array_image.specs.Places.{member_slice, super_sector}
 use Rattle.array_image.specs.States.{is_current}
-use Rattle.commit_log.specs.Kept.{LogKept, AreLeft}
+use Rattle.log_laws.specs.Kept.{LogKept, AreLeft}
 use Rattle.array_model.specs.View.{View, has_gone, is_whole_array, shape_of}
 use Rattle.array_model.specs.Says.{IsOpen}
 use Rattle.array_model.specs.Stages.{IsStateOf}

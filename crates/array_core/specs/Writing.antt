@@ -4,7 +4,7 @@ use Rattle.std.specs.Option.{option_map_or}
 use Rattle.rack.specs.Values.{Keeps}
 use Rattle.rack.specs.Seen.{Seen, IsLive}
 use Rattle.array_image.specs.Places.{place_of, slice_of}
-use Rattle.commit_log.specs.View.{names}
+use Rattle.log_laws.specs.View.{names}
 use Rattle.array_model.specs.View.{View, IsArray, LosesPlaces, is_missing_seat, is_whole_array, may_vary}
 use Rattle.array_model.specs.Members.{IsSameButSeats, Notes, slice_on}
 use Rattle.array_core.specs.Logging.{is_due}

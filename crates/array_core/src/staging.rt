@@ -1,7 +1,7 @@
 //! Superblocks that are added to a log, so that its next commit writes them.
 
 ghost use Rattle.std.specs.Prelude.{◌≡◌, ◌<◌, ◌≤◌, ◌+◌, ◌∷◌, [], ℕ, length, slice_get, true, Some};
-ghost use Rattle.commit_log.specs.View.{most_sectors};
+ghost use Rattle.log_laws.specs.View.{most_sectors};
 ghost use Rattle.array_image.specs.SoundArray.{first_unsynced};
 ghost use Rattle.array_core.specs.declared.slots.Slot.{Slot};
 ghost use Rattle.array_core.specs.Model.{is_truth};

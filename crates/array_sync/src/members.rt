@@ -7,8 +7,8 @@ ghost use Rattle.array_image.specs.Stripes.{width};
 ghost use Rattle.array_image.specs.Spent.{wanting, spent_with};
 ghost use Rattle.array_model.specs.View.{View, member_on, rows_of};
 ghost use Rattle.array_model.specs.Members.{HasSlices, Notes, members_of, row_layout};
-ghost use Rattle.commit_log.specs.View.{most_sectors};
-ghost use Rattle.array_sync.specs.Rows.{AddsCopies, IsGiven, OfMember, row_spent};
+ghost use Rattle.log_laws.specs.View.{most_sectors};
+ghost use Rattle.sync_laws.specs.Rows.{AddsCopies, IsGiven, OfMember, row_spent};
 
 use crate::rows::DATA_SECTOR;
 use array_core::Array;

@@ -3,14 +3,14 @@
 ghost use Rattle.std.specs.Prelude.{◌≡◌, ◌⊎◌, ◌<◌, ◌+◌, ◌/◌, ◌*◌, ℕ, List, [], true, false, is_ok, OnOk, IfErr};
 ghost use Rattle.array_model.specs.View.{View, rows_of};
 ghost use Rattle.array_model.specs.Members.{HasSlices, first_of_row, row_layout};
-ghost use Rattle.commit_log.specs.View.{committed, emptied};
-ghost use Rattle.commit_log.specs.Phases.{AreLogs};
+ghost use Rattle.log_laws.specs.View.{committed, emptied};
+ghost use Rattle.log_laws.specs.Phases.{AreLogs};
 ghost use Rattle.array_core.specs.Model.{is_truth};
 ghost use Rattle.array_core.specs.Pool.{Goes};
 ghost use Rattle.array_core.specs.Superblocks.{rebuilt_by};
 ghost use Rattle.array_core.specs.Writing.{KeepsElsewhere};
-ghost use Rattle.array_sync.specs.Rows.{others_give, row_spent};
-ghost use Rattle.array_sync.specs.Steps.{HasRowLeft, Steps, reach_on, rebuilt};
+ghost use Rattle.sync_laws.specs.Rows.{others_give, row_spent};
+ghost use Rattle.sync_laws.specs.Steps.{HasRowLeft, Steps, reach_on, rebuilt};
 
 use crate::members::{is_row_spent, stage_member};
 use array_core::{Array, Change, Seat, Spent};

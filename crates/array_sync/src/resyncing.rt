@@ -3,12 +3,12 @@
 ghost use Rattle.std.specs.Prelude.{◌≡◌, ◌⊎◌, ◌<◌, ◌≤◌, ◌+◌, ◌*◌, ℕ, List, [], length, true, false, is_ok, OnOk, IfErr};
 ghost use Rattle.array_model.specs.View.{View, rows_of};
 ghost use Rattle.array_model.specs.Members.{HasSlices, first_of_row, row_layout};
-ghost use Rattle.commit_log.specs.View.{committed, emptied};
-ghost use Rattle.commit_log.specs.Phases.{AreLogs};
+ghost use Rattle.log_laws.specs.View.{committed, emptied};
+ghost use Rattle.log_laws.specs.Phases.{AreLogs};
 ghost use Rattle.array_core.specs.Pool.{Goes};
 ghost use Rattle.array_core.specs.Writing.{KeepsElsewhere};
-ghost use Rattle.array_sync.specs.Rows.{lacks_row};
-ghost use Rattle.array_sync.specs.Steps.{Steps, offset_after, resynced};
+ghost use Rattle.sync_laws.specs.Rows.{lacks_row};
+ghost use Rattle.sync_laws.specs.Steps.{Steps, offset_after, resynced};
 
 use crate::rows::{lacks_row, stage_row};
 use array_core::{Array, Spent};

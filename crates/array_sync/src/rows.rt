@@ -9,9 +9,9 @@ ghost use Rattle.array_image.specs.Spent.{wanting};
 ghost use Rattle.array_model.specs.View.{View, member_on, rows_of, shape_of};
 ghost use Rattle.array_model.specs.Says.{IsOpen};
 ghost use Rattle.array_model.specs.Members.{HasSlices, Notes, members_of, row_layout, slice_on};
-ghost use Rattle.commit_log.specs.View.{most_sectors};
+ghost use Rattle.log_laws.specs.View.{most_sectors};
 ghost use Rattle.parity.specs.Xor.{xor};
-ghost use Rattle.array_sync.specs.Rows.{AddsCopies, IsRowSum, OfRow, OfSector, SourcesCount, is_source, lacks_row, row_sum, source_sector};
+ghost use Rattle.sync_laws.specs.Rows.{AddsCopies, IsRowSum, OfRow, OfSector, SourcesCount, is_source, lacks_row, row_sum, source_sector};
 
 use array_core::Array;
 use commit_log::{Log, Target};

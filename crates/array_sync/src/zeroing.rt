@@ -4,12 +4,12 @@ ghost use Rattle.std.specs.Prelude.{◌≡◌, ◌⊎◌, ◌<◌, ◌*◌, ℕ,
 ghost use Rattle.array_image.specs.SoundArray.{first_unsynced};
 ghost use Rattle.array_model.specs.View.{View, rows_of};
 ghost use Rattle.array_model.specs.Members.{HasSlices, first_of_row, row_layout};
-ghost use Rattle.commit_log.specs.View.{committed, emptied};
-ghost use Rattle.commit_log.specs.Phases.{AreLogs};
+ghost use Rattle.log_laws.specs.View.{committed, emptied};
+ghost use Rattle.log_laws.specs.Phases.{AreLogs};
 ghost use Rattle.array_core.specs.Pool.{Goes};
 ghost use Rattle.array_core.specs.Writing.{KeepsElsewhere};
-ghost use Rattle.array_sync.specs.Rows.{lacks_two};
-ghost use Rattle.array_sync.specs.Steps.{Zeroes};
+ghost use Rattle.sync_laws.specs.Rows.{lacks_two};
+ghost use Rattle.sync_laws.specs.Steps.{Zeroes};
 
 use crate::resyncing::offset_after;
 use crate::zeros::{lacks_two, stage_zeros};

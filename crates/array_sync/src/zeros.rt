@@ -5,8 +5,8 @@ ghost use Rattle.parity.specs.Xor.{zeros};
 ghost use Rattle.array_image.specs.Spent.{wanting};
 ghost use Rattle.array_model.specs.View.{View, rows_of};
 ghost use Rattle.array_model.specs.Members.{members_of};
-ghost use Rattle.commit_log.specs.View.{most_sectors};
-ghost use Rattle.array_sync.specs.Rows.{AddsCopies, AreZeros, OfMember, OfCounting, counts_in, lacks_two};
+ghost use Rattle.log_laws.specs.View.{most_sectors};
+ghost use Rattle.sync_laws.specs.Rows.{AddsCopies, AreZeros, OfMember, OfCounting, counts_in, lacks_two};
 
 use crate::rows::DATA_SECTOR;
 use array_core::{Array, Seat};

@@ -2,8 +2,8 @@
 
 ghost use Rattle.std.specs.Prelude.{◌≡◌, ◌<◌, true};
 ghost use Rattle.array_model.specs.Members.{HasSlices};
-ghost use Rattle.array_sync.specs.Steps.{HasRowLeft};
-ghost use Rattle.commit_log.specs.Phases.{AreLogs};
+ghost use Rattle.sync_laws.specs.Steps.{HasRowLeft};
+ghost use Rattle.log_laws.specs.Phases.{AreLogs};
 ghost use Rattle.rack_mem.specs.MemBay.{memory};
 ghost use Rattle.rack_mem.specs.Memory.{seen_of};
 

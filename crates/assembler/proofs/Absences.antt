@@ -14,16 +14,16 @@ use Rattle.array_image.specs.States.{is_current}
 use Rattle.array_core.proofs.Stripped.{some_same}
 use Rattle.array_image.specs.SoundArray.{first_unsynced}
 use Rattle.array_model.specs.View.{IsArray}
-use Rattle.commit_log.specs.Saying.{HoldsCopies}
-use Rattle.raid_rack.specs.Book.{IsAfter}
-use Rattle.raid_rack.specs.Marking.{SaysBetween, TiedBetween}
-use Rattle.raid_rack.specs.Moves.{IsAmid, PartOf}
-use Rattle.raid_rack.specs.Raid.{Raid}
-use Rattle.raid_rack.specs.Reach.{KeepsReach, reach_then}
-use Rattle.raid_rack.specs.Since.{HoldsSince}
+use Rattle.log_laws.specs.Saying.{HoldsCopies}
+use Rattle.raid_laws.specs.Book.{IsAfter}
+use Rattle.raid_laws.specs.Marking.{SaysBetween, TiedBetween}
+use Rattle.raid_laws.specs.Moves.{IsAmid, PartOf}
+use Rattle.raid_laws.specs.Raid.{Raid}
+use Rattle.raid_laws.specs.Reach.{KeepsReach, reach_then}
+use Rattle.raid_laws.specs.Since.{HoldsSince}
 use Rattle.pool_image.specs.Drives.{Found}
 use Rattle.pool_image.specs.Meaning.{array_sectors, arrays_held, shape_of, is_dirty_degraded, truth_of}
-use Rattle.raid_rack.specs.Rows.{KeepsLacking}
+use Rattle.raid_laws.specs.Rows.{KeepsLacking}
 use Rattle.pool_model.specs.Left.{AreAlone, AreAloneBy, IsPickOff}
 use Rattle.pool_model.specs.Openings.{HadOnePool, HaveOnePool, HoldOpened, IsUnsynced}
 use Rattle.pool_model.specs.Stopped.{HaveTables, HoldBetween, LieByTables, TellsStops}
@@ -32,9 +32,9 @@ use Rattle.pool_model.proofs.Found.{IsFound}
 use Rattle.pool_model.proofs.LackingRows.{dirty_before}
 use Rattle.pool_model.proofs.Marking.{marking_amid, parts_tell}
 use Rattle.pool_model.proofs.Openings.{CountFrom, amid_opened}
-use Rattle.assembler.specs.Holding.{pool_values}
-use Rattle.assembler.proofs.Alone.{alone_stops}
-use Rattle.assembler.proofs.Amid.{says_only}
+use Rattle.assembler_laws.specs.Holding.{pool_values}
+use Rattle.assembler_laws.proofs.Alone.{alone_stops}
+use Rattle.assembler_laws.proofs.Amid.{says_only}
 use Rattle.assembler.proofs.Moments.{says_values}
 
 -- A part of an opening that moves no value, from the book v, whose state is the pool's, to w, by which just the places without a disk are marked. When it begins members count as far

@@ -14,7 +14,7 @@ use Rattle.pool_model.specs.Left.{HoldAgain, HoldStill}
 use Rattle.pool_model.specs.Openings.{HoldOpened, IsIdleIn, MayReplay}
 use Rattle.pool_model.specs.Stopped.{HoldBetween, HoldLanding}
 use Rattle.pool_model.proofs.Agreeing.{agree_opened}
-use Rattle.assembler.specs.Holding.{AreSteady}
+use Rattle.assembler_laws.specs.Holding.{AreSteady}
 use Rattle.assembler.specs.Sound.{HoldSound, MayStop, TargetsLand}
 
 -- they hold a sound pool

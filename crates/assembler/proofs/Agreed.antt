@@ -5,13 +5,13 @@ use Rattle.rack.specs.Joins.{rose_before, rose_since}
 use Rattle.array_image.specs.Left.{IsLeft}
 use Rattle.lvm_group.specs.Runs.{Linear}
 use Rattle.raid_rack.specs.declared.arrays.RaidRack.{RaidRack}
-use Rattle.raid_rack.specs.Agreeing.{SupersAgree}
-use Rattle.raid_rack.specs.Cleaning.{NoneFails}
-use Rattle.raid_rack.specs.Laws.{live_parts}
-use Rattle.raid_rack.specs.Raid.{IsTold, held_in, is_over, spent_of}
+use Rattle.raid_laws.specs.Agreeing.{SupersAgree}
+use Rattle.raid_laws.specs.Cleaning.{NoneFails}
+use Rattle.raid_laws.specs.Laws.{live_parts}
+use Rattle.raid_laws.specs.Raid.{IsTold, held_in, is_over, spent_of}
 use Rattle.raid_rack.specs.RaidRack.{IsFit, arrays_in, raid_in, slices_seen, written_in}
 use Rattle.raid_rack.proofs.AgreeStill.{agree_spared}
-use Rattle.raid_rack.proofs.Whole.{told_amid}
+use Rattle.raid_laws.proofs.Whole.{told_amid}
 use Rattle.assembler.specs.Volume.{OpensVolume}
 
 module _ {R : Type 0} (seen : R → Seen) (runs : R → R → Type 0) (x y : RaidRack R) (l : Linear) (seqno : ℕ) (opens : OpensVolume seen runs x y l seqno)

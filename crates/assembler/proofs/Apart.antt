@@ -18,11 +18,11 @@ use Rattle.pool_model.proofs.Found.{IsFound, found_is}
 use Rattle.pool_model.proofs.Landing.{apart_tables, ruled_apart}
 use Rattle.pool_model.proofs.Rereading.{same_apart}
 use Rattle.pool_model.proofs.SameAlone.{have_same, same_back}
-use Rattle.assembler.specs.Holding.{AreSteady, IsPoolOn}
-use Rattle.assembler.specs.Members.{AreMembers}
+use Rattle.assembler_laws.specs.Holding.{AreSteady, IsPoolOn}
+use Rattle.assembler_laws.specs.Members.{AreMembers}
 use Rattle.assembler.specs.Sound.{LieApart, TargetsLand}
-use Rattle.assembler.proofs.Copied.{undamaged}
-use Rattle.assembler.proofs.Shows.{got}
+use Rattle.assembler_laws.proofs.Copied.{undamaged}
+use Rattle.assembler_laws.proofs.Shows.{got}
 
 -- where targets land the slices lie apart
 pub lands_apart : (disks : Disks) (c : Image) (f : Found) → found disks c ≡ Some f → TargetsLand f → LieApart f

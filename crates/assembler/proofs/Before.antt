@@ -18,10 +18,10 @@ use Rattle.pool_image.specs.Disks.{Disks, Identities, disks_of, identities_of, n
 use Rattle.pool_image.specs.Drives.{Found, found, found_by}
 use Rattle.pool_image.specs.Replay.{Standing, standing, written}
 use Rattle.pool_image.proofs.Rested.{stood_by}
-use Rattle.commit_log.specs.Kept.{IsNoLater}
+use Rattle.log_laws.specs.Kept.{IsNoLater}
 use Rattle.pool_scan.specs.Scanning.{now_in}
 use Rattle.assembler.specs.Sound.{HaveStood}
-use Rattle.assembler.proofs.Rest.{nothing_decodes, ok_of, state_of_latest}
+use Rattle.assembler_laws.proofs.Rest.{nothing_decodes, ok_of, state_of_latest}
 
 -- how disks stood is part of the pool that they have
 pub before_is : (disks : Disks) (c : Image) (e : Found) (b : Standing) → found disks c ≡ Some e → standing disks c ≡ Some b → e.before ≡ b

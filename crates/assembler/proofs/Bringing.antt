@@ -22,16 +22,16 @@ use Rattle.pool_image.specs.Volumes.{Arrays}
 use Rattle.pool_image.proofs.Founds.{joined_same, super_same, truths_same}
 use Rattle.raid_rack.specs.declared.arrays.RaidRack.{RaidRack}
 use Rattle.raid_rack.specs.AllRuns.{AreCalls}
-use Rattle.raid_rack.specs.Book.{IsAfter}
-use Rattle.raid_rack.specs.Laws.{live_parts}
-use Rattle.raid_rack.specs.Moves.{IsHeeded, IsSet}
-use Rattle.raid_rack.specs.Raid.{Raid, is_over}
+use Rattle.raid_laws.specs.Book.{IsAfter}
+use Rattle.raid_laws.specs.Laws.{live_parts}
+use Rattle.raid_laws.specs.Moves.{IsHeeded, IsSet}
+use Rattle.raid_laws.specs.Raid.{Raid, is_over}
 use Rattle.raid_rack.specs.RaidRack.{raid_in, raid_seen, slices_in, slices_seen as slices_shown}
-use Rattle.raid_rack.specs.Reach.{KeepsReach}
-use Rattle.raid_rack.specs.Runs.{KeepsMoments}
-use Rattle.raid_rack.specs.Since.{AreSince}
+use Rattle.raid_laws.specs.Reach.{KeepsReach}
+use Rattle.raid_laws.specs.Runs.{KeepsMoments}
+use Rattle.raid_laws.specs.Since.{AreSince}
 use Rattle.raid_rack.proofs.TruthAgrees.{truth_said}
-use Rattle.raid_rack.proofs.Whole.{own_rows}
+use Rattle.raid_laws.proofs.Whole.{own_rows}
 use Rattle.pool_model.specs.Left.{AreAlone, AreAloneBy, AreElsewhere, IsPickOff}
 use Rattle.pool_model.specs.Openings.{HadOnePool, HaveOnePool, HoldOpened, IsUnsynced}
 use Rattle.pool_model.specs.Pools.{AreSlicesOf, IsSoundPool}
@@ -44,11 +44,11 @@ use Rattle.pool_model.proofs.Openings.{CountFrom, amid_opened}
 use Rattle.pool_model.proofs.LackingRows.{dirty_before, leaves_lacking}
 use Rattle.pool_model.proofs.Outset.{outset_of}
 use Rattle.pool_model.proofs.Sectors.{still_sized}
-use Rattle.assembler.specs.Holding.{HoldsArrays}
+use Rattle.assembler_laws.specs.Holding.{HoldsArrays}
 use Rattle.assembler.specs.Volume.{AllLive}
-use Rattle.assembler.proofs.Alone.{alone_stops}
-use Rattle.assembler.proofs.Founded.{array_same}
-use Rattle.assembler.proofs.Shapes.{shape_heeded}
+use Rattle.assembler_laws.proofs.Alone.{alone_stops}
+use Rattle.assembler_laws.proofs.Founded.{array_same}
+use Rattle.assembler_laws.proofs.Shapes.{shape_heeded}
 
 -- Contents hold the pool so, with what its slices give once the pending record is written, and in whole sectors where the disks' are.
 pub record GivesOpened (e : Found) (t : Slices) (from : ℕ) (i : Image) : Type 0 where

@@ -11,7 +11,7 @@ use Rattle.pool_state.specs.Valid.{is_valid}
 use Rattle.array_model.specs.View.{View, IsSameArray}
 use Rattle.array_model.proofs.Views.{same_array}
 use Rattle.array_core.specs.Seats.{gone as without, restarted}
-use Rattle.commit_log.specs.View.{names}
+use Rattle.log_laws.specs.View.{names}
 use Rattle.pool_image.specs.Disks.{Seats}
 use Rattle.pool_scan.specs.declared.Known.{Known}
 use Rattle.pool_scan.specs.Choosing.{seat_by}
@@ -21,12 +21,12 @@ use Rattle.pool_scan.proofs.Valid.{valid_places}
 use Rattle.pool_rest.specs.Resting.{IsFlagged}
 use Rattle.pool_rest.specs.Standing.{IsLasting, IsNewest, since}
 use Rattle.pool_check.specs.Drives.{Goes, Loses}
-use Rattle.raid_rack.specs.Losing.{geometry_then}
-use Rattle.raid_rack.specs.Moves.{LosesOnly}
-use Rattle.raid_rack.proofs.Noted.{current_few}
+use Rattle.raid_laws.specs.Losing.{geometry_then}
+use Rattle.raid_laws.specs.Moves.{LosesOnly}
+use Rattle.raid_laws.proofs.Noted.{current_few}
 use Rattle.assembler.specs.declared.refusal.Refusal.{Refusal}
 use Rattle.assembler.specs.Causes.{RefusesDrives}
-use Rattle.assembler.specs.Marking.{AreMarkedFor}
+use Rattle.assembler_laws.specs.Marking.{AreMarkedFor}
 use Rattle.assembler.specs.Refusing.{FailsCheck, seats_left}
 
 -- a disk that is left is that of a current place that hasn't gone

@@ -10,7 +10,7 @@ use Rattle.slice_rack.specs.Sliced.{sliced, slices_of}
 use Rattle.slice_rack.specs.SliceRack.{below_of, tables}
 use Rattle.array_image.specs.Left.{reading}
 use Rattle.array_image.specs.States.{state_in}
-use Rattle.commit_log.specs.View.{LogView}
+use Rattle.log_laws.specs.View.{LogView}
 use Rattle.pool_image.specs.Disks.{disks_of}
 use Rattle.pool_image.specs.Drives.{Found}
 use Rattle.pool_image.specs.Replay.{Standing, standing}
@@ -24,8 +24,8 @@ use Rattle.pool_rest.proofs.Keeping.{inside_before}
 use Rattle.pool_check.specs.declared.Checked.{Checked}
 use Rattle.pool_check.specs.Checking.{IsChecked}
 use Rattle.pool_check.specs.Refusing.{is_well}
-use Rattle.assembler.specs.Holding.{HoldPool}
-use Rattle.assembler.specs.Members.{AreMembers}
+use Rattle.assembler_laws.specs.Holding.{HoldPool}
+use Rattle.assembler_laws.specs.Members.{AreMembers}
 use Rattle.pool_model.specs.Pools.{AreSlicesOf}
 use Rattle.pool_model.proofs.Found.{found_is}
 use Rattle.assembler.specs.Sound.{HoldSound, MayStop}
@@ -34,8 +34,8 @@ use Rattle.assembler.proofs.Before.{stood_state}
 use Rattle.assembler.proofs.Entry.{IsRested, f, pool_same, rest_found}
 use Rattle.assembler.proofs.Leaving.{IsAsRead}
 use Rattle.assembler.proofs.Moments.{read_replays, read_state, reads_leave}
-use Rattle.assembler.proofs.Shows.{few_place, none_past}
-use Rattle.assembler.proofs.Tables.{of_drives}
+use Rattle.assembler_laws.proofs.Shows.{few_place, none_past}
+use Rattle.assembler_laws.proofs.Tables.{of_drives}
 
 module _ {R : Type 0} (seen : R → Seen) (a : Seen) (rest : AtRest R) (e : Found) (sound : HoldSound a e) (rested : IsRested seen a rest)
     (t : Slices) (y : Seen) (checked : Checked) (absent : List ℕ) (orderly : IsOrderly t) (log : LogView)

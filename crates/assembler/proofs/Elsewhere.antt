@@ -23,13 +23,13 @@ use Rattle.pool_rest.specs.Resting.{IsOfDrive}
 use Rattle.pool_check.specs.declared.Checked.{Checked}
 use Rattle.pool_check.specs.Settling.{KeepsTable}
 use Rattle.pool_model.specs.Left.{AreElsewhere, IsPickOff}
-use Rattle.raid_rack.proofs.Noted.{current_few}
-use Rattle.assembler.specs.Holding.{AreSteady}
-use Rattle.assembler.specs.Members.{AreMembers}
-use Rattle.assembler.specs.Writing.{IsSlicedOrTable}
-use Rattle.assembler.proofs.Drives.{sliced_at}
+use Rattle.raid_laws.proofs.Noted.{current_few}
+use Rattle.assembler_laws.specs.Holding.{AreSteady}
+use Rattle.assembler_laws.specs.Members.{AreMembers}
+use Rattle.assembler_laws.specs.Writing.{IsSlicedOrTable}
+use Rattle.assembler_laws.proofs.Drives.{sliced_at}
 use Rattle.assembler.proofs.Mended.{drive_never, slices_never}
-use Rattle.assembler.proofs.Written.{rack_then}
+use Rattle.assembler_laws.proofs.Written.{rack_then}
 
 module _ (s r : State) (t : Slices) (a x y z w : Seen) (checked : Checked) (absent : List ℕ) (known : List Known) (orderly : IsOrderly t) (m : AreMembers s t y checked absent)
     (early : WritesOnly a x (IsOfDrive a known r)) (reads : OnlyReads x y) (rack : WritesOnly y z (IsSlicedOrTable y z t)) (texts : WritesOnly z w (IsSliced t))

@@ -29,10 +29,10 @@ use Rattle.pool_model.specs.Pools.{IsSoundPool}
 use Rattle.pool_model.proofs.Found.{found_is}
 use Rattle.pool_model.proofs.Refused.{IsOnlyPool}
 use Rattle.pool_model.specs.Grouped.{IsVolumeOf}
-use Rattle.assembler.specs.Holding.{IsFoundOn}
+use Rattle.assembler_laws.specs.Holding.{IsFoundOn}
 use Rattle.assembler.specs.Sound.{HoldSound}
-use Rattle.assembler.proofs.Agreeing.{none_passes}
-use Rattle.assembler.proofs.Finding.{same as found_same}
+use Rattle.assembler_laws.proofs.Agreeing.{none_passes}
+use Rattle.assembler_laws.proofs.Finding.{same as found_same}
 use Rattle.assembler.proofs.Meaning.{refusal_is}
 
 -- where no disk refused a call in all, none did in a part

@@ -19,13 +19,13 @@ use Rattle.array_image.specs.States.{current_places}
 use Rattle.array_image.proofs.Frames.{state_same}
 use Rattle.array_image.proofs.Replays.{SameLogs, pending_same, replayed_as_is, whole_same}
 use Rattle.array_model.proofs.Keeping.{live_on, reading_live}
-use Rattle.commit_log.specs.AtRest.{Opened}
-use Rattle.commit_log.specs.Commits.{Stands}
-use Rattle.commit_log.specs.Opening.{CanReplay, HasWork, ReplayCall, Replays, StandsReplaying}
-use Rattle.commit_log.specs.Standing.{IsInside, IsLogPart, LogsStand}
-use Rattle.commit_log.specs.View.{LogView}
+use Rattle.log_laws.specs.AtRest.{Opened}
+use Rattle.log_laws.specs.Commits.{Stands}
+use Rattle.log_laws.specs.Opening.{CanReplay, HasWork, ReplayCall, Replays, StandsReplaying}
+use Rattle.log_laws.specs.Standing.{IsInside, IsLogPart, LogsStand}
+use Rattle.log_laws.specs.View.{LogView}
 use Rattle.commit_log.proofs.Replayable.{opened_can_replay}
-use Rattle.raid_rack.proofs.Added.{names_current}
+use Rattle.raid_laws.proofs.Added.{names_current}
 use Rattle.pool_image.specs.Alike.{IsSameButGates, IsSamePool, drive_gate}
 use Rattle.pool_image.specs.Disks.{Disks, disks_of, identities_of, seat_of}
 use Rattle.pool_image.specs.Drives.{Found, found}
@@ -41,12 +41,12 @@ use Rattle.pool_model.proofs.Found.{found_is}
 use Rattle.pool_model.proofs.GatesSame.{HoldButGates, gates_opened, idle_holds}
 use Rattle.pool_model.proofs.Landing.{tables_apart}
 use Rattle.pool_model.proofs.Settled.{IsIdlePool, idle_pool}
-use Rattle.assembler.specs.Holding.{AreSteady}
-use Rattle.assembler.specs.Members.{AreMembers}
+use Rattle.assembler_laws.specs.Holding.{AreSteady}
+use Rattle.assembler_laws.specs.Members.{AreMembers}
 use Rattle.assembler.specs.Rested.{HoldRested}
 use Rattle.assembler.specs.Sound.{HoldSound}
-use Rattle.assembler.proofs.Drives.{sliced_at}
-use Rattle.assembler.proofs.Still.{replays_nothing}
+use Rattle.assembler_laws.proofs.Drives.{sliced_at}
+use Rattle.assembler_laws.proofs.Still.{replays_nothing}
 
 -- Gates of the pool e were closed: the disks hold it but for these, nothing is pending, and so it is at each moment.
 pub record IsClosedSo (e : Found) (y b : Seen) : Type 0 where

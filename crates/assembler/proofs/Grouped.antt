@@ -17,11 +17,11 @@ use Rattle.pool_image.specs.Drives.{Found}
 use Rattle.pool_image.specs.Meaning.{arrays_held}
 use Rattle.raid_rack.specs.declared.arrays.RaidRack.{RaidRack}
 use Rattle.raid_rack.specs.AllRuns.{AreCalls}
-use Rattle.raid_rack.specs.Raid.{Raid, held_in}
+use Rattle.raid_laws.specs.Raid.{Raid, held_in}
 use Rattle.raid_rack.specs.RaidRack.{raid_in, raid_seen, refused_in, slices_seen}
 use Rattle.pool_model.specs.Grouped.{HaveOwnAreas, HoldGroup}
 use Rattle.pool_model.proofs.Grouped.{group_left, means_below}
-use Rattle.assembler.specs.Holding.{HoldsArrays}
+use Rattle.assembler_laws.specs.Holding.{HoldsArrays}
 use Rattle.assembler.specs.Volume.{AllLive, OpensVolume}
 use Rattle.assembler.proofs.Volumes.{live_before, now as now_held, served as served_by}
 

@@ -8,8 +8,8 @@ use Rattle.slice_rack.specs.Slices.{Slices, IsOrderly, sectors_of}
 use Rattle.slice_rack.specs.Sliced.{sliced, slices_of as slices_seen}
 use Rattle.slice_rack.specs.SliceRack.{below_of, tables}
 use Rattle.array_image.specs.Arrays.{arrays_in, replayed}
-use Rattle.commit_log.specs.View.{LogView}
-use Rattle.commit_log.specs.Standing.{IsAlike}
+use Rattle.log_laws.specs.View.{LogView}
+use Rattle.log_laws.specs.Standing.{IsAlike}
 use Rattle.lvm_group.specs.Brought.{IsBefore}
 use Rattle.lvm_group.specs.Runs.{IsOrderly as AreOrderly, Linear, data_start}
 use Rattle.lvm_group.specs.Shown.{IsInside}
@@ -24,13 +24,13 @@ use Rattle.pool_check.specs.declared.Checked.{Checked}
 use Rattle.pool_check.specs.Checking.{IsChecked}
 use Rattle.pool_check.specs.Refusing.{is_well}
 use Rattle.raid_rack.specs.declared.arrays.RaidRack.{RaidRack}
-use Rattle.raid_rack.specs.Raid.{Raid}
+use Rattle.raid_laws.specs.Raid.{Raid}
 use Rattle.raid_rack.specs.RaidRack.{raid_in, raid_seen, slices_in, slices_seen as slices_shown}
 use Rattle.pool_model.specs.Grouped.{IsVolumeOf}
-use Rattle.assembler.specs.Members.{AreMembers}
+use Rattle.assembler_laws.specs.Members.{AreMembers}
 use Rattle.pool_model.specs.Pools.{IsSoundPool}
-use Rattle.assembler.specs.Holding.{AreSteady, HoldsArrays, IsIdle, IsPoolOn}
-use Rattle.assembler.specs.Moments.{GivesPool, HoldsAt}
+use Rattle.assembler_laws.specs.Holding.{AreSteady, HoldsArrays, IsIdle, IsPoolOn}
+use Rattle.assembler_laws.specs.Moments.{GivesPool, HoldsAt}
 use Rattle.assembler.specs.Volume.{AllLive, OpensVolume}
 use Rattle.assembler.proofs.Volumes.{opened_writes}
 use Rattle.assembler.proofs.Moments.{GivesArrays, alike_values, brought_leave, e, gives_volume, made_leave, read_leave}

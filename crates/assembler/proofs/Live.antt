@@ -33,19 +33,19 @@ use Rattle.pool_image.specs.Disks.{Seats}
 use Rattle.pool_scan.proofs.Valid.{valid_arrays, valid_places}
 use Rattle.pool_check.specs.Founded.{IsFounded}
 use Rattle.pool_check.specs.declared.Checked.{Checked}
-use Rattle.raid_rack.specs.Moves.{IsSet, Mends}
-use Rattle.raid_rack.specs.Raid.{Raid, gone_in, is_empty, is_left, is_over, is_used_up}
-use Rattle.raid_rack.proofs.Founding.{position_named}
+use Rattle.raid_laws.specs.Moves.{IsSet, Mends}
+use Rattle.raid_laws.specs.Raid.{Raid, gone_in, is_empty, is_left, is_over, is_used_up}
+use Rattle.raid_laws.proofs.Founding.{position_named}
 use Rattle.raid_rack.proofs.Live.{live_still}
-use Rattle.raid_rack.proofs.Noted.{current_few, gone_some}
-use Rattle.raid_rack.proofs.Over.{not_empty, or_from, used_still}
-use Rattle.raid_rack.proofs.Seated.{array_with, gone_lost}
-use Rattle.assembler.specs.Members.{AreMembers}
+use Rattle.raid_laws.proofs.Noted.{current_few, gone_some}
+use Rattle.raid_laws.proofs.Over.{not_empty, or_from, used_still}
+use Rattle.raid_laws.proofs.Seated.{array_with, gone_lost}
+use Rattle.assembler_laws.specs.Members.{AreMembers}
 use Rattle.assembler.specs.Volume.{AllLive, MarksAbsent}
-use Rattle.assembler.proofs.Arrays.{seat_found}
-use Rattle.assembler.proofs.Marks.{gone_is, marks_absent, went_is}
-use Rattle.assembler.proofs.Shows.{got}
-use Rattle.assembler.proofs.Whole.{few_lacking, whole_member, whole_position}
+use Rattle.assembler_laws.proofs.Arrays.{seat_found}
+use Rattle.assembler_laws.proofs.Marks.{gone_is, marks_absent, went_is}
+use Rattle.assembler_laws.proofs.Shows.{got}
+use Rattle.assembler_laws.proofs.Whole.{few_lacking, whole_member, whole_position}
 
 -- ---- one array
 

@@ -11,25 +11,25 @@ use Rattle.pool_state.specs.declared.contents.State.{State}
 use Rattle.array_image.specs.Places.{place_of}
 use Rattle.array_image.specs.States.{current_places, is_current}
 use Rattle.array_model.specs.View.{HasFault}
-use Rattle.commit_log.specs.Opening.{ReplayCall}
-use Rattle.commit_log.specs.View.{LogView, names}
+use Rattle.log_laws.specs.Opening.{ReplayCall}
+use Rattle.log_laws.specs.View.{LogView, names}
 use Rattle.pool_image.specs.Disks.{Seats}
 use Rattle.pool_scan.specs.Scanning.{IsUnfaulted}
 use Rattle.pool_scan.proofs.Valid.{valid_places}
 use Rattle.pool_check.specs.declared.Checked.{Checked}
 use Rattle.pool_check.specs.Drives.{Goes, flag_by}
 use Rattle.pool_check.specs.Settling.{IsSettled, IsTrueOf, KeepsTable}
-use Rattle.raid_rack.specs.Moves.{IsHeeded}
-use Rattle.raid_rack.specs.Raid.{Raid, gone_in}
-use Rattle.raid_rack.specs.Runs.{RaidRuns}
-use Rattle.raid_rack.proofs.Noted.{current_few}
-use Rattle.raid_rack.proofs.Whole.{heeded_left}
-use Rattle.assembler.specs.Marking.{AreMarkedFor}
-use Rattle.assembler.specs.Members.{AreMembers}
-use Rattle.assembler.specs.Mending.{MendsTables}
+use Rattle.raid_laws.specs.Moves.{IsHeeded}
+use Rattle.raid_laws.specs.Raid.{Raid, gone_in}
+use Rattle.raid_laws.specs.Runs.{RaidRuns}
+use Rattle.raid_laws.proofs.Noted.{current_few}
+use Rattle.raid_laws.proofs.Whole.{heeded_left}
+use Rattle.assembler_laws.specs.Marking.{AreMarkedFor}
+use Rattle.assembler_laws.specs.Members.{AreMembers}
+use Rattle.assembler_laws.specs.Mending.{MendsTables}
 use Rattle.assembler.proofs.Entry.{quiet_first, quiet_last}
-use Rattle.assembler.proofs.Holding.{nobody_went}
-use Rattle.assembler.proofs.Marks.{lost_so}
+use Rattle.assembler_laws.proofs.Holding.{nobody_went}
+use Rattle.assembler_laws.proofs.Marks.{lost_so}
 use Rattle.assembler.proofs.Mended.{IsMended, absent_same, left_named, left_same, marking_so, mended_so, rack_keeps, rack_settled}
 
 pub by_list : {P : Type 0} (ps : List ℕ) → (ps ≡ [] → P) → ((ps ≡ [] → ⊥) → P) → P

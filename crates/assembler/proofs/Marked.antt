@@ -20,25 +20,25 @@ use Rattle.array_model.proofs.Keeping.{live_after, live_on, reading_live, readin
 use Rattle.array_model.proofs.Opening.{opens_holds}
 use Rattle.array_model.specs.ArrayCalls.{Covers}
 use Rattle.array_model.specs.View.{has_gone, sectors_of as sectors_in, shape_of}
-use Rattle.commit_log.specs.Kept.{LogKept}
-use Rattle.commit_log.specs.Saying.{HoldsCopies}
-use Rattle.commit_log.specs.Standing.{LogsStand, deciding}
+use Rattle.log_laws.specs.Kept.{LogKept}
+use Rattle.log_laws.specs.Saying.{HoldsCopies}
+use Rattle.log_laws.specs.Standing.{LogsStand, deciding}
 use Rattle.pool_image.specs.Alike.{IsSamePool}
 use Rattle.pool_image.specs.Drives.{Found, slices_of as slices_found}
 use Rattle.pool_image.specs.Meaning.{array_sectors, arrays_held, shape_of as shape_found, truth_of}
 use Rattle.pool_image.specs.Volumes.{Arrays}
 use Rattle.pool_image.proofs.Founds.{joined_same, super_same, truths_same}
-use Rattle.raid_rack.specs.Book.{IsAfter}
-use Rattle.raid_rack.specs.Laws.{live_parts}
-use Rattle.raid_rack.specs.Moves.{IsAmid, IsSet, Mends, PartOf, Moves}
-use Rattle.raid_rack.specs.Opening.{OpensRaid}
-use Rattle.raid_rack.specs.Raid.{Raid, gone_in, held_in, is_over, spent_of}
-use Rattle.raid_rack.specs.Reach.{KeepsReach}
-use Rattle.raid_rack.specs.Rows.{KeepsLacking}
-use Rattle.raid_rack.specs.Since.{HoldsSince}
-use Rattle.raid_rack.proofs.Noted.{current_few, gone_from}
-use Rattle.raid_rack.proofs.Opening.{opened_amid}
-use Rattle.raid_rack.proofs.Over.{number_room, someone_left}
+use Rattle.raid_laws.specs.Book.{IsAfter}
+use Rattle.raid_laws.specs.Laws.{live_parts}
+use Rattle.raid_laws.specs.Moves.{IsAmid, IsSet, Mends, PartOf, Moves}
+use Rattle.raid_laws.specs.Opening.{OpensRaid}
+use Rattle.raid_laws.specs.Raid.{Raid, gone_in, held_in, is_over, spent_of}
+use Rattle.raid_laws.specs.Reach.{KeepsReach}
+use Rattle.raid_laws.specs.Rows.{KeepsLacking}
+use Rattle.raid_laws.specs.Since.{HoldsSince}
+use Rattle.raid_laws.proofs.Noted.{current_few, gone_from}
+use Rattle.raid_laws.proofs.Opening.{opened_amid}
+use Rattle.raid_laws.proofs.Over.{number_room, someone_left}
 use Rattle.pool_model.specs.Left.{AreAlone, IsPickOff}
 use Rattle.pool_model.specs.Openings.{HadOnePool, HaveOnePool, HoldOpened}
 use Rattle.pool_model.specs.Stopped.{HaveTables}
@@ -47,13 +47,13 @@ use Rattle.pool_model.proofs.Amid.{IsReady}
 use Rattle.pool_model.proofs.Current.{shape_truth}
 use Rattle.pool_model.proofs.Found.{IsFound}
 use Rattle.pool_model.proofs.LackingRows.{opened_lacking}
-use Rattle.assembler.specs.Holding.{HoldsArrays, IsArrayOf}
+use Rattle.assembler_laws.specs.Holding.{HoldsArrays, IsArrayOf}
 use Rattle.assembler.specs.Volume.{AllLive}
 use Rattle.assembler.proofs.Absences.{marking_leaves}
-use Rattle.assembler.proofs.Closed.{StandOver}
-use Rattle.assembler.proofs.Founded.{array_same}
+use Rattle.assembler_laws.proofs.Closed.{StandOver}
+use Rattle.assembler_laws.proofs.Founded.{array_same}
 use Rattle.assembler.proofs.Mended.{reads_move}
-use Rattle.assembler.proofs.Shapes.{shape_left}
+use Rattle.assembler_laws.proofs.Shapes.{shape_left}
 
 -- What slices read as now a stop may leave, so an array that was opened on them goes by its own shape.
 left_now : (x : Seen) → IsLeft x (replayed x.sectors (reading x))

@@ -12,7 +12,7 @@ use Rattle.pool_state.specs.Valid.{is_valid}
 use Rattle.array_image.specs.Places.{arrays_first, log_kind, log_sectors, log_slice, place_of, slice_of, state_sector}
 use Rattle.array_image.specs.Record.{gate_of, gate_sector, is_bad_gate, is_bad_log, is_there}
 use Rattle.array_image.specs.States.{current_places, is_current, id_of}
-use Rattle.commit_log.specs.View.{LogView, names}
+use Rattle.log_laws.specs.View.{LogView, names}
 use Rattle.pool_image.specs.Alike.{drive_gate}
 use Rattle.pool_image.specs.Disks.{disks_of, identities_of}
 use Rattle.pool_image.specs.Drives.{Found, end_of, extent_of, found, slices_of}
@@ -32,12 +32,12 @@ use Rattle.pool_check.specs.Drives.{AreCopied, AreDrivesOf, found_with}
 use Rattle.pool_check.specs.Refusing.{is_well, refusal_by, refused_with}
 use Rattle.pool_check.proofs.Wells.{well_passes, well_refuses}
 use Rattle.pool_model.proofs.Undamaged.{find_false, or_left}
-use Rattle.raid_rack.proofs.Added.{names_current}
-use Rattle.raid_rack.proofs.Noted.{current_few}
+use Rattle.raid_laws.proofs.Added.{names_current}
+use Rattle.raid_laws.proofs.Noted.{current_few}
 use Rattle.assembler.specs.declared.refusal.Refusal.{Refusal}
-use Rattle.assembler.specs.Holding.{IsFoundOn, drives_of}
+use Rattle.assembler_laws.specs.Holding.{IsFoundOn, drives_of}
 use Rattle.assembler.specs.Refusing.{FailsCheck, meant_by, seats_left}
-use Rattle.assembler.proofs.Finding.{found_copied, found_drives, g, same}
+use Rattle.assembler_laws.proofs.Finding.{found_copied, found_drives, g, same}
 use Rattle.assembler.proofs.Refusals.{meant_check}
 
 -- a drive whose table says its log slice has all of it

@@ -16,7 +16,7 @@ use Rattle.gpt_table.specs.Changes.{IsOfCopies}
 use Rattle.pool_state.specs.declared.contents.State.{State}
 use Rattle.array_image.specs.Places.{arrays_first, state_sector}
 use Rattle.array_image.specs.States.{current_places, is_current}
-use Rattle.commit_log.specs.View.{names}
+use Rattle.log_laws.specs.View.{names}
 use Rattle.array_model.proofs.Keeping.{keeping_calls}
 use Rattle.array_model.proofs.Views.{notes_none}
 use Rattle.pool_image.specs.Disks.{Seats}
@@ -29,21 +29,21 @@ use Rattle.pool_check.specs.Drives.{flag_by}
 use Rattle.pool_check.specs.Settling.{IsSettled, IsTableSector, IsTrueOf, KeepsTable}
 use Rattle.pool_check.proofs.Settled.{keeps_after, keeps_before, settled_by, settled_since, settled_told, true_since}
 use Rattle.pool_check.proofs.TableSectors.{table_end}
-use Rattle.raid_rack.specs.Agreeing.{MakesAgree}
-use Rattle.raid_rack.proofs.Agreeing.{agree_then}
-use Rattle.raid_rack.specs.Raid.{Raid}
-use Rattle.raid_rack.specs.Moves.{IsSet, Mends, Moves}
-use Rattle.raid_rack.proofs.Added.{names_current}
-use Rattle.raid_rack.proofs.Calls.{moves_read, reads_notes}
-use Rattle.raid_rack.proofs.Moving.{moves_then}
-use Rattle.raid_rack.proofs.Noted.{current_few}
-use Rattle.assembler.specs.Members.{AreMembers}
-use Rattle.assembler.specs.Mending.{MendsTables}
-use Rattle.assembler.specs.Writing.{IsSlicedOrTable}
-use Rattle.assembler.proofs.Drives.{sliced_at}
+use Rattle.raid_laws.specs.Agreeing.{MakesAgree}
+use Rattle.raid_laws.proofs.Agreeing.{agree_then}
+use Rattle.raid_laws.specs.Raid.{Raid}
+use Rattle.raid_laws.specs.Moves.{IsSet, Mends, Moves}
+use Rattle.raid_laws.proofs.Added.{names_current}
+use Rattle.raid_laws.proofs.Calls.{moves_read, reads_notes}
+use Rattle.raid_laws.proofs.Moving.{moves_then}
+use Rattle.raid_laws.proofs.Noted.{current_few}
+use Rattle.assembler_laws.specs.Members.{AreMembers}
+use Rattle.assembler_laws.specs.Mending.{MendsTables}
+use Rattle.assembler_laws.specs.Writing.{IsSlicedOrTable}
+use Rattle.assembler_laws.proofs.Drives.{sliced_at}
 use Rattle.assembler.proofs.Running.{members_later}
-use Rattle.assembler.proofs.Written.{sector_around}
-use Rattle.raid_rack.specs.Truths.{MakesTruths}
+use Rattle.assembler_laws.proofs.Written.{sector_around}
+use Rattle.raid_laws.specs.Truths.{MakesTruths}
 use Rattle.raid_rack.proofs.Truths.{makes_after}
 
 -- ---- reads before losses are mended

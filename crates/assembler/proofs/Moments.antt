@@ -20,8 +20,8 @@ use Rattle.array_image.specs.Stripes.{sector_in}
 use Rattle.array_image.specs.Held.{Among}
 use Rattle.array_image.specs.Left.{reading}
 use Rattle.array_image.proofs.Frames.{Agree, shape_same, state_same, value_by_data, value_same}
-use Rattle.commit_log.specs.View.{LogView}
-use Rattle.commit_log.specs.Standing.{IsAlike, LogsStand}
+use Rattle.log_laws.specs.View.{LogView}
+use Rattle.log_laws.specs.Standing.{IsAlike, LogsStand}
 use Rattle.lvm_group.specs.Brought.{IsBefore}
 use Rattle.lvm_group.specs.Laws.{array_below, sector_below as array_sector_below, shows}
 use Rattle.lvm_group.specs.Runs.{IsOrderly as AreOrderly, Linear, array_of, sector_of, sectors_in}
@@ -39,22 +39,22 @@ use Rattle.pool_check.specs.declared.Checked.{Checked}
 use Rattle.pool_check.specs.Checking.{IsChecked}
 use Rattle.pool_check.specs.Layers.{IsOpened}
 use Rattle.pool_check.specs.Refusing.{is_well}
-use Rattle.raid_rack.specs.Marking.{SaysBetween}
+use Rattle.raid_laws.specs.Marking.{SaysBetween}
 use Rattle.raid_rack.specs.declared.arrays.RaidRack.{RaidRack}
-use Rattle.raid_rack.specs.Raid.{Raid, is_over, spent_of}
+use Rattle.raid_laws.specs.Raid.{Raid, is_over, spent_of}
 use Rattle.raid_rack.specs.RaidRack.{raid_in, raid_seen, slices_in, slices_seen as slices_shown}
-use Rattle.raid_rack.proofs.Founding.{position_named}
+use Rattle.raid_laws.proofs.Founding.{position_named}
 use Rattle.pool_model.specs.Grouped.{IsVolumeOf}
-use Rattle.assembler.specs.Members.{AreMembers}
+use Rattle.assembler_laws.specs.Members.{AreMembers}
 use Rattle.pool_model.specs.Pools.{IsSoundPool}
-use Rattle.assembler.specs.Holding.{AreSteady, HoldsArrays, IsIdle, IsPoolOn, pool_values}
-use Rattle.assembler.specs.Moments.{HoldsAt}
+use Rattle.assembler_laws.specs.Holding.{AreSteady, HoldsArrays, IsIdle, IsPoolOn, pool_values}
+use Rattle.assembler_laws.specs.Moments.{HoldsAt}
 use Rattle.assembler.specs.Volume.{AllLive}
-use Rattle.assembler.proofs.Arrays.{among_made}
-use Rattle.assembler.proofs.Rest.{opened_now}
-use Rattle.assembler.proofs.Shows.{few_made, few_place, got, now, reads_member}
-use Rattle.assembler.proofs.Still.{replays_nothing}
-use Rattle.assembler.proofs.Truthful.{shape_said, super_unseated, truth_now}
+use Rattle.assembler_laws.proofs.Arrays.{among_made}
+use Rattle.assembler_laws.proofs.Rest.{opened_now}
+use Rattle.assembler_laws.proofs.Shows.{few_made, few_place, got, now, reads_member}
+use Rattle.assembler_laws.proofs.Still.{replays_nothing}
+use Rattle.assembler_laws.proofs.Truthful.{shape_said, super_unseated, truth_now}
 
 -- ---- contents that are as the slices read
 

@@ -10,7 +10,7 @@ use Rattle.array_image.specs.Left.{reading}
 use Rattle.array_image.specs.Places.{log_slice, place_of}
 use Rattle.array_image.specs.Record.{Gate, gate_in, gate_of, gate_sector}
 use Rattle.array_image.specs.States.{is_current}
-use Rattle.commit_log.specs.View.{LogView, names}
+use Rattle.log_laws.specs.View.{LogView, names}
 use Rattle.pool_image.specs.Alike.{drive_gate}
 use Rattle.pool_image.specs.Disks.{disks_of, identities_of, seat_of as pool_seat}
 use Rattle.pool_image.specs.Drives.{Found}
@@ -18,8 +18,8 @@ use Rattle.pool_scan.specs.Scanning.{AllTold, now_in}
 use Rattle.pool_rest.specs.SoundLogs.{IsSettled}
 use Rattle.pool_rest.specs.Standing.{IsLasting}
 use Rattle.pool_check.specs.declared.Checked.{Checked}
-use Rattle.assembler.specs.Holding.{HoldPool}
-use Rattle.assembler.specs.Members.{AreMembers}
+use Rattle.assembler_laws.specs.Holding.{HoldPool}
+use Rattle.assembler_laws.specs.Members.{AreMembers}
 use Rattle.assembler.specs.Sound.{HaveGatesUpTo}
 
 module _ (f : Found) (t : Slices) (y : Seen) (checked : Checked) (absent : List ℕ) (orderly : IsOrderly t) (m : AreMembers f.state t y checked absent)

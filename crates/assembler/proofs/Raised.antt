@@ -14,12 +14,12 @@ use Rattle.pool_check.specs.declared.Checked.{Checked}
 use Rattle.pool_check.specs.Layers.{AreOpened}
 use Rattle.raid_rack.specs.declared.arrays.RaidRack.{RaidRack}
 use Rattle.raid_rack.specs.AllRuns.{IsOneCall}
-use Rattle.raid_rack.specs.Moves.{RaisesBy}
-use Rattle.raid_rack.specs.Raid.{Raid}
+use Rattle.raid_laws.specs.Moves.{RaisesBy}
+use Rattle.raid_laws.specs.Raid.{Raid}
 use Rattle.raid_rack.specs.RaidRack.{raid_in}
 use Rattle.raid_rack.proofs.Raises.{raises_more, raises_then, several_raise}
-use Rattle.assembler.specs.Raising.{RaisesOver, most_opening}
-use Rattle.assembler.proofs.Shows.{got}
+use Rattle.assembler_laws.specs.Raising.{RaisesOver, most_opening}
+use Rattle.assembler_laws.proofs.Shows.{got}
 
 -- a rack is made of arrays, in which places are noted and marked
 pub raises_made : (k : ℕ) (s : State) (number : ℕ) (arrays : List View) (places : List ℕ) (v w : Raid) → v.state ≡ s → v.number ≡ number → length arrays ≡ s.made

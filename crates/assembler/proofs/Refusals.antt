@@ -5,7 +5,7 @@ use Rattle.std.proofs.lemmas.Bool.{both_ways, cases_lt}
 use Rattle.std.proofs.lemmas.Option.{none-some}
 use Rattle.rack.specs.Seen.{Seen}
 use Rattle.pool_state.specs.declared.contents.State.{State}
-use Rattle.commit_log.specs.View.{names}
+use Rattle.log_laws.specs.View.{names}
 use Rattle.pool_image.specs.Disks.{disks_of}
 use Rattle.pool_image.specs.Meaning as meaning
 use Rattle.pool_image.specs.Meaning.{refusal_of}

@@ -14,14 +14,14 @@ use Rattle.pool_image.specs.Meaning.{array_sectors, arrays_held, refused_by}
 use Rattle.pool_image.specs.Volumes.{Arrays}
 use Rattle.pool_image.proofs.Founds.{joined_same}
 use Rattle.raid_rack.specs.declared.arrays.RaidRack.{RaidRack}
-use Rattle.raid_rack.specs.Raid.{Raid}
+use Rattle.raid_laws.specs.Raid.{Raid}
 use Rattle.raid_rack.specs.RaidRack.{raid_in, raid_seen, refused_in, slices_seen}
 use Rattle.pool_model.specs.Grouped.{HaveOwnAreas}
 use Rattle.pool_model.specs.Openings.{HadOnePool, HoldOpened}
 use Rattle.pool_model.specs.Reopening.{AreWholeSectors, HoldMeaning}
 use Rattle.pool_model.proofs.OpenedMeaning.{opened_meaning}
 use Rattle.pool_model.proofs.Openings.{opened_from}
-use Rattle.assembler.specs.Holding.{HoldsArrays}
+use Rattle.assembler_laws.specs.Holding.{HoldsArrays}
 use Rattle.assembler.specs.Volume.{AllLive, OpensVolume}
 use Rattle.assembler.proofs.Bringing.{GivesOpened}
 use Rattle.assembler.proofs.Grouped.{arrays_are, extent_is, given_volume}

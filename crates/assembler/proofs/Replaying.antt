@@ -19,7 +19,7 @@ use Rattle.array_image.specs.Places.{arrays_first, log_sectors, log_slice, place
 use Rattle.array_image.specs.Record.{damaged_log}
 use Rattle.array_image.specs.States.{copy_in, current_places, state_in}
 use Rattle.array_core.proofs.Stripped.{some_same}
-use Rattle.commit_log.specs.Kept.{IsNoLater}
+use Rattle.log_laws.specs.Kept.{IsNoLater}
 use Rattle.pool_image.specs.Alike.{Agree}
 use Rattle.pool_image.specs.Disks.{Disks, Identity, disks_of, identities_of, newest}
 use Rattle.pool_image.specs.Drives.{Found}
@@ -46,9 +46,9 @@ use Rattle.assembler.specs.Sound.{HoldSound}
 use Rattle.assembler.proofs.AtRest.{pool_alone, rest_one}
 use Rattle.assembler.proofs.Before.{before_is}
 use Rattle.assembler.proofs.Entry.{IsRested, f, pool_same, rest_found}
-use Rattle.assembler.proofs.Finding.{idle, newest_is, same as found_same}
+use Rattle.assembler_laws.proofs.Finding.{idle, newest_is, same as found_same}
 use Rattle.assembler.proofs.Rereading.{rereading_leaves}
-use Rattle.assembler.proofs.Rest.{nothing_decodes, ok_of, state_of_latest}
+use Rattle.assembler_laws.proofs.Rest.{nothing_decodes, ok_of, state_of_latest}
 
 -- ---- log slices of drives, as they are laid
 

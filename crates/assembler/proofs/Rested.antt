@@ -20,7 +20,7 @@ use Rattle.pool_model.proofs.Outset.{outset_of}
 use Rattle.pool_model.proofs.SameAlone.{good_same, have_same, own_alone}
 use Rattle.pool_model.proofs.Settled.{IsIdlePool, idle_pool}
 use Rattle.pool_model.proofs.TableRoom.{log_room}
-use Rattle.assembler.specs.Holding.{AreSteady}
+use Rattle.assembler_laws.specs.Holding.{AreSteady}
 use Rattle.assembler.specs.Rested.{HoldRested}
 use Rattle.assembler.specs.Sound.{HoldSound}
 

@@ -11,17 +11,17 @@ use Rattle.slice_rack.specs.Runs.{inside_still}
 use Rattle.pool_state.specs.declared.contents.State.{State}
 use Rattle.array_image.specs.Places.{arrays_first}
 use Rattle.array_image.specs.States.{current_places, is_current}
-use Rattle.commit_log.specs.Phases.{AreLogs}
-use Rattle.commit_log.specs.View.{names}
+use Rattle.log_laws.specs.Phases.{AreLogs}
+use Rattle.log_laws.specs.View.{names}
 use Rattle.array_model.specs.View.{View, IsArray}
 use Rattle.array_core.specs.Seats.{gone, restarted}
 use Rattle.pool_check.specs.declared.Checked.{Checked}
 use Rattle.pool_check.specs.Slots.{AreSlots}
 use Rattle.raid_rack.specs.declared.arrays.Arrays.{Arrays}
 use Rattle.raid_rack.specs.RaidRack.{IsRunning, no_array, raid_by}
-use Rattle.raid_rack.proofs.Added.{names_current}
-use Rattle.assembler.specs.Members.{AreMembers}
-use Rattle.assembler.proofs.Seating.{few_place, members_set, seated}
+use Rattle.raid_laws.proofs.Added.{names_current}
+use Rattle.assembler_laws.specs.Members.{AreMembers}
+use Rattle.assembler_laws.proofs.Seating.{few_place, members_set, seated}
 
 -- what members are goes by the sizes of disks
 pub members_later : (s : State) (t : Slices) (x y : Seen) (checked : Checked) (absent : List ℕ) → Stays x y → AreMembers s t x checked absent → AreMembers s t y checked absent

@@ -21,12 +21,12 @@ use Rattle.pool_image.specs.Meaning.{array_sectors, arrays_held, shape_of as sha
 use Rattle.pool_image.specs.Volumes.{Arrays}
 use Rattle.pool_image.proofs.Founds.{joined_same, super_same, truths_same}
 use Rattle.raid_rack.specs.declared.arrays.RaidRack.{RaidRack}
-use Rattle.raid_rack.specs.Agreeing.{SupersAgree}
+use Rattle.raid_laws.specs.Agreeing.{SupersAgree}
 use Rattle.raid_rack.specs.AllRuns.{AreCalls}
-use Rattle.raid_rack.specs.Book.{IsAfter, after_then}
-use Rattle.raid_rack.specs.Cleaning.{NoneFails}
-use Rattle.raid_rack.specs.Laws.{live_parts}
-use Rattle.raid_rack.specs.Raid.{Raid, is_over}
+use Rattle.raid_laws.specs.Book.{IsAfter, after_then}
+use Rattle.raid_laws.specs.Cleaning.{NoneFails}
+use Rattle.raid_laws.specs.Laws.{live_parts}
+use Rattle.raid_laws.specs.Raid.{Raid, is_over}
 use Rattle.raid_rack.specs.RaidRack.{IsFit, arrays_in, raid_in, raid_seen, slices_seen, written_in}
 use Rattle.raid_rack.proofs.AgreeStill.{agree_spared, truth_spared}
 use Rattle.pool_model.specs.Left.{IsServed, LeavesClean}
@@ -34,11 +34,11 @@ use Rattle.pool_model.specs.Pools.{AreSlicesOf}
 use Rattle.pool_model.proofs.Refused.{HoldSupers}
 use Rattle.pool_model.proofs.Roles.{placed_position}
 use Rattle.pool_model.proofs.Values.{HoldValues}
-use Rattle.assembler.specs.Holding.{HoldsArrays}
+use Rattle.assembler_laws.specs.Holding.{HoldsArrays}
 use Rattle.assembler.specs.Volume.{AllLive, AreStill}
-use Rattle.assembler.proofs.Clean.{earlier_told}
-use Rattle.assembler.proofs.Founded.{array_later, array_same}
-use Rattle.assembler.proofs.Shapes.{shape_heeded}
+use Rattle.assembler_laws.proofs.Clean.{earlier_told}
+use Rattle.assembler_laws.proofs.Founded.{array_later, array_same}
+use Rattle.assembler_laws.proofs.Shapes.{shape_heeded}
 
 module _ {R : Type 0} (seen : R → Seen) (runs : R → R → Type 0) (e f : Found) (pool : IsSamePool e f) (a : Seen) (raid last : RaidRack R)
     (kept : AreCalls seen runs raid last) (holds : HoldsArrays f (raid_in raid) a (slices_seen seen raid)) (alive : AllLive (raid_in last))

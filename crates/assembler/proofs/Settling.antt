@@ -21,7 +21,7 @@ use Rattle.pool_model.proofs.NoSuper.{no_super_replaced}
 use Rattle.pool_model.proofs.Outset.{outset_of}
 use Rattle.pool_model.proofs.Settled.{settled_holds}
 use Rattle.pool_model.proofs.TableRoom.{log_room}
-use Rattle.assembler.specs.Mending.{MendsTables}
+use Rattle.assembler_laws.specs.Mending.{MendsTables}
 use Rattle.assembler.specs.Sound.{HoldSound}
 
 module _ (x y : Seen) (f : Found) (s : State) (seats : Seats) (agreed : List Bool) (gone now : List ℕ) (sound : HoldSound x f) (idle : IsIdle x)

@@ -12,8 +12,8 @@ use Rattle.pool_state.specs.declared.contents.State.{State}
 use Rattle.array_image.specs.States.{current_places, is_current}
 use Rattle.array_model.specs.View.{IsArray, View}
 use Rattle.array_core.specs.Seats.{gone, names, restarted}
-use Rattle.commit_log.specs.Opening.{ReplayCall}
-use Rattle.commit_log.specs.View.{LogView}
+use Rattle.log_laws.specs.Opening.{ReplayCall}
+use Rattle.log_laws.specs.View.{LogView}
 use Rattle.pool_image.specs.Disks.{disks_of}
 use Rattle.pool_image.specs.Drives.{Found}
 use Rattle.pool_image.proofs.Founds.{truths_same}
@@ -23,10 +23,10 @@ use Rattle.pool_check.specs.declared.Checked.{Checked}
 use Rattle.pool_check.specs.Checking.{IsChecked}
 use Rattle.pool_check.specs.Refusing.{is_well}
 use Rattle.pool_rest.specs.Resting.{IsIdle, IsOfDrive}
-use Rattle.raid_rack.specs.Book.{IsAfter, after_same}
-use Rattle.raid_rack.specs.Moves.{IsSet, Mends}
-use Rattle.raid_rack.specs.Raid.{Raid}
-use Rattle.raid_rack.proofs.Noted.{current_few}
+use Rattle.raid_laws.specs.Book.{IsAfter, after_same}
+use Rattle.raid_laws.specs.Moves.{IsSet, Mends}
+use Rattle.raid_laws.specs.Raid.{Raid}
+use Rattle.raid_laws.proofs.Noted.{current_few}
 use Rattle.pool_model.specs.InService.{IsOutset}
 use Rattle.pool_model.specs.Left.{AreAlone, AreElsewhere, IsPickOff}
 use Rattle.pool_model.specs.Openings.{HaveGoodTables, HoldOpened}
@@ -41,20 +41,20 @@ use Rattle.pool_model.proofs.Outset.{outset_of}
 use Rattle.pool_model.proofs.Rereading.{same_apart}
 use Rattle.pool_model.proofs.SameAlone.{good_same, own_alone, same_back, same_self}
 use Rattle.pool_model.proofs.Settled.{IsIdlePool, idle_pool}
-use Rattle.assembler.specs.Holding.{HoldPool, HoldsArrays}
-use Rattle.assembler.specs.Members.{AreMembers}
+use Rattle.assembler_laws.specs.Holding.{HoldPool, HoldsArrays}
+use Rattle.assembler_laws.specs.Members.{AreMembers}
 use Rattle.assembler.specs.Rested.{HoldRested}
 use Rattle.assembler.specs.Sound.{HoldSound}
 use Rattle.assembler.specs.Volume.{AllLive}
-use Rattle.assembler.specs.Writing.{IsSlicedOrTable}
-use Rattle.assembler.proofs.Alone.{alone_off, unsliced}
-use Rattle.assembler.proofs.Closed.{StandOver, at_rest, geometry_now, gone_unseated, idle, on, own, stand_closed, stand_still}
+use Rattle.assembler_laws.specs.Writing.{IsSlicedOrTable}
+use Rattle.assembler_laws.proofs.Alone.{alone_off, unsliced}
+use Rattle.assembler_laws.proofs.Closed.{StandOver, at_rest, geometry_now, gone_unseated, idle, on, own, stand_closed, stand_still}
 use Rattle.assembler.proofs.Elsewhere.{elsewhere}
 use Rattle.assembler.proofs.Gates.{IsClosedSo, closing_so}
-use Rattle.assembler.proofs.Lies.{slices_lie, slices_same}
+use Rattle.assembler_laws.proofs.Lies.{slices_lie, slices_same}
 use Rattle.assembler.proofs.Making.{by_list}
 use Rattle.assembler.proofs.Marked.{marked_leaves}
-use Rattle.assembler.proofs.Marks.{marks_of, some_is}
+use Rattle.assembler_laws.proofs.Marks.{marks_of, some_is}
 use Rattle.assembler.proofs.Mended.{IsMended, mended_reads, mended_stays, rack_keeps, rack_writes}
 
 disks_still : (a b : Seen) → Stays a b → disks_of a ≡ disks_of b

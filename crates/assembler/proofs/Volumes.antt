@@ -24,14 +24,14 @@ use Rattle.pool_image.proofs.Parts.{held_in as shown_in}
 use Rattle.shr_base.specs.declared.Id.{Id}
 use Rattle.raid_rack.specs.declared.arrays.RaidRack.{RaidRack}
 use Rattle.raid_rack.specs.AllRuns.{AreCalls, Spares}
-use Rattle.raid_rack.specs.Book.{IsSameBook}
-use Rattle.raid_rack.specs.Raid.{held_in, is_used_up}
+use Rattle.raid_laws.specs.Book.{IsSameBook}
+use Rattle.raid_laws.specs.Raid.{held_in, is_used_up}
 use Rattle.raid_rack.proofs.Live.{runs_live, runs_unused}
 use Rattle.raid_rack.specs.RaidRack.{IsFit, arrays_in, raid_in, raid_seen, refused_in, slices_in, slices_seen, written_in}
 use Rattle.pool_model.specs.Grouped.{IsVolumeOf}
 use Rattle.assembler.specs.declared.refusal.Refusal.{Refusal}
 use Rattle.assembler.specs.declared.refusal.Refusal.TheVariants.{BadVolume, Memory}
-use Rattle.assembler.specs.Holding.{HoldsArrays}
+use Rattle.assembler_laws.specs.Holding.{HoldsArrays}
 use Rattle.assembler.specs.Refusing.{by_volume}
 use Rattle.assembler.specs.Volume.{AreStill, IsShort, AllLive, HasBadVolume, HoldsVolume, OpensVolume}
 

@@ -9,7 +9,7 @@ use Rattle.slice_rack.specs.Sliced.{slices_of}
 use Rattle.lvm_group.specs.Opening.{IsBadVolume}
 use Rattle.pool_state.specs.declared.contents.State.{State}
 use Rattle.array_model.specs.View.{View, IsSameArray}
-use Rattle.commit_log.specs.View.{LogView}
+use Rattle.log_laws.specs.View.{LogView}
 use Rattle.pool_image.specs.Disks.{Seats}
 use Rattle.pool_scan.specs.declared.Known.{Known}
 use Rattle.pool_scan.specs.Choosing.{seat_by}
@@ -23,16 +23,16 @@ use Rattle.pool_check.specs.Checking.{IsChecked}
 use Rattle.pool_check.specs.Drives.{AreCopied, AreDrivesOf, Drives, Loses, found_with}
 use Rattle.pool_check.specs.Refusing.{CountsAbsent, absent_among, is_well, refusal_by}
 use Rattle.raid_rack.specs.declared.arrays.RaidRack.{RaidRack}
-use Rattle.raid_rack.specs.Book.{IsAfter}
+use Rattle.raid_laws.specs.Book.{IsAfter}
 use Rattle.raid_rack.specs.declared.arrays.Arrays.{Arrays}
 use Rattle.raid_rack.specs.AllRuns.{Serves}
-use Rattle.raid_rack.specs.Raid.{is_used_up, raid_of}
+use Rattle.raid_laws.specs.Raid.{is_used_up, raid_of}
 use Rattle.raid_rack.specs.RaidRack.{IsFit, arrays_in, raid_by, refused_in, slices_in, written_in}
-use Rattle.raid_rack.specs.Runs.{RaidRuns}
+use Rattle.raid_laws.specs.Runs.{RaidRuns}
 use Rattle.assembler.specs.declared.refusal.Refusal.{Refusal}
 use Rattle.assembler.specs.declared.refusal.Refusal.TheVariants.{BadVolume, Memory}
-use Rattle.assembler.specs.Marking.{AreMarkedFor}
-use Rattle.assembler.specs.Members.{AreMembers}
+use Rattle.assembler_laws.specs.Marking.{AreMarkedFor}
+use Rattle.assembler_laws.specs.Members.{AreMembers}
 use Rattle.assembler.specs.Refusing.{by_check, by_finding, refused_left}
 
 -- No pool was found, or two, by what was read of the copies on the disks: before anything was written, or once the pending record was.

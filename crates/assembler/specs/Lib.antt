@@ -1,13 +1,6 @@
 pub mod Causes
-pub mod Holding
-pub mod Marking
-pub mod Members
-pub mod Mending
-pub mod Moments
-pub mod Raising
 pub mod Refusing
 pub mod Rested
 pub mod Sound
 pub mod Volume
 pub mod Wanting
-pub mod Writing

@@ -23,9 +23,9 @@ use Rattle.pool_rest.specs.Resting.{IsIdle}
 use Rattle.pool_rest.specs.SoundLogs.{HasSoundLogs}
 use Rattle.array_core.specs.TruthHeld.{HoldTruth}
 use Rattle.raid_rack.specs.declared.arrays.RaidRack.{RaidRack}
-use Rattle.raid_rack.specs.Agreeing.{SupersAgree}
-use Rattle.raid_rack.specs.Book.{IsAfter}
-use Rattle.raid_rack.specs.Raid.{IsTold, Raid}
+use Rattle.raid_laws.specs.Agreeing.{SupersAgree}
+use Rattle.raid_laws.specs.Book.{IsAfter}
+use Rattle.raid_laws.specs.Raid.{IsTold, Raid}
 use Rattle.raid_rack.specs.RaidRack.{raid_in, raid_seen, slices_in, slices_seen}
 use Rattle.assembler.specs.declared.refusal.Refusal.{Refusal}
 pub use Rattle.pool_model.specs.Grouped.{HaveOwnAreas}
@@ -38,10 +38,10 @@ use Rattle.pool_model.specs.Pools.{AreSlicesOf, IsSoundPool}
 use Rattle.pool_model.specs.Reopening.{AreWholeSectors, HoldMeaning}
 pub use Rattle.pool_model.specs.Stopped.{HaveStood, LieApart}
 use Rattle.pool_model.specs.Stopped.{HaveTables}
-use Rattle.assembler.specs.Holding.{AreSteady, IsArrayOf}
+use Rattle.assembler_laws.specs.Holding.{AreSteady, IsArrayOf}
 use Rattle.assembler.specs.Refusing.{meant_by}
-use Rattle.assembler.specs.Moments.{GivesPool, HoldsAt, SaysVolume}
-use Rattle.assembler.specs.Raising.{most_opening}
+use Rattle.assembler_laws.specs.Moments.{GivesPool, HoldsAt, SaysVolume}
+use Rattle.assembler_laws.specs.Raising.{most_opening}
 use Rattle.assembler.specs.Volume.{AllLive, HoldsVolume}
 
 -- Disks that hold a sound pool: they are told, each sector of them has one value, and by these the pool's logs, states and

@@ -5,7 +5,7 @@ use Rattle.rack.specs.Seen.{Seen}
 use Rattle.rack.specs.Sequences.{OnlyReads}
 use Rattle.pool_state.specs.declared.contents.State.{State}
 use Rattle.array_image.specs.States.{is_current}
-use Rattle.commit_log.specs.View.{names}
+use Rattle.log_laws.specs.View.{names}
 use Rattle.lvm_group.specs.Brought.{BringsUp}
 use Rattle.lvm_group.specs.Opening.{IsBadVolume, Opens}
 use Rattle.lvm_group.specs.Runs.{Linear}
@@ -13,10 +13,10 @@ use Rattle.lvm_group.specs.Volume.{most_opened}
 use Rattle.pool_image.specs.Meaning.{Volume}
 use Rattle.raid_rack.specs.declared.arrays.RaidRack.{RaidRack}
 use Rattle.array_model.specs.View.{sectors_of}
-use Rattle.raid_rack.specs.Raid.{Raid, is_used_up, live_of}
+use Rattle.raid_laws.specs.Raid.{Raid, is_used_up, live_of}
 use Rattle.raid_rack.specs.AllRuns.{AreCalls, AreRuns, Spares}
-use Rattle.raid_rack.specs.Agreeing.{MakesAgree}
-use Rattle.raid_rack.specs.Moves.{RaisesBy}
+use Rattle.raid_laws.specs.Agreeing.{MakesAgree}
+use Rattle.raid_laws.specs.Moves.{RaisesBy}
 use Rattle.raid_rack.specs.RaidRack.{IsFit, KeepsRack, arrays_in, raid_in, raid_seen, slices_in, slices_seen, written_in}
 use Rattle.slice_rack.specs.SliceRack.{below_of}
 use Rattle.assembler.specs.declared.refusal.Refusal.{Refusal}

@@ -5,7 +5,7 @@ use Rattle.pool_image.specs.Alike.{MeansTheSame}
 use Rattle.pool_image.specs.Disks.{disks_of}
 use Rattle.pool_image.specs.Drives.{Found}
 use Rattle.pool_scan.specs.Scanning.{now_in}
-use Rattle.raid_rack.specs.Raid.{is_used_up}
+use Rattle.raid_laws.specs.Raid.{is_used_up}
 use Rattle.raid_rack.specs.RaidRack.{raid_by}
 use Rattle.assembler.specs.declared.refusal.Refusal.TheVariants.{Memory}
 use Rattle.assembler.specs.Causes.{RefusesArrays, RefusesPool}

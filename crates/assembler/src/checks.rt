@@ -13,12 +13,12 @@ ghost use Rattle.pool_check.specs.Drives.{AreCopied, AreDrivesOf, Drives, Loses,
 ghost use Rattle.pool_check.specs.Refusing.{absent_among, is_well};
 ghost use Rattle.pool_check.specs.Settling.{AreCompared};
 ghost use Rattle.pool_image.specs.Drives.{Found};
-ghost use Rattle.commit_log.specs.View.{names};
+ghost use Rattle.log_laws.specs.View.{names};
 ghost use Rattle.pool_scan.specs.Choosing.{seat_by};
 ghost use Rattle.pool_scan.specs.Scanning.{IsUnfaulted};
 ghost use Rattle.pool_rest.specs.Standing.{IsLaid};
-ghost use Rattle.assembler.specs.Holding.{HoldPool, IsFoundOn};
-ghost use Rattle.assembler.specs.Members.{AreMembers};
+ghost use Rattle.assembler_laws.specs.Holding.{HoldPool, IsFoundOn};
+ghost use Rattle.assembler_laws.specs.Members.{AreMembers};
 ghost use Rattle.assembler.specs.Refusing.{FailsCheck, seats_left};
 
 use crate::refusal::{Refusal, by_check};

@@ -4,9 +4,9 @@ ghost use Rattle.std.specs.Prelude.{◌≡◌, ◌<◌, ◌≤◌, ◌==◌, ◌
 ghost use Rattle.slice_rack.specs.Slices.{seat_of};
 ghost use Rattle.slice_rack.specs.SliceRack.{tables, below_of};
 ghost use Rattle.slice_rack.specs.Sliced.{slices_of};
-ghost use Rattle.commit_log.specs.View.{names};
+ghost use Rattle.log_laws.specs.View.{names};
 ghost use Rattle.pool_check.specs.Drives.{seats_by};
-ghost use Rattle.assembler.specs.Mending.{MendsTables};
+ghost use Rattle.assembler_laws.specs.Mending.{MendsTables};
 ghost use Rattle.assembler.specs.Sound.{HoldSound};
 ghost use Rattle.pool_image.specs.Drives.{Found};
 ghost use Rattle.pool_model.specs.Left.{AreAlone};

@@ -4,10 +4,10 @@ ghost use Rattle.std.specs.Prelude.{◌≡◌, ◌≢◌, ◌⊎◌, if◌then�
 ghost use Rattle.rack.specs.Sequences.{OnlyReads};
 ghost use Rattle.pool_rest.specs.Resting.{WritesDrives};
 ghost use Rattle.assembler.specs.Causes.{HasRefusalCause};
-ghost use Rattle.assembler.specs.Marking.{MarksDrives};
+ghost use Rattle.assembler_laws.specs.Marking.{MarksDrives};
 ghost use Rattle.assembler.specs.Refusing.{by_volume, is_early};
 ghost use Rattle.assembler.specs.declared.refusal.Refusal.TheVariants.{BadVolume, Memory};
-ghost use Rattle.raid_rack.specs.Raid.{is_used_up};
+ghost use Rattle.raid_laws.specs.Raid.{is_used_up};
 ghost use Rattle.slice_rack.specs.SliceRack.{below_of, tables};
 ghost use Rattle.slice_rack.specs.Slices.{seat_of};
 ghost use Rattle.lvm_group.specs.Runs.{data_start};
@@ -17,7 +17,7 @@ ghost use Rattle.assembler.specs.Sound.{HaveAgreed, HoldSound, IsMeantBy, IsMean
 ghost use Rattle.assembler.specs.Volume.{Agrees, OpensVolume, RefusesVolume};
 ghost use Rattle.array_image.specs.States.{is_current};
 ghost use Rattle.assembler.specs.Wanting.{HasUsedUp, LeavesPool};
-ghost use Rattle.assembler.specs.Writing.{WritesPool};
+ghost use Rattle.assembler_laws.specs.Writing.{WritesPool};
 ghost use Rattle.pool_check.specs.Settling.{IsSettled, KeepsTable};
 ghost use Rattle.pool_image.specs.Alike.{MeansTheSame};
 ghost use Rattle.pool_image.specs.Disks.{disks_of};

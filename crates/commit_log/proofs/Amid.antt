@@ -8,9 +8,9 @@ use Rattle.shr_base.specs.Blocks.{bytes_at}
 use Rattle.array_image.specs.Places.{slice_of, place_of, log_slice, log_sectors}
 use Rattle.array_image.specs.Record.{Gate, gate_sector, gate_of, half_of, record_in, pending}
 use Rattle.array_image.specs.Arrays.{replayed}
-use Rattle.commit_log.specs.View.{LogView, names, is_left}
-use Rattle.commit_log.specs.Standing.{IsLogPart, IsInside, deciding}
-use Rattle.commit_log.specs.Commits.{IsWritten}
+use Rattle.log_laws.specs.View.{LogView, names, is_left}
+use Rattle.log_laws.specs.Standing.{IsLogPart, IsInside, deciding}
+use Rattle.log_laws.specs.Commits.{IsWritten}
 use Rattle.commit_log.proofs.Deciding.{names_first, names_later, names_either}
 
 -- ---- the terms of a commit

@@ -16,11 +16,11 @@ use Rattle.array_image.specs.States.{current_places}
 use Rattle.array_image.proofs.Frames.{state_same}
 use Rattle.array_image.proofs.Replays.{SameLogs, pending_same}
 use Rattle.pool_state.specs.declared.contents.State.{State}
-use Rattle.commit_log.specs.View.{LogView, names, next_number, in_order}
-use Rattle.commit_log.specs.Standing.{IsLogPart, IsInside, LogsStand, deciding, IsReady, SomeoneDecides}
-use Rattle.commit_log.specs.Commits.{Stands, Commits, Committed, Rests, StandsMidway, IsOutside, CommitCall}
-use Rattle.commit_log.specs.Phases.{Calls, IsLogOf, IsOnEach, IsOfRecord, IsTargeted, has_target, AllLeft}
-use Rattle.commit_log.proofs.Calling.{calls_weaker, calls_then}
+use Rattle.log_laws.specs.View.{LogView, names, next_number, in_order}
+use Rattle.log_laws.specs.Standing.{IsLogPart, IsInside, LogsStand, deciding, IsReady, SomeoneDecides}
+use Rattle.log_laws.specs.Commits.{Stands, Commits, Committed, Rests, StandsMidway, IsOutside, CommitCall}
+use Rattle.log_laws.specs.Phases.{Calls, IsLogOf, IsOnEach, IsOfRecord, IsTargeted, has_target, AllLeft}
+use Rattle.log_laws.proofs.Calling.{calls_weaker, calls_then}
 use Rattle.commit_log.proofs.Restored.{restored, restored_there, pending_at_by}
 use Rattle.commit_log.proofs.Amid.{IsEarly, IsLate, place_of_log, slice_of_log, log_of_place}
 use Rattle.commit_log.proofs.Early.{early_commits, early_midway}

@@ -8,7 +8,7 @@ use Rattle.rack.specs.Seen.{Image}
 use Rattle.rack.specs.Targets.{Target}
 use Rattle.array_image.specs.Foremost.{ahead, foremost}
 use Rattle.array_image.specs.Record.{Gate, GateAt, gate_in, is_bad_gate, record_in, gates_in, is_open_if_of, pending_at, pending_record, pending}
-use Rattle.commit_log.specs.View.{names}
+use Rattle.log_laws.specs.View.{names}
 use Rattle.commit_log.specs.Scans.{number_of}
 
 -- ---- the foremost of what places have

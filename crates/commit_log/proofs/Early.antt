@@ -7,13 +7,13 @@ use Rattle.rack.specs.Seen.{Image, Seen, IsLive}
 use Rattle.array_image.specs.Places.{slice_of, place_of, log_slice, log_sectors}
 use Rattle.array_image.specs.Record.{Gate, GateAt, gate_sector, gate_of, half_of, record_in, pending_at, pending, damaged_log}
 use Rattle.array_image.proofs.Frames.{state_same}
-use Rattle.commit_log.specs.View.{LogView, names}
-use Rattle.commit_log.specs.Standing.{IsLogPart, StatesStand, deciding, IsWhole, Decides, IsReady}
-use Rattle.commit_log.specs.Commits.{Stands, Commits, Committed, StandsMidway}
+use Rattle.log_laws.specs.View.{LogView, names}
+use Rattle.log_laws.specs.Standing.{IsLogPart, StatesStand, deciding, IsWhole, Decides, IsReady}
+use Rattle.log_laws.specs.Commits.{Stands, Commits, Committed, StandsMidway}
 use Rattle.commit_log.proofs.Restored.{restored, restored_there, restored_picks, restored_inside, pending_by}
 use Rattle.commit_log.proofs.Undamaged.{whole_by}
-use Rattle.commit_log.proofs.Counting.{decides_small, named_decides}
-use Rattle.commit_log.proofs.Halves.{record_same}
+use Rattle.log_laws.proofs.Counting.{decides_small, named_decides}
+use Rattle.log_laws.proofs.Halves.{record_same}
 use Rattle.commit_log.proofs.Late.{is_old, is_new, Deciders, late_pending, late_whole}
 use Rattle.commit_log.proofs.Midway.{HasGates, deciders_pends}
 use Rattle.commit_log.proofs.Whole.{all_committed}

@@ -4,10 +4,10 @@ use Rattle.std.proofs.lemmas.Bool.{cases_lt, and_parts, both_ways}
 use Rattle.rack.specs.Seen.{Image, Seen}
 use Rattle.array_image.specs.Places.{log_slice}
 use Rattle.array_image.specs.Record.{gate_sector, pending}
-use Rattle.commit_log.specs.View.{LogView, names}
-use Rattle.commit_log.specs.Standing.{StatesStand, deciding, Decides, IsReady, SomeoneDecides}
-use Rattle.commit_log.specs.Commits.{Committed, Rests, StandsMidway}
-use Rattle.commit_log.proofs.Counting.{decides_small}
+use Rattle.log_laws.specs.View.{LogView, names}
+use Rattle.log_laws.specs.Standing.{StatesStand, deciding, Decides, IsReady, SomeoneDecides}
+use Rattle.log_laws.specs.Commits.{Committed, Rests, StandsMidway}
+use Rattle.log_laws.proofs.Counting.{decides_small}
 use Rattle.commit_log.proofs.Amid.{Terms, IsShut, IsLate, absent, lower, not_state}
 use Rattle.commit_log.proofs.Late.{Decider, is_old, is_new, is_shut, Deciders, late_pending, late_whole, shut_pending, pending_number}
 use Rattle.commit_log.proofs.Midway.{HasGates, deciders_pends}

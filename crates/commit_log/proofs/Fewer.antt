@@ -11,12 +11,12 @@ use Rattle.pool_state.specs.declared.contents.State.{State}
 use Rattle.array_image.specs.Foremost.{ahead, foremost}
 use Rattle.array_image.specs.Record.{GateAt, gate_in, is_bad_gate, record_in, gates_in, is_open_if_of, pending_at, pending}
 use Rattle.array_image.specs.States.{is_current, current_places}
-use Rattle.commit_log.specs.View.{names}
+use Rattle.log_laws.specs.View.{names}
 use Rattle.commit_log.specs.Scans.{number_of}
 use Rattle.commit_log.proofs.Deciding.{IsTop, NoneAbove, foremost_among, top_first, gate_at, gate_at_is, all_or, all_at, names_first, names_later, names_either, pending_of_top, pending_is_decisive}
-use Rattle.commit_log.proofs.Counting.{is_listed}
+use Rattle.log_laws.proofs.Counting.{is_listed}
 use Rattle.commit_log.proofs.LeftPlaces.{filter_in, filter_out, foremost_left, all_left, any_left, foremost_most}
-use Rattle.commit_log.proofs.Naming.{filter_more}
+use Rattle.log_laws.proofs.Naming.{filter_more}
 
 -- ---- lists of places
 

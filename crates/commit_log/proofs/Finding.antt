@@ -13,12 +13,12 @@ use Rattle.array_image.specs.Record.{Gate, GateAt, gate_sector, gate_of, gate_in
 use Rattle.array_image.specs.Left.{reading}
 use Rattle.commit_log.specs.declared.gates.Gate as read
 use Rattle.commit_log.specs.declared.scan.Scan.{Scan}
-use Rattle.commit_log.specs.View.{LogView, names, is_left, left_of, in_order}
-use Rattle.commit_log.specs.Phases.{went}
-use Rattle.commit_log.specs.Opening.{Finds, PendingCall}
+use Rattle.log_laws.specs.View.{LogView, names, is_left, left_of, in_order}
+use Rattle.log_laws.specs.Phases.{went}
+use Rattle.log_laws.specs.Opening.{Finds, PendingCall}
 use Rattle.commit_log.specs.Scans.{gate_seen, at_seen, all_seen, number_of, decisive_seen, pending_seen, is_open_gate, is_damaged, IsScan, Drops, Loads}
 use Rattle.commit_log.proofs.Deciding.{foremost_among, gate_at}
-use Rattle.commit_log.proofs.Naming.{names_range, names_listed}
+use Rattle.log_laws.proofs.Naming.{names_range, names_listed}
 use Rattle.commit_log.proofs.Scanning.{pending_has, drops_had, agrees_later}
 use Rattle.commit_log.proofs.LeftPlaces.{foremost_left, all_left, any_left, find_left, any_found, any_named, any_one, foremost_most, AreOnly}
 

@@ -10,14 +10,14 @@ use Rattle.array_image.specs.Places.{log_slice}
 use Rattle.array_image.specs.Record.{Gate, gate_sector, pending}
 use Rattle.array_image.specs.States.{is_current}
 use Rattle.array_image.specs.Arrays.{replayed}
-use Rattle.commit_log.specs.View.{LogView, names}
-use Rattle.commit_log.specs.Standing.{LogsStand, deciding, IsNumbered, SomeoneDecides}
-use Rattle.commit_log.specs.Commits.{Stands}
-use Rattle.commit_log.specs.Opening.{CanReplay, HasWork, ReplayCall}
-use Rattle.commit_log.specs.Kept.{CopiesStand, HasClosedGate, LogKept}
+use Rattle.log_laws.specs.View.{LogView, names}
+use Rattle.log_laws.specs.Standing.{LogsStand, deciding, IsNumbered, SomeoneDecides}
+use Rattle.log_laws.specs.Commits.{Stands}
+use Rattle.log_laws.specs.Opening.{CanReplay, HasWork, ReplayCall}
+use Rattle.log_laws.specs.Kept.{CopiesStand, HasClosedGate, LogKept}
 use Rattle.commit_log.proofs.Amid.{replayed_as}
-use Rattle.commit_log.proofs.Kept.{live_on, put_none}
-use Rattle.commit_log.proofs.KeptAfter.{logs_after}
+use Rattle.log_laws.proofs.Kept.{live_on, put_none}
+use Rattle.log_laws.proofs.KeptAfter.{logs_after}
 
 -- Where nobody went, nothing is pending, and contents are as they are once they are replayed.
 pub replayed_idle : (l : LogView) (on : List ℕ) (a b : Seen) (c : Image) → ReplayCall l on [] a b → CanReplay l a → SomeoneDecides l.pending on [] a

@@ -7,12 +7,12 @@ use Rattle.rack.specs.Seen.{Image, Seen}
 use Rattle.array_image.specs.Places.{log_slice}
 use Rattle.array_image.specs.Record.{Gate, GateAt, gate_sector, gate_of, gate_in, is_there, is_bad_gate, record_in, is_open_if_of, pending_at, pending}
 use Rattle.commit_log.specs.Scans.{number_of}
-use Rattle.commit_log.specs.View.{LogView, names}
-use Rattle.commit_log.specs.Standing.{deciding, IsWhole, Decides}
+use Rattle.log_laws.specs.View.{LogView, names}
+use Rattle.log_laws.specs.Standing.{deciding, IsWhole, Decides}
 use Rattle.commit_log.proofs.Deciding.{IsTop, top, gate_at, gate_at_is, all_or, all_at, nothing_pending, record_pending, pending_of_top, none_of_top, pending_is_decisive}
 use Rattle.commit_log.proofs.Undamaged.{whole_from}
-use Rattle.commit_log.proofs.Counting.{named_decides, decides_named}
-use Rattle.commit_log.specs.Commits.{IsWritten}
+use Rattle.log_laws.proofs.Counting.{named_decides, decides_named}
+use Rattle.log_laws.specs.Commits.{IsWritten}
 use Rattle.commit_log.proofs.Amid.{Terms, IsNew, IsShut, IsOld, absent, lower, no_gate_in_nothing}
 
 -- ---- what is pending

@@ -4,7 +4,7 @@ use Rattle.std.specs.List.{list_all, list_any}
 use Rattle.std.proofs.lemmas.Bool.{cases_Bool, cases_lt, both_ways, cond-true, cond-false}
 use Rattle.array_image.specs.Foremost.{ahead, foremost}
 use Rattle.array_image.specs.Record.{GateAt}
-use Rattle.commit_log.specs.View.{names}
+use Rattle.log_laws.specs.View.{names}
 use Rattle.commit_log.specs.Scans.{number_of}
 use Rattle.commit_log.proofs.Deciding.{names_first, names_later, names_either}
 

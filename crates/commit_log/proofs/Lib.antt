@@ -1,24 +1,7 @@
-mod Copies
-pub mod HeldCopies
-pub mod Kept
-pub mod KeptAfter
 pub mod KeptReplayed
-pub mod Calling
-pub mod Each
-pub mod Naming
-pub mod FirstGate
-pub mod Records
-pub mod Halves
-pub mod Targets
-pub mod Checked
-pub mod Loads
-pub mod Rounds
-pub mod Closing
-pub mod GateRead
 pub mod Deciding
 pub mod Restored
 pub mod Undamaged
-pub mod Counting
 pub mod Amid
 pub mod Late
 pub mod Whole
@@ -36,11 +19,9 @@ pub mod Scanning
 pub mod Finding
 pub mod LeftPlaces
 pub mod Fewer
-pub mod Epochs
 pub mod Replayable
 pub mod Retired
 pub mod RestKept
-pub mod Places
 pub mod Saying
 pub mod Replaced
 pub mod ReplaySays

@@ -6,11 +6,11 @@ use Rattle.rack.specs.Values.{MayLeave}
 use Rattle.rack.specs.Seen.{Image, Seen, IsLive}
 use Rattle.array_image.specs.Places.{log_slice}
 use Rattle.array_image.specs.Record.{Gate, GateAt, gate_of, gate_sector, pending_at, pending}
-use Rattle.commit_log.specs.View.{LogView, names, next_number}
-use Rattle.commit_log.specs.Standing.{IsInside, StatesStand, deciding, IsReady}
-use Rattle.commit_log.specs.Commits.{IsPendingNow, IsWritten}
+use Rattle.log_laws.specs.View.{LogView, names, next_number}
+use Rattle.log_laws.specs.Standing.{IsInside, StatesStand, deciding, IsReady}
+use Rattle.log_laws.specs.Commits.{IsPendingNow, IsWritten}
 use Rattle.commit_log.proofs.Amid.{Terms, no_gate_in_nothing}
-use Rattle.commit_log.proofs.Counting.{decides_small, named_decides}
+use Rattle.log_laws.proofs.Counting.{decides_small, named_decides}
 use Rattle.commit_log.proofs.Deciding.{foremost_among, gate_at, gate_at_is, pending_is_decisive}
 use Rattle.commit_log.proofs.Late.{Deciders, late_pending, pending_number}
 

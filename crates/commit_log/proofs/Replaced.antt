@@ -6,8 +6,8 @@ use Rattle.rack.specs.Seen.{Image}
 use Rattle.pool_state.specs.declared.contents.State.{State}
 use Rattle.array_image.specs.Record.{gate_in}
 use Rattle.array_image.specs.States.{current_places, is_current}
-use Rattle.commit_log.specs.Saying.{IsBrought, IsReplaced, SaysReplaced, SaysState}
-use Rattle.commit_log.specs.View.{names}
+use Rattle.log_laws.specs.Saying.{IsBrought, IsReplaced, SaysReplaced, SaysState}
+use Rattle.log_laws.specs.View.{names}
 use Rattle.commit_log.proofs.Fewer.{names_filter}
 use Rattle.commit_log.proofs.Replayable.{pending_named}
 

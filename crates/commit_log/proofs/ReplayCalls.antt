@@ -9,12 +9,12 @@ use Rattle.rack.specs.Sequences.{IsPayload}
 use Rattle.rack.proofs.Phases.{payload_none}
 use Rattle.array_image.specs.Places.{place_of, log_slice, log_sectors}
 use Rattle.array_image.specs.Record.{gate_sector, gate_of}
-use Rattle.commit_log.specs.View.{LogView, names, in_order}
-use Rattle.commit_log.specs.Standing.{IsLogPart, IsInside, LogsStand, SomeoneDecides}
-use Rattle.commit_log.specs.Commits.{Stands, Rests}
-use Rattle.commit_log.specs.Phases.{Calls, Settles, IsLogOf, IsWanted, IsTargeted, AllLeft, IsClosing}
-use Rattle.commit_log.specs.Opening.{CanReplay, Replays, StandsReplaying, HasWork, IsShut, IsShutting, ReplayCall}
-use Rattle.commit_log.proofs.Calling.{calls_weaker, calls_then, calls_none}
+use Rattle.log_laws.specs.View.{LogView, names, in_order}
+use Rattle.log_laws.specs.Standing.{IsLogPart, IsInside, LogsStand, SomeoneDecides}
+use Rattle.log_laws.specs.Commits.{Stands, Rests}
+use Rattle.log_laws.specs.Phases.{Calls, Settles, IsLogOf, IsWanted, IsTargeted, AllLeft, IsClosing}
+use Rattle.log_laws.specs.Opening.{CanReplay, Replays, StandsReplaying, HasWork, IsShut, IsShutting, ReplayCall}
+use Rattle.log_laws.proofs.Calling.{calls_weaker, calls_then, calls_none}
 use Rattle.commit_log.proofs.Amid.{slice_of_log, log_of_place}
 use Rattle.commit_log.proofs.Story.{log_named, named_log, log_is_slice, payload_is, payload_look, valid_apart, each_no_other}
 use Rattle.commit_log.proofs.Since.{live_to, live_between}

@@ -18,19 +18,19 @@ use Rattle.array_image.specs.Record.{gate_of, gate_sector, pending, pending_at}
 use Rattle.array_image.specs.States.{current_places, is_current, state_in}
 use Rattle.array_image.specs.Arrays.{replayed}
 use Rattle.array_image.proofs.Frames.{state_same}
-use Rattle.commit_log.specs.View.{LogView}
-use Rattle.commit_log.specs.Standing.{IsInside, IsWhole, deciding}
-use Rattle.commit_log.specs.Commits.{Stands}
-use Rattle.commit_log.specs.Kept.{IsCopyOf, IsNoLater}
-use Rattle.commit_log.specs.Opening.{AreWritten, CanReplay, ReplayCall, Replays, StandsAmid, StandsReplaying}
-use Rattle.commit_log.specs.Saying.{AreOwnCopies, CopiesIn, IsBrought, SaysState}
-use Rattle.commit_log.proofs.Counting.{decides_small}
+use Rattle.log_laws.specs.View.{LogView}
+use Rattle.log_laws.specs.Standing.{IsInside, IsWhole, deciding}
+use Rattle.log_laws.specs.Commits.{Stands}
+use Rattle.log_laws.specs.Kept.{IsCopyOf, IsNoLater}
+use Rattle.log_laws.specs.Opening.{AreWritten, CanReplay, ReplayCall, Replays, StandsAmid, StandsReplaying}
+use Rattle.log_laws.specs.Saying.{AreOwnCopies, CopiesIn, IsBrought, SaysState}
+use Rattle.log_laws.proofs.Counting.{decides_small}
 use Rattle.commit_log.proofs.Amid.{log_of_place, not_state, replayed_as, slice_of_log}
-use Rattle.commit_log.proofs.Epochs.{state_either, state_latest}
-use Rattle.commit_log.proofs.Kept.{NoneLater, later_yet}
+use Rattle.log_laws.proofs.Epochs.{state_either, state_latest}
+use Rattle.log_laws.proofs.Kept.{NoneLater, later_yet}
 use Rattle.commit_log.proofs.Replaying.{amid_of, put_done}
 use Rattle.commit_log.proofs.Restored.{pending_at_by, restored, restored_inside, restored_picks, restored_there}
-use Rattle.commit_log.proofs.HeldCopies.{copies_same, no_look}
+use Rattle.log_laws.proofs.HeldCopies.{copies_same, no_look}
 
 -- what is pending meanwhile: the record yet, or nothing
 pub replay_pends : (l : LogView) (a : Seen) (c : Image) → CanReplay l a → StandsReplaying l.pending a c

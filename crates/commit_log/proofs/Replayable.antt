@@ -13,22 +13,22 @@ use Rattle.array_image.specs.Places.{log_slice, log_sectors}
 use Rattle.array_image.specs.Record.{Gate, GateAt, gate_sector, gate_of, gate_in, half_of, is_target, is_there, is_bad_gate, record_in, pending_at, pending, damaged_log}
 use Rattle.array_image.specs.States.{state_in, is_current, current_places}
 use Rattle.array_image.specs.Left.{reading}
-use Rattle.commit_log.specs.View.{LogView, names, is_left, left_of}
-use Rattle.commit_log.specs.Standing.{StatesStand, deciding, Decides, IsNumbered, SomeoneDecides}
-use Rattle.commit_log.specs.Opening.{PendingCall, StandsAmid, CanReplay}
-use Rattle.commit_log.specs.Kept.{IsCopyOf, Brings}
-use Rattle.commit_log.specs.AtRest.{AtRest, IsNext, BringsCopies, Opened}
+use Rattle.log_laws.specs.View.{LogView, names, is_left, left_of}
+use Rattle.log_laws.specs.Standing.{StatesStand, deciding, Decides, IsNumbered, SomeoneDecides}
+use Rattle.log_laws.specs.Opening.{PendingCall, StandsAmid, CanReplay}
+use Rattle.log_laws.specs.Kept.{IsCopyOf, Brings}
+use Rattle.log_laws.specs.AtRest.{AtRest, IsNext, BringsCopies, Opened}
 use Rattle.commit_log.proofs.Deciding.{foremost_among, gate_at, gate_at_is, nothing_pending, record_pending, pending_is_decisive}
 use Rattle.commit_log.proofs.Undamaged.{whole_from, whole_by, whole_gates, whole_record}
 use Rattle.commit_log.proofs.Restored.{pending_at_by, pending_by}
-use Rattle.commit_log.proofs.Counting.{decides_small, named_decides, few_in}
-use Rattle.commit_log.proofs.Halves.{record_same}
+use Rattle.log_laws.proofs.Counting.{decides_small, named_decides, few_in}
+use Rattle.log_laws.proofs.Halves.{record_same}
 use Rattle.commit_log.proofs.Amid.{half_least, half_most, no_gate_in_nothing}
 use Rattle.commit_log.proofs.Story.{logs_named}
-use Rattle.commit_log.proofs.Naming.{names_listed}
+use Rattle.log_laws.proofs.Naming.{names_listed}
 use Rattle.commit_log.proofs.Fewer.{filter_names, names_filter, filter_both, current_of_all, pending_at_left, pending_left, pending_most, pending_kept}
-use Rattle.commit_log.proofs.Epochs.{state_either}
-use Rattle.commit_log.proofs.Kept.{live_on, live_after}
+use Rattle.log_laws.proofs.Epochs.{state_either}
+use Rattle.log_laws.proofs.Kept.{live_on, live_after}
 use Rattle.commit_log.proofs.Replaying.{IsSound, pending_sound}
 
 -- ---- a record that was loaded

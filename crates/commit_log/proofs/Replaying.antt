@@ -14,16 +14,16 @@ use Rattle.array_image.specs.Places.{slice_of, place_of, log_slice}
 use Rattle.array_image.specs.Record.{Gate, GateAt, gate_sector, gate_of, gate_in, half_of, log_bytes, target_at, is_there, is_bad_gate, is_target, are_apart, record_of, record_in, is_open_if_of, pending_at, pending, damaged_log}
 use Rattle.array_image.specs.States.{current_places}
 use Rattle.array_image.proofs.Frames.{state_same}
-use Rattle.commit_log.specs.View.{LogView, names}
-use Rattle.commit_log.specs.Standing.{IsLogPart, IsInside, StatesStand, deciding, IsWhole, Decides, SomeoneDecides}
-use Rattle.commit_log.specs.Commits.{Stands, Rests}
-use Rattle.commit_log.specs.Opening.{AreWritten, StandsAmid, StandsReplaying, CanReplay, Replays, HasWork}
-use Rattle.commit_log.proofs.Naming.{names_range, range_below}
+use Rattle.log_laws.specs.View.{LogView, names}
+use Rattle.log_laws.specs.Standing.{IsLogPart, IsInside, StatesStand, deciding, IsWhole, Decides, SomeoneDecides}
+use Rattle.log_laws.specs.Commits.{Stands, Rests}
+use Rattle.log_laws.specs.Opening.{AreWritten, StandsAmid, StandsReplaying, CanReplay, Replays, HasWork}
+use Rattle.log_laws.proofs.Naming.{names_range, range_below}
 use Rattle.commit_log.proofs.Deciding.{IsTop, top, gate_at, gate_at_is, all_at, nothing_pending, none_of_top}
 use Rattle.commit_log.proofs.Restored.{restored, restored_there, restored_picks, restored_inside, pending_at_by, pending_by}
 use Rattle.commit_log.proofs.Undamaged.{whole_from, whole_by}
-use Rattle.commit_log.proofs.Counting.{decides_small, named_decides, decides_named}
-use Rattle.commit_log.proofs.Halves.{record_same}
+use Rattle.log_laws.proofs.Counting.{decides_small, named_decides, decides_named}
+use Rattle.log_laws.proofs.Halves.{record_same}
 use Rattle.commit_log.proofs.Amid.{slice_of_log, place_of_log, log_of_place, not_state, half_least, replayed_as, no_gate_in_nothing, each_or}
 
 -- ---- the targets of what is pending

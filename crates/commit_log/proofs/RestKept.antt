@@ -13,14 +13,14 @@ use Rattle.array_image.specs.Places.{log_slice}
 use Rattle.array_image.specs.Record.{Gate, gate_of, gate_sector}
 use Rattle.array_image.specs.States.{copy_in, is_current}
 use Rattle.array_image.specs.Left.{reading}
-use Rattle.commit_log.specs.View.{LogView, names}
-use Rattle.commit_log.specs.Standing.{StatesStand}
-use Rattle.commit_log.specs.Opening.{ReplayCall}
-use Rattle.commit_log.specs.Kept.{CopiesStand, HasClosedGate, LogKept}
-use Rattle.commit_log.specs.AtRest.{AtRest, CopiesAgree, Opened}
-use Rattle.commit_log.proofs.Counting.{decides_small}
-use Rattle.commit_log.proofs.Epochs.{state_latest}
-use Rattle.commit_log.proofs.Kept.{live_on}
+use Rattle.log_laws.specs.View.{LogView, names}
+use Rattle.log_laws.specs.Standing.{StatesStand}
+use Rattle.log_laws.specs.Opening.{ReplayCall}
+use Rattle.log_laws.specs.Kept.{CopiesStand, HasClosedGate, LogKept}
+use Rattle.log_laws.specs.AtRest.{AtRest, CopiesAgree, Opened}
+use Rattle.log_laws.proofs.Counting.{decides_small}
+use Rattle.log_laws.proofs.Epochs.{state_latest}
+use Rattle.log_laws.proofs.Kept.{live_on}
 use Rattle.commit_log.proofs.KeptReplayed.{kept_opened}
 use Rattle.commit_log.proofs.Replayable.{names_left, opened_can_replay, opened_someone}
 

@@ -9,8 +9,8 @@ use Rattle.rack.specs.Targets.{Target, look, put}
 use Rattle.array_image.specs.Foremost.{foremost}
 use Rattle.array_image.specs.Places.{log_slice}
 use Rattle.array_image.specs.Record.{GateAt, gate_sector, gate_of, is_there, is_bad_gate, record_in, is_open_if_of, pending_at, pending}
-use Rattle.commit_log.specs.View.{names}
-use Rattle.commit_log.specs.Standing.{IsInside}
+use Rattle.log_laws.specs.View.{names}
+use Rattle.log_laws.specs.Standing.{IsInside}
 use Rattle.commit_log.proofs.Deciding.{gate_at, names_first as here_first, names_later as later_first}
 
 -- some sectors as they read before

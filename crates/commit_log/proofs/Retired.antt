@@ -8,7 +8,7 @@ use Rattle.rack.specs.Seen.{Image}
 use Rattle.rack.specs.Targets.{Target}
 use Rattle.array_image.specs.Places.{log_slice}
 use Rattle.array_image.specs.Record.{Gate, GateAt, damaged_log, gate_in, gate_of, gate_sector, is_bad_gate, is_open_if_of, is_there, pending, pending_at, record_in, record_of}
-use Rattle.commit_log.specs.View.{names}
+use Rattle.log_laws.specs.View.{names}
 use Rattle.commit_log.specs.Scans.{number_of}
 use Rattle.commit_log.proofs.Deciding.{IsTop, NoneAbove, all_at, all_or, foremost_among, gate_at, gate_at_is, nothing_pending, pending_is_decisive, pending_of_top, top}
 use Rattle.commit_log.proofs.Fewer.{names_filter, pending_all, pending_kept, pending_most}

@@ -14,16 +14,16 @@ use Rattle.array_image.specs.Record.{Gate, GateAt, gate_in, gate_sector, pending
 use Rattle.array_image.specs.States.{state_in, is_current, current_places, id_of}
 use Rattle.array_image.specs.Arrays.{replayed}
 use Rattle.array_image.proofs.Frames.{state_same}
-use Rattle.commit_log.specs.View.{LogView, names, next_number}
-use Rattle.commit_log.specs.Standing.{IsInside, LogsStand, deciding, IsWhole, IsReady, SomeoneDecides}
-use Rattle.commit_log.specs.Commits.{Commits, CommitCall, IsPendingNow, IsPendingYet, IsWritten, StandsMidway}
-use Rattle.commit_log.specs.Kept.{IsCopyOf, IsNoLater, LogKept, AreLeft, BringsTo, MayJoin}
-use Rattle.commit_log.specs.Saying.{AreOwnCopies, CopiesIn, HoldsCopies, IsBrought, KeepsDrives, PlaceJoins, PlaceStays, SaysReplaced, SaysState}
+use Rattle.log_laws.specs.View.{LogView, names, next_number}
+use Rattle.log_laws.specs.Standing.{IsInside, LogsStand, deciding, IsWhole, IsReady, SomeoneDecides}
+use Rattle.log_laws.specs.Commits.{Commits, CommitCall, IsPendingNow, IsPendingYet, IsWritten, StandsMidway}
+use Rattle.log_laws.specs.Kept.{IsCopyOf, IsNoLater, LogKept, AreLeft, BringsTo, MayJoin}
+use Rattle.log_laws.specs.Saying.{AreOwnCopies, CopiesIn, HoldsCopies, IsBrought, KeepsDrives, PlaceJoins, PlaceStays, SaysReplaced, SaysState}
 use Rattle.commit_log.proofs.Amid.{not_state, replayed_as, same_replayed}
-use Rattle.commit_log.proofs.Copies.{state_by_copies}
-use Rattle.commit_log.proofs.HeldCopies.{copies_same, kept_latest, logs_of, no_look, put_copies, says_by, states_of}
-use Rattle.commit_log.proofs.Kept.{NoneLater, kept_replayed, kept_state, put_none, stands_latest}
-use Rattle.commit_log.proofs.Places.{stays_apart}
+use Rattle.log_laws.proofs.Copies.{state_by_copies}
+use Rattle.log_laws.proofs.HeldCopies.{copies_same, kept_latest, logs_of, no_look, put_copies, says_by, states_of}
+use Rattle.log_laws.proofs.Kept.{NoneLater, kept_replayed, kept_state, put_none, stands_latest}
+use Rattle.log_laws.proofs.Places.{stays_apart}
 use Rattle.commit_log.proofs.Restored.{put_there}
 
 -- at each moment it is all or nothing, and the log slices are as they are midway

@@ -14,10 +14,10 @@ use Rattle.array_image.specs.Record.{Gate, GateAt, gate_sector, gate_of, gate_in
 use Rattle.array_image.specs.Held.{current_in}
 use Rattle.commit_log.specs.declared.gates.Gate as read
 use Rattle.commit_log.specs.declared.scan.Scan.{Scan}
-use Rattle.commit_log.specs.View.{names}
-use Rattle.commit_log.specs.Phases.{went}
+use Rattle.log_laws.specs.View.{names}
+use Rattle.log_laws.specs.Phases.{went}
 use Rattle.commit_log.specs.Scans.{gate_seen, at_seen, all_seen, number_of, decisive_seen, pending_seen, one_if, count_seen, Agrees, IsFound, IsScan, Drops}
-use Rattle.commit_log.proofs.Calling.{is_marked}
+use Rattle.log_laws.proofs.Calling.{is_marked}
 use Rattle.commit_log.proofs.Deciding.{foremost_among}
 
 -- before the first one

@@ -7,11 +7,11 @@ use Rattle.rack.specs.Targets.{look}
 use Rattle.rack.specs.Sequences.{IsPayload}
 use Rattle.array_image.specs.Places.{place_of, log_slice}
 use Rattle.array_image.specs.Record.{gate_sector, half_of, are_apart}
-use Rattle.commit_log.specs.View.{LogView, names}
-use Rattle.commit_log.specs.Standing.{IsLogPart, IsInside, IsReady}
-use Rattle.commit_log.specs.Bytes.{sector_in}
-use Rattle.commit_log.specs.Phases.{Settles, IsLogOf, IsOnEach, IsOfRecord}
-use Rattle.commit_log.proofs.Halves.{sealed_record}
+use Rattle.log_laws.specs.View.{LogView, names}
+use Rattle.log_laws.specs.Standing.{IsLogPart, IsInside, IsReady}
+use Rattle.log_laws.specs.Bytes.{sector_in}
+use Rattle.log_laws.specs.Phases.{Settles, IsLogOf, IsOnEach, IsOfRecord}
+use Rattle.log_laws.proofs.Halves.{sealed_record}
 use Rattle.commit_log.proofs.Amid.{in_half, Terms, IsNew, IsAround, place_of_log, half_least, half_most}
 use Rattle.commit_log.proofs.Story.{Parts, log_named, named_log, payload_is, record_no_gate, record_no_other, each_no_other, target_no_log}
 

@@ -11,13 +11,13 @@ use Rattle.rack.specs.Sequences.{IsPayload}
 use Rattle.rack.proofs.Phases.{payload_none}
 use Rattle.array_image.specs.Places.{slice_of, place_of, log_slice, log_sectors}
 use Rattle.array_image.specs.Record.{gate_sector, half_of, is_target, are_apart}
-use Rattle.commit_log.specs.View.{LogView, names}
-use Rattle.commit_log.specs.Standing.{IsLogPart}
-use Rattle.commit_log.specs.Bytes.{targets_in, IsSealed}
-use Rattle.commit_log.specs.Phases.{Settles, IsLogOf, IsOnEach, IsOfRecord, IsHad, IsWanted, IsTargeted, AreLogs, IsClosing}
+use Rattle.log_laws.specs.View.{LogView, names}
+use Rattle.log_laws.specs.Standing.{IsLogPart}
+use Rattle.log_laws.specs.Bytes.{targets_in, IsSealed}
+use Rattle.log_laws.specs.Phases.{Settles, IsLogOf, IsOnEach, IsOfRecord, IsHad, IsWanted, IsTargeted, AreLogs, IsClosing}
 use Rattle.commit_log.proofs.Amid.{slice_of_log, place_of_log, half_least}
 use Rattle.commit_log.proofs.Deciding.{names_either}
-use Rattle.commit_log.proofs.Rounds.{early, late, which_some}
+use Rattle.log_laws.proofs.Rounds.{early, late, which_some}
 
 -- what is known of a commit's parts: the targets, and the sectors that are written to the logs
 pub record Parts (l : LogView) (on : List ℕ) (number : ℕ) (opened closed bytes : List ℕ) (count : ℕ) (a : Seen) : Type 0 where

@@ -7,10 +7,10 @@ use Rattle.rack.specs.Joins.{stays_then}
 use Rattle.rack.specs.Sequences.{IsPayload, IsMix}
 use Rattle.array_image.specs.Places.{place_of, log_slice}
 use Rattle.array_image.specs.Record.{gate_sector, half_of}
-use Rattle.commit_log.specs.View.{LogView, names, is_left}
-use Rattle.commit_log.specs.Standing.{IsInside}
-use Rattle.commit_log.specs.Phases.{Settles, IsLogOf, IsOnEach, IsOfRecord, IsWanted, IsTargeted, AllLeft, IsClosing}
-use Rattle.commit_log.specs.Commits.{IsWritten}
+use Rattle.log_laws.specs.View.{LogView, names, is_left}
+use Rattle.log_laws.specs.Standing.{IsInside}
+use Rattle.log_laws.specs.Phases.{Settles, IsLogOf, IsOnEach, IsOfRecord, IsWanted, IsTargeted, AllLeft, IsClosing}
+use Rattle.log_laws.specs.Commits.{IsWritten}
 use Rattle.commit_log.proofs.Amid.{IsShut, IsEarly, IsLate, place_of_log}
 use Rattle.commit_log.proofs.Story.{named_log, record_no_gate, record_no_other, each_no_other, target_no_log}
 use Rattle.commit_log.proofs.Since.{live_to, live_between, Since, from_record, from_opening, from_target, from_closing, HasSince, Begun, since_around, since_others, since_new, since_gates, record_part}

@@ -7,7 +7,7 @@ use Rattle.rack.specs.Seen.{Image}
 use Rattle.rack.specs.Targets.{Target}
 use Rattle.array_image.specs.Places.{log_slice}
 use Rattle.array_image.specs.Record.{GateAt, gate_sector, gate_of, is_there, is_bad_gate, record_in, pending_at, is_bad_log, damaged_log}
-use Rattle.commit_log.specs.View.{names}
+use Rattle.log_laws.specs.View.{names}
 use Rattle.commit_log.proofs.Deciding.{foremost_among, gate_at, gate_at_is, pending_is_decisive, names_first, names_later, names_either}
 use Rattle.commit_log.proofs.Restored.{pending_at_by}
 

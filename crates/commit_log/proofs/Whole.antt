@@ -7,9 +7,9 @@ use Rattle.rack.specs.Seen.{Image, Seen, IsLive}
 use Rattle.rack.specs.Targets.{Target, look, put}
 use Rattle.array_image.specs.Places.{slice_of, place_of, log_slice, log_sectors}
 use Rattle.array_image.specs.Record.{gate_sector, pending}
-use Rattle.commit_log.specs.View.{LogView, names}
-use Rattle.commit_log.specs.Standing.{IsLogPart, deciding, IsWhole}
-use Rattle.commit_log.specs.Commits.{Committed, IsWritten}
+use Rattle.log_laws.specs.View.{LogView, names}
+use Rattle.log_laws.specs.Standing.{IsLogPart, deciding, IsWhole}
+use Rattle.log_laws.specs.Commits.{Committed, IsWritten}
 use Rattle.commit_log.proofs.Restored.{restored, restored_there, restored_picks, restored_inside, put_there, put_same}
 use Rattle.commit_log.proofs.Amid.{in_half, Terms, IsAround, slice_of_log, place_of_log, log_of_place, half_least, half_most, not_in_half, replayed_as}
 

@@ -5,8 +5,8 @@ use Rattle.rack.specs.Values.{MayLeave}
 use Rattle.rack.specs.Seen.{Image, Seen, IsLive}
 use Rattle.array_image.specs.Places.{log_slice, place_of, slice_of}
 use Rattle.array_image.proofs.Replays.{SameLogs, whole_same}
-use Rattle.commit_log.specs.Standing.{IsWhole, LogsStand}
-use Rattle.commit_log.specs.Commits.{Stands}
+use Rattle.log_laws.specs.Standing.{IsWhole, LogsStand}
+use Rattle.log_laws.specs.Commits.{Stands}
 use Rattle.commit_log.proofs.Amid.{log_of_place}
 use Rattle.commit_log.proofs.Committing.{off_log, on_log}
 use Rattle.commit_log.proofs.Restored.{restored, restored_inside, restored_picks, restored_there}

@@ -12,8 +12,8 @@ use Rattle.array_image.specs.Held.{current_in}
 use Rattle.commit_log.specs.declared.gates.Gate as read
 use Rattle.commit_log.specs.declared.scan.PlacedGate as placed
 use Rattle.commit_log.specs.declared.scan.Scan.{Scan}
-use Rattle.commit_log.specs.View.{names}
-use Rattle.commit_log.specs.Phases.{went}
+use Rattle.log_laws.specs.View.{names}
+use Rattle.log_laws.specs.Phases.{went}
 
 -- ---- gates
 

@@ -3,8 +3,8 @@
 ghost use Rattle.std.specs.Prelude.{◌≡◌, ◌≤◌, ◌==◌, None, Some, MatchOption, bytes_eq, length, replicate};
 ghost use Rattle.shr_base.specs.Blocks.{bytes_at, put_at};
 ghost use Rattle.shr_base.specs.Crc.{crc32_of};
-ghost use Rattle.commit_log.specs.Bytes as spec;
-ghost use Rattle.commit_log.specs.Bytes.{is_gate};
+ghost use Rattle.log_laws.specs.Bytes as spec;
+ghost use Rattle.log_laws.specs.Bytes.{is_gate};
 ghost use Rattle.array_image.specs.Record.{gate_of};
 
 use shr_base::crc32;

@@ -5,7 +5,7 @@ ghost use Rattle.rack.specs.Seen.{Rose};
 ghost use Rattle.rack.specs.Sequences.{OnlyReads};
 ghost use Rattle.shr_base.specs.Blocks.{number_at, put_at};
 ghost use Rattle.shr_base.specs.Crc.{crc32_of};
-ghost use Rattle.commit_log.specs.Bytes.{record_bytes, sector_in, targets_in};
+ghost use Rattle.log_laws.specs.Bytes.{record_bytes, sector_in, targets_in};
 
 use crate::record::{HEAD, MOST};
 use rack::{Gone, Rack};

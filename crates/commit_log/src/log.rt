@@ -4,11 +4,11 @@ ghost use Rattle.std.specs.Prelude.{◌≡◌, ◌<◌, ◌-◌, ◌++◌, ◌�
 ghost use Rattle.std.specs.List.{list_all};
 ghost use Rattle.rack.specs.Targets.{target, look};
 ghost use Rattle.array_image.specs.Record.{is_target, are_apart, half_of};
-ghost use Rattle.commit_log.specs.View.{LogView, new_log, emptied, committed, settled, next_number, most_sectors, payload_of};
-ghost use Rattle.commit_log.specs.Bytes.{targets_in};
-ghost use Rattle.commit_log.specs.Phases.{AreLogs, IsHad, Settles, IsLogOf, went};
-ghost use Rattle.commit_log.specs.Commits.{CommitCall};
-ghost use Rattle.commit_log.specs.Opening.{PendingCall, ReplayCall, HasWork, IsShut};
+ghost use Rattle.log_laws.specs.View.{LogView, new_log, emptied, committed, settled, next_number, most_sectors, payload_of};
+ghost use Rattle.log_laws.specs.Bytes.{targets_in};
+ghost use Rattle.log_laws.specs.Phases.{AreLogs, IsHad, Settles, IsLogOf, went};
+ghost use Rattle.log_laws.specs.Commits.{CommitCall};
+ghost use Rattle.log_laws.specs.Opening.{PendingCall, ReplayCall, HasWork, IsShut};
 
 use crate::gates::Gate;
 use crate::lost::Lost;
@@ -190,7 +190,7 @@ impl Log {
     }
 
     /// One of them, in the record's order.
-    #[tactic(auto, using(crate::proofs::Targets::target_of, crate::proofs::Targets::length_targets))]
+    #[tactic(auto, using(log_laws::proofs::Targets::target_of, log_laws::proofs::Targets::length_targets))]
     pub fn pending_target(&self, at: u32) -> Target
         requires { at < length self.now.pending }
         ensures disk { option_map (λ t. t.disk) (slice_get self.now.pending at) ≡ Some result.disk }
@@ -201,7 +201,7 @@ impl Log {
     }
 
     /// Its payload.
-    #[tactic(auto, using(crate::proofs::Targets::target_of, crate::proofs::Targets::length_targets))]
+    #[tactic(auto, using(log_laws::proofs::Targets::target_of, log_laws::proofs::Targets::length_targets))]
     pub fn pending_payload(&self, at: u32) -> &[u8; 512]
         requires { at < length self.now.pending }
         ensures { option_map (λ t. t.bytes) (slice_get self.now.pending at) ≡ Some result.now }
@@ -280,22 +280,4 @@ pub(crate) fn half(number: u64) -> u64
     ensures { result ≡ half_of number }
 {
     if number % 2 == 0 { 8 } else { 4100 }
-}
-
-#[cfg(test)]
-impl Log {
-    /// Whether all that a commit on a rack needs of what was added holds.
-    pub(crate) fn fits<R: Rack>(&self, rack: &R) -> bool
-        requires fit { (R.seen rack.now).fit }
-        requires disks { (R.seen rack.now).disks ≡ 272 }
-        ensures some { result ≡ true → 0 < length self.now.added }
-        ensures valid { result ≡ true → list_all is_target self.now.added ≡ true }
-        ensures apart { result ≡ true → are_apart self.now.added ≡ true }
-        ensures had { result ≡ true → (d s : ℕ) (v : List ℕ) → look self.now.added d s ≡ Some v → IsHad (R.seen rack.now) d s }
-    {
-        self.added.count() > 0
-            && self.added.are_valid()
-            && self.added.are_apart()
-            && crate::tests::all_had(rack, &self.added)
-    }
 }

@@ -2,7 +2,7 @@
 
 ghost use Rattle.std.specs.Prelude.{◌≡◌, ◌<◌, ◌≤◌, ◌==◌, ◌||◌, ℕ, true, false, filter, find, IsTrue, ◌↔◌};
 ghost use Rattle.std.specs.List.{range_with_len};
-ghost use Rattle.commit_log.specs.Phases.{went};
+ghost use Rattle.log_laws.specs.Phases.{went};
 
 use rack::Places;
 

@@ -8,8 +8,8 @@ ghost use Rattle.array_image.specs.Places.{slice_of, log_sectors};
 ghost use Rattle.array_image.specs.Record.{is_target, are_apart, record_of};
 ghost use Rattle.shr_base.specs.Blocks.{put_at, bytes_at, number_at};
 ghost use Rattle.rack.specs.Targets.{target, look, is_at};
-ghost use Rattle.commit_log.specs.Bytes.{targets_in, target_in, sector_in, IsSealed, record_bytes, passes};
-ghost use Rattle.commit_log.specs.Phases.{has_target};
+ghost use Rattle.log_laws.specs.Bytes.{targets_in, target_in, sector_in, IsSealed, record_bytes, passes};
+ghost use Rattle.log_laws.specs.Phases.{has_target};
 ghost use Rattle.commit_log.specs.Scans.{Agrees};
 
 use crate::gates::begins_with;
@@ -46,7 +46,7 @@ pub(crate) struct Record {
 
 impl Record {
     /// Room for a record, with no targets.
-    #[tactic(auto, using(crate::proofs::Targets::no_targets))]
+    #[tactic(auto, using(log_laws::proofs::Targets::no_targets))]
     pub(crate) fn make(alloc: Global) -> Result<Record, NoMemory>
         ensures { IfOk result (λ r. targets_in r.bytes.items r.count ≡ []) }
     {
@@ -57,7 +57,7 @@ impl Record {
     }
 
     /// How many targets it has.
-    #[tactic(auto, using(crate::proofs::Targets::length_targets))]
+    #[tactic(auto, using(log_laws::proofs::Targets::length_targets))]
     pub(crate) fn count(&self) -> u32
         ensures count { result ≡ self.now.count }
         ensures length { result ≡ length (targets_in self.now.bytes.items self.now.count) }
@@ -66,7 +66,7 @@ impl Record {
     }
 
     /// No targets any more.
-    #[tactic(auto, using(crate::proofs::Targets::no_targets))]
+    #[tactic(auto, using(log_laws::proofs::Targets::no_targets))]
     pub(crate) fn clear(&mut self)
         ensures { targets_in self.new.bytes.items self.new.count ≡ [] }
     {
@@ -88,7 +88,7 @@ impl Record {
     }
 
     /// Adds a target and its payload.
-    #[tactic(auto, using(crate::proofs::Targets::length_targets))]
+    #[tactic(auto, using(log_laws::proofs::Targets::length_targets))]
     pub(crate) fn add(&mut self, disk: u32, sector: u64, from: &[u8; 512])
         requires { length (targets_in self.old.bytes.items self.old.count) < 3996 }
         ensures { targets_in self.new.bytes.items self.new.count ≡ targets_in self.old.bytes.items self.old.count ++ target disk sector from.now ∷ [] }
@@ -111,7 +111,7 @@ impl Record {
 
     /// Reads the record of a number from its half of a log slice, and answers whether it is well formed. There are
     /// no targets where it isn't, or where the disk has answered `Gone`.
-    #[tactic(auto, using(crate::proofs::Targets::no_targets))]
+    #[tactic(auto, using(log_laws::proofs::Targets::no_targets))]
     pub(crate) fn load<R: Rack>(
         &mut self,
         rack: &mut R,
@@ -140,7 +140,7 @@ impl Record {
     }
 
     // Whether what was read is the record of a number. There are no targets where it isn't.
-    #[tactic(auto, using(crate::proofs::Targets::no_targets))]
+    #[tactic(auto, using(log_laws::proofs::Targets::no_targets))]
     fn check(&mut self, number: u64) -> bool
         ensures passes { result ≡ passes number self.old.count self.old.bytes.items }
         ensures kept { result ≡ true → targets_in self.new.bytes.items self.new.count ≡ targets_in self.old.bytes.items self.old.count }
@@ -238,7 +238,7 @@ impl Record {
     }
 
     /// Writes the fields of the head, so that it is the record of a number.
-    #[tactic(auto, using(crate::proofs::Targets::length_targets))]
+    #[tactic(auto, using(log_laws::proofs::Targets::length_targets))]
     pub(crate) fn seal(&mut self, number: u64)
         requires { 0 < length (targets_in self.old.bytes.items self.old.count) }
         ensures count { self.new.count ≡ self.old.count }

@@ -9,8 +9,8 @@ ghost use Rattle.array_image.specs.Foremost.{ahead};
 ghost use Rattle.array_image.specs.Places.{log_slice, log_sectors};
 ghost use Rattle.array_image.specs.Record.{Gate, GateAt, gate_sector, gate_in, is_bad_gate, is_open_if_of};
 ghost use Rattle.array_image.specs.Held.{current_in};
-ghost use Rattle.commit_log.specs.Bytes.{targets_in};
-ghost use Rattle.commit_log.specs.Phases.{AreLogs, went};
+ghost use Rattle.log_laws.specs.Bytes.{targets_in};
+ghost use Rattle.log_laws.specs.Phases.{AreLogs, went};
 ghost use Rattle.commit_log.specs.Scans.{gate_is, at_is, gate_seen, all_seen, decisive_seen, pending_seen, is_open_gate, is_damaged, number_of, IsScan, IsFound, Drops, Loads};
 
 use crate::gates::Gate;

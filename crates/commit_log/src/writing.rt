@@ -3,8 +3,8 @@
 ghost use Rattle.std.specs.Prelude.{◌≡◌, ◌<◌, ◌≤◌, ◌+◌, ℕ, length, slice_index};
 ghost use Rattle.rack.specs.Sequences.{IsPayload};
 ghost use Rattle.array_image.specs.Places.{log_sectors};
-ghost use Rattle.commit_log.specs.Bytes.{targets_in, target_in};
-ghost use Rattle.commit_log.specs.Phases.{Puts, SyncsAll, Settles, AreLogs, IsLogOf, IsOnEach, IsThere, IsOfRecord, IsHad, IsWanted, IsTargeted, IsClosing, went};
+ghost use Rattle.log_laws.specs.Bytes.{targets_in, target_in};
+ghost use Rattle.log_laws.specs.Phases.{Puts, SyncsAll, Settles, AreLogs, IsLogOf, IsOnEach, IsThere, IsOfRecord, IsHad, IsWanted, IsTargeted, IsClosing, went};
 
 use crate::log::GATE;
 use crate::lost::Lost;

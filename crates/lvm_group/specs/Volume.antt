@@ -21,3 +21,8 @@ below_of volume = volume.rack
 -- text; and where it is brought up, once for where the text is to begin, 515 times for label, headers and text, and twice to sync it.
 abbrev pub most_opened : ℕ → ℕ
 most_opened joined = 1039 * joined
+
+-- An extension calls it at most so often for each array of the new text: once for where the text is to begin, 515 times for label, headers and text, and twice to
+-- sync it.
+abbrev pub most_extended : ℕ → ℕ
+most_extended arrays = 518 * arrays

@@ -8,6 +8,7 @@ ghost use Rattle.lvm_group.specs.Brought.{HaveAreas, Rewrites};
 ghost use Rattle.lvm_group.specs.Changing.{Changes};
 ghost use Rattle.lvm_group.specs.Extending.{next_seqno};
 ghost use Rattle.lvm_group.specs.Own.{HoldAll, own_group};
+ghost use Rattle.lvm_group.specs.Volume.{most_extended};
 ghost use Rattle.lvm_group.specs.Writing.{IsReadBack};
 
 use crate::making::sizes;
@@ -107,6 +108,7 @@ pub(crate) fn put_grown<R: Rack>(
         (R.seen rack.old).sectors (own_group pool.now.0 extent (R.seen rack.old).sectors seqno numbers.now runs.now) }
     ensures room { length text.old.bytes + text.old.spare ≤ length text.new.bytes + text.new.spare }
     ensures runs { R.runs rack.old rack.new }
+    ensures several { Several R.once (most_extended (length numbers.now)) rack.old rack.new }
 {
     let arrays = numbers.len() as u32;
     let sectors = sizes(rack, arrays);

@@ -78,8 +78,6 @@ impl<R: Rack> Rack for Volume<R> {
 
     ghost unwritten = { λ old new. R.unwritten old.rack new.rack };
 
-    ghost lenders = { λ volume. R.lenders volume.rack };
-
     fn disks(&self) -> u32 {
         1
     }
@@ -120,8 +118,6 @@ impl<R: Rack> Rack for Volume<R> {
     ghost unwritten_same = { λ volume. R.unwritten_same volume.rack };
 
     ghost unwritten_then = { λ x y z. R.unwritten_then x.rack y.rack z.rack };
-
-    ghost runs_lenders = { λ x y runs. R.runs_lenders x.rack y.rack runs.0 };
 }
 
 impl<R: Rack> Volume<R> {
@@ -145,7 +141,7 @@ impl<R: Rack> Volume<R> {
     ghost use Rattle.std.specs.Borrow.{sem, Lends};
     ghost use Rattle.lvm_group.specs.contracts.volume.Volume.{the_row};
     ghost use Rattle.lvm_group.specs.Runs.{array_of, sector_of, sectors_in};
-    ghost use Rattle.lvm_group.specs.Volume.{below_of, linear, most_opened, pool_of, seqno_of};
+    ghost use Rattle.lvm_group.specs.Volume.{below_of, linear, most_extended, most_opened, pool_of, seqno_of};
 
     /// Makes a volume group on the first arrays of a rack, as many as there are numbers, and the volume of their
     /// first extents: as many of each array as its number says, array by array. An extent has so many sectors.
@@ -338,6 +334,7 @@ impl<R: Rack> Volume<R> {
         ensures pool { pool_of self.new ≡ pool_of self.old }
         ensures fit { (volume_of (linear self.new) (R.seen (below_of self.new))).fit }
         ensures kept { R.runs (below_of self.old) (below_of self.new) }
+        ensures several { Several R.once (most_extended (length extents.now)) (below_of self.old) (below_of self.new) }
     {
         let arrays = extents.len() as u32;
         let seqno = next_seqno(self.seqno);

@@ -11,10 +11,10 @@ use Rattle.array_image.specs.Foremost.{foremost}
 use Rattle.array_image.specs.Places.{arrays_first, log_sectors, log_slice, place_of, state_sector}
 use Rattle.array_image.specs.Record.{Gate, GateAt, damaged_log, gate_in, gate_of, gate_sector, is_bad_log, is_open_if_of, is_there, pending_at, record_in}
 use Rattle.array_image.specs.States.{current_places, is_current}
-use Rattle.commit_log.specs.View.{names}
+use Rattle.log_laws.specs.View.{names}
 use Rattle.commit_log.proofs.Amid.{place_of_log, slice_of_log}
 use Rattle.commit_log.proofs.Deciding.{all_at, gate_at, gate_at_is, names_first, names_later, none_of_top, nothing_pending, top}
-use Rattle.raid_rack.proofs.Added.{names_current}
+use Rattle.raid_laws.proofs.Added.{names_current}
 use Rattle.pool_image.specs.Disks.{Disks, Identities, identities_of, seat_of}
 use Rattle.pool_image.specs.Replay.{Extent, Standing, brought_state, log_extent, logs_of, standing, standing_by, written}
 use Rattle.pool_image.specs.Drives.{Found, found, found_by}
@@ -23,8 +23,8 @@ use Rattle.pool_rest.specs.SoundLogs.{HasSoundLogs}
 use Rattle.pool_format.proofs.Founded.{drive_current}
 use Rattle.pool_format.specs.declared.Birth.{Birth}
 use Rattle.pool_format.specs.declared.planning.NewPool.{NewPool}
-use Rattle.commit_log.specs.Bytes.{first_gate}
-use Rattle.commit_log.proofs.FirstGate.{closed_gate}
+use Rattle.log_laws.specs.Bytes.{first_gate}
+use Rattle.log_laws.proofs.FirstGate.{closed_gate}
 use Rattle.pool_format.specs.Parts.{new_state}
 use Rattle.new_pool.specs.Contents.{IsNewPool}
 use Rattle.new_pool.proofs.Identities.{newest_is, no_drive, seat_at}

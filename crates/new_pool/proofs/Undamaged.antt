@@ -16,10 +16,10 @@ use Rattle.array_image.specs.Places.{data_sector, drive_id, log_kind, log_sector
 use Rattle.array_image.specs.Record.{gate_of, gate_sector, is_bad_gate, is_bad_log, is_there}
 use Rattle.array_image.specs.States.{current_places, is_current}
 use Rattle.array_image.specs.Supers.{is_named}
-use Rattle.commit_log.specs.View.{names}
+use Rattle.log_laws.specs.View.{names}
 use Rattle.commit_log.proofs.Amid.{place_of_log, slice_of_log}
 use Rattle.commit_log.proofs.Deciding.{names_first, names_later}
-use Rattle.raid_rack.proofs.Added.{names_current}
+use Rattle.raid_laws.proofs.Added.{names_current}
 use Rattle.pool_image.specs.Disks.{Disks, identities_of}
 use Rattle.pool_image.specs.Replay.{Extent}
 use Rattle.pool_image.specs.Drives.{Found, drive_sector, end_of, extent_of, slices_of}
@@ -28,7 +28,7 @@ use Rattle.pool_image.proofs.Truths.{slice_sector}
 use Rattle.pool_format.specs.declared.Birth.{Birth}
 use Rattle.pool_format.specs.declared.planning.NewArray.{NewArray}
 use Rattle.pool_format.specs.declared.planning.NewPool.{NewPool}
-use Rattle.commit_log.specs.Bytes.{first_gate}
+use Rattle.log_laws.specs.Bytes.{first_gate}
 use Rattle.pool_format.specs.Parts.{entries_from, entry_of, new_state, new_super, new_table}
 use Rattle.pool_format.specs.Plan.{has}
 use Rattle.pool_format.proofs.Founded.{drive_at, drive_current, state_drives}
@@ -37,7 +37,7 @@ use Rattle.pool_format.proofs.Opening.{members_few}
 use Rattle.pool_format.proofs.Roles.{named_at}
 use Rattle.new_pool.specs.Contents.{IsNewPool}
 use Rattle.new_pool.proofs.Identities.{copied_at, seat_at, silent_at, table_said}
-use Rattle.commit_log.proofs.FirstGate.{closed_gate}
+use Rattle.log_laws.proofs.FirstGate.{closed_gate}
 use Rattle.new_pool.proofs.Founds.{current_low, good_log, logs, none_found, shown}
 use Rattle.new_pool.proofs.Sound.{super_at as super_there}
 use Rattle.new_pool.proofs.Truths.{array_is, extent_at}

@@ -68,6 +68,10 @@ unequal : (test : Bool) → (test ≡ true → test ≡ false) → test ≡ fals
 unequal true is = is refl
 unequal false is = refl
 
+-- a new disk is none of the old ones
+pub other_flag : (e d disks : ℕ) → e < disks → d ≡ disks → (e == d) ≡ false
+other_flag e d disks below number = unequal (e == d) (λ is. absurd (omega (arith, eqb-true e d is, below, number)))
+
 -- a disk is attached, and online
 pub attached_online : (old new : List Bool) {a b : Seen} {s t : Shelf} (name : List ℕ) (d : ℕ)
     → ((e : ℕ) → is_offline new e ≡ (if e == d then false else is_offline old e))
@@ -80,7 +84,7 @@ attached_online old new {a} {b} name d flags attaches =
         number = adds.number;
         disks = adds.disks;
         clock = adds.clock;
-        others = λ e below. same_disk old new e (flags e ∙ ap (λ test. if test then false else is_offline old e) (other e below adds.number)) (adds.others e below);
+        others = λ e below. same_disk old new e (flags e ∙ ap (λ test. if test then false else is_offline old e) (other_flag e d a.disks below adds.number)) (adds.others e below);
         unfaulted = adds.unfaulted;
         traced = adds.traced;
         past = adds.past;
@@ -97,9 +101,6 @@ attached_online old new {a} {b} name d flags attaches =
       refused = tt;
     }
   where
-    other : (e : ℕ) → e < a.disks → d ≡ a.disks → (e == d) ≡ false
-    other e below number = unequal (e == d) (λ is. absurd (omega (arith, eqb-true e d is, below, number)))
-
     is_new : is_offline new d ≡ false
     is_new = flags d ∙ ap (λ test. if test then false else is_offline old d) (eq-eqb d d refl)
 

@@ -1,8 +1,10 @@
 -- What a bay shows some of whose disks are offline: these have no sectors.
-use Rattle.std.specs.Prelude.{◌≡◌, ℕ, ◌<◌, Bool, true, false, List, slice_get, unwrap_or, if◌then◌else◌, Ok}
-use Rattle.rack.specs.Seen.{Rose, Seen}
+use Rattle.std.specs.Prelude.{◌≡◌, ℕ, ◌<◌, ◌≤◌, Bool, true, false, List, slice_get, unwrap_or, if◌then◌else◌, Ok}
+use Rattle.rack.specs.Seen.{Image, Rose, Seen}
 use Rattle.rack.specs.Calls.{Reads}
 use Rattle.rack.specs.Sequences.{OnlyReads}
+use Rattle.rack.specs.Shelf.{Shelf}
+use Rattle.rack.specs.Untouched.{KeepsDisk}
 
 -- by a flag for each disk; one without a flag is online
 abbrev pub is_offline : List Bool → ℕ → Bool
@@ -40,3 +42,16 @@ pub record Asks {B : Type 0} (seen : B → Seen) (runs : B → B → Type 0) (x 
   pub answered :
       (d : ℕ) → d < (seen x).disks → sector < (seen x).sectors d → is_offline offline d ≡ false
       → Answered seen runs x y d sector
+
+-- Calls in a row, attaching included, leave offline disks alone. `before` and `after` are the flags, `a` and `b` what the bay below shows, with all
+-- sectors of these disks, and `s` and `t` its names.
+pub record KeepsOffline (before after : List Bool) (a b : Seen) (s t : Shelf) : Type 0 where
+  pub disks : a.disks ≤ b.disks
+  pub flags : (d : ℕ) → d < a.disks → is_offline after d ≡ is_offline before d
+  pub sectors : (d : ℕ) → d < a.disks → b.sectors d ≡ a.sectors d
+  pub tells : (d : ℕ) → d < a.disks → a.told d → b.told d
+  pub told : s.told → t.told
+  pub traced : s.told → a.traced → b.traced
+  pub later : s.told → a.traced → a.clock ≤ b.clock
+  pub past : s.told → a.traced → (k : ℕ) (i : Image) → k ≤ a.clock → b.stops k i → a.stops k i
+  pub kept : (d : ℕ) → d < a.disks → is_offline before d ≡ true → KeepsDisk s.told a b d

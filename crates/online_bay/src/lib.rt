@@ -8,14 +8,16 @@
 //! (specs/Online.antt). Since no call of a rack reaches a sector that isn't there, an offline disk is called no more.
 //!
 //! **The contract.** It meets `Bay` over any bay, by that bay's contract alone. A disk is offline where it refused when it
-//! was asked, and online where it answered (`Asks`); one that is attached later is online.
+//! was asked, and online where it answered (`Asks`); one that is attached later is online. An offline disk is left alone: through
+//! all calls, attaching included, each of its sectors keeps what it holds, and a stop leaves what stood (`KeepsOffline`, in the
+//! bay's `frame`). So a drive that misses one call is never overwritten for it.
 #![tactic(auto)]
 
 ghost use Rattle.std.specs.Prelude.{◌≡◌, ◌==◌, ◌<◌, ℕ, true, false, List, Ok, if◌then◌else◌, IfOk, IfErr};
 ghost use Rattle.rack.specs.Seen.{Rose};
 ghost use Rattle.rack.specs.Calls.{Reads};
 ghost use Rattle.rack.specs.Sequences.{OnlyReads};
-ghost use Rattle.online_bay.specs.Online.{Asks, is_offline, online_of};
+ghost use Rattle.online_bay.specs.Online.{Asks, KeepsOffline, is_offline, online_of};
 ghost use Rattle.online_bay.specs.OnlineBay.{bay_in, offline_in};
 
 use rack::{AttachFault, Back, Bay, Gone, NoMemory, Rack};
@@ -29,20 +31,19 @@ pub struct OnlineBay<B> {
     offline: Vec<bool>,
 }
 
-impl<B: Rack> Rack for OnlineBay<B> {
+impl<B: Bay> Rack for OnlineBay<B> {
     ghost use Rattle.std.specs.Prelude.{◌≡◌, refl};
     ghost use Rattle.std.proofs.Common.{◌∙◌};
-    ghost use Rattle.online_bay.specs.Laws.{is_sound};
+    ghost use Rattle.online_bay.specs.Laws.{is_sound, offline_same, offline_then};
 
     ghost seen = { λ bay. online_of (offline_in bay) (B.seen bay.bay) };
 
-    ghost runs = { λ old new. (offline_in new ≡ offline_in old) × B.runs old.bay new.bay };
+    ghost runs = { λ old new. (offline_in new ≡ offline_in old) × B.runs old.bay new.bay
+        × KeepsOffline (offline_in old) (offline_in new) (B.seen old.bay) (B.seen new.bay) (B.shelf old.bay) (B.shelf new.bay) };
 
     ghost once = { λ old new. Unit {0} };
 
     ghost unwritten = { λ old new. Unit {0} };
-
-    ghost lenders = { λ bay. B.lenders bay.bay };
 
     fn disks(&self) -> u32 {
         self.bay.disks()
@@ -72,21 +73,22 @@ impl<B: Rack> Rack for OnlineBay<B> {
 
     ghost sound = { λ bay fit traced. is_sound (offline_in bay) (B.seen bay.bay) (B.sound bay.bay fit traced) };
 
-    ghost runs_same = { λ bay. (refl, B.runs_same bay.bay) };
+    ghost runs_same = { λ bay. (refl, B.runs_same bay.bay, offline_same (offline_in bay) (B.seen bay.bay) (B.shelf bay.bay)) };
 
-    ghost runs_then = { λ x y z one two. (two.0 ∙ one.0, B.runs_then x.bay y.bay z.bay one.1 two.1) };
+    ghost runs_then = { λ x y z one two. (two.0 ∙ one.0, B.runs_then x.bay y.bay z.bay one.1 two.1, offline_then one.2 two.2) };
 
     ghost unwritten_same = { λ x. tt };
 
     ghost unwritten_then = { λ x y z one two. tt };
-
-    ghost runs_lenders = { λ x y runs. B.runs_lenders x.bay y.bay runs.1 };
 }
 
 impl<B: Bay> Bay for OnlineBay<B> {
-    ghost use Rattle.online_bay.specs.Laws.{stays_bounded};
+    ghost use Rattle.online_bay.specs.Laws.{offline_same, offline_then, stays_bounded};
 
     ghost shelf = { λ bay. B.shelf bay.bay };
+
+    ghost frame = { λ old new. B.frame old.bay new.bay
+        × KeepsOffline (offline_in old) (offline_in new) (B.seen old.bay) (B.seen new.bay) (B.shelf old.bay) (B.shelf new.bay) };
 
     fn attach(&mut self, name: &str) -> Result<u32, AttachFault> {
         match self.bay.attach(name) {
@@ -107,6 +109,12 @@ impl<B: Bay> Bay for OnlineBay<B> {
     ghost bounded = { λ bay. stays_bounded (offline_in bay) (B.seen bay.bay) (B.bounded bay.bay) };
 
     ghost runs_shelf = { λ x y runs. B.runs_shelf x.bay y.bay runs.1 };
+
+    ghost runs_frame = { λ x y runs. (B.runs_frame x.bay y.bay runs.1, runs.2) };
+
+    ghost frame_same = { λ bay. (B.frame_same bay.bay, offline_same (offline_in bay) (B.seen bay.bay) (B.shelf bay.bay)) };
+
+    ghost frame_then = { λ x y z one two. (B.frame_then x.bay y.bay z.bay one.0 two.0, offline_then one.1 two.1) };
 
     ghost numbered = { λ bay. B.numbered bay.bay };
 }

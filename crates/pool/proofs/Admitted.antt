@@ -18,8 +18,8 @@ use Rattle.growth_plan.specs.declared.AdmitFault.TheVariants.{Size as OfSize, Sm
 use Rattle.lvm_group.specs.Runs.{Linear}
 use Rattle.pool_state.specs.declared.contents.Drive.{Drive}
 use Rattle.pool_state.specs.declared.contents.State.{State}
-use Rattle.raid_rack.specs.NewDrive.{ReachesAll, is_reached, joins, reaches_all}
-use Rattle.raid_rack.specs.Raid.{Raid}
+use Rattle.raid_laws.specs.NewDrive.{ReachesAll, is_reached, joins, reaches_all}
+use Rattle.raid_laws.specs.Raid.{Raid}
 use Rattle.shr_base.specs.Units.{units_of}
 use Rattle.pool.specs.declared.replacing.GrowFault.{GrowFault}
 use Rattle.pool.specs.declared.replacing.GrowFault.TheVariants.{PlanPending, NotWhole, NotResynced, Unbuilt, TooManySegments}

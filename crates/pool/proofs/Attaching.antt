@@ -15,7 +15,7 @@ use Rattle.slice_rack.specs.Sliced.{IsInside, slices_of}
 use Rattle.slice_rack.proofs.Attached.{attached_reads, unattached_reads}
 use Rattle.lvm_group.specs.Runs.{IsOrderly as IsOrderlyVolume}
 use Rattle.raid_rack.specs.RaidRack.{IsFit}
-use Rattle.raid_rack.proofs.Apart.{seat_is}
+use Rattle.raid_laws.proofs.Apart.{seat_is}
 use Rattle.pool.specs.declared.replacing.GrowFault.{GrowFault}
 use Rattle.pool.specs.declared.replacing.GrowFault.TheVariants.{Attach, Twice, Memory}
 use Rattle.pool.specs.Continuing.{Continues, KeepsOutside, NoDisk}
@@ -27,11 +27,11 @@ use Rattle.pool.specs.Volume.{is_spent}
 use Rattle.pool.proofs.Carrying.{carries_kept}
 use Rattle.pool.specs.Held.{KeepsHeld}
 use Rattle.pool.proofs.Held.{held_reads, live_disk}
-use Rattle.raid_rack.specs.Raid.{live_of}
+use Rattle.raid_laws.specs.Raid.{live_of}
 use Rattle.pool.proofs.Later.{disks_fit, inside_later, later, only_read, some_disk}
 use Rattle.rack.specs.Sequences.{OnlyReads}
 use Rattle.array_model.specs.Members.{slice_on}
-use Rattle.raid_rack.specs.Truths.{KeepsTruths}
+use Rattle.raid_laws.specs.Truths.{KeepsTruths}
 use Rattle.raid_rack.proofs.Truths.{truths_reads}
 
 -- what a bay promises of its disks

@@ -11,19 +11,19 @@ use Rattle.array_model.specs.declared.Seat.{Seat}
 use Rattle.array_model.specs.declared.Seat.TheVariants.{Missing}
 use Rattle.array_model.specs.View.{View as ArrayView, HasGeometry, has_gone, is_missing_seat, member_on, place_at, seat_reach, seat_unless, IsArray}
 use Rattle.array_core.specs.Seats.{gone, names, seat_of}
-use Rattle.array_sync.specs.Steps.{reach_on, rebuilt, resynced}
-use Rattle.array_sync.proofs.Rebuilt.{other_member, own_reach, place_found, reach_before, rebuilding}
+use Rattle.sync_laws.specs.Steps.{reach_on, rebuilt, resynced}
+use Rattle.sync_laws.proofs.Rebuilt.{other_member, own_reach, place_found, reach_before, rebuilding}
 use Rattle.pool_state.specs.declared.contents.State.{State}
 use Rattle.pool_state.specs.declared.contents.Work.{Work}
 use Rattle.pool_state.specs.declared.contents.Work.TheVariants.{Resync, Rebuild, TakeOver, Begin, Reshape, Finish, Make, Zero, Ready, Extend, Close}
-use Rattle.raid_rack.specs.Book.{IsAfter}
-use Rattle.raid_rack.specs.Losing.{geometry_then, only_then}
-use Rattle.raid_rack.specs.Moves.{IsHeeded, IsSeated, IsSet, KeepsArrays, LosesOnly, noted_at}
-use Rattle.raid_rack.specs.Raid.{Raid}
-use Rattle.raid_rack.specs.Works.{Does, is_due, is_rebuilding_seat, is_whole_row, stepped}
+use Rattle.raid_laws.specs.Book.{IsAfter}
+use Rattle.raid_laws.specs.Losing.{geometry_then, only_then}
+use Rattle.raid_laws.specs.Moves.{IsHeeded, IsSeated, IsSet, KeepsArrays, LosesOnly, noted_at}
+use Rattle.raid_laws.specs.Raid.{Raid}
+use Rattle.raid_laws.specs.Works.{Does, is_due, is_rebuilding_seat, is_whole_row, stepped}
 use Rattle.raid_rack.proofs.Raises.{raises_more, raises_none}
 use Rattle.raid_rack.proofs.Rebuilt.{row_left}
-use Rattle.raid_rack.proofs.Seated.{gone_lost}
+use Rattle.raid_laws.proofs.Seated.{gone_lost}
 use Rattle.pool.specs.View.{View, book}
 use Rattle.pool.specs.Keeping.{HasMarkedSeats, KeepsArray, KeepsBook, Raises, most_raised}
 

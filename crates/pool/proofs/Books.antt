@@ -17,8 +17,8 @@ use Rattle.pool_state.specs.declared.contents.State.{State}
 use Rattle.growth_plan.specs.declared.ArrayNow.{ArrayNow}
 use Rattle.growth_plan.specs.Book.{IsBook, IsSmall}
 use Rattle.lvm_group.specs.Runs.{Linear, extents_of}
-use Rattle.raid_rack.specs.Moves.{IsSeated, IsSet}
-use Rattle.raid_rack.specs.Raid.{Raid}
+use Rattle.raid_laws.specs.Moves.{IsSeated, IsSet}
+use Rattle.raid_laws.specs.Raid.{Raid}
 use Rattle.pool.specs.Works.{array_now, progress_by, rebuilding_in, rows_to_rebuild}
 
 -- each number of a range

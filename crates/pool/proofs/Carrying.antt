@@ -5,7 +5,7 @@ use Rattle.rack.specs.Calls.{KeepsAll}
 use Rattle.rack.specs.Joins.{keeps_same, keeps_then}
 use Rattle.rack.specs.Moments.{IsSound}
 use Rattle.flat_array.specs.Array.{FlatArray}
-use Rattle.raid_rack.specs.Truths.{KeepsTruths}
+use Rattle.raid_laws.specs.Truths.{KeepsTruths}
 use Rattle.raid_rack.proofs.Truths.{truths_then}
 use Rattle.pool.specs.View.{View, book, contents_in, slices_shown, volume}
 use Rattle.pool.specs.Volume.{Holds, Means}

@@ -14,18 +14,18 @@ use Rattle.lvm_group.specs.Volume.{linear}
 use Rattle.lvm_group.specs.Framed.{IsShown}
 use Rattle.raid_rack.specs.declared.arrays.Arrays.{Arrays}
 use Rattle.raid_rack.specs.declared.arrays.RaidRack.{RaidRack}
-use Rattle.raid_rack.specs.Cleaning.{CleansAll, NoneFails, LeavesItsRows as LeavesRowsOf}
-use Rattle.raid_rack.specs.Laws.{live_parts, stops_inside}
-use Rattle.raid_rack.specs.Moves.{RaisesBy}
-use Rattle.raid_rack.specs.Raid.{IsTold, StopsInside, held_in, live_of, spent_of}
+use Rattle.raid_laws.specs.Cleaning.{CleansAll, NoneFails, LeavesItsRows as LeavesRowsOf}
+use Rattle.raid_laws.specs.Laws.{live_parts, stops_inside}
+use Rattle.raid_laws.specs.Moves.{RaisesBy}
+use Rattle.raid_laws.specs.Raid.{IsTold, StopsInside, held_in, live_of, spent_of}
 use Rattle.raid_rack.specs.RaidRack.{IsFit, KeepsRack, SliceRuns, raid_by, raid_in, raid_seen, slices_in, slices_seen}
-use Rattle.raid_rack.proofs.Moving.{moves_bring}
+use Rattle.raid_laws.proofs.Moving.{moves_bring}
 use Rattle.raid_rack.proofs.Serving.{whole_call}
-use Rattle.raid_rack.specs.Runs.{KeepsMoments}
-use Rattle.raid_rack.specs.Truths.{KeepsTruths}
-use Rattle.raid_rack.specs.Unlost.{KeepsUnlost}
+use Rattle.raid_laws.specs.Runs.{KeepsMoments}
+use Rattle.raid_laws.specs.Truths.{KeepsTruths}
+use Rattle.raid_laws.specs.Unlost.{KeepsUnlost}
 use Rattle.raid_rack.proofs.TruthAgrees.{cleans_settled, truth_agrees}
-use Rattle.raid_rack.proofs.Whole.{before_amid}
+use Rattle.raid_laws.proofs.Whole.{before_amid}
 use Rattle.pool.specs.declared.Pool.{Pool}
 use Rattle.pool.specs.View.{View, arrays_of, book, slices_shown, view, volume}
 use Rattle.pool.specs.Keeping.{most_raised}

@@ -7,18 +7,18 @@ use Rattle.array_model.specs.declared.Seat.{Seat}
 use Rattle.array_model.specs.View.{View as ArrayView, IsArray}
 use Rattle.array_model.proofs.RowWrites.{places_apart}
 use Rattle.array_core.specs.Seats.{seat_of}
-use Rattle.array_sync.specs.Steps.{HasRowLeft, reach_on, rebuilt, resynced}
-use Rattle.array_sync.proofs.Rebuilt.{get_past, next_seat, other_seat, place_found, rebuilding}
+use Rattle.sync_laws.specs.Steps.{HasRowLeft, reach_on, rebuilt, resynced}
+use Rattle.sync_laws.proofs.Rebuilt.{get_past, next_seat, other_seat, place_found, rebuilding}
 use Rattle.pool_state.specs.declared.contents.Work.{Work}
 use Rattle.pool_state.specs.declared.contents.Work.TheVariants.{Resync, Rebuild, TakeOver, Begin, Reshape, Finish, Make, Zero, Ready, Extend, Close}
 use Rattle.growth_plan.specs.Works.{works_left}
 use Rattle.growth_plan.proofs.Last.{close_alone}
 use Rattle.lvm_group.specs.Runs.{Linear}
-use Rattle.raid_rack.specs.Book.{IsAfter, after_same, after_then}
-use Rattle.raid_rack.specs.Losing.{only_same}
-use Rattle.raid_rack.specs.Moves.{IsHeeded, IsSet, LosesOnly}
-use Rattle.raid_rack.specs.Raid.{Raid}
-use Rattle.raid_rack.specs.Works.{Does, array_of, is_due, is_rebuilding_seat, is_whole_row, stepped}
+use Rattle.raid_laws.specs.Book.{IsAfter, after_same, after_then}
+use Rattle.raid_laws.specs.Losing.{only_same}
+use Rattle.raid_laws.specs.Moves.{IsHeeded, IsSet, LosesOnly}
+use Rattle.raid_laws.specs.Raid.{Raid}
+use Rattle.raid_laws.specs.Works.{Does, array_of, is_due, is_rebuilding_seat, is_whole_row, stepped}
 use Rattle.raid_rack.proofs.Rebuilt.{row_left}
 use Rattle.pool.specs.Keeping.{KeepsBook}
 use Rattle.pool.specs.Works.{EndsPlan, KeepsAllMembers, KeepsMembers, KeepsPlan, progress_by, works_by}

@@ -9,15 +9,16 @@ use Rattle.rack.specs.Seen.{Image, Rose, Seen}
 use Rattle.rack.specs.Shelf.{Shelf}
 use Rattle.flat_array.specs.Array.{FlatArray}
 use Rattle.array_image.specs.States.{is_current}
-use Rattle.raid_rack.specs.Book.{IsAfter, after_same}
-use Rattle.raid_rack.specs.Losing.{arrays_same}
-use Rattle.raid_rack.specs.Moves.{KeepsArrays}
-use Rattle.raid_rack.specs.Enlisting.{new_table}
-use Rattle.raid_rack.specs.NewDrive.{IsOfDrive as IsLaid}
-use Rattle.raid_rack.specs.Raid.{Raid}
+use Rattle.raid_laws.specs.Book.{IsAfter, after_same}
+use Rattle.raid_laws.specs.Losing.{arrays_same}
+use Rattle.raid_laws.specs.Moves.{KeepsArrays}
+use Rattle.raid_laws.specs.Enlisting.{new_table}
+use Rattle.raid_laws.specs.NewDrive.{IsOfDrive as IsLaid}
+use Rattle.raid_laws.specs.Raid.{Raid}
 use Rattle.pool.specs.declared.replacing.GrowFault.{GrowFault}
 use Rattle.pool.specs.declared.replacing.GrowFault.TheVariants.{NoSuchDrive, Attach, Twice, Memory, Gone, NotWhole}
-use Rattle.pool.specs.Continuing.{KeepsDisk, NoDisk}
+use Rattle.rack.specs.Untouched.{KeepsDisk}
+use Rattle.pool.specs.Continuing.{NoDisk}
 use Rattle.pool.specs.Moment.{IsImage, IsNamed, moment_of, views_of}
 use Rattle.pool.specs.Replaced.{DriveWentFrom, DriveWentSince, HasMarkedOther, HasTable, IsAnswer, IsDeclined, IsLaidOn, IsLookedAt, IsOfDrive, IsReplaced, LeavesNew, MeansFormer, MeansWith, faults_before}
 use Rattle.pool.specs.Naming.{EntersDrive, EntersNamed, ReplacesDrive}
@@ -34,7 +35,7 @@ use Rattle.pool.proofs.Carrying.{carries_same, carries_then, ends_of, holds_of}
 use Rattle.pool.proofs.Continuing.{continues_same, continues_then, outside_fewer, outside_then}
 use Rattle.pool.proofs.Enlisted.{book_but}
 use Rattle.pool.proofs.Taken.{low_disk}
-use Rattle.raid_rack.proofs.Whole.{heeded_left}
+use Rattle.raid_laws.proofs.Whole.{heeded_left}
 use Rattle.pool.proofs.Later.{later}
 use Rattle.pool.proofs.Late.{Answer, IsLate, answer_late, refusal_late, same_fault, same_of}
 

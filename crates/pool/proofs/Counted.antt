@@ -16,18 +16,18 @@ use Rattle.array_image.specs.States.{is_current}
 use Rattle.array_model.specs.declared.Seat.{Seat}
 use Rattle.array_model.specs.declared.Seat.TheVariants.{Missing}
 use Rattle.array_model.specs.View.{View, is_missing_seat, rows_of}
-use Rattle.array_sync.specs.Steps.{rebuilt, resynced}
+use Rattle.sync_laws.specs.Steps.{rebuilt, resynced}
 use Rattle.growth_plan.specs.declared.ArrayNow.{ArrayNow}
 use Rattle.growth_plan.specs.declared.Progress.{Progress}
 use Rattle.growth_plan.specs.Doing.{Book, HasOneLayer, after, change, is_of_layer, row_rebuilt}
 use Rattle.growth_plan.specs.Works.{works_left}
 use Rattle.growth_plan.proofs.Done.{first_done}
 use Rattle.lvm_group.specs.Runs.{Linear, extents_of}
-use Rattle.raid_rack.specs.Book.{IsSameBook, drive_of}
-use Rattle.raid_rack.specs.Moves.{IsHeeded, IsSet, LosesOnly}
-use Rattle.raid_rack.specs.Raid.{Raid}
+use Rattle.raid_laws.specs.Book.{IsSameBook, drive_of}
+use Rattle.raid_laws.specs.Moves.{IsHeeded, IsSet, LosesOnly}
+use Rattle.raid_laws.specs.Raid.{Raid}
 use Rattle.raid_rack.specs.RaidRack.{no_super}
-use Rattle.raid_rack.specs.Works.{ClosesPlan, Does, RebuildsOne, ResyncsOne, StepsOne, is_due, is_whole_row, stepped}
+use Rattle.raid_laws.specs.Works.{ClosesPlan, Does, RebuildsOne, ResyncsOne, StepsOne, is_due, is_whole_row, stepped}
 use Rattle.raid_rack.proofs.Rebuilt.{next_rebuilt, row_left}
 use Rattle.pool.specs.Works.{array_now, arrays_now, is_rebuilding_on, progress_by, works_by, HasRowsAlone}
 use Rattle.pool.proofs.Books.{is_book}

@@ -6,10 +6,10 @@ use Rattle.arrayvec.specs.ArrayVec.{ArrayVec}
 use Rattle.shr_base.specs.declared.Id.{Id}
 use Rattle.array_model.specs.declared.Seat.{Seat}
 use Rattle.array_model.specs.View.{View, rows_of}
-use Rattle.array_sync.specs.Steps.{resynced}
+use Rattle.sync_laws.specs.Steps.{resynced}
 use Rattle.growth_plan.specs.declared.ArrayNow.{ArrayNow}
 use Rattle.growth_plan.specs.Doing.{change}
-use Rattle.raid_rack.specs.Moves.{LosesOnly}
+use Rattle.raid_laws.specs.Moves.{LosesOnly}
 use Rattle.raid_rack.specs.RaidRack.{no_super}
 use Rattle.pool.specs.Works.{array_now, rows_to_zero}
 

@@ -17,17 +17,17 @@ use Rattle.array_model.proofs.Views.{shape_members}
 use Rattle.array_model.specs.declared.Seat.{Seat}
 use Rattle.array_model.specs.declared.Seat.TheVariants.{Missing, Rebuilding}
 use Rattle.array_model.specs.View.{View as ArrayView, IsArray, has_gone, member_on, place_at, seat_reach, shape_of, spent_in}
-use Rattle.raid_rack.specs.Enlisting.{next_drive, with_drive}
-use Rattle.raid_rack.specs.Losses.{has_other}
-use Rattle.raid_rack.specs.Moves.{IsHeeded, IsSeated, IsSet, KeepsArrays}
-use Rattle.raid_rack.specs.Raid.{Raid}
-use Rattle.raid_rack.proofs.Added.{names_current}
+use Rattle.raid_laws.specs.Enlisting.{next_drive, with_drive}
+use Rattle.raid_laws.specs.Losses.{has_other}
+use Rattle.raid_laws.specs.Moves.{IsHeeded, IsSeated, IsSet, KeepsArrays}
+use Rattle.raid_laws.specs.Raid.{Raid}
+use Rattle.raid_laws.proofs.Added.{names_current}
 use Rattle.array_core.specs.Slots.{place_by}
-use Rattle.raid_rack.proofs.Seated.{zip_seats}
+use Rattle.raid_laws.proofs.Seated.{zip_seats}
 use Rattle.pool.specs.Keeping.{KeepsArray, KeepsArrayBut, KeepsBook, KeepsBookBut}
 use Rattle.commit_log.proofs.Deciding.{names_first}
 use Rattle.pool.proofs.Booked.{array_lost, array_same, geometry_same, same_place}
-use Rattle.raid_rack.specs.Losing.{geometry_then}
+use Rattle.raid_laws.specs.Losing.{geometry_then}
 use Rattle.pool.proofs.Quiet.{is_missing}
 
 -- ---- a member

@@ -17,35 +17,35 @@ use Rattle.gpt_table.specs.declared.Table.{Table}
 use Rattle.gpt_table.specs.Disk.{HoldsCopy, now_on}
 use Rattle.gpt_table.specs.Plans.{IsOfTable}
 use Rattle.array_model.specs.View.{place_at, spent_in}
-use Rattle.commit_log.proofs.Kept.{place_of_log}
+use Rattle.log_laws.proofs.Kept.{place_of_log}
 use Rattle.lvm_group.specs.Laws.{array_below, shows}
 use Rattle.lvm_group.specs.Runs.{IsOrderly as IsOrderlyVolume, array_of, sector_of}
 use Rattle.pool_state.specs.declared.contents.Plan.TheVariants.{Replace}
 use Rattle.pool_state.specs.declared.contents.State.{State}
 use Rattle.raid_rack.specs.declared.arrays.Arrays.{Arrays}
-use Rattle.raid_rack.specs.Enlisting.{Enlists, HoldsTable, IsWrittenBy, KeepsTold, SaysReplacing, enlisted, new_table, next_drive, with_drive}
-use Rattle.raid_rack.specs.Marking.{SaysBetween}
-use Rattle.raid_rack.proofs.Apart.{seat_is}
+use Rattle.raid_laws.specs.Enlisting.{Enlists, HoldsTable, IsWrittenBy, KeepsTold, SaysReplacing, enlisted, new_table, next_drive, with_drive}
+use Rattle.raid_laws.specs.Marking.{SaysBetween}
+use Rattle.raid_laws.proofs.Apart.{seat_is}
 use Rattle.pool.proofs.Readying.{member_joins}
-use Rattle.raid_rack.specs.Moves.{KeepsArrays}
-use Rattle.raid_rack.specs.Laws.{live_parts, says_value}
-use Rattle.raid_rack.specs.Losses.{has_other}
-use Rattle.raid_rack.specs.NewDrive.{SeatsDrive, drive_table, joins}
-use Rattle.raid_rack.specs.Raid.{held_in, is_left, is_over, live_of, raid_of, spent_of}
+use Rattle.raid_laws.specs.Moves.{KeepsArrays}
+use Rattle.raid_laws.specs.Laws.{live_parts, says_value}
+use Rattle.raid_laws.specs.Losses.{has_other}
+use Rattle.raid_laws.specs.NewDrive.{SeatsDrive, drive_table, joins}
+use Rattle.raid_laws.specs.Raid.{held_in, is_left, is_over, live_of, raid_of, spent_of}
 use Rattle.raid_rack.specs.RaidRack.{IsFit, raid_by}
 use Rattle.raid_rack.proofs.Ended.{none_past}
-use Rattle.raid_rack.proofs.Committed.{raised_more, raised_range}
-use Rattle.raid_rack.proofs.Over.{number_room, or_from}
-use Rattle.raid_rack.specs.Missing.{raised}
+use Rattle.raid_laws.proofs.Committed.{raised_more, raised_range}
+use Rattle.raid_laws.proofs.Over.{number_room, or_from}
+use Rattle.raid_laws.specs.Missing.{raised}
 use Rattle.std.specs.Option.{option_map_or}
 use Rattle.raid_rack.proofs.Enlisted.{current_enlisted}
 use Rattle.raid_rack.proofs.LayingDrive.{in_disk}
 use Rattle.raid_rack.proofs.Renewed.{renewed_went}
-use Rattle.raid_rack.proofs.Whole.{heeded_left}
+use Rattle.raid_laws.proofs.Whole.{heeded_left}
 use Rattle.shr_base.specs.Units.{units_of}
 use Rattle.pool.specs.declared.replacing.GrowFault.{GrowFault}
 use Rattle.pool.specs.declared.replacing.GrowFault.TheVariants.{Gone, NotWhole}
-use Rattle.pool.specs.Continuing.{KeepsDisk}
+use Rattle.rack.specs.Untouched.{KeepsDisk}
 use Rattle.pool.specs.Entering.{IsVacating}
 use Rattle.pool.specs.Moment.{views_of}
 use Rattle.pool.specs.Replaced.{MeansBy, MeansFormer, MeansWith, table_for}

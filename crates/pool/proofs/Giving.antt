@@ -16,16 +16,16 @@ use Rattle.slice_rack.specs.Runs.{IsSliced}
 use Rattle.slice_rack.specs.Slices.{IsOrderly, disk_of, seat_of}
 use Rattle.shr_base.specs.declared.Id.{Id}
 use Rattle.shr_base.specs.Units.{units_of}
-use Rattle.raid_rack.specs.Book.{IsAfter, after_then}
-use Rattle.raid_rack.specs.Enlisting.{HoldsTable, enlisted, new_table, next_drive, with_drive}
-use Rattle.raid_rack.specs.Losing.{arrays_then}
-use Rattle.raid_rack.specs.Moves.{KeepsArrays, RaisesBy}
-use Rattle.raid_rack.specs.NewDrive.{IsOfDrive as IsLaid, SeatsDrive, drive_table, joins}
-use Rattle.raid_rack.proofs.Apart.{seat_is}
+use Rattle.raid_laws.specs.Book.{IsAfter, after_then}
+use Rattle.raid_laws.specs.Enlisting.{HoldsTable, enlisted, new_table, next_drive, with_drive}
+use Rattle.raid_laws.specs.Losing.{arrays_then}
+use Rattle.raid_laws.specs.Moves.{KeepsArrays, RaisesBy}
+use Rattle.raid_laws.specs.NewDrive.{IsOfDrive as IsLaid, SeatsDrive, drive_table, joins}
+use Rattle.raid_laws.proofs.Apart.{seat_is}
 use Rattle.raid_rack.proofs.Enlisted.{current_enlisted}
 use Rattle.raid_rack.proofs.Raises.{raises_more, raises_then}
 use Rattle.raid_rack.proofs.Renewing.{seats_same}
-use Rattle.raid_rack.proofs.Whole.{heeded_left}
+use Rattle.raid_laws.proofs.Whole.{heeded_left}
 use Rattle.pool.specs.declared.replacing.GrowFault.{GrowFault}
 use Rattle.pool.specs.declared.replacing.GrowFault.TheVariants.{Gone, NotWhole}
 use Rattle.pool.specs.Calls.{DriveWent}

@@ -7,15 +7,15 @@ use Rattle.slice_rack.specs.Slices.{IsOrderly, Slices, disk_of, place_of}
 use Rattle.slice_rack.specs.Sliced.{slices_of}
 use Rattle.array_image.specs.Places.{log_slice}
 use Rattle.raid_rack.specs.declared.arrays.Arrays.{Arrays}
-use Rattle.raid_rack.specs.Laws.{live_parts, stops_inside}
-use Rattle.raid_rack.specs.Moves.{Moves}
-use Rattle.raid_rack.specs.Raid.{Raid, live_of}
+use Rattle.raid_laws.specs.Laws.{live_parts, stops_inside}
+use Rattle.raid_laws.specs.Moves.{Moves}
+use Rattle.raid_laws.specs.Raid.{Raid, live_of}
 use Rattle.raid_rack.specs.RaidRack.{IsFit, raid_by}
-use Rattle.raid_rack.proofs.Apart.{moves_quiet, seat_is}
-use Rattle.raid_rack.proofs.Moving.{moves_bring}
-use Rattle.raid_rack.proofs.Over.{someone_left}
+use Rattle.raid_laws.proofs.Apart.{moves_quiet, seat_is}
+use Rattle.raid_laws.proofs.Moving.{moves_bring}
+use Rattle.raid_laws.proofs.Over.{someone_left}
 use Rattle.raid_rack.proofs.Serving.{brings_keep}
-use Rattle.raid_rack.proofs.Whole.{heeded_left}
+use Rattle.raid_laws.proofs.Whole.{heeded_left}
 use Rattle.pool.specs.Held.{KeepsHeld}
 use Rattle.pool.specs.View.{View, book, slices_shown, volume}
 

@@ -11,18 +11,18 @@ use Rattle.slice_rack.specs.Slices.{Slices, disk_of, first_of, place_of, seat_of
 use Rattle.slice_rack.specs.Runs.{IsSliced, Runs}
 use Rattle.array_image.specs.Places.{log_slice}
 use Rattle.array_image.specs.States.{is_current}
-use Rattle.commit_log.proofs.Kept.{place_of_log}
+use Rattle.log_laws.proofs.Kept.{place_of_log}
 use Rattle.array_model.specs.View.{HasFault as HasDriveFault}
 use Rattle.lvm_group.specs.Framed.{IsShown}
 use Rattle.lvm_group.specs.Runs.{Linear}
-use Rattle.raid_rack.specs.Book.{IsAfter, after_same, after_then}
-use Rattle.raid_rack.specs.Moves.{AreCaused, KeepsMarked}
-use Rattle.raid_rack.specs.Raid.{Raid, gone_in, is_left}
-use Rattle.raid_rack.specs.Runs.{KeepsMoments, moments_same, moments_then}
-use Rattle.raid_rack.specs.Truths.{KeepsTruths}
-use Rattle.raid_rack.proofs.Moving.{marked_later}
+use Rattle.raid_laws.specs.Book.{IsAfter, after_same, after_then}
+use Rattle.raid_laws.specs.Moves.{AreCaused, KeepsMarked}
+use Rattle.raid_laws.specs.Raid.{Raid, gone_in, is_left}
+use Rattle.raid_laws.specs.Runs.{KeepsMoments, moments_same, moments_then}
+use Rattle.raid_laws.specs.Truths.{KeepsTruths}
+use Rattle.raid_laws.proofs.Moving.{marked_later}
 use Rattle.raid_rack.proofs.Truths.{truths_then}
-use Rattle.raid_rack.proofs.Whole.{heeded_left}
+use Rattle.raid_laws.proofs.Whole.{heeded_left}
 use Rattle.pool.specs.View.{View, arrays_shown, book, slices_shown, volume}
 use Rattle.pool.proofs.Booked.{book_same, book_then}
 use Rattle.raid_rack.proofs.Raises.{raises_more, raises_then}

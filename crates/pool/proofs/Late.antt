@@ -7,7 +7,7 @@ use Rattle.growth_plan.specs.Admission.{first_refusal, replace_refusals}
 use Rattle.growth_plan.specs.declared.AdmitFault.{AdmitFault}
 use Rattle.growth_plan.specs.declared.AdmitFault.TheVariants.{Size as OfSize, Smaller as OfSmaller, TooManyDrives as OfDrives, TooManyLayers as OfLayers}
 use Rattle.lvm_group.specs.Runs.{Linear}
-use Rattle.raid_rack.specs.Raid.{Raid}
+use Rattle.raid_laws.specs.Raid.{Raid}
 use Rattle.shr_base.specs.Units.{units_of}
 use Rattle.pool.specs.declared.replacing.GrowFault.{GrowFault}
 use Rattle.pool.specs.declared.replacing.GrowFault.TheVariants.{NoSuchDrive, Attach, Twice, Memory, Gone, PlanPending, NotWhole, NotResynced, Unbuilt, TooManySegments}

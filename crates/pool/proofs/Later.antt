@@ -12,15 +12,15 @@ use Rattle.lvm_group.specs.Runs.{IsOrderly as IsOrderlyVolume, array_of, data_st
 use Rattle.lvm_group.specs.Shown.{IsInside as IsInsideVolume}
 use Rattle.lvm_group.proofs.Totals.{total_same}
 use Rattle.raid_rack.specs.declared.arrays.Arrays.{Arrays}
-use Rattle.raid_rack.specs.Laws.{live_parts, stops_inside}
-use Rattle.raid_rack.specs.Moves.{Moves}
-use Rattle.raid_rack.specs.Raid.{raid_of}
+use Rattle.raid_laws.specs.Laws.{live_parts, stops_inside}
+use Rattle.raid_laws.specs.Moves.{Moves}
+use Rattle.raid_laws.specs.Raid.{raid_of}
 use Rattle.raid_rack.specs.RaidRack.{IsFit, raid_by}
-use Rattle.raid_rack.proofs.Apart.{moves_quiet, seat_is}
-use Rattle.raid_rack.proofs.Moving.{moves_bring}
-use Rattle.raid_rack.proofs.Over.{someone_left}
+use Rattle.raid_laws.proofs.Apart.{moves_quiet, seat_is}
+use Rattle.raid_laws.proofs.Moving.{moves_bring}
+use Rattle.raid_laws.proofs.Over.{someone_left}
 use Rattle.raid_rack.proofs.Serving.{brings_keep}
-use Rattle.raid_rack.proofs.Whole.{heeded_left}
+use Rattle.raid_laws.proofs.Whole.{heeded_left}
 use Rattle.array_model.specs.View.{sectors_of as array_sectors}
 use Rattle.pool.specs.View.{View, book, slices_shown, volume}
 use Rattle.pool.specs.Volume.{is_spent}

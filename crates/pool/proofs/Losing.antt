@@ -16,14 +16,14 @@ use Rattle.commit_log.proofs.Deciding.{names_first}
 use Rattle.array_model.specs.View.{has_gone}
 use Rattle.array_core.specs.Seats.{gone, names}
 use Rattle.lvm_group.specs.Framed.{IsShown}
-use Rattle.raid_rack.specs.Runs.{KeepsMoments}
-use Rattle.raid_rack.specs.Truths.{KeepsTruths}
-use Rattle.raid_rack.specs.Losses.{has_other}
-use Rattle.raid_rack.specs.Moves.{IsHeeded, IsSet, Mends, RaisesBy, noted_at}
-use Rattle.raid_rack.specs.Raid.{Raid, gone_in, is_left}
+use Rattle.raid_laws.specs.Runs.{KeepsMoments}
+use Rattle.raid_laws.specs.Truths.{KeepsTruths}
+use Rattle.raid_laws.specs.Losses.{has_other}
+use Rattle.raid_laws.specs.Moves.{IsHeeded, IsSet, Mends, RaisesBy, noted_at}
+use Rattle.raid_laws.specs.Raid.{Raid, gone_in, is_left}
 use Rattle.raid_rack.specs.RaidRack.{KeepsRack, SliceRuns, raid_in, raid_seen, slices_in, slices_seen}
 use Rattle.raid_rack.specs.declared.arrays.RaidRack.{RaidRack}
-use Rattle.raid_rack.proofs.Noted.{IsNoting, current_few, gone_from, gone_some, noted_went}
+use Rattle.raid_laws.proofs.Noted.{IsNoting, current_few, gone_from, gone_some, noted_went}
 use Rattle.pool.specs.declared.Pool.{Pool}
 use Rattle.pool.specs.declared.calls.LoseFault.{LoseFault}
 use Rattle.pool.specs.declared.calls.LoseFault.TheVariants.{LastDrive, NoSuchDrive}

@@ -26,7 +26,7 @@ use Rattle.pool_format.specs.Plan.{HasRoom, IsPlan, IsPlanOf, capacity_of, has, 
 use Rattle.pool_format.specs.Writing.{InCleared}
 use Rattle.pool_format.specs.Stops.{HaveCopiesTo, IsStop, StopsAmid, clearing, filling, saying}
 use Rattle.pool_format.proofs.Lists.{got}
-use Rattle.assembler.specs.Holding.{AreSteady}
+use Rattle.assembler_laws.specs.Holding.{AreSteady}
 use Rattle.assembler.specs.Sound.{AreAlone}
 use Rattle.new_pool.specs.Contents.{IsNewPool, MeanNoneOrZeros, MeanZeros, SaysNone, unsaid}
 use Rattle.new_pool.proofs.Founds.{found_is, shown, sound_logs}

@@ -14,8 +14,8 @@ use Rattle.array_model.specs.declared.Seat.{Seat}
 use Rattle.array_model.specs.declared.Seat.TheVariants.{Whole, Missing, Rebuilding}
 use Rattle.array_image.specs.Arrays.{place_with}
 use Rattle.array_model.specs.View.{View, is_missing_seat, place_at}
-use Rattle.raid_rack.specs.Book.{IsSameBook, drive_of}
-use Rattle.raid_rack.specs.Moves.{IsSeated, LosesOnly}
+use Rattle.raid_laws.specs.Book.{IsSameBook, drive_of}
+use Rattle.raid_laws.specs.Moves.{IsSeated, LosesOnly}
 
 -- ---- seats
 

@@ -13,17 +13,17 @@ use Rattle.pool_state.specs.declared.contents.Drive.{Drive}
 use Rattle.pool_state.specs.declared.contents.Plan.{Plan}
 use Rattle.pool_state.specs.declared.contents.State.{State}
 use Rattle.array_model.specs.View.{View as ArrayView, IsArray, place_at}
-use Rattle.raid_rack.specs.Raid.{Raid}
+use Rattle.raid_laws.specs.Raid.{Raid}
 use Rattle.std.proofs.lemmas.List.FromFn.{get_or-map-range_with_len, length-map-range_with_len}
 use Rattle.array_core.specs.Seats.{renewed, seat_of}
 use Rattle.raid_rack.specs.declared.arrays.Arrays.{Arrays}
-use Rattle.raid_rack.specs.Book.{IsAfter, drive_of}
-use Rattle.raid_rack.specs.Enlisting.{enlisted, next_drive, with_drive}
-use Rattle.raid_rack.specs.Moves.{KeepsArrays, LosesOnly}
-use Rattle.raid_rack.specs.NewDrive.{drive_table, entry_of, first_in, is_reached, joins, length_in}
+use Rattle.raid_laws.specs.Book.{IsAfter, drive_of}
+use Rattle.raid_laws.specs.Enlisting.{enlisted, next_drive, with_drive}
+use Rattle.raid_laws.specs.Moves.{KeepsArrays, LosesOnly}
+use Rattle.raid_laws.specs.NewDrive.{drive_table, entry_of, first_in, is_reached, joins, length_in}
 use Rattle.raid_rack.specs.RaidRack.{IsRunning, no_array, raid_by}
-use Rattle.raid_rack.specs.Missing.{raised}
-use Rattle.raid_rack.proofs.Committed.{raised_range}
+use Rattle.raid_laws.specs.Missing.{raised}
+use Rattle.raid_laws.proofs.Committed.{raised_range}
 use Rattle.raid_rack.proofs.Enlisted.{current_enlisted}
 use Rattle.raid_rack.proofs.Renewed.{member_found}
 use Rattle.raid_rack.proofs.Renewing.{AreSameMembers, first_same, joins_same, length_same, renewed_if, same_members}

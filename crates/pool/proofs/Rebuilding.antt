@@ -15,11 +15,11 @@ use Rattle.array_core.proofs.Rules.{get_range}
 use Rattle.array_core.specs.declared.slots.Slot.{Slot}
 use Rattle.array_core.specs.Seats.{seat_of, slot_at}
 use Rattle.array_core.specs.Slots.{places_by, slot_with, slots_of}
-use Rattle.array_sync.proofs.Rebuilt.{place_found}
-use Rattle.array_sync.specs.Steps.{HasRowLeft, reach_on, rebuilt, rebuilt_seat}
+use Rattle.sync_laws.proofs.Rebuilt.{place_found}
+use Rattle.sync_laws.specs.Steps.{HasRowLeft, reach_on, rebuilt, rebuilt_seat}
 use Rattle.growth_plan.specs.declared.ArrayNow.{ArrayNow}
 use Rattle.growth_plan.specs.Doing.{row_rebuilt}
-use Rattle.raid_rack.specs.Works.{is_rebuilding_seat}
+use Rattle.raid_laws.specs.Works.{is_rebuilding_seat}
 use Rattle.pool.specs.Works.{IsOneRebuilt, array_now, is_rebuilding_on, rebuilding_in, rows_to_rebuild}
 
 -- ---- seats

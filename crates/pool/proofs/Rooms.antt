@@ -1,7 +1,7 @@
 -- Lists of the numbers that pass a test.
 use Rattle.std.specs.List.{range_with_len}
 use Rattle.std.proofs.Common.{◌≡◌, ℕ, zero, suc, ◌+◌, ◌-◌, ◌<◌, ◌≤◌, Bool, true, false, cond, if◌then◌else◌, [], ◌∷◌, filter, length, length-append, refl, sym, ap, subst, ◌∙◌, arith}
-use Rattle.commit_log.proofs.Naming.{filter_more}
+use Rattle.log_laws.proofs.Naming.{filter_more}
 
 more_at : (f : ℕ → Bool) (m : ℕ) → length (filter f (range_with_len 0 (m + 1))) ≡ length (filter f (range_with_len 0 m)) + (if f m then 1 else 0)
 more_at f m =

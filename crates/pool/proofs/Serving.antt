@@ -15,12 +15,12 @@ use Rattle.lvm_group.specs.Framed.{Frames, IsShown}
 use Rattle.lvm_group.specs.Volume.{linear}
 use Rattle.rack.specs.Several.{Several}
 use Rattle.raid_rack.specs.AllRuns.{AreRuns, IsOneCall}
-use Rattle.raid_rack.specs.Laws.{raid_sound, stops_inside}
-use Rattle.raid_rack.specs.Losing.{arrays_same}
-use Rattle.raid_rack.specs.Moves.{AreCaused, KeepsMarked}
-use Rattle.raid_rack.specs.Book.{IsAfter}
-use Rattle.raid_rack.specs.Runs.{KeepsMoments}
-use Rattle.raid_rack.specs.Truths.{KeepsTruths}
+use Rattle.raid_laws.specs.Laws.{raid_sound, stops_inside}
+use Rattle.raid_laws.specs.Losing.{arrays_same}
+use Rattle.raid_laws.specs.Moves.{AreCaused, KeepsMarked}
+use Rattle.raid_laws.specs.Book.{IsAfter}
+use Rattle.raid_laws.specs.Runs.{KeepsMoments}
+use Rattle.raid_laws.specs.Truths.{KeepsTruths}
 use Rattle.raid_rack.specs.RaidRack.{SliceRuns, raid_in, raid_seen, slices_in, slices_seen}
 use Rattle.pool.specs.declared.Pool.{Pool}
 use Rattle.pool.specs.declared.calls.SectorFault.{SectorFault}

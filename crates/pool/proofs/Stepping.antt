@@ -14,11 +14,11 @@ use Rattle.lvm_group.specs.Runs.{Linear}
 use Rattle.lvm_group.specs.Volume.{linear}
 use Rattle.pool_state.specs.declared.contents.Work.{Work}
 use Rattle.pool_state.specs.declared.contents.Work.TheVariants.{Resync, Rebuild, TakeOver, Begin, Reshape, Finish, Make, Zero, Ready, Extend, Close}
-use Rattle.raid_rack.specs.Losing.{only_same}
-use Rattle.raid_rack.specs.Moves.{LosesOnly}
-use Rattle.raid_rack.specs.Raid.{Raid}
+use Rattle.raid_laws.specs.Losing.{only_same}
+use Rattle.raid_laws.specs.Moves.{LosesOnly}
+use Rattle.raid_laws.specs.Raid.{Raid}
 use Rattle.raid_rack.specs.RaidRack.{IsFit, arrays_in, raid_in, raid_seen, slices_seen}
-use Rattle.raid_rack.specs.Works.{Does, array_of, is_due, is_stuck}
+use Rattle.raid_laws.specs.Works.{Does, array_of, is_due, is_stuck}
 use Rattle.raid_rack.specs.declared.arrays.RaidRack.{RaidRack}
 use Rattle.raid_rack.specs.declared.works.Stuck.{Stuck}
 use Rattle.pool.specs.declared.Pool.{Pool}

@@ -15,22 +15,23 @@ use Rattle.array_image.specs.Places.{log_slice}
 use Rattle.array_image.specs.States.{is_current}
 use Rattle.lvm_group.specs.Runs.{IsOrderly as IsOrderlyVolume}
 use Rattle.raid_rack.specs.declared.arrays.Arrays.{Arrays}
-use Rattle.raid_rack.specs.Book.{after_same}
-use Rattle.raid_rack.specs.Enlisting.{IsNotWhole, IsRefused, IsWrittenBy, new_table}
-use Rattle.raid_rack.specs.Losing.{arrays_same}
-use Rattle.raid_rack.specs.Moves.{IsSet}
-use Rattle.raid_rack.specs.NewDrive.{IsOfDrive}
-use Rattle.raid_rack.specs.Raid.{Raid, is_left}
+use Rattle.raid_laws.specs.Book.{after_same}
+use Rattle.raid_laws.specs.Enlisting.{IsNotWhole, IsRefused, IsWrittenBy, new_table}
+use Rattle.raid_laws.specs.Losing.{arrays_same}
+use Rattle.raid_laws.specs.Moves.{IsSet}
+use Rattle.raid_laws.specs.NewDrive.{IsOfDrive}
+use Rattle.raid_laws.specs.Raid.{Raid, is_left}
 use Rattle.raid_rack.specs.RaidRack.{IsFit, raid_by}
-use Rattle.raid_rack.proofs.Apart.{reads_apart, seat_is}
+use Rattle.raid_laws.proofs.Apart.{reads_apart, seat_is}
 use Rattle.raid_rack.proofs.Raises.{raises_more, raises_none}
-use Rattle.raid_rack.proofs.Whole.{heeded_left}
+use Rattle.raid_laws.proofs.Whole.{heeded_left}
 use Rattle.pool.specs.declared.replacing.GrowFault.{GrowFault}
 use Rattle.pool.specs.declared.replacing.GrowFault.TheVariants.{Gone, NotWhole}
-use Rattle.pool.specs.Continuing.{Continues, KeepsDisk, KeepsOutside, NoDisk}
+use Rattle.rack.specs.Untouched.{KeepsDisk}
+use Rattle.pool.specs.Continuing.{Continues, KeepsOutside, NoDisk}
 use Rattle.pool.specs.Entering.{IsVacating, LeavesOut, Vacates, table_on}
 use Rattle.pool_state.specs.declared.contents.State.{State}
-use Rattle.commit_log.proofs.Kept.{place_of_log}
+use Rattle.log_laws.proofs.Kept.{place_of_log}
 use Rattle.rack.specs.Joins.{keeps_same}
 use Rattle.raid_rack.proofs.Vacated.{disk_left}
 use Rattle.pool.specs.Replacing.{IsAdmitted}

@@ -11,7 +11,7 @@ use Rattle.slice_rack.specs.Sliced.{slices_of}
 use Rattle.array_image.specs.States.{is_current}
 use Rattle.lvm_group.specs.Laws.{array_below}
 use Rattle.lvm_group.specs.Runs.{IsOrderly as IsOrderlyVolume, array_of, sector_of, sectors_in}
-use Rattle.raid_rack.specs.Raid.{raid_of}
+use Rattle.raid_laws.specs.Raid.{raid_of}
 use Rattle.raid_rack.specs.RaidRack.{IsFit}
 use Rattle.raid_rack.proofs.Vacated.{disk_left, vacated_keeps, vacated_told, vacated_truths}
 use Rattle.pool.specs.Continuing.{Continues, KeepsOutside}

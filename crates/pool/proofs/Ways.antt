@@ -8,7 +8,7 @@ use Rattle.slice_rack.specs.Slices.{IsOrderly, Slices, seat_of}
 use Rattle.raid_rack.specs.declared.arrays.Arrays.{Arrays}
 use Rattle.pool.specs.declared.replacing.GrowFault.{GrowFault}
 use Rattle.pool.specs.declared.replacing.GrowFault.TheVariants.{NotWhole}
-use Rattle.raid_rack.specs.Raid.{Raid}
+use Rattle.raid_laws.specs.Raid.{Raid}
 use Rattle.pool.specs.Entering.{Cleaned, Declines, Enters, EntersBy, LeavesBy, LeavesOut, Readies, meanwhile}
 use Rattle.pool.specs.Moment.{moment_of}
 use Rattle.pool.specs.Replaced.{HasMarked, HasMarkedOther, is_vacant}

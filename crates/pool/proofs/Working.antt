@@ -12,9 +12,9 @@ use Rattle.lvm_group.specs.Runs.{Linear}
 use Rattle.lvm_group.specs.Shown.{volume_of}
 use Rattle.lvm_group.specs.Volume.{linear}
 use Rattle.lvm_group.specs.Framed.{IsShown}
-use Rattle.raid_rack.specs.Moves.{RaisesBy}
+use Rattle.raid_laws.specs.Moves.{RaisesBy}
 use Rattle.raid_rack.specs.RaidRack.{KeepsRack, SliceRuns, raid_in, raid_seen, slices_in, slices_seen, written_in}
-use Rattle.raid_rack.specs.Runs.{RaidRuns, raid_runs_same, raid_runs_then}
+use Rattle.raid_laws.specs.Runs.{RaidRuns, raid_runs_same, raid_runs_then}
 use Rattle.raid_rack.specs.declared.arrays.RaidRack.{RaidRack}
 use Rattle.pool.specs.declared.Pool.{Pool}
 use Rattle.pool.specs.View.{arrays_of, bay_in, view, volume}

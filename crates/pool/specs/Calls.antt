@@ -14,13 +14,13 @@ use Rattle.slice_rack.specs.Slices.{disk_of}
 use Rattle.slice_rack.specs.Runs.{IsSliced}
 use Rattle.array_core.specs.TruthHeld.{HoldTruth}
 use Rattle.lvm_group.specs.Framed.{IsShown}
-use Rattle.raid_rack.specs.Agreeing.{AgreeLeaving}
-use Rattle.raid_rack.specs.Book.{IsAfter}
-use Rattle.raid_rack.specs.Losses.{has_other}
-use Rattle.raid_rack.specs.Moves.{KeepsMarked}
-use Rattle.raid_rack.specs.Raid.{IsTold, is_over}
-use Rattle.raid_rack.specs.Runs.{KeepsMoments}
-use Rattle.raid_rack.specs.Truths.{KeepsTruths}
+use Rattle.raid_laws.specs.Agreeing.{AgreeLeaving}
+use Rattle.raid_laws.specs.Book.{IsAfter}
+use Rattle.raid_laws.specs.Losses.{has_other}
+use Rattle.raid_laws.specs.Moves.{KeepsMarked}
+use Rattle.raid_laws.specs.Raid.{IsTold, is_over}
+use Rattle.raid_laws.specs.Runs.{KeepsMoments}
+use Rattle.raid_laws.specs.Truths.{KeepsTruths}
 use Rattle.pool.specs.declared.calls.LoseFault.{LoseFault}
 use Rattle.pool.specs.declared.calls.LoseFault.TheVariants.{LastDrive, NoSuchDrive}
 use Rattle.pool.specs.declared.calls.SectorFault.{SectorFault}

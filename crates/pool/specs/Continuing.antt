@@ -54,10 +54,3 @@ pub record KeepsOutside (t u : Slices) (named : ℕ → Type 0) (Told : Type 0) 
 -- no disk
 abbrev pub NoDisk : ℕ → Type 0
 NoDisk d = ⊥
-
--- a disk is written nowhere
-pub record KeepsDisk (Told : Type 0) (a b : Seen) (d : ℕ) : Type 0 where
-  pub held : (s : ℕ) → s < a.sectors d → a.told d → Keeps (a.held d s) (b.held d s)
-  pub stops :
-      Told → a.traced → (k : ℕ) (i : Image) → a.clock < k → k ≤ b.clock → b.stops k i
-      → (s : ℕ) → s < a.sectors d → a.told d → MayLeave (a.held d s) (i d s)

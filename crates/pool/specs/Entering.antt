@@ -6,15 +6,15 @@ use Rattle.slice_rack.specs.Sliced.{slices_of}
 use Rattle.slice_rack.specs.Slices.{IsOrderly, Slices, seat_of}
 use Rattle.array_image.specs.States.{is_current}
 use Rattle.gpt_table.specs.declared.Table.{Table}
-use Rattle.raid_rack.specs.Enlisting.{Enlists, IsNotWhole, IsRefused, new_table}
+use Rattle.raid_laws.specs.Enlisting.{Enlists, IsNotWhole, IsRefused, new_table}
 use Rattle.raid_rack.specs.declared.arrays.Arrays.{Arrays}
-use Rattle.raid_rack.specs.Moves.{KeepsArrays, RaisesBy}
-use Rattle.raid_rack.specs.NewDrive.{SeatsDrive}
+use Rattle.raid_laws.specs.Moves.{KeepsArrays, RaisesBy}
+use Rattle.raid_laws.specs.NewDrive.{SeatsDrive}
 use Rattle.raid_rack.specs.RaidRack.{IsFit}
-use Rattle.raid_rack.specs.Unlost.{KeepsUnlost}
+use Rattle.raid_laws.specs.Unlost.{KeepsUnlost}
 use Rattle.pool.specs.Moment.{views_of}
 use Rattle.pool.specs.Calls.{Ends}
-use Rattle.pool.specs.Continuing.{KeepsDisk}
+use Rattle.rack.specs.Untouched.{KeepsDisk}
 use Rattle.pool.specs.Replacing.{IsAdmitted}
 use Rattle.pool.specs.View.{View, book, slices_shown}
 

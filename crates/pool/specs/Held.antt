@@ -3,7 +3,7 @@ use Rattle.std.specs.Prelude.{◌≡◌, ℕ, ◌<◌}
 use Rattle.rack.specs.Values.{Keeps}
 use Rattle.rack.specs.Seen.{Seen}
 use Rattle.array_model.specs.View.{sectors_of}
-use Rattle.raid_rack.specs.Raid.{IsTold, Raid, held_in, live_of}
+use Rattle.raid_laws.specs.Raid.{IsTold, Raid, held_in, live_of}
 
 -- Arrays are of as many sectors as before. Each of these that can be had afterwards could be had before, and where the array was told it is told still, and
 -- the sector keeps its values.

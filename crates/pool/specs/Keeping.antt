@@ -3,9 +3,9 @@ use Rattle.std.specs.Prelude.{◌≡◌, ◌≢◌, ℕ, ◌*◌, ◌<◌, ◌�
 use Rattle.pool_state.specs.declared.contents.State.{State}
 use Rattle.array_image.specs.States.{is_current}
 use Rattle.array_model.specs.View.{View as ArrayView, HasGeometry, member_on, place_at}
-use Rattle.raid_rack.specs.Moves.{KeepsArrays, RaisesBy}
-pub use Rattle.raid_rack.specs.Raid.{HasMarkedSeats}
-use Rattle.raid_rack.specs.Raid.{Raid}
+use Rattle.raid_laws.specs.Moves.{KeepsArrays, RaisesBy}
+pub use Rattle.raid_laws.specs.Raid.{HasMarkedSeats}
+use Rattle.raid_laws.specs.Raid.{Raid}
 use Rattle.pool.specs.View.{View, book}
 
 -- An array after calls: it has the members and the sectors that it had, no row is left to resync that wasn't, and each member counts as

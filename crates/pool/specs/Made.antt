@@ -23,7 +23,7 @@ use Rattle.pool_format.specs.Parts.{new_state}
 use Rattle.pool_format.specs.Plan.{capacity_of, has}
 use Rattle.pool_format.specs.Writing.{InCleared}
 use Rattle.new_pool.specs.Contents.{MeanNoneOrZeros, MeanZeros, SaysNone}
-use Rattle.assembler.specs.Holding.{AreSteady}
+use Rattle.assembler_laws.specs.Holding.{AreSteady}
 use Rattle.assembler.specs.Sound.{AreAlone, HaveOwnAreas, HoldSound, LieApart}
 
 -- the ids of a pool's first drives, which are named after it, differ

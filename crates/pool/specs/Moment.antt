@@ -6,7 +6,7 @@ use Rattle.rack.specs.Shelf.{Waiting}
 use Rattle.rack.specs.Values.{Values, only}
 use Rattle.array_model.specs.View.{View as ArrayView}
 use Rattle.slice_rack.specs.Slices.{Slices}
-use Rattle.raid_rack.specs.Raid.{Raid}
+use Rattle.raid_laws.specs.Raid.{Raid}
 use Rattle.pool.specs.View.{View, book}
 
 -- The clock, the disks of the bay with what they hold, their counts of faults and their names, what waits to be attached, the bay's own count of

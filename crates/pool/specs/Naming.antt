@@ -2,7 +2,7 @@
 use Rattle.std.specs.Prelude.{◌⊎◌, ℕ, ◌<◌, List, length, Result, Ok, IfErr, OnOk}
 use Rattle.rack.specs.Seen.{Image}
 use Rattle.flat_array.specs.Array.{FlatArray}
-use Rattle.raid_rack.specs.Truths.{KeepsTruths}
+use Rattle.raid_laws.specs.Truths.{KeepsTruths}
 use Rattle.pool.specs.declared.replacing.GrowFault.{GrowFault}
 use Rattle.pool.specs.Continuing.{Continues, KeepsOutside}
 use Rattle.pool.specs.Entering.{Declines, Enters, StaysStill}

@@ -16,17 +16,18 @@ use Rattle.pool_state.specs.declared.contents.State.{State}
 use Rattle.slice_rack.specs.Slices.{Slices, disk_of, seat_of}
 use Rattle.slice_rack.specs.Changes.{Seats}
 use Rattle.slice_rack.specs.Runs.{IsSliced}
-use Rattle.raid_rack.specs.Book.{IsAfter}
-use Rattle.raid_rack.specs.Enlisting.{HoldsTable, enlisted, new_table, next_drive, with_drive}
-use Rattle.raid_rack.specs.Moves.{KeepsArrays}
-use Rattle.raid_rack.specs.NewDrive.{IsOfDrive as IsLaid, SeatsDrive, drive_table, joins}
-use Rattle.raid_rack.specs.Truths.{KeepsTruths}
+use Rattle.raid_laws.specs.Book.{IsAfter}
+use Rattle.raid_laws.specs.Enlisting.{HoldsTable, enlisted, new_table, next_drive, with_drive}
+use Rattle.raid_laws.specs.Moves.{KeepsArrays}
+use Rattle.raid_laws.specs.NewDrive.{IsOfDrive as IsLaid, SeatsDrive, drive_table, joins}
+use Rattle.raid_laws.specs.Truths.{KeepsTruths}
 use Rattle.shr_base.specs.Units.{units_of}
 use Rattle.pool.specs.declared.replacing.GrowFault.{GrowFault}
 use Rattle.pool.specs.declared.replacing.GrowFault.TheVariants.{NoSuchDrive, Attach, Twice, Memory, NotWhole, Gone}
 use Rattle.lvm_group.specs.Runs.{Linear}
 use Rattle.pool.specs.Calls.{DriveWent}
-use Rattle.pool.specs.Continuing.{KeepsDisk, KeepsOutside, NoDisk}
+use Rattle.rack.specs.Untouched.{KeepsDisk}
+use Rattle.pool.specs.Continuing.{KeepsOutside, NoDisk}
 use Rattle.pool.specs.Held.{KeepsHeld}
 use Rattle.pool.specs.Moment.{IsImage, IsNamed, Moment, moment_of, views_of}
 use Rattle.pool.specs.Replacing.{refusal_of}

@@ -15,8 +15,8 @@ use Rattle.pool_state.specs.declared.contents.Drive.{Drive}
 use Rattle.pool_state.specs.declared.contents.Plan.{Plan}
 use Rattle.pool_state.specs.declared.contents.Plan.TheVariants.{Nothing, Add, Replace}
 use Rattle.pool_state.specs.declared.contents.State.{State}
-use Rattle.raid_rack.specs.NewDrive.{reaches_all}
-use Rattle.raid_rack.specs.Raid.{Raid}
+use Rattle.raid_laws.specs.NewDrive.{reaches_all}
+use Rattle.raid_laws.specs.Raid.{Raid}
 use Rattle.pool.specs.declared.replacing.GrowFault.{GrowFault}
 use Rattle.pool.specs.declared.replacing.GrowFault.TheVariants.{PlanPending, NotWhole, NotResynced, Unbuilt, Size, Smaller, TooManyDrives, TooManyLayers, TooManySegments}
 use Rattle.pool.specs.Moment.{views_of}

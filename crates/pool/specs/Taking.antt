@@ -6,15 +6,16 @@ use Rattle.flat_array.specs.Array.{FlatArray}
 use Rattle.slice_rack.specs.Runs.{IsSliced}
 use Rattle.slice_rack.specs.Slices.{seat_of}
 use Rattle.array_image.specs.States.{is_current}
-use Rattle.raid_rack.specs.Truths.{KeepsTruths}
+use Rattle.raid_laws.specs.Truths.{KeepsTruths}
 use Rattle.pool.specs.declared.replacing.GrowFault.{GrowFault}
 use Rattle.pool.specs.declared.replacing.GrowFault.TheVariants.{Attach, Twice, Memory, NotWhole, Gone}
-use Rattle.raid_rack.specs.NewDrive.{IsOfDrive as IsLaid}
-use Rattle.pool.specs.Continuing.{Continues, KeepsDisk, KeepsOutside, NoDisk}
+use Rattle.raid_laws.specs.NewDrive.{IsOfDrive as IsLaid}
+use Rattle.rack.specs.Untouched.{KeepsDisk}
+use Rattle.pool.specs.Continuing.{Continues, KeepsOutside, NoDisk}
 use Rattle.pool.specs.Entering.{Declines, Enters, EntersBy, LeavesBy, LeavesOut, StaysStill, table_on}
 use Rattle.pool.specs.Held.{KeepsHeld}
 use Rattle.pool.specs.Keeping.{KeepsBook, KeepsBookBut, Raises}
-use Rattle.raid_rack.specs.Moves.{RaisesBy}
+use Rattle.raid_laws.specs.Moves.{RaisesBy}
 use Rattle.pool.specs.Moment.{IsImage, IsNamed, Moment, moment_of}
 use Rattle.pool.specs.Replaced.{HasMarked, HasMarkedOther, HasTable, IsAnswer, IsDeclined, IsOfDrive, IsReplaced, LeavesNew, MeansFormer, MeansWith, NamesDisk, faults_before, is_vacant}
 use Rattle.pool.specs.Replacing.{refusal_of}

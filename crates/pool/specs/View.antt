@@ -11,7 +11,7 @@ use Rattle.lvm_group.specs.Shown.{contents_of, volume_of}
 use Rattle.lvm_group.specs.Volume.{below_of, linear as linear_of}
 use Rattle.raid_rack.specs.declared.arrays.Arrays.{Arrays}
 use Rattle.raid_rack.specs.declared.arrays.RaidRack.{RaidRack}
-use Rattle.raid_rack.specs.Raid.{Raid, raid_of, spent_of}
+use Rattle.raid_laws.specs.Raid.{Raid, raid_of, spent_of}
 use Rattle.raid_rack.specs.RaidRack.{IsFit, arrays_in, raid_by, refused_in, slices_in}
 use Rattle.pool.specs.declared.Pool.{Pool}
 

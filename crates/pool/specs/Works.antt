@@ -7,8 +7,8 @@ use Rattle.array_image.specs.Supers.{is_reshaping, named_places, new_row}
 use Rattle.array_model.specs.View.{View as ArrayView, rows_of}
 use Rattle.array_model.specs.declared.Seat.TheVariants.{Missing}
 use Rattle.array_core.specs.Seats.{seat_of}
-use Rattle.array_sync.specs.Rows.{others_give}
-use Rattle.array_sync.specs.Steps.{reach_on}
+use Rattle.sync_laws.specs.Rows.{others_give}
+use Rattle.sync_laws.specs.Steps.{reach_on}
 use Rattle.pool_state.specs.declared.contents.Plan.TheVariants.{Nothing}
 use Rattle.pool_state.specs.declared.contents.Work.{Work}
 use Rattle.pool_state.specs.declared.contents.Work.TheVariants.{Resync, Rebuild, TakeOver, Begin, Reshape, Finish, Make, Zero, Ready, Extend, Close}
@@ -18,12 +18,12 @@ use Rattle.growth_plan.specs.Works.{works_left}
 use Rattle.lvm_group.specs.Runs.{Linear, extents_of}
 use Rattle.lvm_group.specs.Volume.{linear as linear_of}
 use Rattle.rack.specs.Seen.{Seen}
-use Rattle.raid_rack.specs.Moves.{LosesOnly, RaisesBy}
-use Rattle.raid_rack.specs.Raid.{Raid, is_over}
+use Rattle.raid_laws.specs.Moves.{LosesOnly, RaisesBy}
+use Rattle.raid_laws.specs.Raid.{Raid, is_over}
 use Rattle.raid_rack.specs.RaidRack.{KeepsRack, SliceRuns, raid_in, raid_seen, slices_in, slices_seen, written_in}
-use Rattle.raid_rack.specs.Runs.{RaidRuns}
-use Rattle.raid_rack.specs.Book.{IsAfter}
-use Rattle.raid_rack.specs.Works.{array_of, is_due, is_rebuilding_seat, is_stuck, next_row}
+use Rattle.raid_laws.specs.Runs.{RaidRuns}
+use Rattle.raid_laws.specs.Book.{IsAfter}
+use Rattle.raid_laws.specs.Works.{array_of, is_due, is_rebuilding_seat, is_stuck, next_row}
 use Rattle.pool.specs.declared.Pool.{Pool}
 use Rattle.pool.specs.Keeping.{HasMarkedSeats, KeepsBook, most_raised}
 use Rattle.pool.specs.View.{View, arrays_of, book}

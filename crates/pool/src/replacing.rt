@@ -7,7 +7,7 @@ ghost use Rattle.growth_plan.specs.Book.{IsBook};
 ghost use Rattle.pool.specs.View.{book, view, volume};
 ghost use Rattle.pool.specs.Moment.{views_of};
 ghost use Rattle.pool.specs.Works.{progress_by};
-ghost use Rattle.raid_rack.specs.NewDrive.{reaches_all};
+ghost use Rattle.raid_laws.specs.NewDrive.{reaches_all};
 ghost use Rattle.pool.specs.Replacing as spec;
 
 use crate::Pool;

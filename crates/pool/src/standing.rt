@@ -4,7 +4,7 @@ ghost use Rattle.std.specs.Prelude.{◌≡◌, ◌<◌, ◌≤◌, length, find}
 ghost use Rattle.std.specs.Option.{option_map_or};
 ghost use Rattle.array_image.specs.SoundArray.{first_unsynced};
 ghost use Rattle.array_image.specs.Supers.{is_named, is_reshaping, named_places};
-ghost use Rattle.array_sync.specs.Steps.{reach_on};
+ghost use Rattle.sync_laws.specs.Steps.{reach_on};
 ghost use Rattle.pool.specs.Works as spec;
 
 use array_core::{Array, Seat};

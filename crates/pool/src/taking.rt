@@ -42,7 +42,7 @@ impl<R: Bay> Pool<R> {
     fn attach(&mut self, name: &str) -> Result<u32, AttachFault>
         ensures attaches { Attaches (R.seen (bay_in self.old)) (R.seen (bay_in self.new)) (R.shelf (bay_in self.old)) (R.shelf (bay_in self.new)) name.now result }
         ensures rest { self.new ≡ with_bay self.old (bay_in self.new) }
-        ensures lenders { R.lenders (bay_in self.new) ≡ R.lenders (bay_in self.old) }
+        ensures frame { R.frame (bay_in self.old) (bay_in self.new) }
     {
         self.volume.inner().slices().inner().attach(name)
     }
@@ -52,7 +52,7 @@ impl<R: Bay> Pool<R> {
         requires { (volume (view R.seen R.shelf self.old)).fit }
         ensures attaches { AttachesDisk (view R.seen R.shelf self.old) (view R.seen R.shelf self.new) name.now result }
         ensures rest { self.new ≡ with_bay self.old (bay_in self.new) }
-        ensures lenders { R.lenders (bay_in self.new) ≡ R.lenders (bay_in self.old) }
+        ensures frame { R.frame (bay_in self.old) (bay_in self.new) }
     {
         match self.attach(name) {
             Ok(disk) => Ok(disk),
@@ -193,7 +193,7 @@ impl<R: Bay> Pool<R> {
         requires other { IsOfPlace (moment_of (view R.seen R.shelf self.old)) disk → ⊥ }
         requires admitted { refusal_of (view R.seen R.shelf self.old).linear (book (view R.seen R.shelf self.old)) place ((R.seen (bay_in self.old)).sectors disk) ≡ None }
         ensures replaces { ReplacesBy (view R.seen R.shelf self.old) (view R.seen R.shelf self.new) place disk result }
-        ensures lenders { R.lenders (bay_in self.new) ≡ R.lenders (bay_in self.old) }
+        ensures frame { R.frame (bay_in self.old) (bay_in self.new) }
     {
         if self.has_drive(place) {
             self.give_way(place, disk)
@@ -209,7 +209,7 @@ impl<R: Bay> Pool<R> {
         requires disk { disk < (R.seen (bay_in self.old)).disks }
         requires other { IsOfPlace (moment_of (view R.seen R.shelf self.old)) disk → ⊥ }
         ensures replaces { ReplacesBy (view R.seen R.shelf self.old) (view R.seen R.shelf self.new) place disk result }
-        ensures lenders { R.lenders (bay_in self.new) ≡ R.lenders (bay_in self.old) }
+        ensures frame { R.frame (bay_in self.old) (bay_in self.new) }
     {
         let sectors = self.volume.below().below().below().sectors(disk);
         match self.admits(place, sectors) {
@@ -232,7 +232,7 @@ impl<R: Bay> Pool<R> {
         requires { (volume (view R.seen R.shelf self.old)).fit }
         ensures replaced { ReplacesDrive (view R.seen R.shelf self.old) (view R.seen R.shelf self.new) place name.now result }
         ensures unlisted { result ≡ Err GrowFault.NoSuchDrive → self.new ≡ self.old }
-        ensures lenders { R.lenders (bay_in self.new) ≡ R.lenders (bay_in self.old) }
+        ensures frame { R.frame (bay_in self.old) (bay_in self.new) }
     {
         if place as usize >= self.state().drives.len() {
             return Err(GrowFault::NoSuchDrive);

@@ -26,7 +26,7 @@ use Rattle.array_core.proofs.Rules.{get_map, get_range, zero_more}
 use Rattle.array_core.proofs.Opened.{current_below}
 use Rattle.array_core.proofs.Truths.{unsynced_left}
 use Rattle.raid_rack.specs.declared.arrays.Arrays.{Arrays}
-use Rattle.raid_rack.specs.Moves.{IsSeated}
+use Rattle.raid_laws.specs.Moves.{IsSeated}
 use Rattle.raid_rack.specs.RaidRack.{IsFit, no_array}
 use Rattle.pool_format.specs.declared.Birth.{Birth}
 use Rattle.pool_format.specs.declared.planning.NewArray.{NewArray}

@@ -11,7 +11,7 @@ use Rattle.md_super.specs.Layout.{LeavesZeros, decoded as super_in}
 use Rattle.pool_state.specs.Sector.{decoded as copy_in}
 use Rattle.array_image.specs.Places.{data_sector, state_sector, super_sector}
 use Rattle.array_image.specs.Record.{gate_sector}
-use Rattle.commit_log.specs.Bytes.{first_gate}
+use Rattle.log_laws.specs.Bytes.{first_gate}
 use Rattle.pool_format.specs.declared.Birth.{Birth}
 use Rattle.pool_format.specs.declared.planning.NewArray.{NewArray}
 use Rattle.pool_format.specs.declared.planning.NewPool.{NewPool}

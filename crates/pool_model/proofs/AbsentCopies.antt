@@ -13,12 +13,12 @@ use Rattle.pool_state.specs.Sector.{decoded}
 use Rattle.array_image.specs.Arrays.{replayed}
 use Rattle.array_image.specs.Places.{log_slice, place_of}
 use Rattle.array_image.specs.Record.{pending}
-use Rattle.commit_log.specs.Commits.{Stands}
-use Rattle.commit_log.specs.Kept.{LogKept}
-use Rattle.commit_log.specs.Saying.{CopiesIn, HoldsCopies}
-use Rattle.commit_log.specs.Standing.{LogsStand, deciding}
-use Rattle.raid_rack.specs.Book.{after_same}
-use Rattle.raid_rack.specs.Since.{HoldsSince}
+use Rattle.log_laws.specs.Commits.{Stands}
+use Rattle.log_laws.specs.Kept.{LogKept}
+use Rattle.log_laws.specs.Saying.{CopiesIn, HoldsCopies}
+use Rattle.log_laws.specs.Standing.{LogsStand, deciding}
+use Rattle.raid_laws.specs.Book.{after_same}
+use Rattle.raid_laws.specs.Since.{HoldsSince}
 
 -- of nothing no copy is decoded
 nothing_decodes : (copy : Copied) → decoded [] ≡ Ok copy → ⊥

@@ -13,8 +13,8 @@ use Rattle.array_image.specs.Arrays.{array_in, arrays_in, replayed, shape_in}
 use Rattle.array_image.specs.Left.{Picks}
 use Rattle.array_image.specs.States.{state_in}
 use Rattle.array_image.specs.Supers.{truth_in}
-use Rattle.commit_log.proofs.Kept.{live_after, live_on}
-use Rattle.raid_rack.specs.Raid.{Raid}
+use Rattle.log_laws.proofs.Kept.{live_after, live_on}
+use Rattle.raid_laws.specs.Raid.{Raid}
 use Rattle.pool_image.specs.Disks.{Disks, disks_of}
 use Rattle.pool_image.specs.Drives.{Found, found, slices_of}
 use Rattle.pool_image.specs.Meaning.{arrays_held, shape_of, truth_of}

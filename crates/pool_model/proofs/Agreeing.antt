@@ -6,8 +6,8 @@ use Rattle.rack.specs.Seen.{Image}
 use Rattle.pool_state.specs.declared.contents.State.{State}
 use Rattle.array_image.specs.States.{is_current}
 use Rattle.array_core.proofs.Stripped.{some_same}
-use Rattle.raid_rack.specs.Book.{IsAfter}
-use Rattle.raid_rack.specs.Reach.{KeepsReach}
+use Rattle.raid_laws.specs.Book.{IsAfter}
+use Rattle.raid_laws.specs.Reach.{KeepsReach}
 use Rattle.pool_image.specs.Alike.{Agree, IsSamePool, MeansTheSame}
 use Rattle.pool_image.specs.Disks.{Disks, identities_of, newest, seat_of}
 use Rattle.pool_image.specs.Drives.{Found, found, found_by}

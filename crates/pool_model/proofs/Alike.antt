@@ -7,7 +7,7 @@ use Rattle.slice_rack.specs.Slices.{Slices, place_of}
 use Rattle.md_super.specs.declared.superblock.Super.{Super}
 use Rattle.pool_state.specs.declared.contents.Copied.{Copied}
 use Rattle.pool_state.specs.declared.contents.State.{State}
-use Rattle.commit_log.specs.Kept.{IsNoLater}
+use Rattle.log_laws.specs.Kept.{IsNoLater}
 use Rattle.array_image.specs.Arrays.{first_layout, sectors_by, shape_by, shape_in}
 use Rattle.array_image.specs.Places.{data_sector, slice_of}
 use Rattle.array_image.specs.Stripes.{capacity}
@@ -17,7 +17,7 @@ use Rattle.pool_image.specs.Drives.{Found, end_of, extent_from, extent_of, first
 use Rattle.pool_image.specs.Meaning.{array_sectors, is_member, truth_of}
 use Rattle.pool_image.specs.Replay.{Extent}
 use Rattle.pool_image.proofs.Truths.{extent_found, truth_found}
-use Rattle.raid_rack.specs.Raid.{Raid}
+use Rattle.raid_laws.specs.Raid.{Raid}
 use Rattle.pool_model.specs.InService.{HasSeat, IsArranged, IsOutset}
 use Rattle.pool_model.specs.Left.{AreAloneBy, IsServed}
 use Rattle.pool_model.specs.Pools.{AreSlicesOf}

@@ -28,8 +28,8 @@ use Rattle.array_core.proofs.Stripped.{some_same}
 use Rattle.pool_image.specs.Disks.{Disks, Identities, Identity, disks_of, id_by, identities_of, stands_for}
 use Rattle.pool_image.specs.Drives.{Found}
 use Rattle.pool_image.specs.Meaning.{has_table, is_table, truth_of}
-use Rattle.raid_rack.specs.Enlisting.{enlisted}
-use Rattle.raid_rack.specs.Raid.{Raid}
+use Rattle.raid_laws.specs.Enlisting.{enlisted}
+use Rattle.raid_laws.specs.Raid.{Raid}
 use Rattle.pool_model.specs.Absent.{IsApart, StandsAlone}
 use Rattle.pool_model.specs.Alone.{AreTabled, HoldAlone, HoldTabled, IsStranger, IsTabled, IsUngiven, SaysAlone, TakesAlone}
 use Rattle.pool_model.specs.InService.{InService, IsArranged}

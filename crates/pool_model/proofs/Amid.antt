@@ -24,16 +24,16 @@ use Rattle.array_image.specs.Left.{IsInside as HasNothing}
 use Rattle.array_image.specs.Places.{log_slice, place_of}
 use Rattle.array_image.specs.States.{is_current}
 use Rattle.array_model.specs.View.{HasGeometry}
-use Rattle.commit_log.proofs.Kept.{live_on}
-use Rattle.raid_rack.specs.Book.{IsAfter, after_same}
-use Rattle.raid_rack.specs.Frames.{HasFrame, frame_of}
-use Rattle.raid_rack.specs.Logs.{LogsBetween}
-use Rattle.raid_rack.specs.Raid.{IsTold, Raid, is_over}
-use Rattle.raid_rack.specs.Runs.{IsBetween, KeepsMoments}
-use Rattle.raid_rack.specs.Since.{AreSince, KeepsSince}
-use Rattle.raid_rack.proofs.Noted.{current_few}
-use Rattle.raid_rack.proofs.Over.{number_room, someone_left}
-use Rattle.raid_rack.proofs.Since.{kept_since}
+use Rattle.log_laws.proofs.Kept.{live_on}
+use Rattle.raid_laws.specs.Book.{IsAfter, after_same}
+use Rattle.raid_laws.specs.Frames.{HasFrame, frame_of}
+use Rattle.raid_laws.specs.Logs.{LogsBetween}
+use Rattle.raid_laws.specs.Raid.{IsTold, Raid, is_over}
+use Rattle.raid_laws.specs.Runs.{IsBetween, KeepsMoments}
+use Rattle.raid_laws.specs.Since.{AreSince, KeepsSince}
+use Rattle.raid_laws.proofs.Noted.{current_few}
+use Rattle.raid_laws.proofs.Over.{number_room, someone_left}
+use Rattle.raid_laws.proofs.Since.{kept_since}
 use Rattle.pool_image.specs.Disks.{Disks, Identities, disks_of, identities_of, stands_for}
 use Rattle.pool_image.specs.Drives.{Found, extent_of}
 use Rattle.pool_image.specs.Meaning.{is_member, truth_of}

@@ -14,8 +14,8 @@ use Rattle.array_image.specs.Places.{log_sectors, log_slice, place_of, slice_of}
 use Rattle.array_image.specs.Record.{gate_in, gate_of, gate_sector, pending_at}
 use Rattle.array_image.specs.States.{current_places, is_current}
 use Rattle.array_core.proofs.Stripped.{some_same}
-use Rattle.commit_log.specs.View.{names}
-use Rattle.raid_rack.proofs.Added.{names_current}
+use Rattle.log_laws.specs.View.{names}
+use Rattle.raid_laws.proofs.Added.{names_current}
 use Rattle.pool_image.specs.Book.{book_of}
 use Rattle.pool_image.specs.Disks.{Candidate, Disks, Identities, candidate, identities_of, newest, seat_of, stands_for}
 use Rattle.pool_image.specs.Drives.{Found, drive_sector}

@@ -10,8 +10,8 @@ use Rattle.array_core.proofs.Stripped.{some_same}
 use Rattle.array_model.specs.View.{HasGeometry, View}
 use Rattle.pool_image.specs.Drives.{Found, end_of, extent_from, first_of}
 use Rattle.pool_image.specs.Meaning.{truth_of}
-use Rattle.raid_rack.specs.NewDrive.{first_in, slice_length}
-use Rattle.raid_rack.specs.Raid.{Raid}
+use Rattle.raid_laws.specs.NewDrive.{first_in, slice_length}
+use Rattle.raid_laws.specs.Raid.{Raid}
 use Rattle.pool_model.specs.Taken.{views_of}
 use Rattle.pool_model.proofs.Layers.{IsLaid, laid}
 

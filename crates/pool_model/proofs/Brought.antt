@@ -15,8 +15,8 @@ use Rattle.array_image.specs.Arrays.{replayed}
 use Rattle.array_image.specs.Places.{arrays_first, log_sectors, log_slice, member_slice, place_of, slice_of, state_sector}
 use Rattle.array_image.specs.Record.{are_apart, pending}
 use Rattle.array_image.specs.States.{current_places, is_current}
-use Rattle.commit_log.specs.Standing.{deciding}
-use Rattle.commit_log.proofs.Kept.{put_none}
+use Rattle.log_laws.specs.Standing.{deciding}
+use Rattle.log_laws.proofs.Kept.{put_none}
 use Rattle.commit_log.proofs.Replaying.{pending_sound}
 use Rattle.commit_log.proofs.Story.{payload_is}
 use Rattle.pool_image.specs.Disks.{Identities, identities_of, seat_of}

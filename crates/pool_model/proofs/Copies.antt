@@ -16,15 +16,15 @@ use Rattle.array_image.specs.Places.{arrays_first, log_sectors, log_slice, place
 use Rattle.array_image.specs.Record.{pending}
 use Rattle.array_image.specs.States.{epoch_of, is_current, state_in}
 use Rattle.array_core.proofs.Stripped.{some_same}
-use Rattle.commit_log.specs.Commits.{Stands}
-use Rattle.commit_log.specs.Kept.{IsCopyOf, IsNoLater, LogKept}
-use Rattle.commit_log.specs.Standing.{LogsStand, deciding}
-use Rattle.commit_log.proofs.Kept.{kept_state}
+use Rattle.log_laws.specs.Commits.{Stands}
+use Rattle.log_laws.specs.Kept.{IsCopyOf, IsNoLater, LogKept}
+use Rattle.log_laws.specs.Standing.{LogsStand, deciding}
+use Rattle.log_laws.proofs.Kept.{kept_state}
 use Rattle.md_super.specs.declared.superblock.Super.{Super}
-use Rattle.raid_rack.specs.Book.{IsAfter}
-use Rattle.raid_rack.specs.Raid.{IsTold, Raid, Stood, held_in, is_over, spent_of}
-use Rattle.raid_rack.proofs.Over.{number_room}
-use Rattle.raid_rack.proofs.Noted.{current_few}
+use Rattle.raid_laws.specs.Book.{IsAfter}
+use Rattle.raid_laws.specs.Raid.{IsTold, Raid, Stood, held_in, is_over, spent_of}
+use Rattle.raid_laws.proofs.Over.{number_room}
+use Rattle.raid_laws.proofs.Noted.{current_few}
 use Rattle.array_model.specs.View.{HasGeometry, shape_of}
 use Rattle.pool_image.specs.Disks.{Identities, Identity, identities_of, newest, seat_of, stands_for}
 use Rattle.pool_image.specs.Drives.{Found, extent_of}

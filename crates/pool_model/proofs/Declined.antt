@@ -11,7 +11,7 @@ use Rattle.gpt_table.specs.Changes.{the_table}
 use Rattle.pool_state.specs.declared.contents.Copied.{Copied}
 use Rattle.pool_state.specs.declared.contents.State.{State}
 use Rattle.pool_state.specs.Sector.{decoded}
-use Rattle.commit_log.specs.Kept.{IsNoLater}
+use Rattle.log_laws.specs.Kept.{IsNoLater}
 use Rattle.array_image.specs.Places.{member_slice, state_sector, super_sector, place_of}
 use Rattle.array_image.specs.States.{epoch_of}
 use Rattle.array_image.proofs.Frames.{super_of_sector, truth_by_supers}

@@ -22,8 +22,8 @@ use Rattle.array_core.proofs.Truths.{Truth}
 use Rattle.array_core.proofs.Stripped.{some_same}
 use Rattle.array_model.specs.declared.Seat.{Seat}
 use Rattle.array_model.specs.View.{View, is_whole_seat, member_on, rows_of as rows_in, shape_of}
-use Rattle.commit_log.specs.View.{names}
-use Rattle.raid_rack.specs.Raid.{Raid}
+use Rattle.log_laws.specs.View.{names}
+use Rattle.raid_laws.specs.Raid.{Raid}
 use Rattle.pool_image.specs.Book.{array_now, is_rebuilding_at, rebuilding_in, rows_to_rebuild, unsynced}
 use Rattle.pool_image.specs.Disks.{stands_for}
 use Rattle.pool_image.specs.Drives.{Found, slices_of}

@@ -10,7 +10,7 @@ use Rattle.pool_state.specs.declared.contents.State.{State}
 use Rattle.array_image.specs.States.{is_current}
 use Rattle.array_core.proofs.Stripped.{some_same}
 use Rattle.array_model.specs.View.{sectors_of as sectors_in}
-use Rattle.raid_rack.specs.Raid.{Raid, spent_of}
+use Rattle.raid_laws.specs.Raid.{Raid, spent_of}
 use Rattle.lvm_group.specs.Runs.{Linear}
 use Rattle.pool_image.specs.Book.{ArrayNow, IsWhole, array_now, book_of}
 use Rattle.pool_image.specs.Disks.{Disks, Identity, disks_of}

@@ -5,9 +5,9 @@ use Rattle.slice_rack.specs.Slices.{IsOrderly, Slices}
 use Rattle.slice_rack.specs.Sliced.{IsInside, slices_of}
 use Rattle.pool_state.specs.declared.contents.Plan.{Plan}
 use Rattle.pool_state.specs.declared.contents.State.{State}
-use Rattle.raid_rack.specs.Enlisting.{Enlists, enlisted}
-use Rattle.raid_rack.specs.Losses.{has_other}
-use Rattle.raid_rack.specs.Raid.{IsTold, Raid, is_over}
+use Rattle.raid_laws.specs.Enlisting.{Enlists, enlisted}
+use Rattle.raid_laws.specs.Losses.{has_other}
+use Rattle.raid_laws.specs.Raid.{IsTold, Raid, is_over}
 use Rattle.pool_image.specs.Disks.{disks_of}
 use Rattle.pool_image.specs.Drives.{Found}
 use Rattle.pool_model.specs.Laid.{HaveOtherIds}

@@ -20,13 +20,13 @@ use Rattle.array_image.specs.Places.{arrays_first, log_sectors, log_slice, slice
 use Rattle.array_image.specs.Record.{GateAt, gate_sector, pending_at}
 use Rattle.array_image.specs.States.{current_places, epoch_of, is_current, id_of}
 use Rattle.array_core.proofs.Stripped.{some_same}
-use Rattle.commit_log.specs.Kept.{IsCopyOf, LogKept}
-use Rattle.raid_rack.specs.Book.{after_same}
-use Rattle.raid_rack.specs.Enlisting.{enlisted, next_drive}
-use Rattle.raid_rack.specs.Missing.{raised}
-use Rattle.raid_rack.specs.Raid.{IsTold, Raid, is_over}
-use Rattle.raid_rack.specs.Since.{AreTakenSince}
-use Rattle.raid_rack.proofs.Apart.{seat_is}
+use Rattle.log_laws.specs.Kept.{IsCopyOf, LogKept}
+use Rattle.raid_laws.specs.Book.{after_same}
+use Rattle.raid_laws.specs.Enlisting.{enlisted, next_drive}
+use Rattle.raid_laws.specs.Missing.{raised}
+use Rattle.raid_laws.specs.Raid.{IsTold, Raid, is_over}
+use Rattle.raid_laws.specs.Since.{AreTakenSince}
+use Rattle.raid_laws.proofs.Apart.{seat_is}
 use Rattle.pool_image.specs.Disks.{Disks, Identity, disks_of, id_by, identities_of, seat_of, stands_for}
 use Rattle.pool_image.specs.Drives.{Found}
 use Rattle.pool_image.specs.Replay.{Extent, log_extent, logs_of}

@@ -14,7 +14,7 @@ use Rattle.array_core.proofs.Opened.{current_is, named_place, super_passes, trut
 use Rattle.array_core.proofs.Rules.{get_map, get_range, placed}
 use Rattle.array_core.proofs.Truths.{rule_holds}
 use Rattle.array_core.proofs.Stripped.{some_same}
-use Rattle.raid_rack.specs.Frames.{Frame, frame_of}
+use Rattle.raid_laws.specs.Frames.{Frame, frame_of}
 use Rattle.pool_model.proofs.Roles.{placed_position}
 
 -- a superblock of up to 16 members, which lie on places below 16, each position on one

@@ -9,7 +9,7 @@ use Rattle.array_image.specs.Places.{arrays_first, log_slice, log_sectors, place
 use Rattle.array_image.specs.Record.{damaged_log, gate_of, gate_sector, is_bad_gate, is_bad_log, is_there, pending}
 use Rattle.array_image.specs.States.{current_places, is_current}
 use Rattle.array_core.proofs.Stripped.{some_same}
-use Rattle.raid_rack.proofs.Added.{names_current}
+use Rattle.raid_laws.proofs.Added.{names_current}
 use Rattle.pool_image.specs.Alike.{Agree, IsSameButGates, IsSamePool, drive_gate}
 use Rattle.pool_image.specs.Disks.{Disks, Identity, identities_of, newest, seat_of}
 use Rattle.pool_image.specs.Drives.{Found, found, slices_of}

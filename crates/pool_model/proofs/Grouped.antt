@@ -23,7 +23,7 @@ use Rattle.lvm_group.specs.Images.{HasOwnArea, MeansVolume}
 use Rattle.lvm_group.specs.Parts.{part_of}
 use Rattle.lvm_group.specs.Runs.{Linear, data_start}
 use Rattle.lvm_group.proofs.SameParts.{area_below, part_below}
-use Rattle.raid_rack.specs.Raid.{Raid, held_in}
+use Rattle.raid_laws.specs.Raid.{Raid, held_in}
 use Rattle.pool_image.proofs.Groups.{map_below}
 use Rattle.pool_image.proofs.Joined.{bad_by_parts}
 use Rattle.pool_model.specs.Grouped.{HoldGroup}

@@ -34,10 +34,10 @@ use Rattle.array_model.specs.View.{HasGeometry}
 use Rattle.pool_image.specs.Disks.{Identities, disks_of}
 use Rattle.pool_image.specs.Drives.{Found, found}
 use Rattle.pool_image.specs.Meaning.{truth_of}
-use Rattle.raid_rack.specs.Book.{IsAfter, after_then}
-use Rattle.raid_rack.specs.Enlisting.{enlisted}
-use Rattle.raid_rack.specs.Moves.{KeepsArrays}
-use Rattle.raid_rack.specs.Raid.{Raid, IsTold, is_over}
+use Rattle.raid_laws.specs.Book.{IsAfter, after_then}
+use Rattle.raid_laws.specs.Enlisting.{enlisted}
+use Rattle.raid_laws.specs.Moves.{KeepsArrays}
+use Rattle.raid_laws.specs.Raid.{Raid, IsTold, is_over}
 use Rattle.pool_model.specs.InService.{HoldSaid, InService}
 use Rattle.pool_model.specs.Left.{HoldAgain, HoldRest, HoldStill, IsServed}
 use Rattle.pool_model.specs.Pools.{AreSlicesOf, IsSoundPool}

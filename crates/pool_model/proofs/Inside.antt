@@ -20,9 +20,9 @@ use Rattle.array_image.specs.States.{current_places, epoch_of, is_current}
 use Rattle.array_image.specs.Supers.{truth_in}
 use Rattle.array_image.proofs.Frames.{super_of_sector}
 use Rattle.array_core.proofs.Stripped.{some_same}
-use Rattle.commit_log.specs.Kept.{IsNoLater}
-use Rattle.commit_log.specs.Saying.{AreOwnCopies}
-use Rattle.commit_log.proofs.Kept.{later_yet}
+use Rattle.log_laws.specs.Kept.{IsNoLater}
+use Rattle.log_laws.specs.Saying.{AreOwnCopies}
+use Rattle.log_laws.proofs.Kept.{later_yet}
 use Rattle.commit_log.proofs.Replaying.{pending_sound}
 use Rattle.pool_image.specs.Disks.{Identities, Identity, identities_of, newest, seat_of, stands_for}
 use Rattle.pool_image.specs.Drives.{Found, end_of, extent_from, first_of, found, found_by, slices_of}

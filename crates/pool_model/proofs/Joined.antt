@@ -9,7 +9,7 @@ use Rattle.pool_state.specs.declared.contents.Drive.{Drive}
 use Rattle.pool_state.specs.declared.contents.Plan.{Plan}
 use Rattle.pool_state.specs.declared.contents.State.{State}
 use Rattle.array_image.specs.States.{is_current, id_of}
-use Rattle.raid_rack.specs.Enlisting.{enlisted, next_drive}
+use Rattle.raid_laws.specs.Enlisting.{enlisted, next_drive}
 
 -- ---- lists
 

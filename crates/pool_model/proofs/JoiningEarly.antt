@@ -7,7 +7,7 @@ use Rattle.slice_rack.specs.Slices.{IsOrderly, Slices, place_of, seat_of as slic
 use Rattle.slice_rack.specs.Sliced.{IsInside}
 use Rattle.array_image.specs.Places.{log_slice, member_slice}
 use Rattle.array_image.specs.States.{is_current}
-use Rattle.raid_rack.specs.Raid.{Raid}
+use Rattle.raid_laws.specs.Raid.{Raid}
 use Rattle.pool_image.specs.Disks.{Disks, Identities, disks_of, identities_of}
 use Rattle.pool_image.specs.Drives.{Found}
 use Rattle.pool_image.specs.Meaning.{is_member}

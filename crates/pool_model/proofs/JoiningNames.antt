@@ -20,12 +20,12 @@ use Rattle.pool_state.specs.Sector.{decoded}
 use Rattle.array_image.specs.Places.{log_slice}
 use Rattle.array_image.specs.States.{epoch_of, is_current, id_of}
 use Rattle.array_core.proofs.Stripped.{some_same}
-use Rattle.commit_log.specs.Kept.{IsNoLater}
-use Rattle.raid_rack.specs.Book.{IsAfter}
-use Rattle.raid_rack.specs.Enlisting.{enlisted, next_drive}
-use Rattle.raid_rack.specs.Raid.{Raid}
-use Rattle.raid_rack.specs.Since.{AreTakenSince}
-use Rattle.raid_rack.proofs.Noted.{current_few}
+use Rattle.log_laws.specs.Kept.{IsNoLater}
+use Rattle.raid_laws.specs.Book.{IsAfter}
+use Rattle.raid_laws.specs.Enlisting.{enlisted, next_drive}
+use Rattle.raid_laws.specs.Raid.{Raid}
+use Rattle.raid_laws.specs.Since.{AreTakenSince}
+use Rattle.raid_laws.proofs.Noted.{current_few}
 use Rattle.pool_image.specs.Disks.{Disks, Identities, Identity, disks_of, id_by, identities_of, stands_for}
 use Rattle.pool_image.specs.Drives.{Found}
 use Rattle.pool_model.specs.InService.{HasSeat, InService, IsArranged, IsSaid, epoch_at}

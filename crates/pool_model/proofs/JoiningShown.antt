@@ -14,13 +14,13 @@ use Rattle.array_image.specs.Arrays.{replayed}
 use Rattle.array_image.specs.Places.{member_slice}
 use Rattle.array_image.specs.States.{is_current, state_in}
 use Rattle.array_core.proofs.Stripped.{some_same}
-use Rattle.raid_rack.specs.Book.{IsAfter, after_same}
-use Rattle.raid_rack.specs.Enlisting.{next_drive}
-use Rattle.raid_rack.specs.Frames.{HasFrame, frame_of}
-use Rattle.raid_rack.specs.Logs.{LogsBetween}
-use Rattle.raid_rack.specs.Raid.{Raid}
-use Rattle.raid_rack.specs.Runs.{IsBetween}
-use Rattle.raid_rack.specs.Since.{AreTakenSince}
+use Rattle.raid_laws.specs.Book.{IsAfter, after_same}
+use Rattle.raid_laws.specs.Enlisting.{next_drive}
+use Rattle.raid_laws.specs.Frames.{HasFrame, frame_of}
+use Rattle.raid_laws.specs.Logs.{LogsBetween}
+use Rattle.raid_laws.specs.Raid.{Raid}
+use Rattle.raid_laws.specs.Runs.{IsBetween}
+use Rattle.raid_laws.specs.Since.{AreTakenSince}
 use Rattle.pool_image.specs.Disks.{disks_of, identities_of}
 use Rattle.pool_image.specs.Drives.{Found}
 use Rattle.pool_model.specs.InService.{InService}

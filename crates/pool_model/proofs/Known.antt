@@ -7,9 +7,9 @@ use Rattle.array_image.specs.Left.{IsLeft}
 use Rattle.array_image.specs.Supers.{is_named, truth_in}
 use Rattle.array_model.specs.Says.{IsEarlier, Says}
 use Rattle.array_model.specs.View.{shape_of}
-use Rattle.raid_rack.specs.Frames.{Frame, frame_of}
-use Rattle.raid_rack.specs.Raid.{Raid, held_in, spent_of}
-use Rattle.raid_rack.proofs.Frames.{earlier_frame, geometry_frame}
+use Rattle.raid_laws.specs.Frames.{Frame, frame_of}
+use Rattle.raid_laws.specs.Raid.{Raid, held_in, spent_of}
+use Rattle.raid_laws.proofs.Frames.{earlier_frame, geometry_frame}
 use Rattle.pool_image.specs.Drives.{Found}
 use Rattle.pool_image.specs.Meaning.{truth_of}
 use Rattle.pool_model.specs.Stopped.{SaysArray}

@@ -22,15 +22,15 @@ use Rattle.pool_image.specs.Alike.{IsSamePool}
 use Rattle.pool_image.specs.Drives.{Found}
 use Rattle.pool_image.specs.Meaning.{is_dirty_degraded, lacking_of, shape_of, truth_of}
 use Rattle.pool_image.proofs.Founds.{shapes_same, truths_same}
-use Rattle.raid_rack.specs.Agreeing.{HasOwnRows, SayTruth}
-use Rattle.raid_rack.specs.Frames.{Frame, HasFrame, frame_of}
-use Rattle.raid_rack.specs.Laws.{stood_left}
-use Rattle.raid_rack.specs.Moves.{IsAmid}
-use Rattle.raid_rack.specs.Opening.{OpensRaid}
-use Rattle.raid_rack.specs.Raid.{IsTold, Raid, Stood, gone_in, held_in, is_over, spent_of}
-use Rattle.raid_rack.specs.Rows.{LackingFrom, LeavesLacking}
-use Rattle.raid_rack.proofs.LackingRows.{whole_lacks}
-use Rattle.raid_rack.proofs.Opening.{opened_amid}
+use Rattle.raid_laws.specs.Agreeing.{HasOwnRows, SayTruth}
+use Rattle.raid_laws.specs.Frames.{Frame, HasFrame, frame_of}
+use Rattle.raid_laws.specs.Laws.{stood_left}
+use Rattle.raid_laws.specs.Moves.{IsAmid}
+use Rattle.raid_laws.specs.Opening.{OpensRaid}
+use Rattle.raid_laws.specs.Raid.{IsTold, Raid, Stood, gone_in, held_in, is_over, spent_of}
+use Rattle.raid_laws.specs.Rows.{LackingFrom, LeavesLacking}
+use Rattle.raid_laws.proofs.LackingRows.{whole_lacks}
+use Rattle.raid_laws.proofs.Opening.{opened_amid}
 use Rattle.pool_model.specs.Left.{HoldStill}
 use Rattle.pool_model.specs.Openings.{IsUnsynced}
 

@@ -19,14 +19,14 @@ use Rattle.array_image.specs.Places.{log_sectors, log_slice, place_of, slice_of,
 use Rattle.array_image.specs.States.{is_current}
 use Rattle.array_core.proofs.Stripped.{some_same}
 use Rattle.array_model.specs.View.{View}
-use Rattle.commit_log.specs.Saying.{SaysState}
-use Rattle.commit_log.proofs.Kept.{live_on}
-use Rattle.raid_rack.specs.Book.{after_same}
-use Rattle.raid_rack.specs.Enlisting.{HoldsLaid, IsOpenDisk, IsWrittenBy, SaysBy, SaysFormer, SaysJoining, SaysLaying}
-use Rattle.raid_rack.specs.NewDrive.{SeatsDrive, first_laid, sectors_laid}
-use Rattle.raid_rack.specs.Raid.{IsTold, Raid, is_over, spent_of}
-use Rattle.raid_rack.specs.Runs.{IsBetween, KeepsMoments}
-use Rattle.raid_rack.proofs.Since.{joining_before, kept_since}
+use Rattle.log_laws.specs.Saying.{SaysState}
+use Rattle.log_laws.proofs.Kept.{live_on}
+use Rattle.raid_laws.specs.Book.{after_same}
+use Rattle.raid_laws.specs.Enlisting.{HoldsLaid, IsOpenDisk, IsWrittenBy, SaysBy, SaysFormer, SaysJoining, SaysLaying}
+use Rattle.raid_laws.specs.NewDrive.{SeatsDrive, first_laid, sectors_laid}
+use Rattle.raid_laws.specs.Raid.{IsTold, Raid, is_over, spent_of}
+use Rattle.raid_laws.specs.Runs.{IsBetween, KeepsMoments}
+use Rattle.raid_laws.proofs.Since.{joining_before, kept_since}
 use Rattle.pool_image.specs.Drives.{Found}
 use Rattle.pool_model.specs.Laid.{IsLaidOff, SaysBooks}
 use Rattle.pool_model.proofs.Found.{ok_of}

@@ -15,8 +15,8 @@ use Rattle.pool_state.specs.declared.contents.State.{State}
 use Rattle.pool_state.specs.Sector.{decoded}
 use Rattle.array_image.specs.Places.{log_slice, state_sector}
 use Rattle.array_image.specs.States.{is_current}
-use Rattle.raid_rack.specs.Raid.{Raid}
-use Rattle.raid_rack.proofs.Noted.{current_few}
+use Rattle.raid_laws.specs.Raid.{Raid}
+use Rattle.raid_laws.proofs.Noted.{current_few}
 use Rattle.pool_image.specs.Disks.{Disks, disks_of, identities_of}
 use Rattle.pool_image.specs.Drives.{Found}
 use Rattle.pool_model.specs.InService.{HoldSaid, InService, IsArranged, IsSaid}

@@ -3,7 +3,7 @@ use Rattle.std.proofs.Common.{◌≡◌, ℕ, ◌<◌, Option, sym, ap, subst, �
 use Rattle.rack.specs.Seen.{Image}
 use Rattle.slice_rack.specs.Slices.{Slices}
 use Rattle.pool_state.specs.declared.contents.State.{State}
-use Rattle.raid_rack.specs.Book.{IsAfter, after_then}
+use Rattle.raid_laws.specs.Book.{IsAfter, after_then}
 use Rattle.pool_image.specs.Disks.{Disks}
 use Rattle.pool_image.specs.Drives.{Found, found}
 use Rattle.pool_image.specs.Meaning.{array_sectors}

@@ -15,14 +15,14 @@ use Rattle.pool_state.specs.declared.contents.State.{State}
 use Rattle.pool_state.specs.Sector.{decoded}
 use Rattle.array_image.specs.Places.{log_sectors, log_slice, state_sector}
 use Rattle.array_image.specs.States.{is_current}
-use Rattle.commit_log.specs.Kept.{IsNoLater}
+use Rattle.log_laws.specs.Kept.{IsNoLater}
 use Rattle.pool_image.specs.Disks.{disks_of, identities_of}
 use Rattle.pool_image.specs.Drives.{Found, extent_of}
 use Rattle.pool_image.specs.Replay.{Extent}
-use Rattle.raid_rack.specs.Book.{IsAfter}
-use Rattle.raid_rack.specs.Enlisting.{enlisted}
-use Rattle.raid_rack.specs.Missing.{raised}
-use Rattle.raid_rack.specs.Raid.{Raid, IsTold, is_over}
+use Rattle.raid_laws.specs.Book.{IsAfter}
+use Rattle.raid_laws.specs.Enlisting.{enlisted}
+use Rattle.raid_laws.specs.Missing.{raised}
+use Rattle.raid_laws.specs.Raid.{Raid, IsTold, is_over}
 use Rattle.pool_model.specs.Left.{IsPickOff}
 use Rattle.pool_model.specs.Pools.{AreSlicesOf}
 use Rattle.pool_model.proofs.Found.{ok_of}

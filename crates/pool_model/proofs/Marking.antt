@@ -19,16 +19,16 @@ use Rattle.array_image.specs.Left.{IsInside as HasNothing}
 use Rattle.array_image.specs.States.{epoch_of, is_current}
 use Rattle.array_core.proofs.Leading.{none_leads}
 use Rattle.array_core.proofs.Stripped.{some_same}
-use Rattle.commit_log.specs.Saying.{HoldsCopies}
-use Rattle.raid_rack.specs.Book.{IsAfter, after_same}
-use Rattle.raid_rack.specs.Frames.{frame_of}
-use Rattle.raid_rack.specs.Marking.{SaysBetween}
-use Rattle.raid_rack.specs.Moves.{IsAmid, PartOf}
-use Rattle.raid_rack.specs.Raid.{Raid}
-use Rattle.raid_rack.specs.Runs.{IsBetween}
-use Rattle.raid_rack.specs.Since.{AreSince, HoldsSince}
-use Rattle.raid_rack.proofs.Moving.{part_says}
-use Rattle.raid_rack.proofs.Noted.{current_few}
+use Rattle.log_laws.specs.Saying.{HoldsCopies}
+use Rattle.raid_laws.specs.Book.{IsAfter, after_same}
+use Rattle.raid_laws.specs.Frames.{frame_of}
+use Rattle.raid_laws.specs.Marking.{SaysBetween}
+use Rattle.raid_laws.specs.Moves.{IsAmid, PartOf}
+use Rattle.raid_laws.specs.Raid.{Raid}
+use Rattle.raid_laws.specs.Runs.{IsBetween}
+use Rattle.raid_laws.specs.Since.{AreSince, HoldsSince}
+use Rattle.raid_laws.proofs.Moving.{part_says}
+use Rattle.raid_laws.proofs.Noted.{current_few}
 use Rattle.pool_image.specs.Disks.{Candidate, candidate, identities_of, seat_of, stands_for}
 use Rattle.pool_image.specs.Drives.{Found}
 use Rattle.pool_model.specs.InService.{IsOutset}

@@ -18,7 +18,7 @@ use Rattle.array_core.proofs.Opened.{current_is, named_place, super_passes, supe
 use Rattle.array_core.proofs.Rules.{placed}
 use Rattle.array_core.proofs.Truths.{Truth, rule_holds, truth_facts, unsynced_few}
 use Rattle.array_model.specs.View.{member_on, shape_of}
-use Rattle.commit_log.specs.View.{names}
+use Rattle.log_laws.specs.View.{names}
 use Rattle.pool_image.specs.Book.{array_now, book_of, is_rebuilding_at, rebuilding_in, rows_of, rows_to_rebuild, unsynced}
 use Rattle.pool_image.specs.Disks.{Disks, identities_of, newest}
 use Rattle.pool_image.specs.Drives.{Found, drive_sector, extent_of, slices_of}

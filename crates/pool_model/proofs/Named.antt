@@ -14,7 +14,7 @@ use Rattle.array_image.specs.States.{epoch_of, is_current, id_of}
 use Rattle.array_core.proofs.Leading.{Leads, foremost_leads}
 use Rattle.array_core.proofs.Stripped.{some_same}
 use Rattle.pool_image.specs.Disks.{Candidate, Disks, Identities, Identity, candidate, id_by, seat_of, stands_for}
-use Rattle.raid_rack.specs.Book.{IsSameBook, drive_of}
+use Rattle.raid_laws.specs.Book.{IsSameBook, drive_of}
 
 abbrev has_id : List ℕ → Drive → Bool
 has_id id drive = bytes_eq drive.id.0 id

@@ -10,7 +10,7 @@ use Rattle.md_super.specs.Profile.{is_mirror}
 use Rattle.array_image.specs.Supers.{is_named}
 use Rattle.pool_state.specs.declared.contents.State.{State}
 use Rattle.rack.specs.Seen.{Seen}
-use Rattle.raid_rack.specs.Moves.{IsSeated}
+use Rattle.raid_laws.specs.Moves.{IsSeated}
 use Rattle.pool_model.proofs.Roles.{named_position}
 use Rattle.array_core.specs.Seats.{seat_of, slot_at}
 use Rattle.array_core.specs.Slots.{place_by, places_by, slot_with}
@@ -20,8 +20,8 @@ use Rattle.array_model.specs.declared.Seat.{Seat}
 use Rattle.array_model.specs.View.{HasGeometry, View}
 use Rattle.pool_image.specs.Drives.{Found}
 use Rattle.pool_image.specs.Meaning.{is_member, truth_of}
-use Rattle.raid_rack.specs.NewDrive.{first_in, is_reached, joins, slice_length}
-use Rattle.raid_rack.specs.Raid.{Raid}
+use Rattle.raid_laws.specs.NewDrive.{first_in, is_reached, joins, slice_length}
+use Rattle.raid_laws.specs.Raid.{Raid}
 use Rattle.pool_model.specs.Taken.{views_of}
 use Rattle.pool_model.proofs.Beginnings.{view_at}
 

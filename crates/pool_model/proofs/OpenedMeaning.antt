@@ -26,7 +26,7 @@ use Rattle.pool_image.specs.Volumes.{Arrays, first_bad}
 use Rattle.pool_image.proofs.Groups.{AreWholeArrays}
 use Rattle.pool_image.proofs.Joined.{AreAlike}
 use Rattle.pool_image.proofs.Parts.{held_in}
-use Rattle.raid_rack.specs.Book.{IsAfter, drive_of}
+use Rattle.raid_laws.specs.Book.{IsAfter, drive_of}
 use Rattle.pool_model.specs.Openings.{HadOnePool, HoldOpened}
 use Rattle.pool_model.specs.Reopening.{HoldMeaning, HoldVolumeBy}
 use Rattle.pool_model.proofs.ArraysMeant.{arrays_volume}

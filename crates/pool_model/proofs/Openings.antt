@@ -10,11 +10,11 @@ use Rattle.pool_state.specs.declared.contents.State.{State}
 use Rattle.array_image.specs.Arrays.{Member, Shape, arrays_in, member_by, member_in, place_with, replayed, shape_by, shape_in}
 use Rattle.array_image.specs.Held.{Among}
 use Rattle.array_image.specs.States.{is_current, state_in}
-use Rattle.raid_rack.specs.Book.{IsAfter, after_then, plan_between}
-use Rattle.raid_rack.specs.Reach.{KeepsReach}
+use Rattle.raid_laws.specs.Book.{IsAfter, after_then, plan_between}
+use Rattle.raid_laws.specs.Reach.{KeepsReach}
 use Rattle.array_image.specs.Supers.{is_named, is_unclean}
-use Rattle.raid_rack.specs.Since.{AreSince}
-use Rattle.raid_rack.proofs.Noted.{current_few}
+use Rattle.raid_laws.specs.Since.{AreSince}
+use Rattle.raid_laws.proofs.Noted.{current_few}
 use Rattle.pool_image.specs.Alike.{IsSamePool}
 use Rattle.pool_image.specs.Disks.{Disks, Identity, identities_of}
 use Rattle.pool_image.specs.Drives.{Found, found, slices_of}

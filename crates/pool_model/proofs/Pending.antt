@@ -11,7 +11,7 @@ use Rattle.pool_state.specs.declared.contents.State.{State}
 use Rattle.array_image.specs.Places.{data_sector, member_slice}
 use Rattle.array_image.specs.States.{is_current}
 use Rattle.array_core.proofs.Stripped.{some_same}
-use Rattle.commit_log.specs.Kept.{IsNoLater}
+use Rattle.log_laws.specs.Kept.{IsNoLater}
 use Rattle.pool_image.specs.Drives.{Found}
 use Rattle.pool_image.specs.Meaning.{is_member}
 use Rattle.pool_image.specs.Replay.{Extent, extent_by, standing_by}

@@ -15,10 +15,10 @@ use Rattle.array_image.specs.Arrays.{Shape}
 use Rattle.array_image.specs.Left.{IsLeft}
 use Rattle.array_image.specs.States.{current_places, is_current}
 use Rattle.array_image.specs.Supers.{is_unclean, super_in}
-use Rattle.commit_log.specs.View.{names}
-use Rattle.commit_log.proofs.Naming.{names_range}
-use Rattle.raid_rack.proofs.Added.{names_current}
-use Rattle.raid_rack.specs.Raid.{Raid}
+use Rattle.log_laws.specs.View.{names}
+use Rattle.log_laws.proofs.Naming.{names_range}
+use Rattle.raid_laws.proofs.Added.{names_current}
+use Rattle.raid_laws.specs.Raid.{Raid}
 use Rattle.pool_image.specs.Disks.{Identity}
 use Rattle.pool_image.specs.Drives.{Found, found}
 use Rattle.pool_image.specs.Meaning.{Part, Refusal, absent, absent_count, arrays_of, bad_volume, damage_of, damage_on, damaged, dirty_degraded, first_damaged, has_log, has_other_pool, has_supers, has_table, in_log, in_state, in_superblock, in_table, is_dirty_degraded, is_member, is_too_few, joined_arrays, lacking_of, no_pool, refusal_of, refused_at, refused_by, shape_of, super_at, too_few, truth_of, two_pools}

@@ -26,9 +26,9 @@ use Rattle.pool_image.specs.Replay.{Standing}
 use Rattle.pool_image.specs.Volumes.{Arrays, first_bad}
 use Rattle.pool_image.proofs.Groups.{AreWholeArrays}
 use Rattle.pool_image.proofs.Joined.{AreAlike}
-use Rattle.raid_rack.specs.Agreeing.{HasOwnRows, SayTruth, SupersAgree}
-use Rattle.raid_rack.specs.Book.{IsAfter, after_same}
-use Rattle.raid_rack.specs.Raid.{IsTold, Raid, held_in as raid_held, is_over, spent_of}
+use Rattle.raid_laws.specs.Agreeing.{HasOwnRows, SayTruth, SupersAgree}
+use Rattle.raid_laws.specs.Book.{IsAfter, after_same}
+use Rattle.raid_laws.specs.Raid.{IsTold, Raid, held_in as raid_held, is_over, spent_of}
 use Rattle.pool_model.specs.Absent.{volume_arrays}
 use Rattle.pool_model.specs.Alone.{AreTabled, HoldTabled}
 use Rattle.pool_model.specs.Grouped.{AreHeadsLive, HoldGroup}

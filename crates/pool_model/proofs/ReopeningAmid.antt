@@ -25,7 +25,7 @@ use Rattle.array_image.specs.Record.{is_bad_gate}
 use Rattle.array_image.specs.States.{is_current}
 use Rattle.array_core.proofs.Stripped.{some_same}
 use Rattle.array_model.specs.View.{shape_of as shape_by_book}
-use Rattle.commit_log.proofs.Kept.{put_none}
+use Rattle.log_laws.proofs.Kept.{put_none}
 use Rattle.lvm_group.specs.Runs.{Linear}
 use Rattle.pool_image.specs.Alike.{drive_gate, is_bad_block}
 use Rattle.pool_image.specs.Disks.{Identities, identities_of, newest}
@@ -41,12 +41,12 @@ use Rattle.pool_rest.specs.SoundLogs.{IsSoundLog}
 use Rattle.pool_rest.proofs.Midway.{still_stands}
 use Rattle.pool_rest.proofs.MidwayDisks.{copied_or, seats_written, tables_now, written_gate}
 use Rattle.pool_rest.proofs.MidwayPool.{found_was, gates_early, was, whole_early}
-use Rattle.raid_rack.specs.Agreeing.{HasOwnRows, SayTruth}
-use Rattle.raid_rack.specs.Book.{IsAfter, after_then}
-use Rattle.raid_rack.specs.Raid.{HasMarkedSeats, IsTold, Raid, is_over}
-use Rattle.raid_rack.specs.Reach.{KeepsReach, ReachBetween}
-use Rattle.raid_rack.specs.Runs.{KeepsMoments}
-use Rattle.raid_rack.specs.Since.{AreSince, HasOwnSince}
+use Rattle.raid_laws.specs.Agreeing.{HasOwnRows, SayTruth}
+use Rattle.raid_laws.specs.Book.{IsAfter, after_then}
+use Rattle.raid_laws.specs.Raid.{HasMarkedSeats, IsTold, Raid, is_over}
+use Rattle.raid_laws.specs.Reach.{KeepsReach, ReachBetween}
+use Rattle.raid_laws.specs.Runs.{KeepsMoments}
+use Rattle.raid_laws.specs.Since.{AreSince, HasOwnSince}
 use Rattle.pool_model.specs.Alone.{AreTabled, HoldTabled, IsTabled}
 use Rattle.pool_model.specs.InService.{InService}
 use Rattle.pool_model.specs.Left.{HavePlaces, HaveSlices}

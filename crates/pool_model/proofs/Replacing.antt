@@ -15,13 +15,13 @@ use Rattle.array_image.specs.Arrays.{replayed}
 use Rattle.array_image.specs.States.{is_current, id_of}
 use Rattle.array_core.proofs.Stripped.{some_same}
 use Rattle.array_model.specs.View.{View}
-use Rattle.commit_log.specs.Kept.{LogKept}
-use Rattle.raid_rack.specs.Enlisting.{Enlists, IsWrittenBy, KeepsTold, SaysLatter, SaysReplacing, enlisted, new_table, next_drive}
-use Rattle.raid_rack.specs.Frames.{frame_of}
-use Rattle.raid_rack.specs.Losses.{has_other}
-use Rattle.raid_rack.specs.Missing.{raised}
-use Rattle.raid_rack.specs.Raid.{IsTold, Raid, held_in, is_over, spent_of}
-use Rattle.raid_rack.proofs.Over.{number_room}
+use Rattle.log_laws.specs.Kept.{LogKept}
+use Rattle.raid_laws.specs.Enlisting.{Enlists, IsWrittenBy, KeepsTold, SaysLatter, SaysReplacing, enlisted, new_table, next_drive}
+use Rattle.raid_laws.specs.Frames.{frame_of}
+use Rattle.raid_laws.specs.Losses.{has_other}
+use Rattle.raid_laws.specs.Missing.{raised}
+use Rattle.raid_laws.specs.Raid.{IsTold, Raid, held_in, is_over, spent_of}
+use Rattle.raid_laws.proofs.Over.{number_room}
 use Rattle.pool_image.specs.Disks.{disks_of, identities_of}
 use Rattle.pool_image.specs.Drives.{Found}
 use Rattle.pool_model.specs.Laid.{HaveOtherIds, IsFormerYet, IsJoinedOff, SaysFormerly}

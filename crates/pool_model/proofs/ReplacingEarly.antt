@@ -16,13 +16,13 @@ use Rattle.array_image.specs.Arrays.{replayed}
 use Rattle.array_image.specs.Places.{log_slice, place_of}
 use Rattle.array_image.specs.States.{is_current, state_in}
 use Rattle.array_core.proofs.Stripped.{some_same}
-use Rattle.raid_rack.specs.Enlisting.{HasNoCopy, IsNotWhole, IsOpenDisk, IsRefused, IsWrittenBy, KeepsTold, SaysFormer, SaysReplacing, enlisted}
-use Rattle.raid_rack.specs.Missing.{raised}
-use Rattle.raid_rack.specs.NewDrive.{IsOfDrive}
-use Rattle.raid_rack.specs.Raid.{IsTold, Raid, held_in, is_over, spent_of}
-use Rattle.raid_rack.specs.Runs.{KeepsMoments}
-use Rattle.raid_rack.proofs.Apart.{seat_is}
-use Rattle.raid_rack.proofs.Over.{number_room, someone_left}
+use Rattle.raid_laws.specs.Enlisting.{HasNoCopy, IsNotWhole, IsOpenDisk, IsRefused, IsWrittenBy, KeepsTold, SaysFormer, SaysReplacing, enlisted}
+use Rattle.raid_laws.specs.Missing.{raised}
+use Rattle.raid_laws.specs.NewDrive.{IsOfDrive}
+use Rattle.raid_laws.specs.Raid.{IsTold, Raid, held_in, is_over, spent_of}
+use Rattle.raid_laws.specs.Runs.{KeepsMoments}
+use Rattle.raid_laws.proofs.Apart.{seat_is}
+use Rattle.raid_laws.proofs.Over.{number_room, someone_left}
 use Rattle.pool_image.specs.Drives.{Found}
 use Rattle.pool_model.specs.InService.{InService}
 use Rattle.pool_model.specs.Laid.{IsLaidOff}

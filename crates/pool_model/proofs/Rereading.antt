@@ -10,9 +10,9 @@ use Rattle.array_image.specs.Places.{arrays_first, state_sector}
 use Rattle.array_image.specs.States.{is_current}
 use Rattle.array_image.specs.Supers.{is_named, is_unclean}
 use Rattle.array_core.proofs.Stripped.{some_same}
-use Rattle.commit_log.specs.Kept.{IsNoLater}
-use Rattle.raid_rack.specs.Book.{IsAfter, after_same}
-use Rattle.raid_rack.specs.Reach.{KeepsReach, reach_same}
+use Rattle.log_laws.specs.Kept.{IsNoLater}
+use Rattle.raid_laws.specs.Book.{IsAfter, after_same}
+use Rattle.raid_laws.specs.Reach.{KeepsReach, reach_same}
 use Rattle.pool_image.specs.Alike.{Agree, IsSamePool}
 use Rattle.pool_image.specs.Disks.{Disks, Identities, Identity, identities_of, newest}
 use Rattle.pool_image.specs.Drives.{Found, found}

@@ -11,14 +11,14 @@ use Rattle.array_image.specs.Foremost.{foremost}
 use Rattle.array_image.specs.Places.{arrays_first, log_sectors, log_slice, place_of, slice_of, state_sector}
 use Rattle.array_image.specs.Record.{GateAt, damaged_log, gate_sector, pending, pending_at, record_in, record_of}
 use Rattle.array_image.specs.States.{current_places, is_current}
-use Rattle.commit_log.specs.Standing.{deciding}
-use Rattle.commit_log.specs.View.{names}
-use Rattle.commit_log.proofs.Places.{joins_none}
+use Rattle.log_laws.specs.Standing.{deciding}
+use Rattle.log_laws.specs.View.{names}
+use Rattle.log_laws.proofs.Places.{joins_none}
 use Rattle.commit_log.proofs.Replayable.{pending_named}
 use Rattle.commit_log.proofs.Restored.{pending_by}
 use Rattle.commit_log.proofs.Undamaged.{whole_by}
-use Rattle.raid_rack.specs.Raid.{Raid}
-use Rattle.raid_rack.proofs.Added.{names_current}
+use Rattle.raid_laws.specs.Raid.{Raid}
+use Rattle.raid_laws.proofs.Added.{names_current}
 use Rattle.pool_image.specs.Disks.{Identities, Seats, seat_of}
 use Rattle.pool_image.specs.Drives.{Found, found, found_by}
 use Rattle.pool_image.specs.Replay.{Extent, Standing, brought_state, log_extent, logs_of, standing, standing_by, written}

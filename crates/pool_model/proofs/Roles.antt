@@ -13,8 +13,8 @@ use Rattle.array_image.specs.Arrays.{place_with}
 use Rattle.array_image.specs.Supers.{has_role, has_roles, is_named, named_places}
 use Rattle.array_core.proofs.Opened.{named_place}
 use Rattle.array_core.proofs.Rules.{placed}
-use Rattle.commit_log.specs.View.{names}
-use Rattle.commit_log.proofs.Naming.{names_range}
+use Rattle.log_laws.specs.View.{names}
+use Rattle.log_laws.proofs.Naming.{names_range}
 
 -- ---- counts
 

@@ -6,8 +6,8 @@ use Rattle.slice_rack.specs.Sliced.{sliced}
 use Rattle.pool_state.specs.declared.contents.Copied.{Copied}
 use Rattle.pool_state.specs.declared.contents.State.{State}
 use Rattle.array_image.specs.States.{is_current, id_of}
-use Rattle.commit_log.specs.Kept.{IsNoLater}
-use Rattle.raid_rack.specs.Book.{IsAfter}
+use Rattle.log_laws.specs.Kept.{IsNoLater}
+use Rattle.raid_laws.specs.Book.{IsAfter}
 use Rattle.pool_image.specs.Disks.{Identity, identities_of, newest, seat_of, stands_for}
 use Rattle.pool_image.specs.Drives.{Found}
 use Rattle.pool_image.specs.Replay.{Standing}

@@ -10,7 +10,7 @@ use Rattle.array_image.specs.Foremost.{foremost}
 use Rattle.array_image.specs.States.{epoch_of, is_current}
 use Rattle.array_core.proofs.Leading.{Leads, leads_foremost}
 use Rattle.array_core.proofs.Stripped.{some_same}
-use Rattle.raid_rack.proofs.Noted.{current_few}
+use Rattle.raid_laws.proofs.Noted.{current_few}
 use Rattle.pool_image.specs.Disks.{Candidate, Disks, Identities, Identity, candidate, identities_of, seat_of, stands_for}
 use Rattle.pool_image.specs.Drives.{Found}
 use Rattle.pool_model.specs.InService.{HasSeat, epoch_at}

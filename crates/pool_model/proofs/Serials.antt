@@ -10,8 +10,8 @@ use Rattle.array_image.specs.Places.{drive_id}
 use Rattle.array_core.proofs.Stripped.{some_same}
 use Rattle.pool_image.specs.Drives.{Found}
 use Rattle.pool_image.specs.Sound.{IsSoundList}
-use Rattle.raid_rack.specs.Book.{IsAfter}
-use Rattle.raid_rack.specs.Enlisting.{enlisted, next_drive}
+use Rattle.raid_laws.specs.Book.{IsAfter}
+use Rattle.raid_laws.specs.Enlisting.{enlisted, next_drive}
 use Rattle.pool_model.specs.Taken.{AreDistinct, AreSerial}
 use Rattle.pool_model.proofs.Joined.{id_here, id_other}
 use Rattle.pool_model.proofs.Named.{id_same}

@@ -8,11 +8,11 @@ use Rattle.slice_rack.specs.Sliced.{IsInside, slices_of}
 use Rattle.array_image.specs.Left.{IsLeft}
 use Rattle.array_model.specs.View.{sectors_of}
 use Rattle.lvm_group.specs.Runs.{Linear}
-use Rattle.commit_log.proofs.Counting.{is_listed}
+use Rattle.log_laws.proofs.Counting.{is_listed}
 use Rattle.pool_image.specs.Disks.{Identities}
 use Rattle.pool_image.specs.Drives.{Found}
-use Rattle.raid_rack.specs.Agreeing.{AgreeLeaving}
-use Rattle.raid_rack.specs.Raid.{Raid, IsTold, is_over, spent_of}
+use Rattle.raid_laws.specs.Agreeing.{AgreeLeaving}
+use Rattle.raid_laws.specs.Raid.{Raid, IsTold, is_over, spent_of}
 use Rattle.pool_model.specs.Absent.{EndsWhole, HoldAbsent, IsWholeRaid}
 use Rattle.pool_model.specs.Alone.{HoldAlone, LeaveOut}
 use Rattle.pool_model.specs.Grouped.{HoldGroup}

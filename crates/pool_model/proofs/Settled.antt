@@ -19,9 +19,9 @@ use Rattle.array_image.specs.States.{current_places, is_current}
 use Rattle.array_image.specs.Supers.{is_unclean, super_in}
 use Rattle.array_image.proofs.Frames.{super_of_sector}
 use Rattle.array_core.proofs.Stripped.{some_same}
-use Rattle.raid_rack.specs.Book.{after_same}
-use Rattle.raid_rack.specs.Reach.{KeepsReach, reach_same}
-use Rattle.commit_log.proofs.Places.{joins_none}
+use Rattle.raid_laws.specs.Book.{after_same}
+use Rattle.raid_laws.specs.Reach.{KeepsReach, reach_same}
+use Rattle.log_laws.proofs.Places.{joins_none}
 use Rattle.pool_image.specs.Alike.{drive_gate, is_bad_block}
 use Rattle.pool_image.specs.Disks.{Disks, Identity, identities_of, newest, seat_of}
 use Rattle.pool_image.specs.Drives.{Found, drive_sector, extent_of, found, found_by, slices_from, slices_of, truth_from}

@@ -10,10 +10,10 @@ use Rattle.array_image.specs.SoundArray.{IsSoundArray}
 use Rattle.array_image.specs.States.{is_current}
 use Rattle.array_image.specs.Supers.{truth_in}
 use Rattle.array_core.proofs.Stripped.{some_same}
-use Rattle.raid_rack.specs.Book.{IsAfter, after_then}
-use Rattle.raid_rack.specs.Frames.{Frame, frame_of}
-use Rattle.raid_rack.specs.Raid.{Raid}
-use Rattle.raid_rack.proofs.Frames.{geometry_frame}
+use Rattle.raid_laws.specs.Book.{IsAfter, after_then}
+use Rattle.raid_laws.specs.Frames.{Frame, frame_of}
+use Rattle.raid_laws.specs.Raid.{Raid}
+use Rattle.raid_laws.proofs.Frames.{geometry_frame}
 use Rattle.pool_image.specs.Disks.{Identities}
 use Rattle.pool_image.specs.Drives.{Found, slices_of as found_slices}
 use Rattle.pool_image.specs.Meaning.{truth_of}

@@ -22,9 +22,9 @@ use Rattle.pool_image.specs.Replay.{Extent, Standing}
 use Rattle.pool_image.proofs.Identities.{seat_inside}
 use Rattle.pool_image.proofs.Truths.{extent_found}
 use Rattle.pool_check.proofs.Valid.{valid_fit}
-use Rattle.raid_rack.specs.Frames.{Frame}
-use Rattle.raid_rack.specs.Raid.{Raid}
-use Rattle.raid_rack.proofs.Frames.{geometry_frame}
+use Rattle.raid_laws.specs.Frames.{Frame}
+use Rattle.raid_laws.specs.Raid.{Raid}
+use Rattle.raid_laws.proofs.Frames.{geometry_frame}
 use Rattle.pool_model.specs.Left.{HaveSlices}
 use Rattle.pool_model.specs.Pools.{IsSoundPool}
 use Rattle.pool_model.proofs.Absent.{capacity_least}

@@ -9,10 +9,10 @@ use Rattle.pool_state.specs.declared.contents.State.{State}
 use Rattle.array_image.specs.Record.{Gate, GateAt, decisive, gate_in, gates_in, is_open_if_of, pending_at}
 use Rattle.array_image.specs.States.{current_places}
 use Rattle.array_core.proofs.Stripped.{some_same}
-use Rattle.commit_log.specs.View.{names}
+use Rattle.log_laws.specs.View.{names}
 use Rattle.commit_log.proofs.Deciding.{all_at, gate_at}
 use Rattle.commit_log.proofs.Replayable.{pending_named}
-use Rattle.raid_rack.proofs.Added.{names_current}
+use Rattle.raid_laws.proofs.Added.{names_current}
 use Rattle.pool_image.specs.Disks.{Disks, identities_of, newest, seat_of}
 use Rattle.pool_image.specs.Drives.{Found, found, found_by}
 use Rattle.pool_image.specs.Replay.{Standing, standing, standing_by, written}

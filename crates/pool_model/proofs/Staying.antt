@@ -15,14 +15,14 @@ use Rattle.pool_state.specs.declared.contents.State.{State}
 use Rattle.array_image.specs.Places.{super_sector}
 use Rattle.array_image.specs.States.{epoch_of, is_current}
 use Rattle.array_model.specs.View.{View}
-use Rattle.commit_log.specs.Kept.{IsNoLater}
+use Rattle.log_laws.specs.Kept.{IsNoLater}
 use Rattle.pool_image.specs.Disks.{Disks, Identities, Identity, disks_of, identities_of, stands_for}
 use Rattle.pool_image.specs.Drives.{Found, first_of}
 use Rattle.pool_image.specs.Meaning.{is_member}
-use Rattle.raid_rack.specs.Enlisting.{next_drive}
-use Rattle.raid_rack.specs.NewDrive.{SeatsDrive}
-use Rattle.raid_rack.specs.Raid.{Raid}
-use Rattle.raid_rack.proofs.Noted.{current_few}
+use Rattle.raid_laws.specs.Enlisting.{next_drive}
+use Rattle.raid_laws.specs.NewDrive.{SeatsDrive}
+use Rattle.raid_laws.specs.Raid.{Raid}
+use Rattle.raid_laws.proofs.Noted.{current_few}
 use Rattle.pool_model.specs.InService.{HasSeat, HoldSaid, IsArranged, IsOutset, IsSaid, epoch_at}
 use Rattle.pool_model.specs.Left.{AreAloneBy, HasNoSuper, IsPickOff}
 use Rattle.pool_model.specs.Taken.{KeepsRest, SeatsNew, views_of}

@@ -19,11 +19,11 @@ use Rattle.array_image.specs.Places.{arrays_first, log_sectors, log_slice, place
 use Rattle.array_image.specs.Record.{gate_sector, pending}
 use Rattle.array_image.specs.States.{copy_in, epoch_of, is_current, state_in}
 use Rattle.array_core.proofs.Stripped.{some_same}
-use Rattle.commit_log.specs.Kept.{IsNoLater}
-use Rattle.commit_log.specs.Standing.{deciding}
-use Rattle.raid_rack.specs.Book.{IsAfter, after_then}
-use Rattle.raid_rack.specs.Since.{AreSince, HasOwnSince}
-use Rattle.raid_rack.proofs.Noted.{current_few}
+use Rattle.log_laws.specs.Kept.{IsNoLater}
+use Rattle.log_laws.specs.Standing.{deciding}
+use Rattle.raid_laws.specs.Book.{IsAfter, after_then}
+use Rattle.raid_laws.specs.Since.{AreSince, HasOwnSince}
+use Rattle.raid_laws.proofs.Noted.{current_few}
 use Rattle.pool_scan.proofs.Seated.{foremost_from}
 use Rattle.pool_image.specs.Disks.{Identities, Identity, identities_of, newest, seat_of, stands_for}
 use Rattle.pool_image.specs.Drives.{Found, extent_of}

@@ -22,10 +22,10 @@ use Rattle.pool_image.specs.Disks.{Disks}
 use Rattle.pool_image.specs.Drives.{Found, drive_sector, first_of, slices_from, truth_from}
 use Rattle.pool_image.specs.Meaning.{array_sectors, is_member, truth_of}
 use Rattle.pool_image.proofs.Truths.{truth_found}
-use Rattle.raid_rack.specs.Book.{IsAfter}
-use Rattle.raid_rack.specs.Enlisting.{enlisted}
-use Rattle.raid_rack.specs.NewDrive.{first_in, joins, slice_length}
-use Rattle.raid_rack.specs.Raid.{Raid}
+use Rattle.raid_laws.specs.Book.{IsAfter}
+use Rattle.raid_laws.specs.Enlisting.{enlisted}
+use Rattle.raid_laws.specs.NewDrive.{first_in, joins, slice_length}
+use Rattle.raid_laws.specs.Raid.{Raid}
 use Rattle.pool_model.specs.InService.{IsArranged}
 use Rattle.pool_model.specs.Taken.{SeatsNew, taken, views_of}
 use Rattle.pool_model.proofs.Alike.{HasTruths, sectors_same, truth_same}

@@ -13,9 +13,9 @@ use Rattle.array_model.specs.View.{HasGeometry, View}
 use Rattle.pool_image.specs.Disks.{Disks}
 use Rattle.pool_image.specs.Drives.{Found, extent_of}
 use Rattle.pool_image.specs.Meaning.{is_member, truth_of}
-use Rattle.raid_rack.specs.Enlisting.{next_drive}
-use Rattle.raid_rack.specs.NewDrive.{first_in, first_laid, joins, length_in, sectors_laid, slice_length}
-use Rattle.raid_rack.specs.Raid.{Raid}
+use Rattle.raid_laws.specs.Enlisting.{next_drive}
+use Rattle.raid_laws.specs.NewDrive.{first_in, first_laid, joins, length_in, sectors_laid, slice_length}
+use Rattle.raid_laws.specs.Raid.{Raid}
 use Rattle.pool_model.specs.Pools.{AreSlicesOf, extent_in}
 use Rattle.pool_model.specs.Taken.{JoinsBook, SeatsNew, views_of}
 use Rattle.pool_model.proofs.Alike.{HasTruths, extent_is, extent_same, lies, member_same, truth_same}

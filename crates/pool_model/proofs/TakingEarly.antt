@@ -16,16 +16,16 @@ use Rattle.pool_state.specs.declared.contents.State.{State}
 use Rattle.pool_state.specs.Sector.{decoded}
 use Rattle.array_image.specs.Places.{log_sectors, log_slice, place_of, slice_of, state_sector}
 use Rattle.array_image.specs.States.{is_current}
-use Rattle.commit_log.specs.Saying.{SaysState}
-use Rattle.raid_rack.specs.Enlisting.{Enlists, IsNotWhole, IsOpenDisk, IsRefused, IsWrittenBy, KeepsTold, SaysJoining, enlisted, new_table}
-use Rattle.raid_rack.specs.Missing.{raised}
-use Rattle.raid_rack.specs.Logs.{LogsBetween}
-use Rattle.raid_rack.specs.Losses.{has_other}
-use Rattle.raid_rack.specs.NewDrive.{IsOfDrive, SeatsDrive, sectors_laid}
-use Rattle.raid_rack.specs.Raid.{IsTold, Raid, held_in, is_over}
-use Rattle.raid_rack.specs.Runs.{KeepsMoments}
-use Rattle.raid_rack.proofs.Over.{number_room, someone_left}
-use Rattle.raid_rack.proofs.Since.{joining_none}
+use Rattle.log_laws.specs.Saying.{SaysState}
+use Rattle.raid_laws.specs.Enlisting.{Enlists, IsNotWhole, IsOpenDisk, IsRefused, IsWrittenBy, KeepsTold, SaysJoining, enlisted, new_table}
+use Rattle.raid_laws.specs.Missing.{raised}
+use Rattle.raid_laws.specs.Logs.{LogsBetween}
+use Rattle.raid_laws.specs.Losses.{has_other}
+use Rattle.raid_laws.specs.NewDrive.{IsOfDrive, SeatsDrive, sectors_laid}
+use Rattle.raid_laws.specs.Raid.{IsTold, Raid, held_in, is_over}
+use Rattle.raid_laws.specs.Runs.{KeepsMoments}
+use Rattle.raid_laws.proofs.Over.{number_room, someone_left}
+use Rattle.raid_laws.proofs.Since.{joining_none}
 use Rattle.pool_image.specs.Drives.{Found}
 use Rattle.pool_model.specs.InService.{InService}
 use Rattle.pool_model.specs.Laid.{IsLaidOff}

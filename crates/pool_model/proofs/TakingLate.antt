@@ -21,19 +21,19 @@ use Rattle.array_image.specs.Places.{log_slice, super_sector}
 use Rattle.array_image.specs.States.{is_current, state_in}
 use Rattle.array_core.proofs.Stripped.{some_same}
 use Rattle.array_model.specs.View.{View}
-use Rattle.commit_log.proofs.Kept.{live_on}
-use Rattle.raid_rack.specs.Book.{IsAfter, after_then}
-use Rattle.raid_rack.specs.Enlisting.{HoldsTable, IsOpenDisk, IsWrittenBy, KeepsTold, SaysBy, enlisted, new_table}
-use Rattle.raid_rack.specs.Frames.{HasFrame, frame_of}
-use Rattle.raid_rack.specs.Logs.{LogsBetween}
-use Rattle.raid_rack.specs.Losses.{has_other}
-use Rattle.raid_rack.specs.Marking.{SaysBetween}
-use Rattle.raid_rack.specs.Missing.{raised}
-use Rattle.raid_rack.specs.Raid.{IsTold, Raid, held_in, is_over, spent_of}
-use Rattle.raid_rack.specs.Runs.{IsBetween}
-use Rattle.raid_rack.specs.Since.{AreJoinSince, AreTakenSince}
-use Rattle.raid_rack.proofs.Others.{some_other}
-use Rattle.raid_rack.proofs.Over.{number_room}
+use Rattle.log_laws.proofs.Kept.{live_on}
+use Rattle.raid_laws.specs.Book.{IsAfter, after_then}
+use Rattle.raid_laws.specs.Enlisting.{HoldsTable, IsOpenDisk, IsWrittenBy, KeepsTold, SaysBy, enlisted, new_table}
+use Rattle.raid_laws.specs.Frames.{HasFrame, frame_of}
+use Rattle.raid_laws.specs.Logs.{LogsBetween}
+use Rattle.raid_laws.specs.Losses.{has_other}
+use Rattle.raid_laws.specs.Marking.{SaysBetween}
+use Rattle.raid_laws.specs.Missing.{raised}
+use Rattle.raid_laws.specs.Raid.{IsTold, Raid, held_in, is_over, spent_of}
+use Rattle.raid_laws.specs.Runs.{IsBetween}
+use Rattle.raid_laws.specs.Since.{AreJoinSince, AreTakenSince}
+use Rattle.raid_laws.proofs.Others.{some_other}
+use Rattle.raid_laws.proofs.Over.{number_room}
 use Rattle.pool_image.specs.Disks.{disks_of, identities_of}
 use Rattle.pool_image.specs.Drives.{Found, first_of as first_in_pool}
 use Rattle.pool_image.specs.Meaning.{is_member}

@@ -12,9 +12,9 @@ use Rattle.pool_state.specs.declared.contents.State.{State}
 use Rattle.array_image.specs.Places.{log_slice}
 use Rattle.array_image.specs.Record.{gate_of, gate_sector, is_bad_gate, is_bad_log, is_there}
 use Rattle.array_image.specs.States.{current_places, id_of, is_current}
-use Rattle.commit_log.specs.View.{names}
-use Rattle.raid_rack.proofs.Added.{names_current}
-use Rattle.raid_rack.specs.Raid.{Raid}
+use Rattle.log_laws.specs.View.{names}
+use Rattle.raid_laws.proofs.Added.{names_current}
+use Rattle.raid_laws.specs.Raid.{Raid}
 use Rattle.pool_image.specs.Alike.{drive_gate}
 use Rattle.pool_image.specs.Drives.{Found, extent_of, slices_of}
 use Rattle.pool_image.specs.Meaning.{absent_count, has_log, has_slice, has_slice_of, has_table, is_member, is_table, kind_of}

@@ -11,11 +11,11 @@ use Rattle.pool_state.specs.declared.contents.Copied.{Copied}
 use Rattle.pool_state.specs.declared.contents.State.{State}
 use Rattle.array_image.specs.States.{current_places, is_current}
 use Rattle.array_core.proofs.Stripped.{some_same}
-use Rattle.commit_log.specs.Kept.{IsNoLater}
-use Rattle.commit_log.specs.View.{names}
+use Rattle.log_laws.specs.Kept.{IsNoLater}
+use Rattle.log_laws.specs.View.{names}
 use Rattle.commit_log.proofs.LeftPlaces.{any_found}
-use Rattle.commit_log.proofs.Naming.{range_below}
-use Rattle.raid_rack.proofs.Added.{names_current}
+use Rattle.log_laws.proofs.Naming.{range_below}
+use Rattle.raid_laws.proofs.Added.{names_current}
 use Rattle.pool_image.specs.Disks.{Disks, all_disks, identities_of, newest}
 use Rattle.pool_image.specs.Drives.{Found, found}
 use Rattle.pool_image.specs.Replay.{Standing, standing, standing_by}

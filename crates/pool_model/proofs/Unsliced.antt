@@ -16,8 +16,8 @@ use Rattle.array_image.specs.Places.{arrays_first, slice_of, state_sector, super
 use Rattle.array_core.proofs.Stripped.{some_same}
 use Rattle.pool_image.specs.Drives.{Found, first_of}
 use Rattle.pool_image.specs.Meaning.{is_member}
-use Rattle.raid_rack.specs.NewDrive.{IsOfDrive, first_in, first_laid, joins, length_in, no_state, sectors_laid, slice_length}
-use Rattle.raid_rack.specs.Raid.{Raid}
+use Rattle.raid_laws.specs.NewDrive.{IsOfDrive, first_in, first_laid, joins, length_in, no_state, sectors_laid, slice_length}
+use Rattle.raid_laws.specs.Raid.{Raid}
 use Rattle.array_model.specs.View.{View}
 use Rattle.pool_model.specs.Left.{HasNoSuper}
 use Rattle.pool_model.specs.Pools.{AreSlicesOf}

@@ -17,10 +17,10 @@ use Rattle.array_image.specs.States.{is_current}
 use Rattle.array_model.specs.View.{View}
 use Rattle.pool_image.specs.Disks.{disks_of, identities_of}
 use Rattle.pool_image.specs.Drives.{Found, extent_of}
-use Rattle.raid_rack.specs.Book.{IsAfter}
-use Rattle.raid_rack.specs.NewDrive.{SeatsDrive}
-use Rattle.raid_rack.specs.Raid.{Raid}
-use Rattle.raid_rack.proofs.Noted.{current_few}
+use Rattle.raid_laws.specs.Book.{IsAfter}
+use Rattle.raid_laws.specs.NewDrive.{SeatsDrive}
+use Rattle.raid_laws.specs.Raid.{Raid}
+use Rattle.raid_laws.proofs.Noted.{current_few}
 use Rattle.pool_model.specs.InService.{IsOutset}
 use Rattle.pool_model.specs.Left.{IsLeftBy, IsPickOff}
 use Rattle.pool_model.specs.Pools.{AreSlicesOf, extent_in}

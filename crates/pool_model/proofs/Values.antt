@@ -8,7 +8,7 @@ use Rattle.slice_rack.specs.Slices.{Slices}
 use Rattle.pool_state.specs.declared.contents.State.{State}
 use Rattle.array_image.specs.Arrays.{Shape, sectors_by, value_by}
 use Rattle.array_model.specs.View.{sectors_of as sectors_in, shape_of}
-use Rattle.raid_rack.specs.Raid.{Raid, held_in, live_of}
+use Rattle.raid_laws.specs.Raid.{Raid, held_in, live_of}
 use Rattle.pool_image.specs.Drives.{Found, slices_of}
 use Rattle.pool_image.specs.Meaning.{array_sectors, arrays_held, joined_arrays, shape_of as shape_found}
 use Rattle.pool_image.specs.Volumes.{Arrays, first_bad}

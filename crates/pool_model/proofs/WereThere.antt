@@ -17,8 +17,8 @@ use Rattle.array_model.proofs.Views.{shape_members}
 use Rattle.pool_check.proofs.Valid.{valid_fit}
 use Rattle.pool_image.specs.Drives.{Found, slices_of}
 use Rattle.pool_image.specs.Meaning.{has_supers, is_member, shape_of, super_at, truth_of}
-use Rattle.raid_rack.specs.Raid.{HasMarkedSeats, Raid}
-use Rattle.raid_rack.specs.Reach.{KeepsReach}
+use Rattle.raid_laws.specs.Raid.{HasMarkedSeats, Raid}
+use Rattle.raid_laws.specs.Reach.{KeepsReach}
 use Rattle.pool_model.proofs.Found.{IsFound, valid}
 use Rattle.pool_model.proofs.Framed.{truth_placed}
 use Rattle.pool_model.proofs.Members.{among_range}

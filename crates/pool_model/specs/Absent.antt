@@ -13,8 +13,8 @@ use Rattle.array_image.specs.Record.{Gate, gate_in}
 use Rattle.array_image.specs.States.{is_current}
 use Rattle.array_model.specs.declared.Seat.TheVariants.{Whole}
 use Rattle.array_model.specs.View.{rows_of, sectors_of as sectors_in}
-use Rattle.raid_rack.specs.Agreeing.{AgreeLeaving}
-use Rattle.raid_rack.specs.Raid.{Raid}
+use Rattle.raid_laws.specs.Agreeing.{AgreeLeaving}
+use Rattle.raid_laws.specs.Raid.{Raid}
 use Rattle.pool_image.specs.Book.{IsWhole, book_of}
 use Rattle.pool_image.specs.Disks.{Disks, Identity, stands_for}
 use Rattle.pool_image.specs.Drives.{Found, found}

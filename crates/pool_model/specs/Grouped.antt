@@ -9,7 +9,7 @@ use Rattle.lvm_text.specs.declared.group.Group.{Group}
 use Rattle.pool_image.specs.Drives.{Found}
 use Rattle.pool_image.specs.Meaning.{arrays_held, group_of, joined_arrays}
 use Rattle.pool_image.specs.Volumes.{first_bad, linear_of}
-use Rattle.raid_rack.specs.Raid.{Raid, held_in, spent_of}
+use Rattle.raid_laws.specs.Raid.{Raid, held_in, spent_of}
 
 -- The volume of the meaning: that of the pool's group, which has no bad array.
 pub record IsVolumeOf (f : Found) (l : Linear) : Type 0 where

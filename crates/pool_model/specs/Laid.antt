@@ -13,16 +13,16 @@ use Rattle.array_image.specs.Places.{log_slice, state_sector, super_sector}
 use Rattle.array_image.specs.Record.{GateAt, gate_sector, pending_at}
 use Rattle.array_image.specs.States.{current_places, is_current, state_in, id_of}
 use Rattle.array_model.specs.View.{HasGeometry}
-use Rattle.commit_log.specs.Kept.{IsNoLater}
-use Rattle.commit_log.specs.Saying.{PlaceJoins}
-use Rattle.raid_rack.specs.Book.{IsAfter}
-use Rattle.raid_rack.specs.Enlisting.{next_drive}
-use Rattle.raid_rack.specs.Frames.{HasFrame, frame_of}
-use Rattle.raid_rack.specs.Logs.{LogsBetween}
-use Rattle.raid_rack.specs.Missing.{raised}
-use Rattle.raid_rack.specs.Raid.{Raid}
-use Rattle.raid_rack.specs.Runs.{IsBetween}
-use Rattle.raid_rack.specs.Since.{AreSince, AreTakenSince}
+use Rattle.log_laws.specs.Kept.{IsNoLater}
+use Rattle.log_laws.specs.Saying.{PlaceJoins}
+use Rattle.raid_laws.specs.Book.{IsAfter}
+use Rattle.raid_laws.specs.Enlisting.{next_drive}
+use Rattle.raid_laws.specs.Frames.{HasFrame, frame_of}
+use Rattle.raid_laws.specs.Logs.{LogsBetween}
+use Rattle.raid_laws.specs.Missing.{raised}
+use Rattle.raid_laws.specs.Raid.{Raid}
+use Rattle.raid_laws.specs.Runs.{IsBetween}
+use Rattle.raid_laws.specs.Since.{AreSince, AreTakenSince}
 use Rattle.pool_image.specs.Disks.{Disks, Identities, disks_of, id_by, identities_of, seat_of as seat_in_disks, stands_for}
 use Rattle.pool_image.specs.Drives.{Found, first_of as first_in_pool}
 use Rattle.pool_image.specs.Meaning.{is_member, truth_of}

@@ -22,8 +22,8 @@ use Rattle.pool_image.specs.Replay.{Standing, standing}
 use Rattle.pool_image.specs.Sound.{AreSame}
 use Rattle.pool_image.specs.Volumes.{first_bad}
 use Rattle.pool_rest.specs.SoundLogs.{HasSoundLogs}
-use Rattle.raid_rack.specs.Book.{IsAfter}
-use Rattle.raid_rack.specs.Raid.{Raid, IsTold, is_over}
+use Rattle.raid_laws.specs.Book.{IsAfter}
+use Rattle.raid_laws.specs.Raid.{Raid, IsTold, is_over}
 use Rattle.pool_model.specs.Pools.{AreSlicesOf, IsSoundPool, extent_in}
 
 -- A pool that is served: the disks had the pool f, and over the slices of its drives its arrays stand by the book v, as the slices y

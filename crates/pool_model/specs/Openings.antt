@@ -13,8 +13,8 @@ use Rattle.pool_image.specs.Meaning.{array_sectors, arrays_held, damage_of, has_
 use Rattle.pool_image.specs.Replay.{Standing, standing}
 use Rattle.pool_rest.specs.Moments.{TakesLowerIn}
 use Rattle.pool_rest.specs.SoundLogs.{HasSoundLogs}
-use Rattle.raid_rack.specs.Book.{IsAfter}
-use Rattle.raid_rack.specs.Reach.{KeepsReach}
+use Rattle.raid_laws.specs.Book.{IsAfter}
+use Rattle.raid_laws.specs.Reach.{KeepsReach}
 use Rattle.pool_model.specs.Left.{AreAlone}
 use Rattle.pool_model.specs.Pools.{IsSoundPool}
 use Rattle.pool_model.specs.Stopped.{LieApart, StoodInLog}

@@ -8,8 +8,8 @@ use Rattle.md_super.specs.declared.superblock.Super.{Super}
 use Rattle.array_image.specs.Arrays.{Shape, arrays_in, replayed}
 use Rattle.array_image.specs.SoundArray.{array_fields, first_unsynced}
 use Rattle.array_model.specs.View.{is_whole_array, rows_of, shape_of as shape_by_book}
-use Rattle.raid_rack.specs.Raid.{Raid}
-use Rattle.raid_rack.specs.Reach.{KeepsReach}
+use Rattle.raid_laws.specs.Raid.{Raid}
+use Rattle.raid_laws.specs.Reach.{KeepsReach}
 use Rattle.lvm_group.specs.Runs.{Linear, sectors_in}
 use Rattle.lvm_group.specs.Shown.{contents_of}
 use Rattle.pool_image.specs.Disks.{Disks}

@@ -16,15 +16,15 @@ use Rattle.array_image.specs.Record.{pending}
 use Rattle.array_image.specs.SoundArray.{IsSoundArray}
 use Rattle.array_image.specs.States.{is_current}
 use Rattle.array_image.specs.Supers.{is_named, truth_in}
-use Rattle.commit_log.specs.Kept.{IsNoLater}
-use Rattle.commit_log.specs.Saying.{SaysState}
-use Rattle.commit_log.specs.Standing.{deciding}
-use Rattle.raid_rack.specs.Book.{IsAfter}
-use Rattle.raid_rack.specs.Frames.{HasFrame, frame_of}
-use Rattle.raid_rack.specs.Logs.{LogsBetween}
-use Rattle.raid_rack.specs.Raid.{Raid}
-use Rattle.raid_rack.specs.Runs.{IsBetween}
-use Rattle.raid_rack.specs.Since.{AreSince}
+use Rattle.log_laws.specs.Kept.{IsNoLater}
+use Rattle.log_laws.specs.Saying.{SaysState}
+use Rattle.log_laws.specs.Standing.{deciding}
+use Rattle.raid_laws.specs.Book.{IsAfter}
+use Rattle.raid_laws.specs.Frames.{HasFrame, frame_of}
+use Rattle.raid_laws.specs.Logs.{LogsBetween}
+use Rattle.raid_laws.specs.Raid.{Raid}
+use Rattle.raid_laws.specs.Runs.{IsBetween}
+use Rattle.raid_laws.specs.Since.{AreSince}
 use Rattle.pool_image.specs.Disks.{identities_of, seat_of as seat_of_disks, stands_for}
 use Rattle.pool_image.specs.Drives.{Found, extent_of}
 use Rattle.pool_image.specs.Meaning.{is_member, truth_of}

@@ -15,12 +15,12 @@ use Rattle.array_model.specs.View.{View}
 use Rattle.pool_image.specs.Disks.{Disks, disks_of, identities_of}
 use Rattle.pool_image.specs.Drives.{Found, drive_sector, first_of}
 use Rattle.pool_image.specs.Meaning.{is_member}
-use Rattle.raid_rack.specs.Book.{IsAfter}
-use Rattle.raid_rack.specs.Enlisting.{enlisted, next_drive, with_drive}
-use Rattle.raid_rack.specs.Missing.{raised}
-use Rattle.raid_rack.specs.Moves.{KeepsArrays}
-use Rattle.raid_rack.specs.NewDrive.{SeatsDrive, joins}
-use Rattle.raid_rack.specs.Raid.{Raid}
+use Rattle.raid_laws.specs.Book.{IsAfter}
+use Rattle.raid_laws.specs.Enlisting.{enlisted, next_drive, with_drive}
+use Rattle.raid_laws.specs.Missing.{raised}
+use Rattle.raid_laws.specs.Moves.{KeepsArrays}
+use Rattle.raid_laws.specs.NewDrive.{SeatsDrive, joins}
+use Rattle.raid_laws.specs.Raid.{Raid}
 use Rattle.pool_model.specs.Left.{HasNoSuper, IsPickOff}
 
 -- The pool f on these disks once a place has a disk by the state s: all other places have the disks that they had. What is remembered of

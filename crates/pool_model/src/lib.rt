@@ -18,7 +18,7 @@
 //! `base`, what its slices and the rest of the disks say; then they hold the pool still, by the state `s`, once what is pending is written (`HoldStill`,
 //! `specs/Left.antt`; `stopped_still`, `proofs/Inside.antt`), and what is pending may be replayed by an opening that is stopped itself
 //! (`proofs/Pending.antt`). Of a call of a pool in service that writes slices alone, and that tells of its moments what a rack of arrays does
-//! (`KeepsMoments` of raid_rack), each stop leaves such contents, by a state between (`HoldAmid`; `service_amid`, `vacant_amid`, `proofs/Amid.antt`),
+//! (`KeepsMoments` of raid_laws), each stop leaves such contents, by a state between (`HoldAmid`; `service_amid`, `vacant_amid`, `proofs/Amid.antt`),
 //! where by them the drives' tables have the members' slices (`LieByTables`); each place that is current by that state has its drive. Before a pool is
 //! in service a place may be absent: `HoldBetween` says the rest of it, for calls that tell of their stops (`TellsStops`, `found_tells`). Calls keep these tables (`HoldTables`, `tables_amid`; where drives were
 //! declined or taken in `proofs/Tables.antt`). What contents say of a pool, whatever made them so, stands in `proofs/Said.antt`. Members that are there by the book before a call

@@ -24,7 +24,7 @@ use Rattle.pool_scan.specs.Choosing.{AreOf, has_pool_other_than, seat_by}
 use Rattle.pool_scan.proofs.Chosen.{scan_says}
 use Rattle.pool_scan.proofs.Meant.{other_meant}
 use Rattle.pool_scan.proofs.Seated.{seat_by_stands}
-use Rattle.commit_log.specs.View.{LogView}
+use Rattle.log_laws.specs.View.{LogView}
 use Rattle.pool_rest.specs.declared.standing.FindFault.{FindFault}
 use Rattle.pool_rest.specs.declared.standing.FindFault.TheVariants.{NoPool, TwoPools, Memory}
 use Rattle.pool_rest.specs.Standing.{IsLasting, IsLaid, IsNewest, IsOnePool, HasLooked, FindsAll, StandsAs, IsCause, since}

@@ -18,7 +18,7 @@ use Rattle.pool_image.specs.Replay.{Extent, Standing, log_extent, extent_by, log
 use Rattle.pool_image.specs.Alike.{drive_gate, Agree}
 use Rattle.pool_image.proofs.Identities.{agree_identities, newest_same, seat_same, seat_inside}
 use Rattle.pool_image.proofs.Rested.{stood_by, written_none}
-use Rattle.commit_log.specs.View.{LogView}
+use Rattle.log_laws.specs.View.{LogView}
 use Rattle.pool_scan.specs.Scanning.{AllTold, now_in}
 use Rattle.pool_rest.specs.Standing.{IsLasting, StandsAs}
 use Rattle.pool_rest.specs.Resting.{replayed_on, IsReplayed, Rests, StandsNow, seated_state}

@@ -13,7 +13,7 @@ use Rattle.gpt_table.specs.Disk.{Contents, AgreesUnspent, now_on, first_table}
 use Rattle.slice_rack.specs.Slices.{Slices, seat_of, first_of, sectors_of, disk_of}
 use Rattle.array_image.specs.Places.{place_of, slice_of, member_slice}
 use Rattle.pool_image.specs.Replay.{Extent, extent_by}
-use Rattle.commit_log.specs.View.{names}
+use Rattle.log_laws.specs.View.{names}
 use Rattle.pool_scan.proofs.Sights.{agrees_now, agrees_then}
 use Rattle.pool_rest.specs.Members.{Lies, AreLogsCut, IsCutTo, KeepsOthers, IsInArrays, IsCut, IsCutBelow}
 use Rattle.pool_rest.proofs.Cut.{roomy_by}

@@ -6,7 +6,7 @@ use Rattle.rack.specs.Seen.{Image}
 use Rattle.rack.specs.Targets.{Target}
 use Rattle.array_image.specs.Places.{log_slice}
 use Rattle.array_image.specs.Record.{GateAt, gate_sector, gate_of, gate_in, is_there, is_bad_gate, record_in, pending_at, is_bad_log, damaged_log}
-use Rattle.commit_log.specs.View.{names}
+use Rattle.log_laws.specs.View.{names}
 use Rattle.commit_log.proofs.Deciding.{names_first, names_later}
 use Rattle.commit_log.proofs.Fewer.{pending_at_left}
 use Rattle.commit_log.proofs.LeftPlaces.{find_left}

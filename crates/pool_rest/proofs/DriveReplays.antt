@@ -22,9 +22,9 @@ use Rattle.pool_image.specs.Disks.{Identities, disks_of, identities_of}
 use Rattle.pool_image.specs.Disks as disks
 use Rattle.pool_image.specs.Replay.{landed}
 use Rattle.pool_image.specs.Alike.{drive_gate}
-use Rattle.commit_log.specs.View.{LogView, names}
-use Rattle.commit_log.specs.Phases.{AreLogs}
-use Rattle.commit_log.specs.Opening.{ReplayCall, IsShutting, HasWork}
+use Rattle.log_laws.specs.View.{LogView, names}
+use Rattle.log_laws.specs.Phases.{AreLogs}
+use Rattle.log_laws.specs.Opening.{ReplayCall, IsShutting, HasWork}
 use Rattle.commit_log.proofs.Deciding.{names_first}
 use Rattle.commit_log.proofs.Story.{valid_apart, logs_named}
 use Rattle.pool_scan.specs.declared.Known.{Known}

@@ -6,13 +6,13 @@ use Rattle.rack.specs.Seen.{Image}
 use Rattle.rack.specs.Targets.{Target}
 use Rattle.array_image.specs.Places.{log_sectors, log_slice}
 use Rattle.array_image.specs.Record.{Gate, GateAt, damaged_log, gate_in, gate_of, gate_sector, half_of, is_bad_gate, is_open_if_of, is_there, pending_at, record_in}
-use Rattle.commit_log.specs.Opening.{Finds}
-use Rattle.commit_log.specs.View.{LogView, is_left, left_of, names}
+use Rattle.log_laws.specs.Opening.{Finds}
+use Rattle.log_laws.specs.View.{LogView, is_left, left_of, names}
 use Rattle.commit_log.proofs.Amid.{half_least, half_most}
 use Rattle.commit_log.proofs.Deciding.{all_at, gate_at, record_pending}
 use Rattle.commit_log.proofs.Fewer.{filter_both, filter_names, names_filter, pending_kept, pending_most}
-use Rattle.commit_log.proofs.Halves.{record_same}
-use Rattle.commit_log.proofs.Naming.{names_range}
+use Rattle.log_laws.proofs.Halves.{record_same}
+use Rattle.log_laws.proofs.Naming.{names_range}
 use Rattle.commit_log.proofs.Replayable.{pending_named}
 use Rattle.commit_log.proofs.Restored.{pending_at_by, pending_by}
 use Rattle.commit_log.proofs.Undamaged.{whole_by, whole_from, whole_gates, whole_record}

@@ -9,8 +9,8 @@ use Rattle.slice_rack.specs.Slices.{IsOrderly, Slices, seat_of, sectors_of, disk
 use Rattle.slice_rack.specs.Sliced.{slices_of}
 use Rattle.array_image.specs.Places.{place_of, log_slice}
 use Rattle.array_image.specs.States.{is_current}
-use Rattle.commit_log.specs.View.{LogView, left_of, names}
-use Rattle.commit_log.specs.Opening.{Finds}
+use Rattle.log_laws.specs.View.{LogView, left_of, names}
+use Rattle.log_laws.specs.Opening.{Finds}
 use Rattle.pool_scan.specs.declared.Known.{Known}
 use Rattle.pool_scan.specs.Scanning.{IsScan}
 use Rattle.pool_scan.specs.Choosing.{seat_by}

@@ -16,7 +16,7 @@ use Rattle.pool_image.specs.Disks.{disks_of, identities_of}
 use Rattle.pool_image.specs.Replay.{standing_by}
 use Rattle.pool_image.specs.Meaning.{has_other_pool}
 use Rattle.pool_image.specs.Alike.{MeansTheSame}
-use Rattle.commit_log.specs.View.{LogView, names}
+use Rattle.log_laws.specs.View.{LogView, names}
 use Rattle.commit_log.proofs.Deciding.{names_either, nothing_pending}
 use Rattle.commit_log.proofs.Undamaged.{whole_from}
 use Rattle.pool_scan.specs.declared.Known.{Known}

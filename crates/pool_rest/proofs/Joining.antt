@@ -13,16 +13,16 @@ use Rattle.array_image.specs.Left.{reading}
 use Rattle.array_image.specs.Places.{log_slice}
 use Rattle.array_image.specs.Record.{Gate, GateAt, damaged_log, gate_in, gate_of, gate_sector, is_bad_gate, is_open_if_of, is_there, pending, pending_at}
 use Rattle.array_image.specs.States.{current_places, is_current, state_in}
-use Rattle.commit_log.specs.Opening.{CanReplay, Finds, StandsAmid}
+use Rattle.log_laws.specs.Opening.{CanReplay, Finds, StandsAmid}
 use Rattle.commit_log.specs.Scans.{number_of}
-use Rattle.commit_log.specs.Standing.{Decides, IsNumbered, StatesStand, deciding}
-use Rattle.commit_log.specs.View.{LogView, is_left, left_of, names}
+use Rattle.log_laws.specs.Standing.{Decides, IsNumbered, StatesStand, deciding}
+use Rattle.log_laws.specs.View.{LogView, is_left, left_of, names}
 use Rattle.commit_log.proofs.Amid.{no_gate_in_nothing}
-use Rattle.commit_log.proofs.Counting.{few_in}
+use Rattle.log_laws.proofs.Counting.{few_in}
 use Rattle.commit_log.proofs.Deciding.{IsOf, IsTop, NoneAbove, all_at, all_or, foremost_among, gate_at, gate_at_is, pending_is_decisive, pending_of_top, record_pending, top}
-use Rattle.commit_log.proofs.Epochs.{state_either}
+use Rattle.log_laws.proofs.Epochs.{state_either}
 use Rattle.commit_log.proofs.Fewer.{current_of_all, filter_both, filter_names, names_filter, pending_kept, pending_most}
-use Rattle.commit_log.proofs.Naming.{names_range}
+use Rattle.log_laws.proofs.Naming.{names_range}
 use Rattle.commit_log.proofs.Undamaged.{whole_from, whole_gates, whole_record}
 use Rattle.pool_rest.specs.Moments.{IsGateBelow, IsNoneOrBelow}
 use Rattle.pool_rest.proofs.Fewer.{at_fewer, finds_fewer, number_fewer}

@@ -26,8 +26,8 @@ use Rattle.pool_image.specs.Disks.{Disks, disks_of, identities_of}
 use Rattle.pool_image.specs.Disks as disks
 use Rattle.pool_image.specs.Replay.{extent_by, standing_by}
 use Rattle.pool_image.proofs.Identities.{table_same}
-use Rattle.commit_log.specs.Standing.{IsAlike}
-use Rattle.commit_log.specs.View.{LogView}
+use Rattle.log_laws.specs.Standing.{IsAlike}
+use Rattle.log_laws.specs.View.{LogView}
 use Rattle.pool_scan.specs.declared.Known.{Known}
 use Rattle.pool_scan.specs.Choosing.{AreOf, seat_by}
 use Rattle.pool_scan.specs.Scanning.{AllTold, IsScan, IsUnfaulted, now_in}

@@ -15,8 +15,8 @@ use Rattle.array_image.specs.Places.{place_of, slice_of, log_slice, state_sector
 use Rattle.array_image.specs.States.{is_current}
 use Rattle.pool_image.specs.Disks.{disks_of}
 use Rattle.pool_image.specs.Replay.{Extent, log_extent, logs_of}
-use Rattle.commit_log.specs.View.{names}
-use Rattle.commit_log.specs.Phases.{AreLogs}
+use Rattle.log_laws.specs.View.{names}
+use Rattle.log_laws.specs.Phases.{AreLogs}
 use Rattle.pool_scan.specs.declared.Known.{Known}
 use Rattle.pool_scan.specs.Choosing.{seat_by}
 use Rattle.pool_scan.proofs.Seated.{seat_by_stands}

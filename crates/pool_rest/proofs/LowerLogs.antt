@@ -3,7 +3,7 @@ use Rattle.std.proofs.Common.{◌≡◌, ℕ, ◌<◌, Bool, true, false, filter
 use Rattle.rack.specs.Seen.{Image}
 use Rattle.array_image.specs.Places.{log_slice}
 use Rattle.array_image.specs.Record.{Gate, GateAt, damaged_log, gate_in, gate_sector, is_bad_gate, pending, pending_at, record_in, record_of}
-use Rattle.commit_log.specs.View.{names}
+use Rattle.log_laws.specs.View.{names}
 use Rattle.commit_log.proofs.Fewer.{names_filter, pending_kept}
 use Rattle.commit_log.proofs.Replayable.{pending_named}
 use Rattle.commit_log.proofs.Restored.{pending_at_by, pending_by}

@@ -20,13 +20,13 @@ use Rattle.pool_image.specs.Replay.{logs_of, standing, standing_by}
 use Rattle.pool_image.specs.Meaning.{no_pool, two_pools, has_other_pool, refused_by, refused_at, refusal_of}
 use Rattle.pool_image.specs.Drives.{found}
 use Rattle.array_image.specs.Record.{Gate, GateAt, gate_sector, gate_of, gate_in, is_bad_gate, is_there, record_of, record_in, pending_at, pending, damaged_log}
-use Rattle.commit_log.specs.View.{LogView, names, is_left, left_of}
+use Rattle.log_laws.specs.View.{LogView, names, is_left, left_of}
 use Rattle.commit_log.proofs.Amid.{no_gate_in_nothing}
-use Rattle.commit_log.proofs.Counting.{few_drives, is_listed}
+use Rattle.log_laws.proofs.Counting.{few_drives, is_listed}
 use Rattle.commit_log.proofs.LeftPlaces.{filter_out}
 use Rattle.commit_log.proofs.Fewer.{names_filter, filter_both, current_of_all, pending_left, pending_at_left, pending_most}
-use Rattle.commit_log.proofs.Naming.{names_listed}
-use Rattle.commit_log.specs.Opening.{Finds}
+use Rattle.log_laws.proofs.Naming.{names_listed}
+use Rattle.log_laws.specs.Opening.{Finds}
 use Rattle.commit_log.proofs.Replayable.{pending_named}
 use Rattle.commit_log.proofs.Restored.{pending_by, pending_at_by}
 use Rattle.pool_scan.specs.declared.Known.{Known}

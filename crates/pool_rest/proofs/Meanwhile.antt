@@ -19,7 +19,7 @@ use Rattle.pool_image.specs.Alike.{Agree, drive_gate}
 use Rattle.pool_image.specs.Disks.{Disks, Seats, disks_of, identities_of, seat_of as drive_of}
 use Rattle.pool_image.specs.Replay.{logs_of}
 use Rattle.pool_image.proofs.Identities.{agree_identities, seat_same}
-use Rattle.commit_log.specs.View.{LogView}
+use Rattle.log_laws.specs.View.{LogView}
 use Rattle.pool_scan.specs.declared.Known.{Known}
 use Rattle.pool_scan.specs.Choosing.{AreOf, seat_by}
 use Rattle.pool_scan.specs.Scanning.{AllTold, IsUnfaulted, now_in}

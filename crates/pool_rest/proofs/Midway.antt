@@ -28,14 +28,14 @@ use Rattle.array_image.proofs.Frames.{state_same}
 use Rattle.pool_image.specs.Alike.{Agree, drive_gate}
 use Rattle.pool_image.specs.Disks.{Disks, Identities, disks_of, identities_of, seat_of as drive_of}
 use Rattle.pool_image.specs.Replay.{landed, logs_of}
-use Rattle.commit_log.specs.Opening.{AreWritten, CanReplay, Replays, StandsAmid, StandsReplaying as SlicesStand}
-use Rattle.commit_log.specs.Standing.{IsInside, IsLogPart, deciding}
-use Rattle.commit_log.specs.View.{LogView, names}
+use Rattle.log_laws.specs.Opening.{AreWritten, CanReplay, Replays, StandsAmid, StandsReplaying as SlicesStand}
+use Rattle.log_laws.specs.Standing.{IsInside, IsLogPart, deciding}
+use Rattle.log_laws.specs.View.{LogView, names}
 use Rattle.commit_log.proofs.Amid.{each_or, log_of_place, not_state, replayed_as}
-use Rattle.commit_log.proofs.Counting.{few_in}
-use Rattle.commit_log.proofs.Epochs.{state_either, state_latest}
+use Rattle.log_laws.proofs.Counting.{few_in}
+use Rattle.log_laws.proofs.Epochs.{state_either, state_latest}
 use Rattle.commit_log.proofs.Fewer.{current_of_all, names_filter}
-use Rattle.commit_log.proofs.Naming.{names_range, range_below}
+use Rattle.log_laws.proofs.Naming.{names_range, range_below}
 use Rattle.commit_log.proofs.Replayable.{pending_named}
 use Rattle.commit_log.proofs.ReplaySays.{replay_pends}
 use Rattle.commit_log.proofs.Restored.{pending_by, put_there}

@@ -19,12 +19,12 @@ use Rattle.pool_image.specs.Drives.{Found, found, found_by, slices_of}
 use Rattle.pool_image.specs.Replay.{Standing, brought_state, logs_of, standing, standing_by, written}
 use Rattle.pool_image.proofs.Identities.{newest_same, same_but_gates, seat_inside, seat_same}
 use Rattle.pool_image.proofs.Rested.{gate_block, written_none}
-use Rattle.commit_log.specs.Saying.{PlaceJoins}
-use Rattle.commit_log.specs.View.{names}
-use Rattle.commit_log.proofs.Counting.{is_listed}
+use Rattle.log_laws.specs.Saying.{PlaceJoins}
+use Rattle.log_laws.specs.View.{names}
+use Rattle.log_laws.proofs.Counting.{is_listed}
 use Rattle.commit_log.proofs.Fewer.{current_of_all, filter_names}
-use Rattle.commit_log.proofs.Naming.{names_range}
-use Rattle.commit_log.proofs.Places.{joins_none, stays_or_joins}
+use Rattle.log_laws.proofs.Naming.{names_range}
+use Rattle.log_laws.proofs.Places.{joins_none, stays_or_joins}
 use Rattle.commit_log.proofs.Undamaged.{whole_gates}
 use Rattle.pool_rest.specs.Moments.{AreGatesKept, AreStatesKept, IsGateBelow, StandsBrought, StandsReplaying, TakesLowerIn, landed_on}
 use Rattle.pool_rest.specs.Resting.{replayed_on, seated_state}
@@ -32,7 +32,7 @@ use Rattle.pool_rest.specs.SoundLogs.{HasSoundLogs, IsGateUpTo, IsSoundLog}
 use Rattle.pool_rest.proofs.LaterCopies.{IsCopied, newest_later, newest_still}
 use Rattle.pool_rest.proofs.MidwayDisks as on
 use Rattle.pool_rest.proofs.MidwayDisks.{IsNoGate, few_before, gate_free, log_free, newest_written, seats_written, source, written_gate}
-use Rattle.commit_log.proofs.HeldCopies.{no_look}
+use Rattle.log_laws.proofs.HeldCopies.{no_look}
 use Rattle.pool_rest.proofs.Meant.{few_stood}
 use Rattle.pool_rest.proofs.Quiet.{none_brought}
 use Rattle.pool_rest.proofs.SameLogs.{logs_same}

@@ -22,14 +22,14 @@ use Rattle.array_image.proofs.Frames.{state_same}
 use Rattle.array_image.proofs.Replays.{SameLogs, replayed_same}
 use Rattle.pool_image.specs.Alike.{drive_gate}
 use Rattle.pool_image.specs.Replay.{extent_by}
-use Rattle.commit_log.specs.View.{LogView, is_left, left_of, names}
-use Rattle.commit_log.specs.Commits.{Stands}
-use Rattle.commit_log.specs.Opening.{CanReplay, Replays}
-use Rattle.commit_log.specs.Saying.{PlaceJoins, PlaceStays}
-use Rattle.commit_log.specs.Standing.{IsLogPart}
+use Rattle.log_laws.specs.View.{LogView, is_left, left_of, names}
+use Rattle.log_laws.specs.Commits.{Stands}
+use Rattle.log_laws.specs.Opening.{CanReplay, Replays}
+use Rattle.log_laws.specs.Saying.{PlaceJoins, PlaceStays}
+use Rattle.log_laws.specs.Standing.{IsLogPart}
 use Rattle.commit_log.proofs.Amid.{replayed_as}
 use Rattle.commit_log.proofs.Fewer.{filter_names, names_filter}
-use Rattle.commit_log.proofs.Places.{does_stay, is_stays, stays_is, stays_or_joins}
+use Rattle.log_laws.proofs.Places.{does_stay, is_stays, stays_is, stays_or_joins}
 use Rattle.commit_log.proofs.Replayable.{pending_named}
 use Rattle.commit_log.proofs.Story.{logs_named}
 use Rattle.pool_scan.specs.declared.Known.{Known}

@@ -23,8 +23,8 @@ use Rattle.array_image.specs.Record.{is_target}
 use Rattle.pool_image.specs.Disks.{Identities, disks_of, identities_of}
 use Rattle.pool_image.specs.Disks as disks
 use Rattle.pool_image.specs.Replay.{Extent, log_extent, extent_by, landed}
-use Rattle.commit_log.specs.View.{LogView, names}
-use Rattle.commit_log.specs.Opening.{ReplayCall, HasWork}
+use Rattle.log_laws.specs.View.{LogView, names}
+use Rattle.log_laws.specs.Opening.{ReplayCall, HasWork}
 use Rattle.commit_log.proofs.Story.{valid_apart}
 use Rattle.pool_scan.specs.declared.Known.{Known}
 use Rattle.pool_scan.specs.Scanning.{AllTold, IsUnfaulted, now_in}

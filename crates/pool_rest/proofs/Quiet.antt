@@ -24,12 +24,12 @@ use Rattle.pool_image.specs.Alike.{drive_gate, IsSameButGates, MeansTheSame}
 use Rattle.pool_image.specs.Meaning.{has_other_pool}
 use Rattle.pool_image.proofs.Identities.{newest_same, other_same, same_but_gates, seat_inside, seat_same}
 use Rattle.pool_image.proofs.Rested.{stood_by}
-use Rattle.commit_log.specs.Saying.{PlaceJoins}
-use Rattle.commit_log.specs.View.{LogView, names}
-use Rattle.commit_log.proofs.Counting.{is_listed}
+use Rattle.log_laws.specs.Saying.{PlaceJoins}
+use Rattle.log_laws.specs.View.{LogView, names}
+use Rattle.log_laws.proofs.Counting.{is_listed}
 use Rattle.commit_log.proofs.Deciding.{record_pending}
 use Rattle.commit_log.proofs.Fewer.{current_of_all, names_filter}
-use Rattle.commit_log.proofs.Places.{joins_none, stays_same}
+use Rattle.log_laws.proofs.Places.{joins_none, stays_same}
 use Rattle.commit_log.proofs.Replayable.{pending_named}
 use Rattle.commit_log.proofs.Replaying.{pending_sound}
 use Rattle.commit_log.proofs.Undamaged.{whole_gates, whole_record}

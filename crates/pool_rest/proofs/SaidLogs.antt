@@ -17,12 +17,12 @@ use Rattle.array_image.specs.Arrays.{replayed}
 use Rattle.array_image.specs.Record.{Gate, GateAt, are_apart, damaged_log, gate_in, gate_of, gate_sector, is_bad_gate, is_there, pending, pending_at, record_in, record_of}
 use Rattle.array_image.specs.States.{current_places, epoch_of, is_current}
 use Rattle.array_image.proofs.Frames.{state_same}
-use Rattle.commit_log.specs.Saying.{AreOwnCopies, IsBrought, PlaceJoins, SaysState}
-use Rattle.commit_log.specs.Standing.{deciding}
-use Rattle.commit_log.specs.View.{names}
+use Rattle.log_laws.specs.Saying.{AreOwnCopies, IsBrought, PlaceJoins, SaysState}
+use Rattle.log_laws.specs.Standing.{deciding}
+use Rattle.log_laws.specs.View.{names}
 use Rattle.commit_log.proofs.Fewer.{names_filter}
-use Rattle.commit_log.proofs.Kept.{put_none}
-use Rattle.commit_log.proofs.Places.{does_join, joins_none, joins_not, not_joins, stays_not}
+use Rattle.log_laws.proofs.Kept.{put_none}
+use Rattle.log_laws.proofs.Places.{does_join, joins_none, joins_not, not_joins, stays_not}
 use Rattle.commit_log.proofs.Replayable.{pending_named}
 use Rattle.commit_log.proofs.Replaying.{pending_sound}
 use Rattle.commit_log.proofs.Restored.{pending_at_by, pending_by}

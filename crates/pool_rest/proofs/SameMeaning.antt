@@ -17,9 +17,9 @@ use Rattle.pool_image.specs.Meaning.{has_other_pool}
 use Rattle.pool_image.specs.Alike.{drive_gate, is_bad_block, MeansTheSame}
 use Rattle.pool_image.proofs.Identities.{agree_identities, same_but_gates}
 use Rattle.pool_image.proofs.Rested.{stood_by, rested_means, agree_means}
-use Rattle.commit_log.specs.View.{LogView, names}
-use Rattle.commit_log.proofs.Counting.{is_listed}
-use Rattle.commit_log.proofs.Naming.{names_range}
+use Rattle.log_laws.specs.View.{LogView, names}
+use Rattle.log_laws.proofs.Counting.{is_listed}
+use Rattle.log_laws.proofs.Naming.{names_range}
 use Rattle.commit_log.proofs.Fewer.{filter_names, current_of_all}
 use Rattle.commit_log.proofs.Undamaged.{whole_gates, whole_record}
 use Rattle.commit_log.proofs.Replaying.{pending_sound}

@@ -35,15 +35,15 @@ use Rattle.pool_image.specs.Disks.{Disks, identities_of, newest, seat_of}
 use Rattle.pool_image.specs.Replay.{Extent, Standing, standing_by}
 use Rattle.pool_image.specs.Alike.{drive_gate, is_bad_block}
 use Rattle.pool_image.proofs.Identities.{seat_inside}
-use Rattle.commit_log.specs.Saying.{PlaceJoins, PlaceStays}
-use Rattle.commit_log.specs.View.{names}
+use Rattle.log_laws.specs.Saying.{PlaceJoins, PlaceStays}
+use Rattle.log_laws.specs.View.{names}
 use Rattle.commit_log.specs.Scans.{number_of}
 use Rattle.commit_log.proofs.Amid.{no_gate_in_nothing}
 use Rattle.commit_log.proofs.Deciding.{gate_at, all_at, pending_is_decisive}
-use Rattle.commit_log.proofs.Counting.{few_drives, is_listed}
+use Rattle.log_laws.proofs.Counting.{few_drives, is_listed}
 use Rattle.commit_log.proofs.Fewer.{names_filter, filter_names, current_of_all, pending_most}
-use Rattle.commit_log.proofs.Naming.{names_range}
-use Rattle.commit_log.proofs.Places.{stays_or_joins, stays_same}
+use Rattle.log_laws.proofs.Naming.{names_range}
+use Rattle.log_laws.proofs.Places.{stays_or_joins, stays_same}
 use Rattle.commit_log.proofs.Replayable.{pending_named}
 use Rattle.commit_log.proofs.Undamaged.{whole_from}
 use Rattle.commit_log.proofs.Replaying.{pending_sound}

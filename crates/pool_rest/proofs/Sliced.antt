@@ -11,8 +11,8 @@ use Rattle.array_image.specs.Places.{log_slice}
 use Rattle.array_image.specs.Record.{pending}
 use Rattle.array_image.specs.States.{current_places, state_in}
 use Rattle.pool_image.specs.Replay.{Extent}
-use Rattle.commit_log.specs.Commits.{Stands}
-use Rattle.commit_log.specs.Opening.{StandsAmid}
+use Rattle.log_laws.specs.Commits.{Stands}
+use Rattle.log_laws.specs.Opening.{StandsAmid}
 use Rattle.pool_rest.specs.Members.{Lies}
 
 pub sliced_outside : (t : Slices) (i : Image) (k j : ℕ) → sectors_of t k ≤ j → sliced t i k j ≡ []

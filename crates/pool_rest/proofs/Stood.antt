@@ -11,9 +11,9 @@ use Rattle.slice_rack.specs.Runs.{Runs}
 use Rattle.slice_rack.proofs.Running.{only_reads_below}
 use Rattle.array_image.specs.Places.{log_slice}
 use Rattle.array_image.specs.Left.{reading}
-use Rattle.commit_log.specs.View.{LogView, left_of}
-use Rattle.commit_log.specs.Phases.{AreLogs}
-use Rattle.commit_log.specs.Opening.{Finds, PendingCall}
+use Rattle.log_laws.specs.View.{LogView, left_of}
+use Rattle.log_laws.specs.Phases.{AreLogs}
+use Rattle.log_laws.specs.Opening.{Finds, PendingCall}
 use Rattle.commit_log.proofs.Story.{logs_named}
 use Rattle.pool_scan.specs.Scanning.{AllTold, IsUnfaulted}
 use Rattle.pool_rest.specs.Standing.{IsLasting, HasLooked, FindsAll}

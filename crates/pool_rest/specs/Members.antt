@@ -8,7 +8,7 @@ use Rattle.gpt_table.specs.Disk.{Contents, AgreesUnspent, now_on}
 use Rattle.slice_rack.specs.Slices.{Slices, seat_of, first_of, sectors_of, disk_of}
 use Rattle.array_image.specs.Places.{place_of, slice_of, member_slice, arrays_first}
 use Rattle.pool_image.specs.Replay.{Extent, extent_by}
-use Rattle.commit_log.specs.View.{names}
+use Rattle.log_laws.specs.View.{names}
 
 -- a slice is these sectors of its disk, or isn't there
 pub record Lies (t : Slices) (k : ℕ) (extent : Option Extent) : Type 0 where

@@ -16,9 +16,9 @@ use Rattle.array_image.specs.Places.{arrays_first, log_slice, place_of, slice_of
 use Rattle.pool_image.specs.Alike.{drive_gate}
 use Rattle.pool_image.specs.Disks.{Disks, disks_of, identities_of, seat_of as drive_of}
 use Rattle.pool_image.specs.Replay.{Standing, extent_by, landed, logs_of, standing}
-use Rattle.commit_log.specs.Saying.{PlaceJoins, PlaceStays}
-use Rattle.commit_log.specs.Standing.{IsAlike}
-use Rattle.commit_log.specs.View.{LogView, left_of}
+use Rattle.log_laws.specs.Saying.{PlaceJoins, PlaceStays}
+use Rattle.log_laws.specs.Standing.{IsAlike}
+use Rattle.log_laws.specs.View.{LogView, left_of}
 use Rattle.pool_scan.specs.declared.Known.{Known}
 use Rattle.pool_scan.specs.Choosing.{seat_by}
 use Rattle.pool_scan.specs.Scanning.{now_in}

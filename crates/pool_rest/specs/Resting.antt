@@ -11,7 +11,7 @@ use Rattle.array_image.specs.States.{current_places}
 use Rattle.pool_image.specs.Disks.{Disks, disks_of, identities_of, seat_of}
 use Rattle.pool_image.specs.Replay.{Standing, standing, standing_by, brought_state, landed, written}
 use Rattle.pool_image.specs.Alike.{drive_gate}
-use Rattle.commit_log.specs.View.{LogView, names}
+use Rattle.log_laws.specs.View.{LogView, names}
 use Rattle.pool_scan.specs.declared.Known.{Known}
 use Rattle.rack.specs.Sequences.{OnlyReads, WritesOnly}
 use Rattle.pool_scan.specs.Scanning.{AllTold, IsScan, now_in}

@@ -7,7 +7,7 @@ use Rattle.pool_state.specs.Sector.{decoded}
 use Rattle.array_image.specs.Places.{log_slice, arrays_first}
 use Rattle.array_image.specs.Record.{Gate, GateAt, gate_of, gate_sector, pending_at, damaged_log}
 use Rattle.array_image.specs.States.{is_current, current_places}
-use Rattle.commit_log.specs.Saying.{PlaceJoins, PlaceStays}
+use Rattle.log_laws.specs.Saying.{PlaceJoins, PlaceStays}
 use Rattle.pool_image.specs.Disks.{Disks, disks_of, identities_of, newest, seat_of}
 use Rattle.pool_image.specs.Replay.{Standing, logs_of, standing, standing_by}
 use Rattle.pool_image.specs.Alike.{drive_gate, is_bad_block, MeansTheSame}

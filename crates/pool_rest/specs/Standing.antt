@@ -11,9 +11,9 @@ use Rattle.array_image.specs.Left.{reading}
 use Rattle.pool_image.specs.Disks.{Disks, Identities, disks_of, newest}
 use Rattle.pool_image.specs.Replay.{logs_of, standing, standing_by}
 use Rattle.pool_image.specs.Meaning.{no_pool, two_pools, refusal_of}
-use Rattle.commit_log.specs.View.{LogView, names, left_of, in_order}
-use Rattle.commit_log.specs.Phases.{AreLogs}
-use Rattle.commit_log.specs.Opening.{Finds}
+use Rattle.log_laws.specs.View.{LogView, names, left_of, in_order}
+use Rattle.log_laws.specs.Phases.{AreLogs}
+use Rattle.log_laws.specs.Opening.{Finds}
 use Rattle.pool_scan.specs.declared.Known.{Known}
 use Rattle.pool_scan.specs.Scanning.{AllTold, IsScan, as_read, now_in}
 use Rattle.pool_scan.specs.Choosing.{AreOf, has_pool_other_than, seat_by}

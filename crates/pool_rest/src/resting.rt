@@ -14,7 +14,7 @@ ghost use Rattle.array_image.specs.Left.{reading};
 ghost use Rattle.array_image.specs.States.{state_in};
 ghost use Rattle.array_image.specs.Record.{is_target};
 ghost use Rattle.pool_image.specs.Disks.{disks_of, identities_of};
-ghost use Rattle.commit_log.specs.View.{names, settled};
+ghost use Rattle.log_laws.specs.View.{names, settled};
 ghost use Rattle.pool_scan.specs.Scanning.{AllTold, IsUnfaulted, now_in};
 ghost use Rattle.pool_scan.specs.Choosing.{AreOf, seat_by};
 ghost use Rattle.pool_rest.specs.Standing.{IsLasting, IsLaid, IsNewest, IsOnePool, FindsAll, FindsLeft, IsCause, IsMeant, since};

@@ -91,8 +91,6 @@ impl Rack for Failing {
 
     ghost unwritten = { λ old new. Unit {0} };
 
-    ghost lenders = { λ r. [] };
-
     fn disks(&self) -> u32 {
         self.bay.disks()
     }
@@ -140,6 +138,4 @@ impl Rack for Failing {
     ghost unwritten_same = { λ x. tt };
 
     ghost unwritten_then = { λ x y z one two. tt };
-
-    ghost runs_lenders = { λ x y runs. refl };
 }

@@ -3,3 +3,4 @@ pub mod Writing
 pub mod Phases
 pub mod Durably
 pub mod Calling
+pub mod Names

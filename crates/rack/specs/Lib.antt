@@ -4,7 +4,7 @@ pub mod Moments
 pub mod Calls
 pub mod Shelf
 pub mod Joins
-pub mod Lenders
+pub mod Untouched
 pub mod Targets
 pub mod Sequences
 pub mod Several

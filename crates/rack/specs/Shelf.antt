@@ -22,6 +22,10 @@ pub record Shelf : Type 1 where
   -- the bay's own count of faults, which never falls
   pub faults : ℕ
 
+-- no name stands twice
+abbrev pub Differ : List (List ℕ) → Type 0
+Differ names = (i j : ℕ) (name : List ℕ) → slice_get names i ≡ Some name → slice_get names j ≡ Some name → i ≡ j
+
 -- the names, and what waits, are as before
 pub record KeepsShelf (s t : Shelf) : Type 0 where
   pub names : t.names ≡ s.names

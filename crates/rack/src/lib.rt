@@ -91,9 +91,6 @@ pub trait Rack: Drop {
     /// What calls in a row that only read keep, beyond what all runs do: a rack of arrays says here that it has written none.
     ghost unwritten: { Self → Self → Type 0 };
 
-    /// The references through which the rack is reached: a caller that lent it gets it back.
-    ghost lenders: { Self → List ℕ };
-
     /// The number of disks. No call of `Rack` changes it.
     fn disks(&self) -> u32
         requires { (seen self.now).fit }
@@ -145,9 +142,6 @@ pub trait Rack: Drop {
     ghost unwritten_same: { (x : Self) → unwritten x x };
 
     ghost unwritten_then: { (x y z : Self) → unwritten x y → unwritten y z → unwritten x z };
-
-    /// They leave the lenders as they are.
-    ghost runs_lenders: { (x y : Self) → runs x y → lenders y ≡ lenders x };
 }
 
 /// A rack whose disks are attached by name.
@@ -155,10 +149,14 @@ pub trait Bay: Rack {
     /// The names, attached and not.
     ghost shelf: { Self → Shelf };
 
+    /// What all calls in a row keep, attaching included: the reference through which the bay is reached, so that a caller that
+    /// lent it gets it back, and what a bay promises of disks that it doesn't show.
+    ghost frame: { Self → Self → Type 0 };
+
     /// Adds the disk of this name, with the next number, and gives that number.
     fn attach(&mut self, name: &str) -> Result<u32, AttachFault>
         ensures attaches { Attaches (Self.seen self.old) (Self.seen self.new) (shelf self.old) (shelf self.new) name.now result }
-        ensures lenders { Self.lenders self.new ≡ Self.lenders self.old };
+        ensures frame { frame self.old self.new };
 
     /// A bay needs no tables of its own.
     ghost always_fit: { (x : Self) → (Self.seen x).fit };
@@ -174,6 +172,13 @@ pub trait Bay: Rack {
 
     /// Calls of a rack leave the names, what waits and the bay's own count of faults alone.
     ghost runs_shelf: { (x y : Self) → Self.runs x y → KeepsShelf (shelf x) (shelf y) };
+
+    /// They keep the frame, as calls in a row do.
+    ghost runs_frame: { (x y : Self) → Self.runs x y → frame x y };
+
+    ghost frame_same: { (x : Self) → frame x x };
+
+    ghost frame_then: { (x y z : Self) → frame x y → frame y z → frame x z };
 
     /// Each disk has its name.
     ghost numbered: { (x : Self) → length (shelf x).names ≡ (Self.seen x).disks };

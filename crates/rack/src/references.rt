@@ -3,9 +3,8 @@
 use crate::{AttachFault, Bay, Gone, Rack};
 
 impl<R: Rack> Rack for &mut R {
-    ghost use Rattle.std.specs.Prelude.{◌≡◌, ◌∷◌, refl};
+    ghost use Rattle.std.specs.Prelude.{◌≡◌, refl};
     ghost use Rattle.std.proofs.Common.{◌∙◌};
-    ghost use Rattle.rack.specs.Lenders.{same_lenders};
 
     ghost seen = { λ r. R.seen r.now };
 
@@ -14,8 +13,6 @@ impl<R: Rack> Rack for &mut R {
     ghost once = { λ r s. R.once r.now s.now };
 
     ghost unwritten = { λ r s. R.unwritten r.now s.now };
-
-    ghost lenders = { λ r. r.ghost_name ∷ R.lenders r.now };
 
     fn disks(&self) -> u32 {
         (**self).disks()
@@ -46,12 +43,15 @@ impl<R: Rack> Rack for &mut R {
     ghost unwritten_same = { λ r. R.unwritten_same r.now };
 
     ghost unwritten_then = { λ r s t. R.unwritten_then r.now s.now t.now };
-
-    ghost runs_lenders = { λ r s runs. same_lenders runs.0 (R.runs_lenders r.now s.now runs.1) };
 }
 
 impl<R: Bay> Bay for &mut R {
+    ghost use Rattle.std.specs.Prelude.{◌≡◌, refl};
+    ghost use Rattle.std.proofs.Common.{◌∙◌};
+
     ghost shelf = { λ r. R.shelf r.now };
+
+    ghost frame = { λ r s. (s.ghost_name ≡ r.ghost_name) × R.frame r.now s.now };
 
     fn attach(&mut self, name: &str) -> Result<u32, AttachFault> {
         (**self).attach(name)
@@ -66,6 +66,12 @@ impl<R: Bay> Bay for &mut R {
     ghost bounded = { λ r. R.bounded r.now };
 
     ghost runs_shelf = { λ r s runs. R.runs_shelf r.now s.now runs.1 };
+
+    ghost runs_frame = { λ r s runs. (runs.0, R.runs_frame r.now s.now runs.1) };
+
+    ghost frame_same = { λ r. (refl, R.frame_same r.now) };
+
+    ghost frame_then = { λ r s t one two. (two.0 ∙ one.0, R.frame_then r.now s.now t.now one.1 two.1) };
 
     ghost numbered = { λ r. R.numbered r.now };
 }

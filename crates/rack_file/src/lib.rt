@@ -3,7 +3,11 @@
 //! **The model.** A [`FileBay`] has the disks of the files that were attached, in their order, each
 //! with its sectors of 512 bytes and its count of faults (specs/Files.antt). What a file holds isn't
 //! told. `Gone` comes only where the disk's count rose, and `Failed` of attaching only where the
-//! bay's did. That two paths are one file isn't noticed.
+//! bay's did.
+//!
+//! **One bay a file.** A file's exclusive lock is taken when it is attached and kept until the bay
+//! goes, so a file that another program has open as an image, or this bay by another path, can't be
+//! attached. It is synced once when it is attached, so that no sector of it stands in memory alone.
 //!
 //! **The contract for the layer above** is that of `Bay`.
 #![tactic(auto)]
@@ -15,9 +19,11 @@ ghost use Rattle.rack.specs.Shelf.{KeepsShelf};
 ghost use Rattle.rack_file.specs.Files.{names_of, Differ, files_seen, files_shelf, NotesFault};
 
 mod disk;
+mod lock;
 
 pub use disk::FileDisk;
 use disk::{SECTOR_BYTES, open_disk};
+pub use lock::LockFile;
 use rack::{AttachFault, Bay, Gone, Rack};
 use std::alloc::Global;
 use std::fs::{Files, OpenFile};
@@ -40,7 +46,7 @@ pub struct FileBay<'a, R: Files> {
 
 impl<'a, R: Files> FileBay<'a, R>
 where
-    R::File: FileExt,
+    R::File: FileExt + LockFile,
 {
     /// A bay with nothing attached.
     pub fn new(rt: &'a R, alloc: Global) -> FileBay<'a, R>
@@ -106,7 +112,7 @@ where
 
 impl<'a, R: Files> Rack for FileBay<'a, R>
 where
-    R::File: FileExt,
+    R::File: FileExt + LockFile,
 {
     ghost use Rattle.rack.specs.Shelf.{keeps_shelf_same, keeps_shelf_then};
 
@@ -117,8 +123,6 @@ where
     ghost once = { λ old new. Unit {0} };
 
     ghost unwritten = { λ old new. Unit {0} };
-
-    ghost lenders = { λ b. [] };
 
     fn disks(&self) -> u32 {
         self.disks.len() as u32
@@ -169,13 +173,11 @@ where
     ghost unwritten_same = { λ x. tt };
 
     ghost unwritten_then = { λ x y z one two. tt };
-
-    ghost runs_lenders = { λ x y runs. refl };
 }
 
 impl<'a, R: Files> Bay for FileBay<'a, R>
 where
-    R::File: FileExt,
+    R::File: FileExt + LockFile,
 {
     ghost use Rattle.rack_file.specs.FilesLaws.{bounded_files, names-length};
 
@@ -204,7 +206,18 @@ where
 
     ghost bounded = { λ b d inside. bounded_files b.disks.items d };
 
+    ghost frame = { λ old new. Unit {0} };
+
     ghost runs_shelf = { λ x y runs. runs };
+
+    ghost runs_frame = { λ x y runs. tt };
+
+    ghost frame_same = { λ x. tt };
+
+    ghost frame_then = { λ x y z one two. tt };
 
     ghost numbered = { λ b. names-length b.disks.items };
 }
+
+#[cfg(test)]
+mod tests;

@@ -269,8 +269,6 @@ impl Rack for MemBay {
 
     ghost unwritten = { λ old new. Unit {0} };
 
-    ghost lenders = { λ bay. [] };
-
     fn disks(&self) -> u32 {
         self.attached.len() as u32
     }
@@ -340,8 +338,6 @@ impl Rack for MemBay {
     ghost unwritten_same = { λ x. tt };
 
     ghost unwritten_then = { λ x y z one two. tt };
-
-    ghost runs_lenders = { λ x y runs. refl };
 }
 
 impl Bay for MemBay {
@@ -382,7 +378,15 @@ impl Bay for MemBay {
 
     ghost bounded = { λ bay d below. bay.small (number_of bay.attached.items d) };
 
+    ghost frame = { λ old new. Unit {0} };
+
     ghost runs_shelf = { λ x y runs. runs };
+
+    ghost runs_frame = { λ x y runs. tt };
+
+    ghost frame_same = { λ x. tt };
+
+    ghost frame_then = { λ x y z one two. tt };
 
     ghost numbered = { λ bay. length-map bay.attached.items (λ disk. name_of bay.shelf.items disk.number) };
 }

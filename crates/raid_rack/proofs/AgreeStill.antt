@@ -19,17 +19,17 @@ use Rattle.array_image.proofs.Marked.{marked_super}
 use Rattle.array_model.proofs.Keeping.{logs_of}
 use Rattle.array_core.specs.Contents.{current_super}
 use Rattle.array_core.proofs.Opened.{map_ranged, truth_ranged}
-use Rattle.raid_rack.specs.Agreeing.{SupersAgree}
+use Rattle.raid_laws.specs.Agreeing.{SupersAgree}
 use Rattle.raid_rack.specs.AllRuns.{Spares}
-use Rattle.raid_rack.specs.Book.{drive_of}
-use Rattle.raid_rack.specs.Cleaning.{NoneFails}
-use Rattle.raid_rack.specs.Moves.{IsHeeded, IsSet}
-use Rattle.raid_rack.specs.Raid.{Raid, gone_in, is_left, is_over, IsTold}
-use Rattle.raid_rack.specs.Runs.{RaidRuns}
-use Rattle.raid_rack.proofs.Agreed.{agree_by}
-use Rattle.raid_rack.proofs.Cleaned.{slice_own}
-use Rattle.raid_rack.proofs.Noted.{bool_same}
-use Rattle.raid_rack.proofs.Whole.{heeded_left}
+use Rattle.raid_laws.specs.Book.{drive_of}
+use Rattle.raid_laws.specs.Cleaning.{NoneFails}
+use Rattle.raid_laws.specs.Moves.{IsHeeded, IsSet}
+use Rattle.raid_laws.specs.Raid.{Raid, gone_in, is_left, is_over, IsTold}
+use Rattle.raid_laws.specs.Runs.{RaidRuns}
+use Rattle.raid_laws.proofs.Agreed.{agree_by}
+use Rattle.raid_laws.proofs.Cleaned.{slice_own}
+use Rattle.raid_laws.proofs.Noted.{bool_same}
+use Rattle.raid_laws.proofs.Whole.{heeded_left}
 
 -- ---- by a state of the same places
 

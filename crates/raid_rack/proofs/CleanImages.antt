@@ -21,14 +21,14 @@ use Rattle.array_model.proofs.Keeping.{live_after, live_on, logs_of}
 use Rattle.array_core.specs.Superblocks.{is_settled, left_offset, member_super}
 use Rattle.array_core.proofs.Opened.{current_is, truth_leads}
 use Rattle.raid_rack.specs.declared.arrays.Arrays.{Arrays}
-use Rattle.raid_rack.specs.Raid.{AreLive, is_over, held_in, spent_of, Stood}
-use Rattle.raid_rack.specs.Moves.{IsSeated}
-use Rattle.raid_rack.specs.Cleaning.{CleansAll, HasSupersOn, IsEnded, LeavesItsRows, as_it_was, restated}
+use Rattle.raid_laws.specs.Raid.{AreLive, is_over, held_in, spent_of, Stood}
+use Rattle.raid_laws.specs.Moves.{IsSeated}
+use Rattle.raid_laws.specs.Cleaning.{CleansAll, HasSupersOn, IsEnded, LeavesItsRows, as_it_was, restated}
 use Rattle.raid_rack.specs.RaidRack.{IsFit, raid_by}
-use Rattle.raid_rack.specs.Runs.{RaidRuns}
+use Rattle.raid_laws.specs.Runs.{RaidRuns}
 use Rattle.raid_rack.proofs.Ended.{none_past}
-use Rattle.raid_rack.proofs.Ranges.{any_some, any_none}
-use Rattle.raid_rack.proofs.Seated.{place_few}
+use Rattle.raid_laws.proofs.Ranges.{any_some, any_none}
+use Rattle.raid_laws.proofs.Seated.{place_few}
 
 -- what passes a test
 only_some : {X : Type 0} (passes : X → Bool) (o : Option X) (x : X) → only_if passes o ≡ Some x → o ≡ Some x

@@ -10,7 +10,7 @@ use Rattle.array_image.specs.Places.{slice_of, super_sector}
 use Rattle.array_image.specs.Arrays.{Shape}
 use Rattle.array_image.specs.Held.{IsSettled}
 use Rattle.array_image.specs.SoundArray.{array_fields}
-use Rattle.commit_log.specs.Kept.{LogKept}
+use Rattle.log_laws.specs.Kept.{LogKept}
 use Rattle.array_model.specs.View.{View, place_at, shape_of}
 use Rattle.array_model.specs.Says.{Holds}
 use Rattle.array_model.specs.ArrayCalls.{Covers, Keeping}
@@ -22,13 +22,13 @@ use Rattle.array_core.specs.Pool.{Goes, MayRenew}
 use Rattle.array_core.specs.TruthLeft.{LeavesTruth}
 use Rattle.array_core.specs.Writing.{KeepsElsewhere}
 use Rattle.raid_rack.specs.declared.arrays.Arrays.{Arrays}
-use Rattle.raid_rack.specs.Raid.{Raid}
-use Rattle.raid_rack.specs.Moves.{AreMarked, IsHeeded, IsSet, Mends}
-use Rattle.raid_rack.specs.Cleaning.{Cleans, CleansAll, Ends, IsEnded, IsIdle, NoneFails, as_it_was, restated}
+use Rattle.raid_laws.specs.Raid.{Raid}
+use Rattle.raid_laws.specs.Moves.{AreMarked, IsHeeded, IsSet, Mends}
+use Rattle.raid_laws.specs.Cleaning.{Cleans, CleansAll, Ends, IsEnded, IsIdle, NoneFails, as_it_was, restated}
 use Rattle.raid_rack.specs.RaidRack.{IsRunning, raid_by, no_array}
-use Rattle.raid_rack.proofs.Changed.{called}
-use Rattle.raid_rack.proofs.Cleaned.{CleanCall, ends_clean, moves_clean, none_gone, settled_clean, slice_own}
-use Rattle.raid_rack.proofs.Moving.{moves_same, moves_then}
+use Rattle.raid_laws.proofs.Changed.{called}
+use Rattle.raid_laws.proofs.Cleaned.{CleanCall, ends_clean, moves_clean, none_gone, settled_clean, slice_own}
+use Rattle.raid_laws.proofs.Moving.{moves_same, moves_then}
 use Rattle.raid_rack.proofs.Steps.{set_own, set_other, length_set}
 use Rattle.raid_rack.proofs.Synced.{settled_moved}
 

@@ -15,12 +15,12 @@ use Rattle.array_image.specs.Held.{current_in}
 use Rattle.array_image.specs.Left.{IsClosed, IsInside, IsLeft, LogsInside, Picks}
 use Rattle.array_image.specs.Marks.{lowered}
 use Rattle.array_image.proofs.Frames.{Agree, shape_same, state_same, supers_same, truth_by_supers}
-use Rattle.commit_log.specs.View.{LogView, names, next_number}
-use Rattle.commit_log.specs.Commits.{Commits}
-use Rattle.commit_log.specs.Kept.{AreLeft, LogKept, Brings as BringsState}
-use Rattle.commit_log.specs.Standing.{IsAlike}
-use Rattle.commit_log.proofs.Kept.{before_inside, brings_to, brought_state, kept_decides, kept_ready, put_none, stands_of}
-use Rattle.commit_log.proofs.KeptAfter.{kept_after}
+use Rattle.log_laws.specs.View.{LogView, names, next_number}
+use Rattle.log_laws.specs.Commits.{Commits}
+use Rattle.log_laws.specs.Kept.{AreLeft, LogKept, Brings as BringsState}
+use Rattle.log_laws.specs.Standing.{IsAlike}
+use Rattle.log_laws.proofs.Kept.{before_inside, brings_to, brought_state, kept_decides, kept_ready, put_none, stands_of}
+use Rattle.log_laws.proofs.KeptAfter.{kept_after}
 use Rattle.array_model.specs.View.{View, may_vary, shape_of}
 use Rattle.array_model.specs.Says.{Holds, HoldsShape, Says}
 use Rattle.array_model.specs.ArrayCalls.{Covers}
@@ -28,36 +28,36 @@ use Rattle.array_model.proofs.Keeping.{KeepsData, even_kept, held_kept, inside_b
 use Rattle.array_model.proofs.Losses.{IsLosing, losing_holds}
 use Rattle.array_model.proofs.Noting.{laid_out, unspent_then}
 use Rattle.array_model.proofs.Spared.{lost_value}
-use Rattle.raid_rack.specs.Book.{IsAfter, after_same}
-use Rattle.raid_rack.specs.Raid.{Raid, gone_in, is_over, IsWritten, Stood}
-use Rattle.raid_rack.specs.Frames.{Frame, HasFrame, frame_of}
-use Rattle.raid_rack.specs.Laws.{stood_left}
-use Rattle.raid_rack.specs.Marking.{Part, TiedBetween}
-use Rattle.raid_rack.specs.Reach.{reach_same}
-use Rattle.raid_rack.specs.Moves.{AreMarked, Brings, IsAmid, IsSeated, KeepsArrays}
-use Rattle.raid_rack.specs.Rows.{KeepsLacking, KeepsRows, LackingFrom, LeavesFrom, LeavesLacking, LeavesRows}
-use Rattle.raid_rack.specs.Works.{closed}
-use Rattle.raid_rack.proofs.Changed.{PartAmid, lowered_none, part_if}
-use Rattle.raid_rack.proofs.ClosedSays.{says_closed, shape_closed, truth_closed}
-use Rattle.raid_rack.proofs.Closing.{IsClosing, after_closed, closed_raid, closing_brings, closing_current, closing_data, closing_few, closing_further, closing_losing, closing_named, closing_none, closing_set, closing_target, closing_unwritten, closing_went}
-use Rattle.raid_rack.proofs.Brought.{copies_own}
-use Rattle.raid_rack.proofs.Committed.{next_later, raised_more, raised_range}
-use Rattle.raid_rack.proofs.Elements.{look_among}
-use Rattle.raid_rack.proofs.Frames.{frame_same, known_frame, left_frame}
-use Rattle.raid_rack.proofs.Losing.{only_gone}
-use Rattle.raid_rack.proofs.Marking.{MarksCall, alike_agree, alike_state, closed_after, data_kept, logs_commit, still_after}
-use Rattle.raid_rack.proofs.Own.{look_nothing}
-use Rattle.raid_rack.proofs.Noted.{idle_now, left_reach, losing_spent, noted_clear}
-use Rattle.raid_rack.proofs.Over.{number_room, over_still, someone_left}
-use Rattle.raid_rack.proofs.Own.{says_same}
-use Rattle.raid_rack.proofs.EachImage.{GoesBy, HasBefore, HasEach}
-use Rattle.raid_rack.proofs.LackingRows.{lacking_by, lacking_same}
-use Rattle.raid_rack.proofs.Rows.{from_same, rows_by}
-use Rattle.raid_rack.proofs.Seated.{names_joined, none_listed}
-use Rattle.raid_rack.proofs.Whole.{heeded_gone}
+use Rattle.raid_laws.specs.Book.{IsAfter, after_same}
+use Rattle.raid_laws.specs.Raid.{Raid, gone_in, is_over, IsWritten, Stood}
+use Rattle.raid_laws.specs.Frames.{Frame, HasFrame, frame_of}
+use Rattle.raid_laws.specs.Laws.{stood_left}
+use Rattle.raid_laws.specs.Marking.{Part, TiedBetween}
+use Rattle.raid_laws.specs.Reach.{reach_same}
+use Rattle.raid_laws.specs.Moves.{AreMarked, Brings, IsAmid, IsSeated, KeepsArrays}
+use Rattle.raid_laws.specs.Rows.{KeepsLacking, KeepsRows, LackingFrom, LeavesFrom, LeavesLacking, LeavesRows}
+use Rattle.raid_laws.specs.Works.{closed}
+use Rattle.raid_laws.proofs.Changed.{PartAmid, lowered_none, part_if}
+use Rattle.raid_laws.proofs.ClosedSays.{says_closed, shape_closed, truth_closed}
+use Rattle.raid_laws.proofs.Closing.{IsClosing, after_closed, closed_raid, closing_brings, closing_current, closing_data, closing_few, closing_further, closing_losing, closing_named, closing_none, closing_set, closing_target, closing_unwritten, closing_went}
+use Rattle.raid_laws.proofs.Brought.{copies_own}
+use Rattle.raid_laws.proofs.Committed.{next_later, raised_more, raised_range}
+use Rattle.raid_laws.proofs.Elements.{look_among}
+use Rattle.raid_laws.proofs.Frames.{frame_same, known_frame, left_frame}
+use Rattle.raid_laws.proofs.Losing.{only_gone}
+use Rattle.raid_laws.proofs.Marking.{MarksCall, alike_agree, alike_state, closed_after, data_kept, logs_commit, still_after}
+use Rattle.raid_laws.proofs.Own.{look_nothing}
+use Rattle.raid_laws.proofs.Noted.{idle_now, left_reach, losing_spent, noted_clear}
+use Rattle.raid_laws.proofs.Over.{number_room, over_still, someone_left}
+use Rattle.raid_laws.proofs.Own.{says_same}
+use Rattle.raid_laws.proofs.EachImage.{GoesBy, HasBefore, HasEach}
+use Rattle.raid_laws.proofs.LackingRows.{lacking_by, lacking_same}
+use Rattle.raid_laws.proofs.Rows.{from_same, rows_by}
+use Rattle.raid_laws.proofs.Seated.{names_joined, none_listed}
+use Rattle.raid_laws.proofs.Whole.{heeded_gone}
 use Rattle.array_core.specs.TruthHeld.{HoldTruth}
 use Rattle.array_core.proofs.TruthHeld.{hold_supers}
-use Rattle.raid_rack.specs.Truths.{KeepsTruths}
+use Rattle.raid_laws.specs.Truths.{KeepsTruths}
 use Rattle.raid_rack.proofs.Truths.{hold_gone}
 
 and_true : (b : Bool) → (b && true) ≡ b

@@ -8,9 +8,9 @@ use Rattle.rack.specs.Seen.{Seen}
 use Rattle.array_model.specs.View.{View}
 use Rattle.array_core.specs.Seats.{names, gone}
 use Rattle.raid_rack.specs.declared.arrays.Arrays.{Arrays}
-use Rattle.raid_rack.specs.Moves.{noted_at}
+use Rattle.raid_laws.specs.Moves.{noted_at}
 use Rattle.raid_rack.specs.RaidRack.{IsRunning, raid_by, no_array}
-use Rattle.raid_rack.proofs.Noted.{IsNoting, current_few, noted_before, noted_seated, noted_whole}
+use Rattle.raid_laws.proofs.Noted.{IsNoting, current_few, noted_before, noted_seated, noted_whole}
 use Rattle.raid_rack.proofs.Mended.{each_get}
 
 -- the arrays that the code notes are those

@@ -8,22 +8,22 @@ use Rattle.array_image.specs.States.{is_current, current_places}
 use Rattle.array_image.specs.Spent.{wanting, spent_with}
 use Rattle.array_image.specs.Stripes.{sector_in}
 use Rattle.array_image.specs.Arrays.{layout_at}
-use Rattle.commit_log.specs.View.{names}
+use Rattle.log_laws.specs.View.{names}
 use Rattle.array_model.specs.declared.Seat.{Seat}
 use Rattle.array_model.specs.declared.Seat.TheVariants.{Whole, Missing, Rebuilding}
 use Rattle.array_model.specs.View.{View, IsArray, member_on, present, seat_reach, shape_of, spent_in}
 use Rattle.raid_rack.specs.declared.arrays.Arrays.{Arrays}
-use Rattle.raid_rack.specs.Raid.{Raid, gone_in, is_empty, is_left, is_used_up, is_over, spent_of, last_number}
-use Rattle.raid_rack.specs.Moves.{IsHeeded}
+use Rattle.raid_laws.specs.Raid.{Raid, gone_in, is_empty, is_left, is_used_up, is_over, spent_of, last_number}
+use Rattle.raid_laws.specs.Moves.{IsHeeded}
 use Rattle.raid_rack.specs.RaidRack.{raid_by, no_array}
-use Rattle.raid_rack.proofs.Added.{names_current}
+use Rattle.raid_laws.proofs.Added.{names_current}
 use Rattle.raid_rack.proofs.Mended.{first_named}
-use Rattle.raid_rack.proofs.Noted.{bool_same, current_few}
-use Rattle.raid_rack.proofs.Over.{not_true}
-use Rattle.raid_rack.proofs.Ranges.{any_some, any_from}
+use Rattle.raid_laws.proofs.Noted.{bool_same, current_few}
+use Rattle.raid_laws.proofs.Over.{not_true}
+use Rattle.raid_laws.proofs.Ranges.{any_some, any_from}
 use Rattle.raid_rack.proofs.Rounds.{no_length, some_length}
 use Rattle.raid_rack.proofs.Turned.{any_index, index_any}
-use Rattle.raid_rack.proofs.Whole.{heeded_gone}
+use Rattle.raid_laws.proofs.Whole.{heeded_gone}
 
 -- a test over a list, as one over its numbers
 any_numbers : {X : Type 0} (f : X → Bool) (xs : List X) (d : X) (k : ℕ) → length xs ≡ k

@@ -14,16 +14,16 @@ use Rattle.array_image.specs.States.{is_current}
 use Rattle.raid_rack.specs.declared.arrays.Arrays.{Arrays}
 use Rattle.array_core.specs.Seats.{losing}
 use Rattle.array_model.specs.View.{spent_in}
-use Rattle.raid_rack.specs.Vacated.{vacated}
-use Rattle.raid_rack.specs.Enlisting.{Enlists, FindsEach, IsEnlisted, IsWrittenBy, JoinsEach, KeepsTold, SettlesWhole, next_drive, with_drive}
-use Rattle.raid_rack.specs.Moves.{RaisesBy}
-use Rattle.raid_rack.specs.NewDrive.{LaysDrive, SeatsDrive, drive_table, joins}
+use Rattle.raid_laws.specs.Vacated.{vacated}
+use Rattle.raid_laws.specs.Enlisting.{Enlists, FindsEach, IsEnlisted, IsWrittenBy, JoinsEach, KeepsTold, SettlesWhole, next_drive, with_drive}
+use Rattle.raid_laws.specs.Moves.{RaisesBy}
+use Rattle.raid_laws.specs.NewDrive.{LaysDrive, SeatsDrive, drive_table, joins}
 use Rattle.raid_rack.specs.RaidRack.{IsFit, IsRunning, raid_by}
 use Rattle.raid_rack.proofs.EnlistTold.{enlisted_truths, keeps_told}
 use Rattle.raid_rack.proofs.Enrolled.{all_only, copies_kept, enrolled, enrolled_raises, mbr_kept, single_kept}
 use Rattle.raid_rack.proofs.Renewing.{joins_same, same_members, seats_same}
 use Rattle.raid_rack.proofs.Untouched.{only_moved}
-use Rattle.raid_rack.specs.Truths.{JoinsTruths}
+use Rattle.raid_laws.specs.Truths.{JoinsTruths}
 
 module _ (r q z : Arrays) (place disk units sectors : ℕ) (plan : Plan) (t u : Slices) (a m y b : Seen) (size : sectors ≡ a.sectors disk)
     (fit : IsFit r (slices_of t a)) (running : IsRunning q (slices_of t y)) (settles : SettlesWhole (raid_by r) (raid_by q) (slices_of t m) (slices_of t y))

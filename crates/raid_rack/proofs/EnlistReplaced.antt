@@ -25,27 +25,27 @@ use Rattle.array_image.specs.States.{is_current, state_in}
 use Rattle.array_model.specs.ArrayCalls.{Covers}
 use Rattle.array_model.specs.View.{View, shape_of, spent_in}
 use Rattle.array_model.proofs.Keeping.{live_on}
-use Rattle.commit_log.specs.Kept.{LogKept}
-use Rattle.commit_log.proofs.Kept.{place_of_log}
-use Rattle.raid_rack.specs.Enlisting.{FindsEach, FindsPart, HasNoCopy, IsNewLog, SaysFormer, SaysLatter, enlisted}
-use Rattle.raid_rack.specs.Frames.{frame_of}
-use Rattle.raid_rack.specs.Losses.{has_other}
-use Rattle.raid_rack.specs.Moves.{IsAmid, IsHeeded, IsSet}
-use Rattle.raid_rack.specs.NewDrive.{SeatsDrive}
-use Rattle.raid_rack.specs.Raid.{Raid, is_over}
-use Rattle.raid_rack.specs.Rows.{LeavesFrom, LeavesRows}
-use Rattle.raid_rack.specs.Since.{HoldsTakenSince, IsSince, KeepsTakenSince}
-use Rattle.raid_rack.specs.Vacated.{AgreesOff, DiffersAt, FindsArray, IsFormerly, vacated}
-use Rattle.raid_rack.proofs.Apart.{seat_is}
+use Rattle.log_laws.specs.Kept.{LogKept}
+use Rattle.log_laws.proofs.Kept.{place_of_log}
+use Rattle.raid_laws.specs.Enlisting.{FindsEach, FindsPart, HasNoCopy, IsNewLog, SaysFormer, SaysLatter, enlisted}
+use Rattle.raid_laws.specs.Frames.{frame_of}
+use Rattle.raid_laws.specs.Losses.{has_other}
+use Rattle.raid_laws.specs.Moves.{IsAmid, IsHeeded, IsSet}
+use Rattle.raid_laws.specs.NewDrive.{SeatsDrive}
+use Rattle.raid_laws.specs.Raid.{Raid, is_over}
+use Rattle.raid_laws.specs.Rows.{LeavesFrom, LeavesRows}
+use Rattle.raid_laws.specs.Since.{HoldsTakenSince, IsSince, KeepsTakenSince}
+use Rattle.raid_laws.specs.Vacated.{AgreesOff, DiffersAt, FindsArray, IsFormerly, vacated}
+use Rattle.raid_laws.proofs.Apart.{seat_is}
 use Rattle.raid_rack.proofs.Enlisted.{current_enlisted}
-use Rattle.raid_rack.proofs.FormerSays.{former_says}
-use Rattle.raid_rack.proofs.Leaving.{leaves_below, sliced_inside}
-use Rattle.raid_rack.proofs.ReseatedLogs.{no_copy}
-use Rattle.raid_rack.proofs.RetiredArrays.{retired_finds}
+use Rattle.raid_laws.proofs.FormerSays.{former_says}
+use Rattle.raid_laws.proofs.Leaving.{leaves_below, sliced_inside}
+use Rattle.raid_laws.proofs.ReseatedLogs.{no_copy}
+use Rattle.raid_laws.proofs.RetiredArrays.{retired_finds}
 use Rattle.raid_rack.proofs.Retiring.{enlisted_vacated}
-use Rattle.raid_rack.proofs.Since.{kept_since}
+use Rattle.raid_laws.proofs.Since.{kept_since}
 use Rattle.raid_rack.proofs.Untouched.{disk_still}
-use Rattle.raid_rack.proofs.Whole.{amid_stood}
+use Rattle.raid_laws.proofs.Whole.{amid_stood}
 
 module _ (arrays : List View) (place disk units : ℕ) (plan : Plan) (t u : Slices) (s w : Raid) (y b : Seen) (sectors : ℕ)
     (orderly : IsOrderly t) (orderly_now : IsOrderly u) (free : (p : ℕ) → seat_of t p ≢ Some disk) (seats : SeatsDrive arrays place disk sectors t u)

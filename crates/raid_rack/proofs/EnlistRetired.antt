@@ -9,13 +9,13 @@ use Rattle.array_image.specs.States.{is_current}
 use Rattle.array_core.specs.Seats.{gone, heeded, losing, seat_of}
 use Rattle.array_model.specs.View.{View, place_at, spent_in}
 use Rattle.raid_rack.specs.declared.arrays.Arrays.{Arrays}
-use Rattle.raid_rack.specs.Enlisting.{FindsEach, IsEnlisted, JoinsEach, with_drive}
-use Rattle.raid_rack.specs.Moves.{IsHeeded, IsSet, IsUnmarked, RaisesBy}
-use Rattle.raid_rack.specs.NewDrive.{ReachesAll, joins}
-use Rattle.raid_rack.specs.Raid.{Raid}
+use Rattle.raid_laws.specs.Enlisting.{FindsEach, IsEnlisted, JoinsEach, with_drive}
+use Rattle.raid_laws.specs.Moves.{IsHeeded, IsSet, IsUnmarked, RaisesBy}
+use Rattle.raid_laws.specs.NewDrive.{ReachesAll, joins}
+use Rattle.raid_laws.specs.Raid.{Raid}
 use Rattle.raid_rack.specs.RaidRack.{IsRunning, no_array, raid_by}
-use Rattle.raid_rack.specs.Truths.{JoinsTruths}
-use Rattle.raid_rack.specs.Vacated.{vacated, vacated_state}
+use Rattle.raid_laws.specs.Truths.{JoinsTruths}
+use Rattle.raid_laws.specs.Vacated.{vacated, vacated_state}
 use Rattle.raid_rack.proofs.Mended.{each_get, get_past}
 use Rattle.raid_rack.proofs.Renewed.{member_found}
 use Rattle.raid_rack.proofs.Renewing.{AreSameMembers, joins_same, seat_same}

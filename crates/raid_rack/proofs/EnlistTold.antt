@@ -22,42 +22,42 @@ use Rattle.array_image.specs.States.{is_current, state_in}
 use Rattle.array_model.specs.ArrayCalls.{Covers}
 use Rattle.array_model.specs.View.{View, shape_of, spent_in}
 use Rattle.array_model.proofs.Keeping.{live_on}
-use Rattle.commit_log.specs.Kept.{LogKept}
-use Rattle.commit_log.specs.Saying.{SaysState}
-use Rattle.commit_log.proofs.Kept.{place_of_log}
-use Rattle.commit_log.proofs.HeldCopies.{kept_holds}
-use Rattle.raid_rack.specs.Vacated.{DiffersAt, vacated}
-use Rattle.raid_rack.specs.Book.{after_same}
-use Rattle.raid_rack.specs.Enlisting.{FindsEach, HasNoCopy, IsEnlisted, IsNewLog, IsOpenDisk, JoinsEach, JoinsPart, KeepsTold, HoldsLaid, HoldsTable, SaysBy, SaysFormer, SaysJoining, SaysLatter, SaysReplacing, SaysLaying, SettlesWhole, enlisted, next_drive, with_drive}
-use Rattle.raid_rack.specs.Laws.{live_parts}
-use Rattle.raid_rack.specs.Frames.{Frame, HasFrame, KeepsFrame, frame_of}
-use Rattle.raid_rack.specs.Logs.{LogsBetween}
-use Rattle.raid_rack.specs.Losses.{has_other}
-use Rattle.raid_rack.specs.Marking.{SaysBetween}
-use Rattle.raid_rack.specs.Moves.{IsAmid, IsHeeded, IsSet, Moves, PartOf}
-use Rattle.raid_rack.specs.NewDrive.{IsOfDrive, LaysDrive, SeatsDrive, first_laid, gate_at, sectors_laid}
-use Rattle.raid_rack.specs.Rows.{KeepsRows, LeavesFrom, LeavesRows, from_lower}
-use Rattle.raid_rack.specs.Raid.{IsTold, Raid, Stood, held_in, is_over, spent_of}
-use Rattle.raid_rack.specs.Since.{AreJoinSince, AreSince, AreTakenSince, KeepsJoinSince, KeepsTakenSince}
-use Rattle.raid_rack.proofs.Apart.{moves_quiet, reads_apart, seat_is}
+use Rattle.log_laws.specs.Kept.{LogKept}
+use Rattle.log_laws.specs.Saying.{SaysState}
+use Rattle.log_laws.proofs.Kept.{place_of_log}
+use Rattle.log_laws.proofs.HeldCopies.{kept_holds}
+use Rattle.raid_laws.specs.Vacated.{DiffersAt, vacated}
+use Rattle.raid_laws.specs.Book.{after_same}
+use Rattle.raid_laws.specs.Enlisting.{FindsEach, HasNoCopy, IsEnlisted, IsNewLog, IsOpenDisk, JoinsEach, JoinsPart, KeepsTold, HoldsLaid, HoldsTable, SaysBy, SaysFormer, SaysJoining, SaysLatter, SaysReplacing, SaysLaying, SettlesWhole, enlisted, next_drive, with_drive}
+use Rattle.raid_laws.specs.Laws.{live_parts}
+use Rattle.raid_laws.specs.Frames.{Frame, HasFrame, KeepsFrame, frame_of}
+use Rattle.raid_laws.specs.Logs.{LogsBetween}
+use Rattle.raid_laws.specs.Losses.{has_other}
+use Rattle.raid_laws.specs.Marking.{SaysBetween}
+use Rattle.raid_laws.specs.Moves.{IsAmid, IsHeeded, IsSet, Moves, PartOf}
+use Rattle.raid_laws.specs.NewDrive.{IsOfDrive, LaysDrive, SeatsDrive, first_laid, gate_at, sectors_laid}
+use Rattle.raid_laws.specs.Rows.{KeepsRows, LeavesFrom, LeavesRows, from_lower}
+use Rattle.raid_laws.specs.Raid.{IsTold, Raid, Stood, held_in, is_over, spent_of}
+use Rattle.raid_laws.specs.Since.{AreJoinSince, AreSince, AreTakenSince, KeepsJoinSince, KeepsTakenSince}
+use Rattle.raid_laws.proofs.Apart.{moves_quiet, reads_apart, seat_is}
 use Rattle.raid_rack.proofs.LayingDrive.{copy_agrees, in_disk, of_copy}
 use Rattle.raid_rack.proofs.Enlisted.{current_enlisted}
 use Rattle.raid_rack.proofs.EnlistReplaced.{found_frame, found_holds, found_leaves, found_rows, found_since}
-use Rattle.raid_rack.proofs.Leaving.{leaves_below, leaves_both, leaves_where, sliced_inside}
-use Rattle.raid_rack.proofs.Moving.{moves_then, part_says}
-use Rattle.raid_rack.proofs.NewSupers.{tells_now}
-use Rattle.raid_rack.proofs.Others.{some_other}
-use Rattle.raid_rack.proofs.Over.{number_room, or_from}
+use Rattle.raid_laws.proofs.Leaving.{leaves_below, leaves_both, leaves_where, sliced_inside}
+use Rattle.raid_laws.proofs.Moving.{moves_then, part_says}
+use Rattle.raid_laws.proofs.NewSupers.{tells_now}
+use Rattle.raid_laws.proofs.Others.{some_other}
+use Rattle.raid_laws.proofs.Over.{number_room, or_from}
 use Rattle.raid_rack.proofs.Reseated.{reseated_amid, reseated_rows, reseated_settled}
-use Rattle.raid_rack.proofs.Since.{kept_since}
+use Rattle.raid_laws.proofs.Since.{kept_since}
 use Rattle.raid_rack.proofs.Untouched.{disk_new, disk_still, off_slices}
-use Rattle.raid_rack.proofs.Whole.{amid_stood, stood_keeps, stood_own, told_amid}
+use Rattle.raid_laws.proofs.Whole.{amid_stood, stood_keeps, stood_own, told_amid}
 use Rattle.std.proofs.lemmas.Bool.{cases_Bool, ne_eqb}
 use Rattle.array_core.specs.Seats.{losing}
 use Rattle.array_core.specs.Superblocks.{is_settled}
 use Rattle.array_core.specs.TruthHeld.{HoldTruth}
 use Rattle.array_core.proofs.TruthHeld.{hold_tells}
-use Rattle.raid_rack.specs.Truths.{JoinsTruths}
+use Rattle.raid_laws.specs.Truths.{JoinsTruths}
 use Rattle.raid_rack.proofs.Truths.{tells_loses}
 
 -- a state between one and itself is that one

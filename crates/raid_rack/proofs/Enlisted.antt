@@ -15,11 +15,11 @@ use Rattle.pool_state.specs.declared.contents.State.{State}
 use Rattle.array_image.specs.Places.{log_kind, log_sectors, raid_kind, state_sector}
 use Rattle.array_image.specs.States.{is_current}
 use Rattle.array_model.specs.View.{View}
-use Rattle.raid_rack.specs.Enlisting.{enlisted, next_drive}
-use Rattle.raid_rack.specs.Missing.{marked, marked_from, missing_if}
-use Rattle.raid_rack.specs.NewDrive.{drive_table, entry_of, first_in, joins, length_in, member_entry}
-use Rattle.raid_rack.proofs.Committed.{valid_marked}
-use Rattle.raid_rack.proofs.Each.{get_set_other, get_set_same}
+use Rattle.raid_laws.specs.Enlisting.{enlisted, next_drive}
+use Rattle.raid_laws.specs.Missing.{marked, marked_from, missing_if}
+use Rattle.raid_laws.specs.NewDrive.{drive_table, entry_of, first_in, joins, length_in, member_entry}
+use Rattle.raid_laws.proofs.Committed.{valid_marked}
+use Rattle.raid_laws.proofs.Each.{get_set_other, get_set_same}
 use Rattle.raid_rack.proofs.LayingDrive.{joins_fits}
 use Rattle.raid_rack.proofs.Steps.{length_set}
 

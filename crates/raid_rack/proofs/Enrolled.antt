@@ -17,16 +17,16 @@ use Rattle.pool_state.specs.declared.contents.State.{State}
 use Rattle.array_image.specs.States.{is_current}
 use Rattle.array_core.specs.Seats.{renewed}
 use Rattle.array_model.specs.View.{View}
-use Rattle.raid_rack.specs.Book.{IsAfter}
-use Rattle.raid_rack.specs.Enlisting.{IsEnlisted, IsWrittenBy, SettlesWhole, enlisted, next_drive, with_drive}
-use Rattle.raid_rack.specs.Losing.{only_then as lost_then}
-use Rattle.raid_rack.specs.Moves.{IsHeeded, IsSet, LosesOnly, RaisesBy}
-use Rattle.raid_rack.specs.NewDrive.{IsOfDrive, LaysDrive, SeatsDrive}
-use Rattle.raid_rack.specs.Raid.{Raid, is_left}
+use Rattle.raid_laws.specs.Book.{IsAfter}
+use Rattle.raid_laws.specs.Enlisting.{IsEnlisted, IsWrittenBy, SettlesWhole, enlisted, next_drive, with_drive}
+use Rattle.raid_laws.specs.Losing.{only_then as lost_then}
+use Rattle.raid_laws.specs.Moves.{IsHeeded, IsSet, LosesOnly, RaisesBy}
+use Rattle.raid_laws.specs.NewDrive.{IsOfDrive, LaysDrive, SeatsDrive}
+use Rattle.raid_laws.specs.Raid.{Raid, is_left}
 use Rattle.raid_rack.proofs.LayingDrive.{copy_agrees, of_copy}
 use Rattle.raid_rack.proofs.Renewing.{renewed_if}
 use Rattle.raid_rack.proofs.Untouched.{tables_kept}
-use Rattle.raid_rack.proofs.Whole.{heeded_gone}
+use Rattle.raid_laws.proofs.Whole.{heeded_gone}
 
 -- ---- the book
 

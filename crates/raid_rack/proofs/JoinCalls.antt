@@ -11,26 +11,26 @@ use Rattle.pool_state.specs.declared.contents.Plan.{Plan}
 use Rattle.pool_state.specs.declared.contents.Plan.TheVariants.{Replace}
 use Rattle.pool_state.specs.declared.contents.State.{State}
 use Rattle.array_image.specs.States.{current_places, is_current}
-use Rattle.commit_log.specs.View.{LogView, next_number}
-use Rattle.commit_log.specs.Commits.{CommitCall}
+use Rattle.log_laws.specs.View.{LogView, next_number}
+use Rattle.log_laws.specs.Commits.{CommitCall}
 use Rattle.array_model.specs.View.{View, sectors_of}
 use Rattle.array_core.specs.Seats.{gone as without, renewed, seat_of}
 use Rattle.raid_rack.specs.declared.arrays.Arrays.{Arrays}
-use Rattle.raid_rack.specs.Enlisting.{FindsEach, HasNewSlices, IsEnlisted, JoinsEach, enlisted, next_drive, renewed_at, with_drive}
-use Rattle.raid_rack.specs.Losses.{AddsCopies}
-use Rattle.raid_rack.specs.Moves.{IsHeeded, IsSet, IsUnmarked, Mends, RaisesBy}
-use Rattle.raid_rack.specs.NewDrive.{ReachesAll, first_in, joins, slice_length}
-use Rattle.raid_rack.specs.Raid.{Raid}
+use Rattle.raid_laws.specs.Enlisting.{FindsEach, HasNewSlices, IsEnlisted, JoinsEach, enlisted, next_drive, renewed_at, with_drive}
+use Rattle.raid_laws.specs.Losses.{AddsCopies}
+use Rattle.raid_laws.specs.Moves.{IsHeeded, IsSet, IsUnmarked, Mends, RaisesBy}
+use Rattle.raid_laws.specs.NewDrive.{ReachesAll, first_in, joins, slice_length}
+use Rattle.raid_laws.specs.Raid.{Raid}
 use Rattle.raid_rack.specs.RaidRack.{IsRunning, no_array, raid_by}
-use Rattle.raid_rack.specs.Settling.{HasStaged, IsMarking}
-use Rattle.raid_rack.proofs.Committed.{IsCommitBy, after_set, raid_after}
+use Rattle.raid_laws.specs.Settling.{HasStaged, IsMarking}
+use Rattle.raid_laws.proofs.Committed.{IsCommitBy, after_set, raid_after}
 use Rattle.raid_rack.proofs.Enlisted.{enlisted_marked}
 use Rattle.raid_rack.proofs.JoinedFound.{found_part}
 use Rattle.raid_rack.proofs.JoinedMissing.{joins_part}
 use Rattle.raid_rack.proofs.Joining.{MayJoinPool, enlisting_raises, is_enlisted, joining_fewer, joining_marks, listed_raid, staged_like}
 use Rattle.raid_rack.proofs.Mended.{each_get, each_sectors, get_past}
 use Rattle.raid_rack.proofs.Renewed.{renewed_count, renewed_get}
-use Rattle.raid_rack.specs.Truths.{JoinsTruths, KeepsTruths}
+use Rattle.raid_laws.specs.Truths.{JoinsTruths, KeepsTruths}
 use Rattle.raid_rack.proofs.Truths.{makes_commit, makes_kept}
 
 -- a new drive may join, over slices that it has

@@ -22,42 +22,42 @@ use Rattle.array_image.specs.Left.{Picks}
 use Rattle.array_image.specs.Marks.{lowered}
 use Rattle.array_image.proofs.Frames.{super_of_sector}
 use Rattle.array_image.proofs.Marked.{marked_super}
-use Rattle.commit_log.specs.View.{LogView, names, next_number}
-use Rattle.commit_log.specs.Standing.{IsAlike}
-use Rattle.commit_log.specs.Kept.{AreLeft, Brings, BringsTo, LogKept, MayJoin, gone_but}
-use Rattle.commit_log.proofs.Kept.{joined_decides, joined_ready, put_none}
+use Rattle.log_laws.specs.View.{LogView, names, next_number}
+use Rattle.log_laws.specs.Standing.{IsAlike}
+use Rattle.log_laws.specs.Kept.{AreLeft, Brings, BringsTo, LogKept, MayJoin, gone_but}
+use Rattle.log_laws.proofs.Kept.{joined_decides, joined_ready, put_none}
 use Rattle.array_model.specs.View.{View, may_vary, place_at, shape_of}
 use Rattle.array_model.specs.ArrayCalls.{Covers}
 use Rattle.array_model.specs.Says.{HasNoOthers, HoldsData}
 use Rattle.array_model.proofs.Losses.{IsLosing}
 use Rattle.array_model.proofs.Noting.{laid_out, unspent_then}
 use Rattle.array_model.proofs.Spared.{IsLaidOut, lost_value}
-use Rattle.raid_rack.specs.Enlisting.{IsNewLog, SaysBy, next_drive}
-use Rattle.raid_rack.specs.Losses.{AddsCopies, has_other}
+use Rattle.raid_laws.specs.Enlisting.{IsNewLog, SaysBy, next_drive}
+use Rattle.raid_laws.specs.Losses.{AddsCopies, has_other}
 use Rattle.array_core.specs.Seats.{renewed}
-use Rattle.raid_rack.specs.Marking.{Restates}
-use Rattle.raid_rack.specs.Moves.{IsAmid, Mends}
-use Rattle.commit_log.proofs.FirstGate.{closed_gate}
-use Rattle.raid_rack.specs.Raid.{Raid, IsWritten, Stood, gone_in, is_over}
-use Rattle.raid_rack.specs.Settling.{state_after}
-use Rattle.raid_rack.specs.Vacated.{FindsArray}
-use Rattle.raid_rack.proofs.Added.{marks_bring, names_current}
-use Rattle.raid_rack.proofs.Alike.{CountAlike, data_alike, settled_alike}
-use Rattle.raid_rack.proofs.Brought.{copies_own}
-use Rattle.raid_rack.proofs.Adding.{all_live, no_data, supers_calm, supers_inside}
-use Rattle.raid_rack.proofs.Changed.{lowered_none}
-use Rattle.raid_rack.proofs.Committed.{IsCommitBy, after_further, after_gone, after_set, commit_losing, next_later, raid_after, raised_more}
+use Rattle.raid_laws.specs.Marking.{Restates}
+use Rattle.raid_laws.specs.Moves.{IsAmid, Mends}
+use Rattle.log_laws.proofs.FirstGate.{closed_gate}
+use Rattle.raid_laws.specs.Raid.{Raid, IsWritten, Stood, gone_in, is_over}
+use Rattle.raid_laws.specs.Settling.{state_after}
+use Rattle.raid_laws.specs.Vacated.{FindsArray}
+use Rattle.raid_laws.proofs.Added.{marks_bring, names_current}
+use Rattle.raid_laws.proofs.Alike.{CountAlike, data_alike, settled_alike}
+use Rattle.raid_laws.proofs.Brought.{copies_own}
+use Rattle.raid_laws.proofs.Adding.{all_live, no_data, supers_calm, supers_inside}
+use Rattle.raid_laws.proofs.Changed.{lowered_none}
+use Rattle.raid_laws.proofs.Committed.{IsCommitBy, after_further, after_gone, after_set, commit_losing, next_later, raid_after, raised_more}
 use Rattle.raid_rack.proofs.Enlisted.{enlisted_marked, listed}
 use Rattle.raid_rack.proofs.Joining.{MayJoinPool, listed_alike, listed_heeded, listed_raid, lists_listed, was_current}
-use Rattle.raid_rack.proofs.Marking.{MarksCall, NotesLost, commit_new, marks_stood, shape_after}
-use Rattle.raid_rack.proofs.Losing.{only_gone}
-use Rattle.raid_rack.proofs.Noted.{left_reach, live_later}
-use Rattle.raid_rack.proofs.Others.{some_other}
-use Rattle.raid_rack.proofs.Over.{member_left, number_room}
+use Rattle.raid_laws.proofs.Marking.{MarksCall, NotesLost, commit_new, marks_stood, shape_after}
+use Rattle.raid_laws.proofs.Losing.{only_gone}
+use Rattle.raid_laws.proofs.Noted.{left_reach, live_later}
+use Rattle.raid_laws.proofs.Others.{some_other}
+use Rattle.raid_laws.proofs.Over.{member_left, number_room}
 use Rattle.raid_rack.proofs.Renewed.{found_member, renewed_resync, renewed_truth}
-use Rattle.raid_rack.proofs.Restated.{IsStaged, restates_by}
-use Rattle.raid_rack.proofs.Staged.{none_gone, notes_lost, staged_array}
-use Rattle.raid_rack.proofs.Whole.{heeded_gone}
+use Rattle.raid_laws.proofs.Restated.{IsStaged, restates_by}
+use Rattle.raid_laws.proofs.Staged.{none_gone, notes_lost, staged_array}
+use Rattle.raid_laws.proofs.Whole.{heeded_gone}
 
 -- there is no superblock where there is no sector
 none_there : super_of [] ≡ None

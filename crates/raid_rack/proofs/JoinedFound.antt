@@ -20,43 +20,43 @@ use Rattle.array_image.proofs.Replays.{replayed_as_is}
 use Rattle.array_core.specs.Superblocks.{is_settled}
 use Rattle.array_model.specs.View.{View, shape_of}
 use Rattle.array_model.specs.ArrayCalls.{Covers}
-use Rattle.commit_log.specs.Commits.{Commits, StandsMidway}
-use Rattle.commit_log.specs.Kept.{LogKept, gone_but}
-use Rattle.commit_log.specs.Saying.{HoldsCopies}
-use Rattle.commit_log.specs.Standing.{IsAlike}
-use Rattle.commit_log.specs.View.{LogView, names, next_number}
+use Rattle.log_laws.specs.Commits.{Commits, StandsMidway}
+use Rattle.log_laws.specs.Kept.{LogKept, gone_but}
+use Rattle.log_laws.specs.Saying.{HoldsCopies}
+use Rattle.log_laws.specs.Standing.{IsAlike}
+use Rattle.log_laws.specs.View.{LogView, names, next_number}
 use Rattle.commit_log.proofs.Amid.{same_replayed}
-use Rattle.commit_log.proofs.Kept.{before_inside, kept_replayed}
+use Rattle.log_laws.proofs.Kept.{before_inside, kept_replayed}
 use Rattle.commit_log.proofs.Replaced.{replaced_says}
 use Rattle.commit_log.proofs.Saying.{commit_moments, midway_replaced, midway_yet}
-use Rattle.raid_rack.specs.Book.{IsAfter, after_same}
-use Rattle.raid_rack.specs.Enlisting.{FindsPart, IsNewLog, SaysBy, SaysLatter, StandsYet, enlisted, next_drive}
-use Rattle.raid_rack.specs.Frames.{Frame, HasFrame, frame_of}
-use Rattle.raid_rack.specs.Laws.{stood_left}
-use Rattle.raid_rack.specs.Logs.{KeepsLogs, LogsBetween, StandsSince}
-use Rattle.raid_rack.specs.Losses.{has_other}
-use Rattle.raid_rack.specs.Marking.{Restates, SaysBetween}
-use Rattle.raid_rack.specs.Moves.{IsAmid, Mends, PartOf}
-use Rattle.raid_rack.specs.Raid.{Raid, Stood, is_over}
-use Rattle.raid_rack.specs.Rows.{LeavesFrom, LeavesRows}
-use Rattle.raid_rack.specs.Settling.{state_after}
-use Rattle.raid_rack.specs.Since.{HoldsTakenSince, IsTakenSince, KeepsTakenSince, each_then}
-use Rattle.raid_rack.specs.Vacated.{FindsArray, IsFormerly}
-use Rattle.raid_rack.proofs.Moving.{part_says}
-use Rattle.raid_rack.proofs.Committed.{IsCommitBy, raid_after}
-use Rattle.raid_rack.proofs.Each.{get_set_other}
+use Rattle.raid_laws.specs.Book.{IsAfter, after_same}
+use Rattle.raid_laws.specs.Enlisting.{FindsPart, IsNewLog, SaysBy, SaysLatter, StandsYet, enlisted, next_drive}
+use Rattle.raid_laws.specs.Frames.{Frame, HasFrame, frame_of}
+use Rattle.raid_laws.specs.Laws.{stood_left}
+use Rattle.raid_laws.specs.Logs.{KeepsLogs, LogsBetween, StandsSince}
+use Rattle.raid_laws.specs.Losses.{has_other}
+use Rattle.raid_laws.specs.Marking.{Restates, SaysBetween}
+use Rattle.raid_laws.specs.Moves.{IsAmid, Mends, PartOf}
+use Rattle.raid_laws.specs.Raid.{Raid, Stood, is_over}
+use Rattle.raid_laws.specs.Rows.{LeavesFrom, LeavesRows}
+use Rattle.raid_laws.specs.Settling.{state_after}
+use Rattle.raid_laws.specs.Since.{HoldsTakenSince, IsTakenSince, KeepsTakenSince, each_then}
+use Rattle.raid_laws.specs.Vacated.{FindsArray, IsFormerly}
+use Rattle.raid_laws.proofs.Moving.{part_says}
+use Rattle.raid_laws.proofs.Committed.{IsCommitBy, raid_after}
+use Rattle.raid_laws.proofs.Each.{get_set_other}
 use Rattle.raid_rack.proofs.Enlisted.{enlisted_marked}
-use Rattle.raid_rack.proofs.Frames.{fields_frame, known_frame}
+use Rattle.raid_laws.proofs.Frames.{fields_frame, known_frame}
 use Rattle.raid_rack.proofs.Joined.{amid_after, call_away, joined_new, joins_log, kept, marks_call, notes, on_current, restates, stood_after}
 use Rattle.raid_rack.proofs.Joining.{MayJoinPool, listed_raid}
-use Rattle.raid_rack.proofs.Leaving.{leaves_both, leaves_where}
-use Rattle.raid_rack.proofs.Logs.{stands_same}
-use Rattle.raid_rack.proofs.MarkedRows.{commit_rows}
-use Rattle.raid_rack.proofs.Marking.{MarksCall, alike_agree, alike_state, brings_joining, commit_each, copies_made, midway_stands, never_same, restated_after, says_first}
-use Rattle.raid_rack.proofs.Noted.{noted_clear}
-use Rattle.raid_rack.proofs.Own.{look_nothing}
+use Rattle.raid_laws.proofs.Leaving.{leaves_both, leaves_where}
+use Rattle.raid_laws.proofs.Logs.{stands_same}
+use Rattle.raid_laws.proofs.MarkedRows.{commit_rows}
+use Rattle.raid_laws.proofs.Marking.{MarksCall, alike_agree, alike_state, brings_joining, commit_each, copies_made, midway_stands, never_same, restated_after, says_first}
+use Rattle.raid_laws.proofs.Noted.{noted_clear}
+use Rattle.raid_laws.proofs.Own.{look_nothing}
 use Rattle.raid_rack.proofs.Renewed.{renewed_clear, renewed_truth}
-use Rattle.raid_rack.proofs.Rows.{KeepsClear}
+use Rattle.raid_laws.proofs.Rows.{KeepsClear}
 
 module _ (place units : ℕ) (plan : Plan) (joining : ℕ → Bool) (v : Raid) (on takes gone : List ℕ) (l : LogView) (xs : List Target) (f : ℕ → View) (x y : Seen)
     (may : MayJoinPool place units plan joining v x) (commit : IsCommitBy (listed_raid place units plan joining v) [] takes on gone l xs f x y)

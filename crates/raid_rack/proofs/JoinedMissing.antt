@@ -16,44 +16,44 @@ use Rattle.array_image.specs.Arrays.{replayed}
 use Rattle.array_image.specs.Held.{IsSettled}
 use Rattle.array_image.specs.Left.{IsInside, LogsInside, Picks}
 use Rattle.array_image.proofs.Frames.{super_of_sector}
-use Rattle.commit_log.specs.View.{LogView, names, next_number}
-use Rattle.commit_log.specs.Commits.{Commits}
-use Rattle.commit_log.specs.Standing.{IsAlike}
-use Rattle.commit_log.specs.Kept.{LogKept, gone_but}
-use Rattle.commit_log.specs.Saying.{HoldsCopies, KeepsDrives, SaysState}
-use Rattle.commit_log.proofs.Kept.{before_inside, stands_of}
+use Rattle.log_laws.specs.View.{LogView, names, next_number}
+use Rattle.log_laws.specs.Commits.{Commits}
+use Rattle.log_laws.specs.Standing.{IsAlike}
+use Rattle.log_laws.specs.Kept.{LogKept, gone_but}
+use Rattle.log_laws.specs.Saying.{HoldsCopies, KeepsDrives, SaysState}
+use Rattle.log_laws.proofs.Kept.{before_inside, stands_of}
 use Rattle.array_model.specs.View.{View, shape_of}
 use Rattle.array_model.specs.ArrayCalls.{Covers}
 use Rattle.array_model.specs.Says.{HoldsData}
 use Rattle.array_model.proofs.Losses.{data_of}
-use Rattle.raid_rack.specs.Book.{after_same}
-use Rattle.raid_rack.specs.Enlisting.{IsNewLog, JoinsPart, SaysBy, enlisted, next_drive}
-use Rattle.raid_rack.specs.Frames.{Frame, HasFrame, KeepsFrame, frame_of}
-use Rattle.raid_rack.specs.Laws.{stood_left}
-use Rattle.raid_rack.specs.Logs.{LogsBetween}
-use Rattle.raid_rack.specs.Losses.{has_other}
-use Rattle.raid_rack.specs.Marking.{SaysBetween}
-use Rattle.raid_rack.specs.Moves.{IsAmid, Mends}
-use Rattle.raid_rack.specs.Raid.{Raid, gone_in, is_over}
-use Rattle.raid_rack.specs.Rows.{KeepsRows, LeavesRows, rows_then}
-use Rattle.raid_rack.specs.Settling.{state_after}
-use Rattle.raid_rack.specs.Since.{HoldsSince, HoldsTakenSince, IsJoinSince, IsTakenSince, KeepsJoinSince, KeepsTakenSince, each_then, each_weaker, taken_join}
-use Rattle.raid_rack.specs.Vacated.{FindsArray}
-use Rattle.raid_rack.proofs.Moving.{part_says}
-use Rattle.raid_rack.proofs.Added.{names_current}
-use Rattle.raid_rack.proofs.Committed.{IsCommitBy, raid_after}
+use Rattle.raid_laws.specs.Book.{after_same}
+use Rattle.raid_laws.specs.Enlisting.{IsNewLog, JoinsPart, SaysBy, enlisted, next_drive}
+use Rattle.raid_laws.specs.Frames.{Frame, HasFrame, KeepsFrame, frame_of}
+use Rattle.raid_laws.specs.Laws.{stood_left}
+use Rattle.raid_laws.specs.Logs.{LogsBetween}
+use Rattle.raid_laws.specs.Losses.{has_other}
+use Rattle.raid_laws.specs.Marking.{SaysBetween}
+use Rattle.raid_laws.specs.Moves.{IsAmid, Mends}
+use Rattle.raid_laws.specs.Raid.{Raid, gone_in, is_over}
+use Rattle.raid_laws.specs.Rows.{KeepsRows, LeavesRows, rows_then}
+use Rattle.raid_laws.specs.Settling.{state_after}
+use Rattle.raid_laws.specs.Since.{HoldsSince, HoldsTakenSince, IsJoinSince, IsTakenSince, KeepsJoinSince, KeepsTakenSince, each_then, each_weaker, taken_join}
+use Rattle.raid_laws.specs.Vacated.{FindsArray}
+use Rattle.raid_laws.proofs.Moving.{part_says}
+use Rattle.raid_laws.proofs.Added.{names_current}
+use Rattle.raid_laws.proofs.Committed.{IsCommitBy, raid_after}
 use Rattle.raid_rack.proofs.Enlisted.{enlisted_marked}
-use Rattle.raid_rack.proofs.Frames.{frame_then}
+use Rattle.raid_laws.proofs.Frames.{frame_then}
 use Rattle.raid_rack.proofs.Joined.{amid_after, current_then, joined_new, marks_call, notes, restates, stood_after}
 use Rattle.raid_rack.proofs.Joining.{MayJoinPool, listed_raid}
-use Rattle.raid_rack.proofs.KeptDrives.{enlisted_drives}
-use Rattle.raid_rack.proofs.MarkedRows.{marks_rows}
-use Rattle.raid_rack.proofs.Marking.{MarksCall, alike_agree, alike_state, brings_joining, commit_each, frame_moment, logs_made, says_first}
-use Rattle.raid_rack.proofs.Noted.{noted_clear}
-use Rattle.raid_rack.proofs.Own.{says_same}
-use Rattle.raid_rack.proofs.ReseatedLogs.{no_copy}
+use Rattle.raid_laws.proofs.KeptDrives.{enlisted_drives}
+use Rattle.raid_laws.proofs.MarkedRows.{marks_rows}
+use Rattle.raid_laws.proofs.Marking.{MarksCall, alike_agree, alike_state, brings_joining, commit_each, frame_moment, logs_made, says_first}
+use Rattle.raid_laws.proofs.Noted.{noted_clear}
+use Rattle.raid_laws.proofs.Own.{says_same}
+use Rattle.raid_laws.proofs.ReseatedLogs.{no_copy}
 use Rattle.raid_rack.proofs.Renewed.{renewed_clear, renewed_truth}
-use Rattle.raid_rack.proofs.Whole.{heeded_gone}
+use Rattle.raid_laws.proofs.Whole.{heeded_gone}
 
 module _ (place units : ℕ) (plan : Plan) (joining : ℕ → Bool) (v : Raid) (on takes gone : List ℕ) (l : LogView) (xs : List Target) (f : ℕ → View) (x y : Seen)
     (may : MayJoinPool place units plan joining v x) (commit : IsCommitBy (listed_raid place units plan joining v) [] takes on gone l xs f x y)

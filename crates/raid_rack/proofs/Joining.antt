@@ -16,30 +16,30 @@ use Rattle.array_image.specs.Spent.{spent_by}
 use Rattle.array_image.specs.Stripes.{capacity}
 use Rattle.array_image.specs.Places.{data_sector, log_sectors, log_slice, member_slice}
 use Rattle.array_image.specs.States.{current_places, is_current}
-use Rattle.commit_log.specs.View.{LogView, names, next_number}
+use Rattle.log_laws.specs.View.{LogView, names, next_number}
 use Rattle.array_model.specs.View.{View, HasFault, place_at, present, shape_of, spent_in}
 use Rattle.array_core.specs.Seats.{renewed, seat_of}
-use Rattle.raid_rack.specs.Book.{IsAfter}
-use Rattle.raid_rack.specs.Enlisting.{IsEnlisted, enlisted, next_drive, with_drive}
-use Rattle.raid_rack.specs.Losing.{only_then}
-use Rattle.raid_rack.specs.Losses.{AddsCopies, has_other}
-use Rattle.raid_rack.specs.Moves.{IsHeeded, IsSeated, IsSet, IsUnmarked, Mends, RaisesBy}
-use Rattle.raid_rack.specs.Raid.{Raid, gone_in, is_empty, is_left, is_over, is_used_up}
-use Rattle.raid_rack.specs.Settling.{HasStaged, IsMarking}
-use Rattle.raid_rack.proofs.Added.{names_current}
-use Rattle.raid_rack.proofs.Alike.{CountAlike, alike_same, spent_alike}
-use Rattle.raid_rack.proofs.Committed.{IsCommitBy, after_cause, after_further, after_left, commit_losing, raid_after}
+use Rattle.raid_laws.specs.Book.{IsAfter}
+use Rattle.raid_laws.specs.Enlisting.{IsEnlisted, enlisted, next_drive, with_drive}
+use Rattle.raid_laws.specs.Losing.{only_then}
+use Rattle.raid_laws.specs.Losses.{AddsCopies, has_other}
+use Rattle.raid_laws.specs.Moves.{IsHeeded, IsSeated, IsSet, IsUnmarked, Mends, RaisesBy}
+use Rattle.raid_laws.specs.Raid.{Raid, gone_in, is_empty, is_left, is_over, is_used_up}
+use Rattle.raid_laws.specs.Settling.{HasStaged, IsMarking}
+use Rattle.raid_laws.proofs.Added.{names_current}
+use Rattle.raid_laws.proofs.Alike.{CountAlike, alike_same, spent_alike}
+use Rattle.raid_laws.proofs.Committed.{IsCommitBy, after_cause, after_further, after_left, commit_losing, raid_after}
 use Rattle.raid_rack.proofs.Enlisted.{current_enlisted, enlisted_marked, listed, valid_listed}
-use Rattle.raid_rack.proofs.Losing.{only_gone}
-use Rattle.raid_rack.proofs.Noted.{current_few, losing_spent}
-use Rattle.raid_rack.proofs.Others.{other_left, some_other}
-use Rattle.raid_rack.proofs.Over.{not_empty, or_from, or_parts, over_still, used_still}
+use Rattle.raid_laws.proofs.Losing.{only_gone}
+use Rattle.raid_laws.proofs.Noted.{current_few, losing_spent}
+use Rattle.raid_laws.proofs.Others.{other_left, some_other}
+use Rattle.raid_laws.proofs.Over.{not_empty, or_from, or_parts, over_still, used_still}
 use Rattle.raid_rack.proofs.Raises.{raised_up}
 use Rattle.raid_rack.proofs.Renewed.{Lists, member_found, renewed_alike, renewed_resync, renewed_truth, renewed_unmarked, renewed_went, seated_listed, seated_renewed}
 use Rattle.raid_rack.proofs.Restating.{and_none}
-use Rattle.raid_rack.proofs.Settling.{more_super, more_supers}
+use Rattle.raid_laws.proofs.Settling.{more_super, more_supers}
 use Rattle.raid_rack.proofs.Steps.{length_set}
-use Rattle.raid_rack.proofs.Whole.{heeded_gone, heeded_left}
+use Rattle.raid_laws.proofs.Whole.{heeded_gone, heeded_left}
 
 -- ---- the arrays with the new drive
 

@@ -30,10 +30,10 @@ use Rattle.array_image.specs.Places.{log_kind, log_sectors, slice_of, state_sect
 use Rattle.array_image.proofs.Losing.{map_join}
 use Rattle.array_model.specs.View.{View}
 use Rattle.array_core.specs.Seats.{seat_of}
-use Rattle.raid_rack.proofs.Each.{get_set_other, get_set_same}
+use Rattle.raid_laws.proofs.Each.{get_set_other, get_set_same}
 use Rattle.raid_rack.specs.RaidRack.{is_written}
-use Rattle.commit_log.specs.Bytes.{first_gate}
-use Rattle.raid_rack.specs.NewDrive.{AreLaid, IsOfDrive, LaysDrive, SeatsDrive, SeatsFirst, entries_of, entry_of, first_in, first_laid, gate_at, joins, length_in, member_entries, member_entry, no_state, sectors_laid, slice_length}
+use Rattle.log_laws.specs.Bytes.{first_gate}
+use Rattle.raid_laws.specs.NewDrive.{AreLaid, IsOfDrive, LaysDrive, SeatsDrive, SeatsFirst, entries_of, entry_of, first_in, first_laid, gate_at, joins, length_in, member_entries, member_entry, no_state, sectors_laid, slice_length}
 
 -- ---- calls
 

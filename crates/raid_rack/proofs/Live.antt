@@ -12,16 +12,16 @@ use Rattle.array_model.specs.declared.Seat.{Seat}
 use Rattle.array_model.specs.declared.Seat.TheVariants.{Whole, Missing, Rebuilding}
 use Rattle.array_model.specs.View.{View, HasFault, HasGeometry, has_gone, is_missing_seat, place_at, present, shape_of, spent_in}
 use Rattle.array_core.specs.Seats.{names}
-use Rattle.array_sync.proofs.Adopted.{same_lists}
+use Rattle.sync_laws.proofs.Adopted.{same_lists}
 use Rattle.raid_rack.specs.declared.arrays.RaidRack.{RaidRack}
 use Rattle.raid_rack.specs.AllRuns.{AreCalls}
-use Rattle.raid_rack.specs.Laws.{live_parts}
-use Rattle.raid_rack.specs.Moves.{AreCaused, IsHeeded, IsSet, KeepsArrays}
-use Rattle.raid_rack.specs.Raid.{Raid, gone_in, is_empty, is_left, is_over, is_used_up, live_of}
+use Rattle.raid_laws.specs.Laws.{live_parts}
+use Rattle.raid_laws.specs.Moves.{AreCaused, IsHeeded, IsSet, KeepsArrays}
+use Rattle.raid_laws.specs.Raid.{Raid, gone_in, is_empty, is_left, is_over, is_used_up, live_of}
 use Rattle.raid_rack.specs.RaidRack.{IsFit, arrays_in, raid_in, slices_seen}
-use Rattle.raid_rack.proofs.Over.{not_false, or_from, or_parts, used_still}
-use Rattle.raid_rack.proofs.Ranges.{any_wider}
-use Rattle.raid_rack.proofs.Whole.{heeded_gone}
+use Rattle.raid_laws.proofs.Over.{not_false, or_from, or_parts, used_still}
+use Rattle.raid_laws.proofs.Ranges.{any_wider}
+use Rattle.raid_laws.proofs.Whole.{heeded_gone}
 
 -- an array's shape goes by its geometry and its seats
 shape_same : (u w : View) → HasGeometry u.truth w.truth → w.seats ≡ u.seats → shape_of w ≡ shape_of u

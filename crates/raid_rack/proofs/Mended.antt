@@ -13,33 +13,33 @@ use Rattle.pool_state.specs.Valid.{is_valid}
 use Rattle.pool_state.specs.declared.contents.State.{State}
 use Rattle.array_image.specs.Places.{log_slice, log_sectors}
 use Rattle.array_image.specs.States.{is_current, current_places}
-use Rattle.commit_log.specs.View.{LogView, names, next_number}
-use Rattle.commit_log.specs.Commits.{CommitCall}
+use Rattle.log_laws.specs.View.{LogView, names, next_number}
+use Rattle.log_laws.specs.Commits.{CommitCall}
 use Rattle.array_model.specs.View.{View, sectors_of, has_gone}
 use Rattle.array_core.specs.Seats.{gone as without}
 use Rattle.raid_rack.specs.declared.arrays.Arrays.{Arrays}
-use Rattle.raid_rack.specs.Raid.{Raid, gone_in, is_left}
-use Rattle.raid_rack.specs.Missing.{marked, raised as raised_epoch}
-use Rattle.raid_rack.specs.Losses.{newly_gone, AreCopiesOn, AddsCopies}
-use Rattle.raid_rack.specs.Moves.{IsSet, AreMarked, Moves, RaisesBy}
-use Rattle.raid_rack.specs.Settling.{SettlesTo, HasStaged, IsMarking, state_after}
+use Rattle.raid_laws.specs.Raid.{Raid, gone_in, is_left}
+use Rattle.raid_laws.specs.Missing.{marked, raised as raised_epoch}
+use Rattle.raid_laws.specs.Losses.{newly_gone, AreCopiesOn, AddsCopies}
+use Rattle.raid_laws.specs.Moves.{IsSet, AreMarked, Moves, RaisesBy}
+use Rattle.raid_laws.specs.Settling.{SettlesTo, HasStaged, IsMarking, state_after}
 use Rattle.raid_rack.specs.RaidRack.{IsRunning, EndsTurn, raid_by, no_array}
-use Rattle.raid_rack.proofs.Missing.{current_marked}
-use Rattle.raid_rack.proofs.Added.{names_current}
-use Rattle.raid_rack.proofs.Moving.{moves_then}
+use Rattle.raid_laws.proofs.Missing.{current_marked}
+use Rattle.raid_laws.proofs.Added.{names_current}
+use Rattle.raid_laws.proofs.Moving.{moves_then}
 use Rattle.raid_rack.proofs.Raises.{raised_up}
-use Rattle.raid_rack.proofs.Noted.{IsNoting, with_arrays, moves_noted, noted_went, current_few, gone_some}
-use Rattle.raid_rack.proofs.Seated.{names_joined}
-use Rattle.raid_rack.proofs.Committed.{IsCommit, raid_after, valid_marked}
-use Rattle.raid_rack.specs.Agreeing.{MakesAgree}
-use Rattle.raid_rack.proofs.Agreeing.{agree_then}
-use Rattle.raid_rack.proofs.Over.{someone_left}
-use Rattle.raid_rack.proofs.Turns.{agrees_commit, moves_commit, commit_progress}
+use Rattle.raid_laws.proofs.Noted.{IsNoting, with_arrays, moves_noted, noted_went, current_few, gone_some}
+use Rattle.raid_laws.proofs.Seated.{names_joined}
+use Rattle.raid_laws.proofs.Committed.{IsCommit, raid_after, valid_marked}
+use Rattle.raid_laws.specs.Agreeing.{MakesAgree}
+use Rattle.raid_laws.proofs.Agreeing.{agree_then}
+use Rattle.raid_laws.proofs.Over.{someone_left}
+use Rattle.raid_laws.proofs.Turns.{agrees_commit, moves_commit, commit_progress}
 use Rattle.raid_rack.proofs.Turned.{newly_named, newly_other, moves_emptied}
-use Rattle.raid_rack.specs.Truths.{MakesTruths}
+use Rattle.raid_laws.specs.Truths.{MakesTruths}
 use Rattle.raid_rack.proofs.Truths.{early_truths, makes_after, makes_commit, makes_nobody}
-use Rattle.raid_rack.specs.Unlost.{KeepsUnlost}
-use Rattle.raid_rack.proofs.Unlost.{unlost_commit, unlost_marked, unlost_reads}
+use Rattle.raid_laws.specs.Unlost.{KeepsUnlost}
+use Rattle.raid_laws.proofs.Unlost.{unlost_commit, unlost_marked, unlost_reads}
 
 -- ---- lists of which each element is changed
 

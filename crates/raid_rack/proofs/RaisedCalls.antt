@@ -1,13 +1,13 @@
 -- How far a call of one array and the mending after it raise the numbers that end.
 use Rattle.std.proofs.Common.{◌≡◌, ◌⊎◌, ℕ, ◌+◌, ◌<◌, ◌≤◌, List, set, length, get_or, slice_get, option_map, refl, ap, ◌∙◌, inl, inr, arith}
 use Rattle.arrayvec.specs.ArrayVec.{ArrayVec}
-use Rattle.commit_log.specs.View.{LogView, committed}
+use Rattle.log_laws.specs.View.{LogView, committed}
 use Rattle.array_model.specs.View.{View}
 use Rattle.array_core.specs.Seats.{gone}
 use Rattle.raid_rack.specs.declared.arrays.Arrays.{Arrays}
-use Rattle.raid_rack.specs.Moves.{RaisesBy}
+use Rattle.raid_laws.specs.Moves.{RaisesBy}
 use Rattle.raid_rack.specs.RaidRack.{no_array, raid_by}
-use Rattle.raid_rack.proofs.Changed.{called}
+use Rattle.raid_laws.proofs.Changed.{called}
 use Rattle.raid_rack.proofs.Mended.{each_get}
 use Rattle.raid_rack.proofs.Raises.{raised_up, raises_one, raises_then}
 use Rattle.raid_rack.proofs.Steps.{set_own, set_other}

@@ -10,10 +10,10 @@ use Rattle.array_core.specs.Settling.{Cleans as ArrayCleans, Settles}
 use Rattle.array_core.specs.Writing.{WritesView, as_it_was, newly_marked}
 use Rattle.raid_rack.specs.declared.arrays.RaidRack.{RaidRack}
 use Rattle.raid_rack.specs.AllRuns.{IsOneCall}
-use Rattle.raid_rack.specs.Raid.{Raid}
+use Rattle.raid_laws.specs.Raid.{Raid}
 use Rattle.raid_rack.specs.RaidRack.{raid_in}
-use Rattle.raid_rack.specs.Moves.{RaisesBy}
-use Rattle.raid_rack.proofs.Changed.{called}
+use Rattle.raid_laws.specs.Moves.{RaisesBy}
+use Rattle.raid_laws.proofs.Changed.{called}
 
 pub raises_none : (v : Raid) → RaisesBy 0 v v
 raises_none v = record { number = omega arith; epoch = omega arith; events = λ n low. omega arith }

@@ -9,7 +9,7 @@ use Rattle.pool_state.specs.declared.contents.State.{State}
 use Rattle.array_image.specs.Arrays.{place_with}
 use Rattle.array_image.specs.States.{current_places, is_current}
 use Rattle.array_image.specs.Supers.{is_reshaping}
-use Rattle.commit_log.specs.View.{LogView}
+use Rattle.log_laws.specs.View.{LogView}
 use Rattle.array_model.specs.declared.Seat.{Seat}
 use Rattle.array_model.specs.declared.Seat.TheVariants.{Whole, Missing, Rebuilding}
 use Rattle.array_model.specs.View.{View, has_gone, is_missing_seat, is_seated, is_whole_array, is_whole_seat, member_on, place_at, present, rows_of, seat_reach, shape_of}
@@ -17,22 +17,22 @@ use Rattle.array_model.specs.Members.{members_of}
 use Rattle.array_core.specs.Pool.{Goes}
 use Rattle.array_core.specs.Seats.{seat_of}
 use Rattle.array_core.specs.Writing.{KeepsElsewhere}
-use Rattle.array_sync.specs.Rows.{others_give}
-use Rattle.array_sync.specs.Steps.{HasRowLeft, Stepped, Steps, as_it_was, done, reach_on, rebuilt, rebuilt_seat}
-use Rattle.array_sync.proofs.Rebuilt.{IsRebuilding, get_past, next_array, next_rows, other_seat, own_seat, place_found, place_of_other, rebuilding, rebuilt_there}
+use Rattle.sync_laws.specs.Rows.{others_give}
+use Rattle.sync_laws.specs.Steps.{HasRowLeft, Stepped, Steps, as_it_was, done, reach_on, rebuilt, rebuilt_seat}
+use Rattle.sync_laws.proofs.Rebuilt.{IsRebuilding, get_past, next_array, next_rows, other_seat, own_seat, place_found, place_of_other, rebuilding, rebuilt_there}
 use Rattle.raid_rack.specs.declared.arrays.Arrays.{Arrays}
-use Rattle.raid_rack.specs.Raid.{Raid, is_empty, is_over, is_used_up}
-use Rattle.raid_rack.specs.Moves.{IsHeeded, IsSeated, LosesOnly, Mends}
+use Rattle.raid_laws.specs.Raid.{Raid, is_empty, is_over, is_used_up}
+use Rattle.raid_laws.specs.Moves.{IsHeeded, IsSeated, LosesOnly, Mends}
 use Rattle.raid_rack.specs.RaidRack.{IsRunning, raid_by, no_array}
-use Rattle.raid_rack.specs.Works.{RebuildsOne, is_rebuilding, is_rebuilding_seat, is_whole_row, next_row}
-use Rattle.raid_rack.specs.Reach.{KeepsReach}
-use Rattle.raid_rack.proofs.Reach.{CountsOn, reach_by, same_counts}
-use Rattle.raid_rack.proofs.Changed.{caused, left_before}
+use Rattle.raid_laws.specs.Works.{RebuildsOne, is_rebuilding, is_rebuilding_seat, is_whole_row, next_row}
+use Rattle.raid_laws.specs.Reach.{KeepsReach}
+use Rattle.raid_laws.proofs.Reach.{CountsOn, reach_by, same_counts}
+use Rattle.raid_laws.proofs.Changed.{caused, left_before}
 use Rattle.raid_rack.proofs.Resynced.{HasStepped, member_less, step_mended}
 use Rattle.raid_rack.proofs.Sent.{low_named}
-use Rattle.raid_rack.proofs.Stepped.{StepCall, done_rows, step_arrays, step_brings, views}
+use Rattle.raid_laws.proofs.Stepped.{StepCall, done_rows, step_arrays, step_brings, views}
 use Rattle.raid_rack.proofs.Steps.{set_own, set_other, length_set}
-use Rattle.raid_rack.proofs.Views.{IsNext}
+use Rattle.raid_laws.proofs.Views.{IsNext}
 
 -- ---- a member that is being rebuilt
 

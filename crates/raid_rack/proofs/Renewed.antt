@@ -23,16 +23,16 @@ use Rattle.array_core.specs.Seats.{names, renewed, seat_of, slot_at}
 use Rattle.array_core.specs.Slots.{place_by, slots_of}
 use Rattle.array_core.proofs.Truths.{rule_holds}
 use Rattle.raid_rack.specs.declared.arrays.Arrays.{Arrays}
-use Rattle.raid_rack.specs.Enlisting.{renewed_at}
-use Rattle.raid_rack.specs.Moves.{IsOfPool, IsSeated, IsUnmarked}
-use Rattle.raid_rack.specs.NewDrive.{first_in, joins, slice_length}
+use Rattle.raid_laws.specs.Enlisting.{renewed_at}
+use Rattle.raid_laws.specs.Moves.{IsOfPool, IsSeated, IsUnmarked}
+use Rattle.raid_laws.specs.NewDrive.{first_in, joins, slice_length}
 use Rattle.raid_rack.specs.RaidRack.{IsRunning, no_array, raid_by}
-use Rattle.raid_rack.proofs.Alike.{CountAlike, counting, counting_map}
+use Rattle.raid_laws.proofs.Alike.{CountAlike, counting, counting_map}
 use Rattle.raid_rack.proofs.LayingDrive.{joins_fits}
-use Rattle.raid_rack.proofs.Agreed.{slots_count}
-use Rattle.raid_rack.proofs.Rows.{KeepsClear}
-use Rattle.raid_rack.proofs.Seated.{missing_of as missing_at, seats_length, zip_seats}
-use Rattle.raid_rack.proofs.Settling.{slot_facts}
+use Rattle.raid_laws.proofs.Agreed.{slots_count}
+use Rattle.raid_laws.proofs.Rows.{KeepsClear}
+use Rattle.raid_laws.proofs.Seated.{missing_of as missing_at, seats_length, zip_seats}
+use Rattle.raid_laws.proofs.Settling.{slot_facts}
 
 -- ---- a member on a place whose drive is missing is missing
 

@@ -19,8 +19,8 @@ use Rattle.array_core.specs.declared.slots.Slot.{Slot}
 use Rattle.array_core.specs.Seats.{names, renewed, seat_of, slot_at}
 use Rattle.array_core.specs.Slots.{places_by, slot_with}
 use Rattle.raid_rack.specs.declared.arrays.Arrays.{Arrays}
-use Rattle.raid_rack.specs.Moves.{KeepsArrays, LosesOnly}
-use Rattle.raid_rack.specs.NewDrive.{ReachesAll, SeatsDrive, first_in, joins, length_in, slice_length}
+use Rattle.raid_laws.specs.Moves.{KeepsArrays, LosesOnly}
+use Rattle.raid_laws.specs.NewDrive.{ReachesAll, SeatsDrive, first_in, joins, length_in, slice_length}
 use Rattle.raid_rack.specs.RaidRack.{IsRunning, no_array, raid_by}
 use Rattle.raid_rack.proofs.LayingDrive.{none_joins}
 

@@ -13,25 +13,25 @@ use Rattle.array_image.specs.Places.{data_sector, log_slice, member_slice, place
 use Rattle.array_image.specs.States.{is_current, state_in}
 use Rattle.array_image.specs.Supers.{truth_in}
 use Rattle.array_image.proofs.Frames.{state_same}
-use Rattle.commit_log.specs.Kept.{LogKept}
-use Rattle.commit_log.proofs.Kept.{kept_idle, kept_state}
+use Rattle.log_laws.specs.Kept.{LogKept}
+use Rattle.log_laws.proofs.Kept.{kept_idle, kept_state}
 use Rattle.array_image.proofs.Replays.{replayed_as_is}
 use Rattle.array_model.specs.Says.{Holds, HoldsShape, IsOpen}
 use Rattle.array_model.specs.View.{View, may_vary, seat_reach, shape_of}
 use Rattle.array_model.proofs.Firsts.{position_of}
 use Rattle.array_model.proofs.Keeping.{KeepsData, even_kept, held_kept, logs_of, same_value, settled_kept}
 use Rattle.array_model.proofs.Views.{shape_members}
-use Rattle.raid_rack.specs.Vacated.{DiffersAt}
-use Rattle.raid_rack.specs.Moves.{IsAmid, IsHeeded, IsSeated, IsSet}
-use Rattle.raid_rack.specs.NewDrive.{no_state}
-use Rattle.raid_rack.specs.Raid.{Raid, Stood, gone_in, is_left}
-use Rattle.raid_rack.specs.Reach.{reach_same}
-use Rattle.raid_rack.specs.Rows.{LeavesFrom, LeavesRows}
-use Rattle.raid_rack.proofs.Own.{look_nothing}
-use Rattle.raid_rack.proofs.ReseatedLogs.{as_is_now, live_now, logs_kept, picks_back, put_back, put_back_off, state_now}
-use Rattle.raid_rack.proofs.SaysStill.{CountsOn, says_still, super_still, truth_still}
+use Rattle.raid_laws.specs.Vacated.{DiffersAt}
+use Rattle.raid_laws.specs.Moves.{IsAmid, IsHeeded, IsSeated, IsSet}
+use Rattle.raid_laws.specs.NewDrive.{no_state}
+use Rattle.raid_laws.specs.Raid.{Raid, Stood, gone_in, is_left}
+use Rattle.raid_laws.specs.Reach.{reach_same}
+use Rattle.raid_laws.specs.Rows.{LeavesFrom, LeavesRows}
+use Rattle.raid_laws.proofs.Own.{look_nothing}
+use Rattle.raid_laws.proofs.ReseatedLogs.{as_is_now, live_now, logs_kept, picks_back, put_back, put_back_off, state_now}
+use Rattle.raid_laws.proofs.SaysStill.{CountsOn, says_still, super_still, truth_still}
 use Rattle.raid_rack.proofs.Seating.{current_seat}
-use Rattle.raid_rack.proofs.Whole.{heeded_gone}
+use Rattle.raid_laws.proofs.Whole.{heeded_gone}
 use Rattle.rack.specs.Targets.{Target, look}
 
 -- a member that counts is on a current place

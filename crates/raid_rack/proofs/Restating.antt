@@ -8,34 +8,34 @@ use Rattle.pool_state.specs.declared.contents.State.{State}
 use Rattle.array_image.specs.Arrays.{Shape}
 use Rattle.array_image.specs.Held.{IsSettled}
 use Rattle.array_image.specs.States.{current_places, is_current}
-use Rattle.commit_log.specs.View.{LogView, names, next_number}
-use Rattle.commit_log.specs.Commits.{CommitCall}
+use Rattle.log_laws.specs.View.{LogView, names, next_number}
+use Rattle.log_laws.specs.Commits.{CommitCall}
 use Rattle.array_model.specs.declared.Seat.TheVariants.{Missing}
 use Rattle.array_model.specs.View.{View, has_gone, shape_of}
 use Rattle.array_model.specs.Members.{slice_on}
 use Rattle.array_core.specs.Seats.{gone as without, heeded}
 use Rattle.raid_rack.specs.declared.arrays.Arrays.{Arrays}
-use Rattle.raid_rack.specs.Agreeing.{MakesAgree}
-use Rattle.raid_rack.specs.Cleaning.{IsIdle, NoneFails}
-use Rattle.raid_rack.specs.Losses.{AddsCopies, newly_gone}
-use Rattle.raid_rack.specs.Missing.{marked}
-use Rattle.raid_rack.specs.Moves.{AreMarked, IsHeeded, IsSet, Mends, Moves, RaisesBy}
-use Rattle.raid_rack.specs.Raid.{Raid, gone_in, is_left}
+use Rattle.raid_laws.specs.Agreeing.{MakesAgree}
+use Rattle.raid_laws.specs.Cleaning.{IsIdle, NoneFails}
+use Rattle.raid_laws.specs.Losses.{AddsCopies, newly_gone}
+use Rattle.raid_laws.specs.Missing.{marked}
+use Rattle.raid_laws.specs.Moves.{AreMarked, IsHeeded, IsSet, Mends, Moves, RaisesBy}
+use Rattle.raid_laws.specs.Raid.{Raid, gone_in, is_left}
 use Rattle.raid_rack.specs.RaidRack.{IsRunning, no_array, raid_by}
-use Rattle.raid_rack.specs.Settling.{HasStaged, HasSupers, IsMarking, SettlesTo, state_after}
-use Rattle.raid_rack.proofs.Added.{names_current}
-use Rattle.raid_rack.proofs.Agreeing.{agree_still, none_early, none_later}
-use Rattle.raid_rack.proofs.Committed.{IsCommit, raid_after}
+use Rattle.raid_laws.specs.Settling.{HasStaged, HasSupers, IsMarking, SettlesTo, state_after}
+use Rattle.raid_laws.proofs.Added.{names_current}
+use Rattle.raid_laws.proofs.Agreeing.{agree_still, none_early, none_later}
+use Rattle.raid_laws.proofs.Committed.{IsCommit, raid_after}
 use Rattle.raid_rack.proofs.Mended.{each_get, each_sectors, first_named}
-use Rattle.raid_rack.proofs.Moving.{moves_then}
-use Rattle.raid_rack.proofs.Noted.{heeded_shape, moves_heeded, with_arrays}
-use Rattle.raid_rack.proofs.Over.{someone_left}
+use Rattle.raid_laws.proofs.Moving.{moves_then}
+use Rattle.raid_laws.proofs.Noted.{heeded_shape, moves_heeded, with_arrays}
+use Rattle.raid_laws.proofs.Over.{someone_left}
 use Rattle.raid_rack.proofs.Raises.{raised_up, raises_then}
-use Rattle.raid_rack.specs.Truths.{MakesTruths}
+use Rattle.raid_laws.specs.Truths.{MakesTruths}
 use Rattle.raid_rack.proofs.Truths.{makes_after, makes_commit}
 use Rattle.raid_rack.proofs.Turned.{moves_emptied, newly_named, none_newly}
-use Rattle.raid_rack.proofs.Turns.{agrees_commit, commit_marked, moves_commit}
-use Rattle.raid_rack.proofs.Whole.{heeded_gone, heeded_left}
+use Rattle.raid_laws.proofs.Turns.{agrees_commit, commit_marked, moves_commit}
+use Rattle.raid_laws.proofs.Whole.{heeded_gone, heeded_left}
 
 -- ---- the arrays are settled, and heeded where nobody went
 

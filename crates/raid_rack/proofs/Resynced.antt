@@ -10,7 +10,7 @@ use Rattle.pool_state.specs.declared.contents.State.{State}
 use Rattle.array_image.specs.Spent.{wanting}
 use Rattle.array_image.specs.States.{current_places, is_current}
 use Rattle.array_image.specs.Supers.{is_reshaping}
-use Rattle.commit_log.specs.View.{LogView, emptied, committed}
+use Rattle.log_laws.specs.View.{LogView, emptied, committed}
 use Rattle.array_model.specs.declared.Seat.{Seat}
 use Rattle.array_model.specs.View.{IsArray, View, has_gone, is_whole_seat, member_on, rows_of, seat_reach, shape_of}
 use Rattle.array_model.specs.Members.{members_of}
@@ -18,26 +18,26 @@ use Rattle.array_model.specs.ArrayCalls.{Covers}
 use Rattle.array_core.specs.Pool.{Goes}
 use Rattle.array_core.specs.Superblocks.{is_settled, left_offset}
 use Rattle.array_core.specs.Writing.{KeepsElsewhere}
-use Rattle.array_sync.specs.Rows.{lacks_row}
-use Rattle.array_sync.specs.Steps.{Stepped, Steps, as_it_was, done, offset_after, resynced}
+use Rattle.sync_laws.specs.Rows.{lacks_row}
+use Rattle.sync_laws.specs.Steps.{Stepped, Steps, as_it_was, done, offset_after, resynced}
 use Rattle.raid_rack.specs.declared.arrays.Arrays.{Arrays}
-use Rattle.raid_rack.specs.Raid.{Raid, is_over}
-use Rattle.raid_rack.specs.Reach.{KeepsReachOn, reach_same}
-use Rattle.raid_rack.specs.Moves.{AreCaused, Brings, IsAmid, IsHeeded, IsSeated, LosesOnly, Mends}
-use Rattle.raid_rack.specs.Rows.{LeavesRows}
+use Rattle.raid_laws.specs.Raid.{Raid, is_over}
+use Rattle.raid_laws.specs.Reach.{KeepsReachOn, reach_same}
+use Rattle.raid_laws.specs.Moves.{AreCaused, Brings, IsAmid, IsHeeded, IsSeated, LosesOnly, Mends}
+use Rattle.raid_laws.specs.Rows.{LeavesRows}
 use Rattle.raid_rack.specs.RaidRack.{IsRunning, raid_by, no_array}
-use Rattle.raid_rack.specs.Works.{StepsOne, stepped}
-use Rattle.raid_rack.proofs.Calls.{raised_low, unsynced_by}
-use Rattle.raid_rack.proofs.Changed.{caused, left_before}
-use Rattle.raid_rack.proofs.Committed.{next_later}
-use Rattle.raid_rack.specs.Losing.{only_then}
-use Rattle.raid_rack.proofs.Moving.{brings_then, caused_then}
+use Rattle.raid_laws.specs.Works.{StepsOne, stepped}
+use Rattle.raid_laws.proofs.Calls.{raised_low, unsynced_by}
+use Rattle.raid_laws.proofs.Changed.{caused, left_before}
+use Rattle.raid_laws.proofs.Committed.{next_later}
+use Rattle.raid_laws.specs.Losing.{only_then}
+use Rattle.raid_laws.proofs.Moving.{brings_then, caused_then}
 use Rattle.raid_rack.proofs.Raises.{raised_up}
-use Rattle.raid_rack.proofs.Rows.{left_old, settled_just}
+use Rattle.raid_laws.proofs.Rows.{left_old, settled_just}
 use Rattle.raid_rack.proofs.Sent.{low_named}
-use Rattle.raid_rack.proofs.Stepped.{StepCall, done_rows, step_arrays, step_brings, views}
+use Rattle.raid_laws.proofs.Stepped.{StepCall, done_rows, step_arrays, step_brings, views}
 use Rattle.raid_rack.proofs.Steps.{set_own, set_other, length_set}
-use Rattle.raid_rack.proofs.Views.{IsNext}
+use Rattle.raid_laws.proofs.Views.{IsNext}
 
 -- ---- the array once its row is resynced
 

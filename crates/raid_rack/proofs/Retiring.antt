@@ -18,23 +18,23 @@ use Rattle.array_model.specs.View.{View, IsArray, has_gone, place_at, seat_unles
 use Rattle.array_model.proofs.Losses.{IsLosing}
 use Rattle.array_core.specs.Seats.{gone, heeded, losing, names, renewed}
 use Rattle.array_core.specs.Slots.{place_by}
-use Rattle.array_sync.proofs.Adopted.{same_lists}
-use Rattle.raid_rack.specs.Book.{IsAfter}
-use Rattle.raid_rack.specs.Enlisting.{IsEnlisted, enlisted, next_drive, with_drive}
-use Rattle.raid_rack.specs.Missing.{marked, marked_from, missing_if}
-use Rattle.raid_rack.specs.Moves.{IsHeeded, IsSeated, IsSet, IsUnmarked, LosesOnly, RaisesBy}
-use Rattle.raid_rack.specs.Raid.{Raid, gone_in, is_left}
-use Rattle.raid_rack.specs.Truths.{JoinsTruths, TellsThere}
-use Rattle.raid_rack.specs.Vacated.{vacated, vacated_state}
-use Rattle.raid_rack.proofs.Committed.{seated_marked, valid_vacated}
-use Rattle.raid_rack.proofs.Losing.{only_gone}
-use Rattle.raid_rack.proofs.Missing.{current_marked, length_marked}
-use Rattle.raid_rack.proofs.Noted.{current_few, losing_spent}
-use Rattle.raid_rack.proofs.Over.{IsFurther, over_still}
+use Rattle.sync_laws.proofs.Adopted.{same_lists}
+use Rattle.raid_laws.specs.Book.{IsAfter}
+use Rattle.raid_laws.specs.Enlisting.{IsEnlisted, enlisted, next_drive, with_drive}
+use Rattle.raid_laws.specs.Missing.{marked, marked_from, missing_if}
+use Rattle.raid_laws.specs.Moves.{IsHeeded, IsSeated, IsSet, IsUnmarked, LosesOnly, RaisesBy}
+use Rattle.raid_laws.specs.Raid.{Raid, gone_in, is_left}
+use Rattle.raid_laws.specs.Truths.{JoinsTruths, TellsThere}
+use Rattle.raid_laws.specs.Vacated.{vacated, vacated_state}
+use Rattle.raid_laws.proofs.Committed.{seated_marked, valid_vacated}
+use Rattle.raid_laws.proofs.Losing.{only_gone}
+use Rattle.raid_laws.proofs.Missing.{current_marked, length_marked}
+use Rattle.raid_laws.proofs.Noted.{current_few, losing_spent}
+use Rattle.raid_laws.proofs.Over.{IsFurther, over_still}
 use Rattle.raid_rack.proofs.Renewing.{renewed_only}
-use Rattle.raid_rack.proofs.RetiredArrays.{losing_shape}
-use Rattle.raid_rack.proofs.Seated.{array_with, gone_fewer, gone_losing, gone_lost, gone_seated, heeded_seated, missing_of, names_joined, seats_length, zip_seats}
-use Rattle.raid_rack.proofs.Whole.{heeded_left}
+use Rattle.raid_laws.proofs.RetiredArrays.{losing_shape}
+use Rattle.raid_laws.proofs.Seated.{array_with, gone_fewer, gone_losing, gone_lost, gone_seated, heeded_seated, missing_of, names_joined, seats_length, zip_seats}
+use Rattle.raid_laws.proofs.Whole.{heeded_left}
 
 -- ---- the list of drives
 

@@ -5,19 +5,19 @@ use Rattle.std.specs.List.{range_with_len}
 use Rattle.arrayvec.specs.ArrayVec.{ArrayVec}
 use Rattle.rack.specs.Seen.{Seen}
 use Rattle.array_image.specs.States.{is_current}
-use Rattle.commit_log.specs.View.{names}
+use Rattle.log_laws.specs.View.{names}
 use Rattle.array_model.specs.View.{View}
 use Rattle.array_core.specs.Seats.{heeded}
 use Rattle.raid_rack.specs.declared.arrays.Arrays.{Arrays}
-use Rattle.raid_rack.specs.Raid.{Raid, gone_in, is_left}
-use Rattle.raid_rack.specs.Losses.{newly_gone}
-use Rattle.raid_rack.specs.Moves.{AreMarked, Moves, Mends, RaisesBy}
-use Rattle.raid_rack.specs.Cleaning.{IsIdle}
+use Rattle.raid_laws.specs.Raid.{Raid, gone_in, is_left}
+use Rattle.raid_laws.specs.Losses.{newly_gone}
+use Rattle.raid_laws.specs.Moves.{AreMarked, Moves, Mends, RaisesBy}
+use Rattle.raid_laws.specs.Cleaning.{IsIdle}
 use Rattle.raid_rack.specs.RaidRack.{IsRunning, raid_by, no_array}
-use Rattle.raid_rack.specs.Agreeing.{MakesAgree}
-use Rattle.raid_rack.proofs.Agreeing.{agree_still}
-use Rattle.raid_rack.proofs.Moving.{moves_then}
-use Rattle.raid_rack.proofs.Noted.{with_arrays, current_few, moves_heeded}
+use Rattle.raid_laws.specs.Agreeing.{MakesAgree}
+use Rattle.raid_laws.proofs.Agreeing.{agree_still}
+use Rattle.raid_laws.proofs.Moving.{moves_then}
+use Rattle.raid_laws.proofs.Noted.{with_arrays, current_few, moves_heeded}
 use Rattle.raid_rack.proofs.Mended.{each_get, each_sectors, first_named}
 use Rattle.raid_rack.proofs.Turned.{newly_named}
 

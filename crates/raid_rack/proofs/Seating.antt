@@ -11,10 +11,10 @@ use Rattle.array_model.specs.declared.Seat.{Seat}
 use Rattle.array_model.specs.declared.Seat.TheVariants.{Missing, Rebuilding, Whole}
 use Rattle.array_model.specs.View.{View, has_gone, is_missing_seat, place_at}
 use Rattle.raid_rack.specs.declared.arrays.Arrays.{Arrays}
-use Rattle.raid_rack.specs.Enlisting.{HasNewSlices}
-use Rattle.raid_rack.specs.Moves.{IsSeated, IsSet}
-use Rattle.raid_rack.specs.NewDrive.{SeatsDrive, sectors_laid}
-use Rattle.raid_rack.specs.Raid.{Raid, gone_in}
+use Rattle.raid_laws.specs.Enlisting.{HasNewSlices}
+use Rattle.raid_laws.specs.Moves.{IsSeated, IsSet}
+use Rattle.raid_laws.specs.NewDrive.{SeatsDrive, sectors_laid}
+use Rattle.raid_laws.specs.Raid.{Raid, gone_in}
 use Rattle.raid_rack.specs.RaidRack.{IsRunning, no_array}
 use Rattle.raid_rack.proofs.LayingDrive.{laid_member}
 use Rattle.raid_rack.proofs.Steps.{same_element}

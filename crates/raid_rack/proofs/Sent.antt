@@ -7,8 +7,8 @@ use Rattle.rack.specs.Values.{Values}
 use Rattle.rack.specs.Seen.{Seen, Stays}
 use Rattle.pool_state.specs.declared.contents.State.{State}
 use Rattle.array_image.specs.States.{current_places}
-use Rattle.commit_log.specs.View.{LogView, committed}
-use Rattle.commit_log.specs.Kept.{LogKept}
+use Rattle.log_laws.specs.View.{LogView, committed}
+use Rattle.log_laws.specs.Kept.{LogKept}
 use Rattle.array_model.specs.View.{View, has_gone, is_whole_array, shape_of}
 use Rattle.array_model.specs.Says.{Holds}
 use Rattle.array_model.specs.ArrayCalls.{Covers, WritesArray}
@@ -17,17 +17,17 @@ use Rattle.array_core.specs.Superblocks.{raised}
 use Rattle.array_core.specs.TruthLeft.{LeavesTruth}
 use Rattle.array_core.specs.Writing.{KeepsElsewhere, WritesView, as_it_was, newly_marked}
 use Rattle.raid_rack.specs.declared.arrays.Arrays.{Arrays}
-use Rattle.raid_rack.specs.Raid.{Raid}
-use Rattle.raid_rack.specs.Moves.{AreCaused, Brings, IsHeeded, IsSet, KeepsArrays, Mends, WritesOne, written_at}
+use Rattle.raid_laws.specs.Raid.{Raid}
+use Rattle.raid_laws.specs.Moves.{AreCaused, Brings, IsHeeded, IsSet, KeepsArrays, Mends, WritesOne, written_at}
 use Rattle.raid_rack.specs.RaidRack.{IsRunning, raid_by, no_array}
-use Rattle.raid_rack.proofs.Calls.{raised_low, unsynced_by}
-use Rattle.raid_rack.proofs.Changed.{caused, keeps_arrays, left_before}
-use Rattle.raid_rack.proofs.Committed.{next_later}
-use Rattle.raid_rack.specs.Losing.{arrays_then}
-use Rattle.raid_rack.proofs.Moving.{brings_then, caused_then}
+use Rattle.raid_laws.proofs.Calls.{raised_low, unsynced_by}
+use Rattle.raid_laws.proofs.Changed.{caused, keeps_arrays, left_before}
+use Rattle.raid_laws.proofs.Committed.{next_later}
+use Rattle.raid_laws.specs.Losing.{arrays_then}
+use Rattle.raid_laws.proofs.Moving.{brings_then, caused_then}
 use Rattle.raid_rack.proofs.Steps.{set_own, set_other, length_set}
-use Rattle.raid_rack.proofs.Views.{NotesOne, views_notes}
-use Rattle.raid_rack.proofs.Written.{WriteCall, write_brings}
+use Rattle.raid_laws.proofs.Views.{NotesOne, views_notes}
+use Rattle.raid_laws.proofs.Written.{WriteCall, write_brings}
 
 -- what it makes of the array
 views_write : (v : Raid) (f : ℕ → View) (m : ℕ) (a b : Seen) → IsSet v a → m < v.state.made → Stays a b

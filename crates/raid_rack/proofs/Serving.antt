@@ -9,29 +9,29 @@ use Rattle.rack.specs.Calls.{Reads, Syncs, Writes}
 use Rattle.rack.proofs.Writing.{appended_elsewhere}
 use Rattle.array_image.proofs.Sources.{held_single}
 use Rattle.commit_log.proofs.Deciding.{names_first}
-use Rattle.commit_log.proofs.HeldCopies.{kept_holds}
+use Rattle.log_laws.proofs.HeldCopies.{kept_holds}
 use Rattle.array_image.specs.States.{is_current}
 use Rattle.array_image.specs.Arrays.{replayed}
 use Rattle.array_core.specs.Seats.{gone}
 use Rattle.array_model.specs.View.{View, shape_of, sectors_of as array_sectors}
 use Rattle.array_model.specs.ArrayCalls.{appended_at}
 use Rattle.raid_rack.specs.declared.arrays.Arrays.{Arrays}
-use Rattle.raid_rack.specs.Raid.{Raid, is_over, live_of, spent_of, held_in, StopsInside, raid_of}
-use Rattle.raid_rack.specs.Acts.{RaidActs}
-use Rattle.raid_rack.specs.Marking.{TiedBetween}
-use Rattle.raid_rack.specs.Reach.{KeepsReach}
-use Rattle.raid_rack.specs.Moves.{AreCaused, Brings, KeepsArrays, Mends, Moves, ReadsValue, SyncsOne, WritesOne, noted_at, written_at}
-use Rattle.raid_rack.specs.Frames.{frame_of}
-use Rattle.raid_rack.specs.Runs.{KeepsMoments, RaidRuns}
-use Rattle.raid_rack.specs.Truths.{KeepsTruths}
+use Rattle.raid_laws.specs.Raid.{Raid, is_over, live_of, spent_of, held_in, StopsInside, raid_of}
+use Rattle.raid_laws.specs.Acts.{RaidActs}
+use Rattle.raid_laws.specs.Marking.{TiedBetween}
+use Rattle.raid_laws.specs.Reach.{KeepsReach}
+use Rattle.raid_laws.specs.Moves.{AreCaused, Brings, KeepsArrays, Mends, Moves, ReadsValue, SyncsOne, WritesOne, noted_at, written_at}
+use Rattle.raid_laws.specs.Frames.{frame_of}
+use Rattle.raid_laws.specs.Runs.{KeepsMoments, RaidRuns}
+use Rattle.raid_laws.specs.Truths.{KeepsTruths}
 use Rattle.raid_rack.specs.RaidRack.{IsFit, IsRunning, KeepsRack, raid_by}
 use Rattle.raid_rack.specs.AllRuns.{Serves}
 use Rattle.raid_rack.proofs.Ended.{none_past}
-use Rattle.raid_rack.specs.Laws.{live_parts}
-use Rattle.raid_rack.proofs.Moving.{brings_then, moves_bring}
-use Rattle.raid_rack.proofs.Noted.{IsNoting, current_few, noted_brings}
-use Rattle.raid_rack.proofs.Raid.{keeps_raid, reads_raid, refused_raid, stays_raid, syncs_raid, writes_raid}
-use Rattle.raid_rack.proofs.Whole.{IsWholeCall, before_amid, brings_whole, ends_by, raid_acts, tied_reach}
+use Rattle.raid_laws.specs.Laws.{live_parts}
+use Rattle.raid_laws.proofs.Moving.{brings_then, moves_bring}
+use Rattle.raid_laws.proofs.Noted.{IsNoting, current_few, noted_brings}
+use Rattle.raid_laws.proofs.Raid.{keeps_raid, reads_raid, refused_raid, stays_raid, syncs_raid, writes_raid}
+use Rattle.raid_laws.proofs.Whole.{IsWholeCall, before_amid, brings_whole, ends_by, raid_acts, tied_reach}
 
 pub whole_call : (a b : Arrays) (x y : Seen) (now : ℕ → (ℕ → Values) → ℕ → Values) → IsFit a x → IsFit b y → Brings (raid_by a) (raid_by b) x y now → StopsInside y
     → IsWholeCall (raid_by a) (raid_by b) x y (λ n. now n (held_in (raid_by a) x n))

@@ -5,18 +5,18 @@ use Rattle.rack.specs.Seen.{Seen}
 use Rattle.rack.specs.Joins.{rose_before}
 use Rattle.pool_state.specs.declared.contents.State.{State}
 use Rattle.array_image.specs.States.{is_current}
-use Rattle.commit_log.specs.View.{LogView, names}
+use Rattle.log_laws.specs.View.{LogView, names}
 use Rattle.raid_rack.specs.declared.arrays.Arrays.{Arrays}
-use Rattle.raid_rack.specs.Enlisting.{HasLost, SettlesWhole}
-use Rattle.raid_rack.specs.Losses.{newly_gone}
-use Rattle.raid_rack.specs.Moves.{IsHeeded, IsSet, Mends, RaisesBy}
-use Rattle.raid_rack.specs.Raid.{Raid, gone_in, is_left}
+use Rattle.raid_laws.specs.Enlisting.{HasLost, SettlesWhole}
+use Rattle.raid_laws.specs.Losses.{newly_gone}
+use Rattle.raid_laws.specs.Moves.{IsHeeded, IsSet, Mends, RaisesBy}
+use Rattle.raid_laws.specs.Raid.{Raid, gone_in, is_left}
 use Rattle.raid_rack.specs.RaidRack.{IsRunning, no_array, raid_by}
-use Rattle.raid_rack.specs.Settling.{SettlesTo}
+use Rattle.raid_laws.specs.Settling.{SettlesTo}
 use Rattle.raid_rack.proofs.Mended.{first_named}
 use Rattle.raid_rack.proofs.Restating.{HasSettled, and_none, settles_from}
 use Rattle.raid_rack.proofs.Turned.{newly_named}
-use Rattle.raid_rack.proofs.Whole.{heeded_left}
+use Rattle.raid_laws.proofs.Whole.{heeded_left}
 
 -- whoever newly went was one that is left before, and is marked by the mending
 pub lost_marked : (a b c : Arrays) (log : LogView) (lost : List ℕ) (x y z : Seen) → IsHeeded (raid_by a) → log.number ≡ a.log.number

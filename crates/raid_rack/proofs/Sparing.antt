@@ -11,13 +11,13 @@ use Rattle.array_model.specs.View.{View, place_at}
 use Rattle.array_core.specs.Writing.{KeepsElsewhere}
 use Rattle.raid_rack.specs.declared.arrays.Arrays.{Arrays}
 use Rattle.raid_rack.specs.AllRuns.{Spares}
-use Rattle.raid_rack.specs.Cleaning.{NoneFails}
-use Rattle.raid_rack.specs.Moves.{AreCaused, AreMarked, IsHeeded, Moves}
-use Rattle.raid_rack.specs.Raid.{Raid, gone_in}
+use Rattle.raid_laws.specs.Cleaning.{NoneFails}
+use Rattle.raid_laws.specs.Moves.{AreCaused, AreMarked, IsHeeded, Moves}
+use Rattle.raid_laws.specs.Raid.{Raid, gone_in}
 use Rattle.raid_rack.specs.RaidRack.{IsRunning, no_array, raid_by}
-use Rattle.raid_rack.proofs.Agreeing.{none_early}
-use Rattle.raid_rack.proofs.Cleaned.{slice_own}
-use Rattle.raid_rack.proofs.Whole.{heeded_left}
+use Rattle.raid_laws.proofs.Agreeing.{none_early}
+use Rattle.raid_laws.proofs.Cleaned.{slice_own}
+use Rattle.raid_laws.proofs.Whole.{heeded_left}
 
 and_none : (b : Bool) → (b && false) ≡ false
 and_none true = refl

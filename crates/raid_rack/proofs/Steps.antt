@@ -8,7 +8,7 @@ use Rattle.rack.specs.Seen.{Seen}
 use Rattle.rack.specs.Sequences.{OnlyReads}
 use Rattle.pool_state.specs.declared.contents.State.{State}
 use Rattle.array_image.specs.Arrays.{Shape}
-use Rattle.commit_log.specs.View.{LogView}
+use Rattle.log_laws.specs.View.{LogView}
 use Rattle.array_model.specs.View.{View}
 use Rattle.array_model.specs.Members.{HasSlices}
 use Rattle.array_model.specs.ArrayCalls.{Covers, SyncsArray}
@@ -16,14 +16,14 @@ use Rattle.array_core.specs.Settling.{Settles}
 use Rattle.array_core.specs.Staging.{AddsSupersOf}
 use Rattle.array_core.specs.Superblocks.{left_offset}
 use Rattle.raid_rack.specs.declared.arrays.Arrays.{Arrays}
-use Rattle.raid_rack.specs.Raid.{Raid}
-use Rattle.raid_rack.specs.Settling.{SettlesTo}
+use Rattle.raid_laws.specs.Raid.{Raid}
+use Rattle.raid_laws.specs.Settling.{SettlesTo}
 use Rattle.raid_rack.specs.RaidRack.{IsRunning, raid_by, no_array}
-use Rattle.raid_rack.proofs.Noted.{with_arrays}
-use Rattle.raid_rack.proofs.Calls.{reads_settled}
+use Rattle.raid_laws.proofs.Noted.{with_arrays}
+use Rattle.raid_laws.proofs.Calls.{reads_settled}
 use Rattle.raid_rack.proofs.Raises.{settles_raise}
-use Rattle.raid_rack.proofs.Seated.{view_with}
-use Rattle.raid_rack.proofs.Settling.{settles_more}
+use Rattle.raid_laws.proofs.Seated.{view_with}
+use Rattle.raid_laws.proofs.Settling.{settles_more}
 
 -- ---- lists
 

@@ -9,18 +9,18 @@ use Rattle.pool_state.specs.declared.contents.State.{State}
 use Rattle.array_image.specs.Places.{member_slice, data_sector}
 use Rattle.array_image.specs.Arrays.{Shape}
 use Rattle.array_image.specs.Held.{IsSettled}
-use Rattle.commit_log.proofs.Kept.{live_on}
+use Rattle.log_laws.proofs.Kept.{live_on}
 use Rattle.array_model.specs.View.{View, shape_of}
 use Rattle.array_model.specs.Says.{IsOpen}
 use Rattle.array_model.specs.Members.{HasSlices, Notes}
 use Rattle.array_model.specs.ArrayCalls.{Covers, ReadsArray, SyncsArray}
 use Rattle.array_model.proofs.Keeping.{settled_kept}
 use Rattle.raid_rack.specs.declared.arrays.Arrays.{Arrays}
-use Rattle.raid_rack.specs.Raid.{Raid, is_over}
-use Rattle.raid_rack.specs.Moves.{IsAmid, IsSet, Moves, Mends, ReadsValue, SyncsOne}
+use Rattle.raid_laws.specs.Raid.{Raid, is_over}
+use Rattle.raid_laws.specs.Moves.{IsAmid, IsSet, Moves, Mends, ReadsValue, SyncsOne}
 use Rattle.raid_rack.specs.RaidRack.{IsRunning, raid_by, no_array}
-use Rattle.raid_rack.proofs.Moving.{moves_then}
-use Rattle.raid_rack.proofs.Calls.{reads_notes, moves_read}
+use Rattle.raid_laws.proofs.Moving.{moves_then}
+use Rattle.raid_laws.proofs.Calls.{reads_notes, moves_read}
 use Rattle.raid_rack.proofs.Steps.{set_own, set_other, length_set}
 
 -- the slices of an array

@@ -11,7 +11,7 @@ use Rattle.array_image.specs.Places.{super_sector}
 use Rattle.array_image.specs.SoundArray.{array_fields}
 use Rattle.array_image.specs.States.{current_places, is_current}
 use Rattle.array_image.specs.Supers.{is_super_of, super_in, super_of, truth_in}
-use Rattle.commit_log.proofs.Kept.{stands_of}
+use Rattle.log_laws.proofs.Kept.{stands_of}
 use Rattle.array_model.specs.declared.Seat.TheVariants.{Missing}
 use Rattle.array_model.specs.Members.{slice_on}
 use Rattle.array_model.specs.Stages.{IsStateOf}
@@ -22,14 +22,14 @@ use Rattle.array_core.specs.TruthHeld.{HoldTruth, SaysTruth}
 use Rattle.array_core.proofs.OwnSupers.{passes_only}
 use Rattle.array_core.proofs.TruthHeld.{slice_place}
 use Rattle.array_core.proofs.TruthValid.{says_valid}
-use Rattle.raid_rack.specs.Agreeing.{AgreeLeaving, SayTruth, SupersAgree}
-use Rattle.raid_rack.specs.Cleaning.{Cleans, IsEnded, NoneFails, as_it_was, restated}
-use Rattle.raid_rack.specs.Moves.{IsHeeded, IsSeated, IsSet}
-use Rattle.raid_rack.specs.Raid.{IsTold, Raid, Stood, held_in, is_over, spent_of}
-use Rattle.raid_rack.proofs.Ranges.{any_none, any_some}
-use Rattle.raid_rack.proofs.Seated.{place_few, view_with}
+use Rattle.raid_laws.specs.Agreeing.{AgreeLeaving, SayTruth, SupersAgree}
+use Rattle.raid_laws.specs.Cleaning.{Cleans, IsEnded, NoneFails, as_it_was, restated}
+use Rattle.raid_laws.specs.Moves.{IsHeeded, IsSeated, IsSet}
+use Rattle.raid_laws.specs.Raid.{IsTold, Raid, Stood, held_in, is_over, spent_of}
+use Rattle.raid_laws.proofs.Ranges.{any_none, any_some}
+use Rattle.raid_laws.proofs.Seated.{place_few, view_with}
 use Rattle.raid_rack.proofs.Truths.{pool_bits}
-use Rattle.raid_rack.proofs.Written.{state_of}
+use Rattle.raid_laws.proofs.Written.{state_of}
 
 module _ (v : Raid) (x : Seen) (n : ℕ) (set : IsSet v x) (heeded : IsHeeded v) (low : n < v.state.made) (told : IsTold v x n) (goes : is_over v n ≡ false)
     (held : HoldTruth (v.arrays n) x) (r : Image) (left : IsLeft x r) where

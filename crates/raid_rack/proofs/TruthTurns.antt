@@ -6,7 +6,7 @@ use Rattle.rack.specs.Sequences.{OnlyReads}
 use Rattle.pool_state.specs.declared.contents.State.{State}
 use Rattle.array_image.specs.Places.{super_sector}
 use Rattle.array_image.specs.States.{current_places}
-use Rattle.commit_log.specs.View.{LogView, names}
+use Rattle.log_laws.specs.View.{LogView, names}
 use Rattle.array_model.specs.View.{View}
 use Rattle.array_model.specs.Members.{Notes}
 use Rattle.array_core.specs.Seats.{gone as without, heeded}
@@ -14,14 +14,14 @@ use Rattle.array_core.specs.TruthHeld.{HasFewBits, HoldTruth}
 use Rattle.array_core.specs.Writing.{KeepsElsewhere}
 use Rattle.array_core.proofs.TruthHeld.{hold_noted, reads_supers}
 use Rattle.raid_rack.specs.declared.arrays.Arrays.{Arrays}
-use Rattle.raid_rack.specs.Losses.{newly_gone}
-use Rattle.raid_rack.specs.Missing.{marked}
-use Rattle.raid_rack.specs.Moves.{AreMarked, IsSeated, Moves}
-use Rattle.raid_rack.specs.Raid.{Raid}
+use Rattle.raid_laws.specs.Losses.{newly_gone}
+use Rattle.raid_laws.specs.Missing.{marked}
+use Rattle.raid_laws.specs.Moves.{AreMarked, IsSeated, Moves}
+use Rattle.raid_laws.specs.Raid.{Raid}
 use Rattle.raid_rack.specs.RaidRack.{IsRunning, no_array, raid_by}
-use Rattle.raid_rack.specs.Settling.{SettlesTo}
-use Rattle.raid_rack.specs.Truths.{KeepsTruths, MakesTruths}
-use Rattle.raid_rack.proofs.Added.{names_current}
+use Rattle.raid_laws.specs.Settling.{SettlesTo}
+use Rattle.raid_laws.specs.Truths.{KeepsTruths, MakesTruths}
+use Rattle.raid_laws.proofs.Added.{names_current}
 use Rattle.raid_rack.proofs.Mended.{each_get}
 use Rattle.raid_rack.proofs.Restating.{HasRestated, HasSettled, restates_alone, settles_from}
 use Rattle.raid_rack.proofs.Rounds.{newly_unmarked}

@@ -9,7 +9,7 @@ use Rattle.rack.specs.Targets.{Target}
 use Rattle.array_image.specs.Arrays.{place_with}
 use Rattle.array_image.specs.Places.{member_slice, slice_of, super_sector}
 use Rattle.array_image.specs.States.{is_current}
-use Rattle.commit_log.specs.View.{LogView, names, next_number}
+use Rattle.log_laws.specs.View.{LogView, names, next_number}
 use Rattle.array_model.specs.declared.Seat.{Seat}
 use Rattle.array_model.specs.declared.Seat.TheVariants.{Whole, Missing, Rebuilding}
 use Rattle.array_model.specs.View.{View, IsArray, LosesPlaces, has_gone, is_missing_seat, place_at}
@@ -25,14 +25,14 @@ use Rattle.array_core.proofs.TruthStaged.{hold_committed, left_there}
 use Rattle.md_super.specs.Profile.{rules}
 use Rattle.pool_state.specs.declared.contents.State.{State}
 use Rattle.raid_rack.specs.declared.arrays.Arrays.{Arrays}
-use Rattle.raid_rack.specs.Moves.{AreMarked, IsOfPool, IsSet, LosesOnly, Moves}
-use Rattle.raid_rack.specs.Raid.{Raid, gone_in, is_left}
+use Rattle.raid_laws.specs.Moves.{AreMarked, IsOfPool, IsSet, LosesOnly, Moves}
+use Rattle.raid_laws.specs.Raid.{Raid, gone_in, is_left}
 use Rattle.raid_rack.specs.RaidRack.{IsRunning, no_array, raid_by}
-use Rattle.raid_rack.specs.Truths.{KeepsTruths, MakesTruths}
-use Rattle.raid_rack.proofs.Adding.{all_apart}
-use Rattle.raid_rack.proofs.Committed.{IsCommitBy, raid_after}
-use Rattle.raid_rack.proofs.Elements.{among_first, apart_found}
-use Rattle.raid_rack.proofs.Seated.{listed, listed_loses}
+use Rattle.raid_laws.specs.Truths.{KeepsTruths, MakesTruths}
+use Rattle.raid_laws.proofs.Adding.{all_apart}
+use Rattle.raid_laws.proofs.Committed.{IsCommitBy, raid_after}
+use Rattle.raid_laws.proofs.Elements.{among_first, apart_found}
+use Rattle.raid_laws.proofs.Seated.{listed, listed_loses}
 use Rattle.raid_rack.proofs.Steps.{set_own, set_other}
 
 -- ---- one array

@@ -7,21 +7,21 @@ use Rattle.rack.specs.Seen.{Seen}
 use Rattle.rack.specs.Joins.{stays_same, leaves_same, keeps_same}
 use Rattle.pool_state.specs.declared.contents.State.{State}
 use Rattle.array_image.specs.States.{is_current, current_places}
-use Rattle.commit_log.specs.View.{names}
+use Rattle.log_laws.specs.View.{names}
 use Rattle.array_model.specs.View.{View, present, has_gone as went_in}
 use Rattle.raid_rack.specs.declared.arrays.Arrays.{Arrays}
-use Rattle.raid_rack.specs.Raid.{Raid, gone_in, is_left, is_over, is_used_up}
-use Rattle.raid_rack.specs.Losses.{has_gone, newly_gone}
-use Rattle.raid_rack.specs.Moves.{IsSet, IsUnmarked, AreMarked, Moves}
-use Rattle.raid_rack.specs.Settling.{state_after}
+use Rattle.raid_laws.specs.Raid.{Raid, gone_in, is_left, is_over, is_used_up}
+use Rattle.raid_laws.specs.Losses.{has_gone, newly_gone}
+use Rattle.raid_laws.specs.Moves.{IsSet, IsUnmarked, AreMarked, Moves}
+use Rattle.raid_laws.specs.Settling.{state_after}
 use Rattle.raid_rack.specs.RaidRack.{raid_by, no_array}
-use Rattle.raid_rack.proofs.Missing.{current_marked, length_marked}
-use Rattle.raid_rack.proofs.Added.{names_current}
-use Rattle.raid_rack.proofs.Ranges.{any_some, any_none}
-use Rattle.raid_rack.specs.Losing.{only_same}
-use Rattle.raid_rack.proofs.Over.{not_true}
-use Rattle.raid_rack.proofs.Noted.{bool_same, current_few, gone_some, gone_from}
-use Rattle.raid_rack.proofs.Committed.{valid_marked, after_marked, seated_marked}
+use Rattle.raid_laws.proofs.Missing.{current_marked, length_marked}
+use Rattle.raid_laws.proofs.Added.{names_current}
+use Rattle.raid_laws.proofs.Ranges.{any_some, any_none}
+use Rattle.raid_laws.specs.Losing.{only_same}
+use Rattle.raid_laws.proofs.Over.{not_true}
+use Rattle.raid_laws.proofs.Noted.{bool_same, current_few, gone_some, gone_from}
+use Rattle.raid_laws.proofs.Committed.{valid_marked, after_marked, seated_marked}
 
 -- ---- who went newly
 

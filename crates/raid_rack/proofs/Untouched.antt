@@ -11,8 +11,8 @@ use Rattle.slice_rack.specs.Sliced.{sliced, slices_of}
 use Rattle.slice_rack.specs.Runs.{IsSliced}
 use Rattle.array_image.specs.Places.{slice_of}
 use Rattle.array_model.specs.View.{View}
-use Rattle.raid_rack.specs.NewDrive.{SeatsDrive, first_in, first_laid, joins, length_in, sectors_laid}
-use Rattle.raid_rack.proofs.Apart.{seat_is}
+use Rattle.raid_laws.specs.NewDrive.{SeatsDrive, first_in, first_laid, joins, length_in, sectors_laid}
+use Rattle.raid_laws.proofs.Apart.{seat_is}
 use Rattle.raid_rack.proofs.LayingDrive.{joins_fits, laid_member, off_table}
 
 -- a sector of a disk is one of this slice

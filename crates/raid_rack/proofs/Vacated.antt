@@ -8,22 +8,22 @@ use Rattle.slice_rack.specs.Slices.{Slices, disk_of, place_of, seat_of}
 use Rattle.slice_rack.specs.Sliced.{slices_of}
 use Rattle.array_image.specs.Places.{log_slice, super_sector}
 use Rattle.array_image.specs.States.{is_current}
-use Rattle.commit_log.proofs.Kept.{place_of_log}
+use Rattle.log_laws.proofs.Kept.{place_of_log}
 use Rattle.array_model.specs.declared.Seat.TheVariants.{Missing}
 use Rattle.array_model.specs.Members.{slice_on}
 use Rattle.array_model.specs.View.{has_gone, place_at}
 use Rattle.array_core.proofs.TruthHeld.{slice_place}
-use Rattle.raid_rack.specs.Vacated.{DiffersAt}
-use Rattle.raid_rack.specs.Laws.{live_parts}
-use Rattle.raid_rack.specs.Moves.{IsAmid, IsHeeded, IsSet}
-use Rattle.raid_rack.specs.NewDrive.{no_state}
-use Rattle.raid_rack.specs.Raid.{IsTold, Raid, held_in, is_over, live_of, spent_of}
-use Rattle.raid_rack.specs.Rows.{LeavesRows}
+use Rattle.raid_laws.specs.Vacated.{DiffersAt}
+use Rattle.raid_laws.specs.Laws.{live_parts}
+use Rattle.raid_laws.specs.Moves.{IsAmid, IsHeeded, IsSet}
+use Rattle.raid_laws.specs.NewDrive.{no_state}
+use Rattle.raid_laws.specs.Raid.{IsTold, Raid, held_in, is_over, live_of, spent_of}
+use Rattle.raid_laws.specs.Rows.{LeavesRows}
 use Rattle.raid_rack.proofs.Reseated.{reseated_amid, reseated_rows}
-use Rattle.raid_rack.specs.Truths.{KeepsTruths}
+use Rattle.raid_laws.specs.Truths.{KeepsTruths}
 use Rattle.raid_rack.proofs.Truths.{missing_none}
 use Rattle.raid_rack.proofs.Seating.{others_set}
-use Rattle.raid_rack.proofs.Whole.{amid_stood, stood_keeps, stood_own, told_amid}
+use Rattle.raid_laws.proofs.Whole.{amid_stood, stood_keeps, stood_own, told_amid}
 
 module _ (place : ℕ) (t u : Slices) (x : Seen) (seats : Seats t u place None) where
   -- the disk of another place is the one that it was

@@ -14,39 +14,39 @@ use Rattle.pool_state.specs.declared.contents.State.{State}
 use Rattle.array_image.specs.Places.{log_sectors, log_slice, slice_of}
 use Rattle.array_image.specs.Record.{are_apart, is_target}
 use Rattle.array_image.specs.States.{current_places, is_current}
-use Rattle.commit_log.specs.View.{LogView, next_number, names}
-use Rattle.commit_log.specs.Commits.{CommitCall}
-use Rattle.commit_log.specs.Phases.{IsHad}
+use Rattle.log_laws.specs.View.{LogView, next_number, names}
+use Rattle.log_laws.specs.Commits.{CommitCall}
+use Rattle.log_laws.specs.Phases.{IsHad}
 use Rattle.array_model.specs.Stages.{AmongTargets}
 use Rattle.array_image.specs.Spent.{wanting}
 use Rattle.array_model.specs.View.{View, IsArray, present, rows_of}
 use Rattle.array_model.specs.Members.{members_of}
 use Rattle.array_core.specs.Seats.{gone as without}
-use Rattle.array_sync.specs.Rows.{lacks_row}
-use Rattle.array_sync.specs.Steps.{resynced}
+use Rattle.sync_laws.specs.Rows.{lacks_row}
+use Rattle.sync_laws.specs.Steps.{resynced}
 use Rattle.raid_rack.specs.declared.arrays.Arrays.{Arrays}
-use Rattle.raid_rack.specs.Losses.{AddsCopies, AreCopiesOn}
-use Rattle.raid_rack.specs.Raid.{Raid, gone_in, is_empty, is_left, is_over, is_used_up, held_in, spent_of, StopsInside}
-use Rattle.raid_rack.specs.Laws.{live_parts}
-use Rattle.raid_rack.specs.Moves.{AreCaused, Brings, IsHeeded, IsSet, KeepsArrays, Mends, RaisesBy}
+use Rattle.raid_laws.specs.Losses.{AddsCopies, AreCopiesOn}
+use Rattle.raid_laws.specs.Raid.{Raid, gone_in, is_empty, is_left, is_over, is_used_up, held_in, spent_of, StopsInside}
+use Rattle.raid_laws.specs.Laws.{live_parts}
+use Rattle.raid_laws.specs.Moves.{AreCaused, Brings, IsHeeded, IsSet, KeepsArrays, Mends, RaisesBy}
 use Rattle.raid_rack.specs.RaidRack.{IsFit, IsRunning, raid_by, no_array}
-use Rattle.raid_rack.specs.Works.{ClosesPlan, ResyncsOne, StepsOne, closed, is_stuck}
-use Rattle.raid_rack.proofs.Added.{names_current}
-use Rattle.raid_rack.proofs.Adding.{copies_apart, copies_from}
+use Rattle.raid_laws.specs.Works.{ClosesPlan, ResyncsOne, StepsOne, closed, is_stuck}
+use Rattle.raid_laws.proofs.Added.{names_current}
+use Rattle.raid_laws.proofs.Adding.{copies_apart, copies_from}
 use Rattle.raid_rack.proofs.CloseParts.{close_arrays, close_brings, close_truths}
-use Rattle.raid_rack.specs.Truths.{KeepsTruths}
-use Rattle.raid_rack.proofs.Closing.{IsClosing, after_closed, closed_raid, closing_cause, closing_left, seated_closed, valid_closed}
-use Rattle.raid_rack.specs.Losing.{arrays_then, only_same}
+use Rattle.raid_laws.specs.Truths.{KeepsTruths}
+use Rattle.raid_laws.proofs.Closing.{IsClosing, after_closed, closed_raid, closing_cause, closing_left, seated_closed, valid_closed}
+use Rattle.raid_laws.specs.Losing.{arrays_then, only_same}
 use Rattle.raid_rack.proofs.Mended.{each_get, each_sectors, on_named}
-use Rattle.raid_rack.proofs.Moving.{brings_then, caused_then}
-use Rattle.raid_rack.proofs.Noted.{current_few}
-use Rattle.raid_rack.proofs.Elements.{all_among, look_among}
+use Rattle.raid_laws.proofs.Moving.{brings_then, caused_then}
+use Rattle.raid_laws.proofs.Noted.{current_few}
+use Rattle.raid_laws.proofs.Elements.{all_among, look_among}
 use Rattle.raid_rack.proofs.Ended.{all_wanting}
-use Rattle.raid_rack.proofs.Over.{not_true, or_parts}
+use Rattle.raid_laws.proofs.Over.{not_true, or_parts}
 use Rattle.raid_rack.proofs.Raises.{raised_up, raises_then}
 use Rattle.raid_rack.proofs.Resynced.{grown, resynced_settled}
 use Rattle.raid_rack.proofs.Serving.{whole_call}
-use Rattle.raid_rack.proofs.Whole.{before_amid, heeded_left}
+use Rattle.raid_laws.proofs.Whole.{before_amid, heeded_left}
 
 -- ---- a row that is resynced
 

@@ -8,12 +8,12 @@ use Rattle.slice_rack.specs.Runs.{runs_join, runs_none}
 use Rattle.array_image.specs.Places.{slice_of}
 use Rattle.array_model.specs.View.{sectors_of}
 use Rattle.raid_rack.specs.declared.arrays.RaidRack.{RaidRack}
-use Rattle.raid_rack.specs.Raid.{Raid, live_of}
-use Rattle.raid_rack.specs.Moves.{KeepsArrays, RaisesBy}
-use Rattle.raid_rack.specs.Cleaning.{NoneFails}
-use Rattle.raid_rack.specs.Losing.{arrays_same, arrays_then}
+use Rattle.raid_laws.specs.Raid.{Raid, live_of}
+use Rattle.raid_laws.specs.Moves.{KeepsArrays, RaisesBy}
+use Rattle.raid_laws.specs.Cleaning.{NoneFails}
+use Rattle.raid_laws.specs.Losing.{arrays_same, arrays_then}
 use Rattle.raid_rack.specs.RaidRack.{SliceRuns, raid_in, refused_in, slices_in, slices_seen, written_in}
-use Rattle.raid_rack.specs.Runs.{RaidRuns, raid_runs_same, raid_runs_then}
+use Rattle.raid_laws.specs.Runs.{RaidRuns, raid_runs_same, raid_runs_then}
 
 -- No spent sector comes back, and an array of which no sector is spent in the end has refused nothing meanwhile. Nothing of an array
 -- changes but whom it lost, its events, the rows that its superblocks leave and its mark, and a plan stays. `before` and `now` are the spent answers of each array.

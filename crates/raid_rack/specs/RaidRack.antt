@@ -10,11 +10,11 @@ use Rattle.md_super.specs.declared.superblock.Super.{Super}
 use Rattle.array_model.specs.View.{View}
 use Rattle.raid_rack.specs.declared.arrays.RaidRack.{RaidRack}
 use Rattle.raid_rack.specs.declared.arrays.Arrays.{Arrays}
-use Rattle.raid_rack.specs.Agreeing.{MakesAgree}
-use Rattle.raid_rack.specs.Raid.{Raid, is_left, raid_of}
-use Rattle.raid_rack.specs.Truths.{MakesTruths}
-use Rattle.raid_rack.specs.Unlost.{KeepsUnlost}
-use Rattle.raid_rack.specs.Moves.{AreMarked, IsHeeded, IsSet, Moves, RaisesBy}
+use Rattle.raid_laws.specs.Agreeing.{MakesAgree}
+use Rattle.raid_laws.specs.Raid.{Raid, is_left, raid_of}
+use Rattle.raid_laws.specs.Truths.{MakesTruths}
+use Rattle.raid_laws.specs.Unlost.{KeepsUnlost}
+use Rattle.raid_laws.specs.Moves.{AreMarked, IsHeeded, IsSet, Moves, RaisesBy}
 
 -- a number without an array: nothing is said of it
 abbrev pub no_super : Super

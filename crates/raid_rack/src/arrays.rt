@@ -42,13 +42,13 @@ impl<R: Rack> RaidRack<R> {
     ghost use Rattle.slice_rack.specs.contracts.SliceRack as sliced;
     ghost use Rattle.raid_rack.specs.contracts.arrays.RaidRack.{the_row};
     ghost use Rattle.array_image.specs.States.{is_current};
-    ghost use Rattle.raid_rack.specs.Losses.{has_other};
-    ghost use Rattle.raid_rack.specs.Moves.{AreMarked, Mends, RaisesBy, noted_at};
-    ghost use Rattle.raid_rack.specs.Cleaning.{CleansAll, LeavesItsRows};
-    ghost use Rattle.raid_rack.specs.Agreeing.{MakesAgree};
-    ghost use Rattle.raid_rack.specs.Runs.{KeepsMoments, RaidRuns};
-    ghost use Rattle.raid_rack.specs.Truths.{KeepsTruths, MakesTruths};
-    ghost use Rattle.raid_rack.specs.Unlost.{KeepsUnlost};
+    ghost use Rattle.raid_laws.specs.Losses.{has_other};
+    ghost use Rattle.raid_laws.specs.Moves.{AreMarked, Mends, RaisesBy, noted_at};
+    ghost use Rattle.raid_laws.specs.Cleaning.{CleansAll, LeavesItsRows};
+    ghost use Rattle.raid_laws.specs.Agreeing.{MakesAgree};
+    ghost use Rattle.raid_laws.specs.Runs.{KeepsMoments, RaidRuns};
+    ghost use Rattle.raid_laws.specs.Truths.{KeepsTruths, MakesTruths};
+    ghost use Rattle.raid_laws.specs.Unlost.{KeepsUnlost};
     ghost use Rattle.raid_rack.specs.RaidRack.{SliceRuns, IsFit, IsRunning, KeepsRack, arrays_in, arrays_of, raid_seen, raid_in, refused_in, slices_in, slices_seen, written_in};
 
     /// The rack of these arrays, which are those below the state's `made`, by number, over these slices. Nothing is added to the

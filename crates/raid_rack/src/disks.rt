@@ -8,9 +8,9 @@ ghost use Rattle.raid_rack.specs.AllRuns.{AreRuns, IsOneCall, serves_same, serve
 ghost use Rattle.slice_rack.specs.SliceRack.{below_of, tables};
 ghost use Rattle.slice_rack.specs.Laws.{is_sound};
 ghost use Rattle.slice_rack.specs.Runs.{runs_join, runs_none};
-ghost use Rattle.raid_rack.specs.Laws.{raid_sound, stops_inside};
-ghost use Rattle.raid_rack.specs.Raid.{spent_of};
-ghost use Rattle.raid_rack.specs.Runs.{RaidRuns, raid_runs_same, raid_runs_then};
+ghost use Rattle.raid_laws.specs.Laws.{raid_sound, stops_inside};
+ghost use Rattle.raid_laws.specs.Raid.{spent_of};
+ghost use Rattle.raid_laws.specs.Runs.{RaidRuns, raid_runs_same, raid_runs_then};
 ghost use Rattle.raid_rack.specs.RaidRack.{IsFit, is_written, SliceRuns, arrays_in, raid_in, raid_seen, refused_in, slices_in, slices_seen, written_in};
 
 use crate::arrays::RaidRack;
@@ -26,8 +26,6 @@ impl<R: Rack> Rack for RaidRack<R> {
     ghost once = { λ old new. IsOneCall (raid_in old) (raid_in new) };
 
     ghost unwritten = { λ old new. (n : ℕ) → written_in new n ≡ written_in old n };
-
-    ghost lenders = { λ rack. R.lenders (below_of (slices_in rack)) };
 
     fn disks(&self) -> u32 {
         self.arrays.state.made
@@ -104,8 +102,6 @@ impl<R: Rack> Rack for RaidRack<R> {
     ghost unwritten_same = { λ rack n. refl };
 
     ghost unwritten_then = { λ x y z one two n. two n ∙ one n };
-
-    ghost runs_lenders = { λ x y runs. R.runs_lenders (below_of (slices_in x)) (below_of (slices_in y)) runs.0.below };
 }
 
 impl<R: Rack> RaidRack<R> {

@@ -7,36 +7,14 @@
 //! rebuilds one ([`RaidRack::rebuild`]), ends a plan ([`RaidRack::close`]), does whichever of these a work asks for
 //! ([`RaidRack::work`]), makes superblocks agree ([`RaidRack::restate`]), and ends a run ([`RaidRack::clean`]).
 //!
-//! **Its model.** `Raid` is what contracts see of it: the state, each array's `View`, the number of the log. `raid_of` is the rack
+//! **Its model.** `Raid` of raid_laws is what contracts see of it: the state, each array's `View`, the number of the log. `raid_of` is the rack
 //! that it shows: disk n is array n, a sector is held where no loss spent it, what a stop leaves is what the slices say once their
 //! log is replayed, and an array is told where its slices are and it stands in them (`IsTold`). Its faults are its spent answers.
 //! Between calls all losses are mended (`IsFit`).
 //!
-//! | Module of specs/ | What it defines |
-//! |---|---|
-//! | `Raid` | what contracts see, which sectors are spent, an array in the middle of a call, an array between calls |
-//! | `Book` | states that differ in marks alone, and in a plan that has ended |
-//! | `Losses` | the places that went, and the copies of a state in a log |
-//! | `Missing` | the state that marks some places missing |
-//! | `Marking` | a part of a call, seen from one array; superblocks that restate an array under a new state |
-//! | `Logs` | what the log slices say at each moment of a part of a call |
-//! | `Since` | the copies of states as they stand in log slices, of calls that began with one state, and of a drive's joining |
-//! | `Frames` | an array's size and its members' places, which no call changes |
-//! | `Rows` | rows that images leave to resync |
-//! | `Moves` | a part of a call that moves no value, for all arrays: what it keeps whatever the rack below tells, what each array that stands gives at each moment and after it; losses that are mended |
-//! | `Losing` | arrays of which nothing has changed but whom they lost, by calls in a row |
-//! | `Settling` | all arrays settled, and the commit that marks losses |
-//! | `Cleaning` | arrays that are ended: settled, with superblocks that leave their rows and no others |
-//! | `Agreeing` | superblocks of an array that agree, and calls after which they do |
-//! | `Unlost` | what calls that mark losses leave of the state and its copies, where few drives are lost |
-//! | `RaidRack` | the model of the struct |
-//! | `Runs` | what calls in a row do to the book and to images: marks have their cause, and arrays that aren't written leave their rows |
-//! | `Works` | a step of maintenance of one array, rows that are resynced and rebuilt, the end of a plan, and any of these works |
-//! | `AllRuns` | the same, with what calls keep of the slices below, whom alone arrays lose, and which slices are spared |
-//! | `Laws` | what holds of the rack at any moment |
-//! | `Acts` | what a whole call does |
-//! | `NewDrive` | where a new drive's slices lie, its table, and what is written on it before it is one of the pool |
-//! | `Enlisting` | a new drive at a place whose drive is missing: the book with it, and what stops leave meanwhile |
+//! `specs/RaidRack.antt` is the model of the struct, and `specs/AllRuns.antt` says what calls in a row keep of it: also of the slices below,
+//! whom alone arrays lose, and which slices are spared. All else that contracts cite is defined in `raid_laws`, whose lemmas name no type of
+//! this crate.
 //!
 //! **The contract of the mending** is one record, `Mends`, over any rack of slices that spends no sector. Whoever went in a call of
 //! an array, or goes meanwhile, is marked when it returns, each with its cause, and nobody else is; down to the last drive. At each

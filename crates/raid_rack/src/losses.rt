@@ -3,9 +3,9 @@
 ghost use Rattle.std.specs.Prelude.{◌≡◌, ◌≤◌, ◌<◌, ◌+◌, ℕ, List, [], ◌∷◌, length, slice_get, Some, option_map, true};
 ghost use Rattle.arrayvec.specs.ArrayVec.{array_vec_len};
 ghost use Rattle.pool_state.specs.Valid.{is_valid};
-ghost use Rattle.commit_log.specs.View.{most_sectors};
+ghost use Rattle.log_laws.specs.View.{most_sectors};
 ghost use Rattle.array_core.specs.Seats.{gone, heeded, restarted};
-ghost use Rattle.raid_rack.specs.Losses as spec;
+ghost use Rattle.raid_laws.specs.Losses as spec;
 
 use crate::marks::{current_places, push_unless};
 use array_core::Array;

@@ -3,9 +3,9 @@
 ghost use Rattle.std.specs.Prelude.{◌≡◌, ◌≤◌, ◌<◌, ◌++◌, ◌∷◌, ◌+◌, [], length, if◌then◌else◌};
 ghost use Rattle.arrayvec.specs.ArrayVec.{array_vec_len};
 ghost use Rattle.array_image.specs.States.{current_places};
-ghost use Rattle.commit_log.specs.View.{names};
-ghost use Rattle.raid_rack.specs.Missing as spec;
-ghost use Rattle.raid_rack.specs.Works.{closed};
+ghost use Rattle.log_laws.specs.View.{names};
+ghost use Rattle.raid_laws.specs.Missing as spec;
+ghost use Rattle.raid_laws.specs.Works.{closed};
 
 use arrayvec::ArrayVec;
 use pool_state::{Drive, Plan, State};

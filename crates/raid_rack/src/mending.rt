@@ -2,16 +2,16 @@
 
 ghost use Rattle.std.specs.Prelude.{◌≡◌, ◌⊎◌, ◌<◌, ◌==◌, ℕ, Bool, true, [], ◌∷◌, length};
 ghost use Rattle.array_image.specs.States.{is_current};
-ghost use Rattle.raid_rack.specs.Moves.{AreMarked, Mends, Moves, IsHeeded, RaisesBy, ReadsValue, SyncsOne, WritesOne, noted_at};
+ghost use Rattle.raid_laws.specs.Moves.{AreMarked, Mends, Moves, IsHeeded, RaisesBy, ReadsValue, SyncsOne, WritesOne, noted_at};
 ghost use Rattle.array_model.specs.View.{sectors_of};
-ghost use Rattle.raid_rack.specs.Settling.{SettlesTo};
-ghost use Rattle.raid_rack.specs.Agreeing.{MakesAgree};
+ghost use Rattle.raid_laws.specs.Settling.{SettlesTo};
+ghost use Rattle.raid_laws.specs.Agreeing.{MakesAgree};
 ghost use Rattle.raid_rack.specs.AllRuns.{Spares};
-ghost use Rattle.raid_rack.specs.Cleaning.{Cleans, CleansAll, IsIdle};
+ghost use Rattle.raid_laws.specs.Cleaning.{Cleans, CleansAll, IsIdle};
 ghost use Rattle.raid_rack.specs.RaidRack.{EndsTurn, IsRunning, raid_by};
-ghost use Rattle.raid_rack.specs.Truths.{KeepsTruths, MakesTruths};
-ghost use Rattle.raid_rack.specs.Unlost.{KeepsUnlost};
-ghost use Rattle.raid_rack.specs.Losses as spec;
+ghost use Rattle.raid_laws.specs.Truths.{KeepsTruths, MakesTruths};
+ghost use Rattle.raid_laws.specs.Unlost.{KeepsUnlost};
+ghost use Rattle.raid_laws.specs.Losses as spec;
 
 use crate::arrays::Arrays;
 use crate::losses::{add_copies, heed_all, newly_gone, note_gone};

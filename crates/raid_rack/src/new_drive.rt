@@ -7,8 +7,8 @@ ghost use Rattle.slice_rack.specs.SliceRack.{below_of, tables};
 ghost use Rattle.slice_rack.specs.Slices.{seat_of as disk_at};
 ghost use Rattle.slice_rack.specs.Sliced.{slices_of};
 ghost use Rattle.raid_rack.specs.RaidRack.{is_written};
-ghost use Rattle.raid_rack.specs.NewDrive as spec;
-ghost use Rattle.raid_rack.specs.NewDrive.{LaysDrive, SeatsDrive};
+ghost use Rattle.raid_laws.specs.NewDrive as spec;
+ghost use Rattle.raid_laws.specs.NewDrive.{LaysDrive, SeatsDrive};
 
 use array_core::Array;
 use arrayvec::ArrayVec;

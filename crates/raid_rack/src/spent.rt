@@ -3,8 +3,8 @@
 ghost use Rattle.std.specs.Prelude.{◌≡◌, ◌<◌, ◌≤◌, ◌||◌, nat_lt, length};
 ghost use Rattle.std.specs.List.{list_any};
 ghost use Rattle.array_model.specs.View.{IsArray, sectors_of};
-ghost use Rattle.raid_rack.specs.Moves.{IsHeeded};
-ghost use Rattle.raid_rack.specs.Raid as spec;
+ghost use Rattle.raid_laws.specs.Moves.{IsHeeded};
+ghost use Rattle.raid_laws.specs.Raid as spec;
 ghost use Rattle.raid_rack.specs.RaidRack.{raid_by};
 
 use crate::arrays::{Arrays, RaidRack};

@@ -4,7 +4,7 @@ ghost use Rattle.std.specs.Prelude.{◌≡◌, ◌<◌, None, false};
 ghost use Rattle.array_image.specs.States.{is_current};
 ghost use Rattle.slice_rack.specs.Changes.{Seats};
 ghost use Rattle.slice_rack.specs.SliceRack.{below_of, tables};
-ghost use Rattle.raid_rack.specs.NewDrive.{reaches_all};
+ghost use Rattle.raid_laws.specs.NewDrive.{reaches_all};
 ghost use Rattle.raid_rack.specs.RaidRack.{IsFit, arrays_in, arrays_of, raid_in, slices_in, slices_seen};
 
 use crate::arrays::RaidRack;

@@ -3,12 +3,12 @@
 ghost use Rattle.std.specs.Prelude.{◌≡◌, ◌<◌, ◌≤◌, ◌||◌, ℕ, true, false, not, is_ok, length, OnOk, OnErr, IfErr};
 ghost use Rattle.std.specs.Option.{option_map_or};
 ghost use Rattle.array_model.specs.View.{IsArray, rows_of};
-ghost use Rattle.array_sync.specs.Rows.{lacks_row};
-ghost use Rattle.raid_rack.specs.Moves.{IsHeeded, RaisesBy};
+ghost use Rattle.sync_laws.specs.Rows.{lacks_row};
+ghost use Rattle.raid_laws.specs.Moves.{IsHeeded, RaisesBy};
 ghost use Rattle.raid_rack.specs.RaidRack.{IsRunning, raid_by};
-ghost use Rattle.raid_rack.specs.Truths.{KeepsTruths};
-ghost use Rattle.raid_rack.specs.Works as spec;
-ghost use Rattle.array_sync.specs.Steps.{resynced};
+ghost use Rattle.raid_laws.specs.Truths.{KeepsTruths};
+ghost use Rattle.raid_laws.specs.Works as spec;
+ghost use Rattle.sync_laws.specs.Steps.{resynced};
 
 use crate::arrays::{Arrays, RaidRack};
 use crate::losses::{add_copies, note_gone};
@@ -173,7 +173,7 @@ fn is_whole_row(offset: u64) -> bool
 
 impl<R: Rack> RaidRack<R> {
     ghost use Rattle.slice_rack.specs.SliceRack.{below_of};
-    ghost use Rattle.raid_rack.specs.Runs.{RaidRuns};
+    ghost use Rattle.raid_laws.specs.Runs.{RaidRuns};
     ghost use Rattle.raid_rack.specs.RaidRack.{IsFit, KeepsRack, SliceRuns, arrays_in, raid_in, raid_seen, slices_in, slices_seen, written_in};
 
     /// Resyncs the first row of an array that is left, durably. No value moves. It is refused where the array has no row left, and

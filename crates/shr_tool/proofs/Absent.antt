@@ -16,11 +16,11 @@ use Rattle.pool_model.proofs.EndedWhole.{left_absent}
 use Rattle.pool_model.proofs.Found.{found_is}
 use Rattle.pool_model.proofs.Grouped.{whole_unspent}
 use Rattle.shr_tool.proofs.GroupKept.{group_kept}
-use Rattle.raid_rack.specs.Agreeing.{AgreeLeaving}
-use Rattle.raid_rack.specs.Book.{after_then}
-use Rattle.raid_rack.specs.Losing.{geometry_then}
-use Rattle.raid_rack.specs.Raid.{IsTold, held_in, is_over, spent_of}
-use Rattle.raid_rack.proofs.Over.{or_from}
+use Rattle.raid_laws.specs.Agreeing.{AgreeLeaving}
+use Rattle.raid_laws.specs.Book.{after_then}
+use Rattle.raid_laws.specs.Losing.{geometry_then}
+use Rattle.raid_laws.specs.Raid.{IsTold, held_in, is_over, spent_of}
+use Rattle.raid_laws.proofs.Over.{or_from}
 use Rattle.pool.specs.Calls.{Ends, Passes}
 use Rattle.pool.specs.Moment.{Moment, moment_of}
 use Rattle.pool.specs.View.{View, arrays_shown, book, slices_shown}

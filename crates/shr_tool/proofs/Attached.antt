@@ -11,7 +11,7 @@ use Rattle.rack.specs.Shelf.{Shelf, Waiting, SameDisk, IsFrom, IsSame, Adds, Att
 use Rattle.rack.specs.Joins.{rose_since}
 use Rattle.shr_tool.specs.Entry.{waiting_at, sectors_in, contents_in, IsWaiting}
 use Rattle.shr_tool.specs.Attaching.{AreAttached, IsUnattached, HasAttachCause}
-use Rattle.rack_file.proofs.FilesLemmas.{get-push, get-last, differ_push}
+use Rattle.rack.proofs.Names.{get-push, get-last, differ_push}
 
 -- a list without an element
 no_names : (names : List (List ℕ)) → length names ≡ 0 → names ≡ []

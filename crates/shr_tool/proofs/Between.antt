@@ -7,7 +7,7 @@ use Rattle.slice_rack.specs.Sliced.{slices_of}
 use Rattle.flat_array.specs.Array.{FlatArray}
 use Rattle.lvm_group.specs.Runs.{Linear}
 use Rattle.array_core.specs.TruthHeld.{HoldTruth}
-use Rattle.raid_rack.specs.Raid.{IsTold, is_over}
+use Rattle.raid_laws.specs.Raid.{IsTold, is_over}
 use Rattle.pool_image.specs.Drives.{Found}
 use Rattle.pool.specs.Calls.{Passes}
 use Rattle.pool.specs.Continuing.{Continues}

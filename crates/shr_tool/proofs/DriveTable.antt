@@ -14,7 +14,7 @@ use Rattle.array_image.specs.Places.{arrays_first, log_kind, log_sectors, raid_k
 use Rattle.array_model.specs.View.{View}
 use Rattle.pool_image.specs.Replay.{Extent, entry_extent, extent_by, extents_below, free_of, share, shares_any, slice_entry}
 use Rattle.pool_rest.proofs.Extents.{extent_at, extent_by_is, free_entry, shares_below}
-use Rattle.raid_rack.specs.NewDrive.{drive_table, entry_of, first_in, joins, length_in, member_entry, slice_length}
+use Rattle.raid_laws.specs.NewDrive.{drive_table, entry_of, first_in, joins, length_in, member_entry, slice_length}
 use Rattle.pool_model.proofs.Beginnings.{take_sum}
 
 -- ---- where its slices lie

@@ -6,9 +6,9 @@ use Rattle.slice_rack.specs.Sliced.{sliced}
 use Rattle.shr_base.specs.declared.Id.{Id}
 use Rattle.pool_state.specs.declared.contents.Plan.TheVariants.{Replace as Replacing}
 use Rattle.pool_state.specs.declared.contents.State.{State}
-use Rattle.raid_rack.specs.Book.{IsAfter, after_same, after_then}
-use Rattle.raid_rack.specs.Enlisting.{enlisted}
-use Rattle.raid_rack.specs.Logs.{LogsBetween}
+use Rattle.raid_laws.specs.Book.{IsAfter, after_same, after_then}
+use Rattle.raid_laws.specs.Enlisting.{enlisted}
+use Rattle.raid_laws.specs.Logs.{LogsBetween}
 use Rattle.pool_image.specs.Meaning.{array_sectors}
 use Rattle.pool_image.specs.Disks.{Disks, disks_of}
 use Rattle.pool_image.specs.Drives.{Found}

@@ -17,13 +17,13 @@ use Rattle.array_image.specs.Places.{log_slice}
 use Rattle.array_image.specs.States.{is_current}
 use Rattle.array_core.proofs.Stripped.{some_same}
 use Rattle.array_model.specs.View.{spent_in}
-use Rattle.raid_rack.specs.Book.{IsAfter, after_same}
+use Rattle.raid_laws.specs.Book.{IsAfter, after_same}
 use Rattle.raid_rack.specs.declared.arrays.Arrays.{Arrays}
-use Rattle.raid_rack.specs.Enlisting.{IsNotWhole, IsOpenDisk, KeepsTold, enlisted}
-use Rattle.raid_rack.specs.Laws.{live_parts}
-use Rattle.raid_rack.specs.Moves.{IsHeeded, IsSet}
-use Rattle.raid_rack.specs.Raid.{IsTold, is_over}
-use Rattle.raid_rack.specs.Since.{HasOwnSince, HoldsSince, KeepsSince, since_then}
+use Rattle.raid_laws.specs.Enlisting.{IsNotWhole, IsOpenDisk, KeepsTold, enlisted}
+use Rattle.raid_laws.specs.Laws.{live_parts}
+use Rattle.raid_laws.specs.Moves.{IsHeeded, IsSet}
+use Rattle.raid_laws.specs.Raid.{IsTold, is_over}
+use Rattle.raid_laws.specs.Since.{HasOwnSince, HoldsSince, KeepsSince, since_then}
 use Rattle.raid_rack.proofs.Vacated.{vacated_told}
 use Rattle.pool_model.proofs.Joined.{current_here, id_other}
 use Rattle.pool.specs.Entering.{EntersBy, LosesOwn, Readies, Vacates, meanwhile, table_on}

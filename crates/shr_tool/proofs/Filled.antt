@@ -11,7 +11,7 @@ use Rattle.flat_array.specs.Array.{FlatArray, filled, written}
 use Rattle.flat_array.proofs.Filling.{filled_none, filled_next}
 use Rattle.pool.specs.declared.calls.SectorFault.{SectorFault}
 use Rattle.pool.specs.declared.calls.SectorFault.TheVariants.{Spent}
-use Rattle.raid_rack.specs.Losing.{arrays_same, arrays_then}
+use Rattle.raid_laws.specs.Losing.{arrays_same, arrays_then}
 use Rattle.pool.specs.View.{View, book, contents_in, volume}
 use Rattle.pool.specs.Volume.{Holds, Means, is_spent, unchanged}
 use Rattle.pool.specs.Keeping.{KeepsWorks, Raises}

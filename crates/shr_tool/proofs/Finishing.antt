@@ -5,7 +5,7 @@ use Rattle.slice_rack.specs.Sliced.{slices_of}
 use Rattle.assembler.specs.Sound.{TargetsLand}
 use Rattle.pool_image.specs.Drives.{Found}
 use Rattle.pool_model.specs.Taken.{AreSerial}
-use Rattle.raid_rack.specs.Raid.{IsTold, is_over}
+use Rattle.raid_laws.specs.Raid.{IsTold, is_over}
 use Rattle.pool.specs.Keeping.{KeepsBook}
 use Rattle.flat_array.specs.Array.{FlatArray, flushed}
 use Rattle.lvm_group.specs.Runs.{Linear}

@@ -19,13 +19,13 @@ use Rattle.array_core.proofs.Opened.{current_below}
 use Rattle.array_image.specs.Places.{log_sectors, log_slice, state_sector}
 use Rattle.array_image.specs.States.{is_current}
 use Rattle.array_model.specs.View.{spent_in}
-use Rattle.raid_rack.specs.Book.{IsAfter}
-use Rattle.raid_rack.specs.Missing.{raised}
-use Rattle.raid_rack.specs.Raid.{IsTold, Raid, is_over}
-use Rattle.raid_rack.specs.Since.{HasOwnSince, HoldsSince}
-use Rattle.raid_rack.proofs.Noted.{current_few}
-use Rattle.raid_rack.proofs.Over.{or_parts}
-use Rattle.raid_rack.proofs.Since.{kept_since}
+use Rattle.raid_laws.specs.Book.{IsAfter}
+use Rattle.raid_laws.specs.Missing.{raised}
+use Rattle.raid_laws.specs.Raid.{IsTold, Raid, is_over}
+use Rattle.raid_laws.specs.Since.{HasOwnSince, HoldsSince}
+use Rattle.raid_laws.proofs.Noted.{current_few}
+use Rattle.raid_laws.proofs.Over.{or_parts}
+use Rattle.raid_laws.proofs.Since.{kept_since}
 use Rattle.pool_image.specs.Disks.{disks_of, identities_of}
 use Rattle.pool_image.specs.Drives.{Found}
 use Rattle.pool_model.specs.InService.{InService}

@@ -15,11 +15,11 @@ use Rattle.pool_state.specs.declared.contents.State.{State}
 use Rattle.array_core.proofs.Opened.{current_below}
 use Rattle.array_image.specs.Places.{log_slice, state_sector}
 use Rattle.array_image.specs.States.{is_current}
-use Rattle.raid_rack.specs.Book.{IsAfter, after_then}
+use Rattle.raid_laws.specs.Book.{IsAfter, after_then}
 use Rattle.raid_rack.specs.declared.arrays.Arrays.{Arrays}
-use Rattle.raid_rack.specs.Enlisting.{IsWrittenBy}
-use Rattle.raid_rack.specs.NewDrive.{IsOfDrive}
-use Rattle.raid_rack.specs.Unlost.{KeepsPlace, KeepsUnlost}
+use Rattle.raid_laws.specs.Enlisting.{IsWrittenBy}
+use Rattle.raid_laws.specs.NewDrive.{IsOfDrive}
+use Rattle.raid_laws.specs.Unlost.{KeepsPlace, KeepsUnlost}
 use Rattle.pool_image.specs.Drives.{Found}
 use Rattle.pool_model.proofs.Named.{same_length}
 use Rattle.pool.specs.Entering.{Cleaned, LeavesReady, LosesOwn, Readies, meanwhile, table_on}

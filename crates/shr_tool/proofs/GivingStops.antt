@@ -13,14 +13,14 @@ use Rattle.pool_state.specs.declared.contents.Plan.TheVariants.{Replace as Repla
 use Rattle.pool_state.specs.declared.contents.State.{State}
 use Rattle.array_image.specs.Places.{super_sector}
 use Rattle.array_image.specs.States.{is_current, id_of}
-use Rattle.raid_rack.specs.Book.{IsAfter}
-use Rattle.raid_rack.specs.Enlisting.{enlisted, next_drive}
-use Rattle.raid_rack.specs.Laws.{live_parts}
-use Rattle.raid_rack.specs.Logs.{LogsBetween}
-use Rattle.raid_rack.specs.Losses.{has_other}
-use Rattle.raid_rack.specs.Missing.{raised}
-use Rattle.raid_rack.specs.NewDrive.{SeatsDrive, joins}
-use Rattle.raid_rack.specs.Raid.{is_over}
+use Rattle.raid_laws.specs.Book.{IsAfter}
+use Rattle.raid_laws.specs.Enlisting.{enlisted, next_drive}
+use Rattle.raid_laws.specs.Laws.{live_parts}
+use Rattle.raid_laws.specs.Logs.{LogsBetween}
+use Rattle.raid_laws.specs.Losses.{has_other}
+use Rattle.raid_laws.specs.Missing.{raised}
+use Rattle.raid_laws.specs.NewDrive.{SeatsDrive, joins}
+use Rattle.raid_laws.specs.Raid.{is_over}
 use Rattle.pool_image.specs.Disks.{Disks, disks_of}
 use Rattle.pool_image.specs.Drives.{Found, first_of}
 use Rattle.pool_image.specs.Meaning.{array_sectors, is_member}

@@ -7,7 +7,7 @@ use Rattle.lvm_group.specs.Images.{IsVolume}
 use Rattle.lvm_group.specs.Runs.{Linear, data_start}
 use Rattle.shr_base.specs.declared.Id.{Id}
 use Rattle.pool_model.specs.Grouped.{HoldGroup}
-use Rattle.raid_rack.specs.Raid.{Raid, held_in}
+use Rattle.raid_laws.specs.Raid.{Raid, held_in}
 
 -- So it is where the book's pool is the same and these sectors may be left with nothing new.
 pub group_kept : (v w : Raid) (l : Linear) (x y : Seen) → w.state.pool ≡ v.state.pool → w.state.extent ≡ v.state.extent → w.state.joined ≡ v.state.joined

@@ -12,7 +12,7 @@ use Rattle.pool_state.specs.declared.contents.State.{State}
 use Rattle.array_model.specs.View.{sectors_of}
 use Rattle.lvm_group.specs.Framed.{IsShown}
 use Rattle.lvm_group.specs.Runs.{Linear, data_start}
-use Rattle.raid_rack.specs.Raid.{IsTold, Raid, held_in}
+use Rattle.raid_laws.specs.Raid.{IsTold, Raid, held_in}
 use Rattle.raid_rack.proofs.Truths.{truths_then}
 use Rattle.pool_model.specs.Grouped.{AreHeadsLive, HoldGroup}
 use Rattle.shr_tool.proofs.GroupKept.{group_kept}

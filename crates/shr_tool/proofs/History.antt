@@ -12,7 +12,7 @@ use Rattle.shr_script.specs.Script.{script_of, cut_script_of}
 use Rattle.pool.specs.View.{View, book, slices_shown, volume}
 use Rattle.pool.specs.Volume.{Holds}
 use Rattle.pool.specs.Calls.{Passes}
-use Rattle.raid_rack.specs.Raid.{Raid}
+use Rattle.raid_laws.specs.Raid.{Raid}
 use Rattle.pool.specs.Keeping.{Raises}
 use Rattle.pool.specs.Continuing.{Continues, KeepsOutside}
 use Rattle.shr_tool.specs.declared.perform.Answer.{Answer}

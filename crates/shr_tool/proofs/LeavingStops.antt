@@ -9,11 +9,11 @@ use Rattle.slice_rack.specs.Sliced.{slices_of}
 use Rattle.flat_array.specs.Array.{FlatArray}
 use Rattle.lvm_group.specs.Runs.{Linear}
 use Rattle.pool_state.specs.declared.contents.State.{State}
-use Rattle.raid_rack.specs.Book.{IsAfter, after_same}
-use Rattle.raid_rack.specs.Enlisting.{IsWrittenBy}
-use Rattle.raid_rack.specs.NewDrive.{IsOfDrive}
-use Rattle.raid_rack.specs.Raid.{Raid, is_over}
-use Rattle.raid_rack.specs.Runs.{KeepsMoments}
+use Rattle.raid_laws.specs.Book.{IsAfter, after_same}
+use Rattle.raid_laws.specs.Enlisting.{IsWrittenBy}
+use Rattle.raid_laws.specs.NewDrive.{IsOfDrive}
+use Rattle.raid_laws.specs.Raid.{Raid, is_over}
+use Rattle.raid_laws.specs.Runs.{KeepsMoments}
 use Rattle.pool_image.specs.Meaning.{array_sectors}
 use Rattle.pool_image.specs.Disks.{Disks, disks_of}
 use Rattle.pool_image.specs.Drives.{Found}

@@ -20,9 +20,9 @@ use Rattle.pool_model.specs.Taken.{AreSerial}
 use Rattle.pool_model.proofs.Away.{all_there}
 use Rattle.pool_model.proofs.Grouped.{whole_unspent}
 use Rattle.pool_model.proofs.ServiceWhole.{service_absent}
-use Rattle.raid_rack.specs.Agreeing.{AgreeLeaving}
-use Rattle.raid_rack.specs.Raid.{IsTold, is_over, spent_of}
-use Rattle.raid_rack.proofs.Over.{or_from}
+use Rattle.raid_laws.specs.Agreeing.{AgreeLeaving}
+use Rattle.raid_laws.specs.Raid.{IsTold, is_over, spent_of}
+use Rattle.raid_laws.proofs.Over.{or_from}
 use Rattle.pool.specs.Calls.{Ends}
 use Rattle.pool.specs.Moment.{moment_of}
 use Rattle.pool.specs.View.{View, book, slices_shown}

@@ -6,8 +6,8 @@ use Rattle.slice_rack.specs.Sliced.{IsInside, slices_of}
 use Rattle.array_core.specs.TruthHeld.{HoldTruth}
 use Rattle.array_model.specs.View.{sectors_of}
 use Rattle.lvm_group.specs.Runs.{Linear}
-use Rattle.raid_rack.specs.Raid.{IsTold, is_over}
-use Rattle.raid_rack.specs.Runs.{KeepsMoments}
+use Rattle.raid_laws.specs.Raid.{IsTold, is_over}
+use Rattle.raid_laws.specs.Runs.{KeepsMoments}
 use Rattle.pool_image.specs.Disks.{Disks}
 use Rattle.pool_image.specs.Drives.{Found}
 use Rattle.pool_image.specs.Meaning.{array_sectors}

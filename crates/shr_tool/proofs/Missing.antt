@@ -6,7 +6,7 @@ use Rattle.slice_rack.specs.Runs.{IsSliced}
 use Rattle.slice_rack.specs.Slices.{IsOrderly, Slices, disk_of, first_of, place_of, seat_of, sectors_of}
 use Rattle.array_image.specs.States.{is_current}
 use Rattle.pool.specs.Calls.{Passes}
-use Rattle.pool.specs.Continuing.{KeepsDisk}
+use Rattle.rack.specs.Untouched.{KeepsDisk}
 use Rattle.pool.specs.Moment.{moment_of}
 use Rattle.pool.specs.Replaced.{is_vacant}
 use Rattle.pool.specs.View.{View, book, volume}

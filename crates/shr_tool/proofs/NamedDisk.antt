@@ -16,11 +16,11 @@ use Rattle.pool_state.specs.Sector.{decoded}
 use Rattle.array_image.specs.Places.{state_sector}
 use Rattle.array_image.specs.States.{is_current}
 use Rattle.array_core.proofs.Opened.{current_below}
-use Rattle.raid_rack.specs.Book.{after_same}
-use Rattle.raid_rack.specs.Enlisting.{IsOpenDisk}
-use Rattle.raid_rack.specs.Losing.{arrays_same}
-use Rattle.raid_rack.specs.Raid.{IsTold}
-use Rattle.raid_rack.proofs.Noted.{current_few}
+use Rattle.raid_laws.specs.Book.{after_same}
+use Rattle.raid_laws.specs.Enlisting.{IsOpenDisk}
+use Rattle.raid_laws.specs.Losing.{arrays_same}
+use Rattle.raid_laws.specs.Raid.{IsTold}
+use Rattle.raid_laws.proofs.Noted.{current_few}
 use Rattle.pool_image.specs.Disks.{Disks, disks_of, identities_of}
 use Rattle.pool_image.specs.Drives.{Found, drive_sector, first_of}
 use Rattle.pool_image.specs.Meaning.{array_sectors, is_member}

@@ -17,8 +17,8 @@ use Rattle.gpt_table.proofs.Tables.{first_says}
 use Rattle.array_image.specs.Places.{log_sectors, member_slice, slice_of, state_sector}
 use Rattle.array_model.specs.View.{View}
 use Rattle.pool_image.specs.Replay.{extent_by}
-use Rattle.raid_rack.specs.NewDrive.{SeatsDrive, drive_table, first_in, first_laid, joins, length_in}
-use Rattle.raid_rack.specs.Raid.{Raid}
+use Rattle.raid_laws.specs.NewDrive.{SeatsDrive, drive_table, first_in, first_laid, joins, length_in}
+use Rattle.raid_laws.specs.Raid.{Raid}
 use Rattle.pool_model.specs.Left.{IsPickOff}
 use Rattle.pool_model.specs.Stopped.{LieOn}
 use Rattle.pool_model.specs.Taken.{views_of}

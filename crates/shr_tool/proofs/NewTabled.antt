@@ -16,9 +16,9 @@ use Rattle.pool_image.specs.Disks.{Disks}
 use Rattle.pool_image.specs.Drives.{Found, end_of, extent_of}
 use Rattle.pool_image.specs.Meaning.{has_entry, has_slice, has_slice_of, is_member, is_table, kind_of}
 use Rattle.pool_image.specs.Replay.{Extent}
-use Rattle.raid_rack.specs.Enlisting.{next_drive}
-use Rattle.raid_rack.specs.NewDrive.{drive_table, entry_of, first_in, joins, length_in, member_entry, slice_length}
-use Rattle.raid_rack.specs.Raid.{Raid}
+use Rattle.raid_laws.specs.Enlisting.{next_drive}
+use Rattle.raid_laws.specs.NewDrive.{drive_table, entry_of, first_in, joins, length_in, member_entry, slice_length}
+use Rattle.raid_laws.specs.Raid.{Raid}
 use Rattle.pool_model.specs.Taken.{SeatsNew, views_of}
 use Rattle.pool_model.proofs.Alike.{extent_is, extent_same, lies, member_same}
 use Rattle.pool_model.proofs.Beginnings.{first_is, size_is, view_at}

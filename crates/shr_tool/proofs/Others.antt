@@ -17,11 +17,11 @@ use Rattle.array_image.specs.Left.{IsInside}
 use Rattle.array_image.specs.Places.{log_slice, state_sector}
 use Rattle.array_image.specs.States.{is_current}
 use Rattle.array_core.proofs.Stripped.{some_same}
-use Rattle.raid_rack.specs.Enlisting.{IsWrittenBy, next_drive}
-use Rattle.raid_rack.specs.Laws.{live_parts}
-use Rattle.raid_rack.specs.Raid.{IsTold, is_over}
-use Rattle.raid_rack.specs.Since.{HasOwnSince, KeepsSince}
-use Rattle.raid_rack.proofs.Since.{kept_since}
+use Rattle.raid_laws.specs.Enlisting.{IsWrittenBy, next_drive}
+use Rattle.raid_laws.specs.Laws.{live_parts}
+use Rattle.raid_laws.specs.Raid.{IsTold, is_over}
+use Rattle.raid_laws.specs.Since.{HasOwnSince, KeepsSince}
+use Rattle.raid_laws.proofs.Since.{kept_since}
 use Rattle.pool_image.specs.Disks.{Identity, disks_of, id_by, identities_of}
 use Rattle.pool_image.specs.Drives.{Found}
 use Rattle.pool_model.specs.Alone.{IsTabled, SaysAlone}

@@ -14,7 +14,7 @@ use Rattle.shr_script.specs.Reply.{data_line, as_line, refused_line}
 use Rattle.flat_array.specs.Array.{FlatArray, filled, flushed, written}
 use Rattle.flat_array.specs.Reply.{reply, after, spent_line, uniform_sector}
 use Rattle.array_image.specs.States.{is_current}
-use Rattle.raid_rack.specs.Losses.{has_other}
+use Rattle.raid_laws.specs.Losses.{has_other}
 use Rattle.pool.specs.declared.calls.LoseFault.{LoseFault}
 use Rattle.pool.specs.declared.calls.LoseFault.TheVariants.{LastDrive, NoSuchDrive}
 use Rattle.pool.specs.declared.calls.SectorFault.{SectorFault}

@@ -18,14 +18,14 @@ use Rattle.array_image.specs.Places.{arrays_first, state_sector}
 use Rattle.array_image.specs.States.{is_current}
 use Rattle.array_core.proofs.Opened.{current_below}
 use Rattle.raid_rack.specs.declared.arrays.Arrays.{Arrays}
-use Rattle.raid_rack.specs.Book.{IsAfter, after_same}
-use Rattle.raid_rack.specs.Enlisting.{IsNotWhole, IsOpenDisk}
-use Rattle.raid_rack.specs.Moves.{IsHeeded, IsSet}
-use Rattle.raid_rack.specs.Raid.{IsTold, is_over}
+use Rattle.raid_laws.specs.Book.{IsAfter, after_same}
+use Rattle.raid_laws.specs.Enlisting.{IsNotWhole, IsOpenDisk}
+use Rattle.raid_laws.specs.Moves.{IsHeeded, IsSet}
+use Rattle.raid_laws.specs.Raid.{IsTold, is_over}
 use Rattle.raid_rack.specs.RaidRack.{raid_by}
-use Rattle.raid_rack.specs.Unlost.{KeepsPlace}
-use Rattle.raid_rack.proofs.Noted.{current_few}
-use Rattle.raid_rack.proofs.Over.{number_room}
+use Rattle.raid_laws.specs.Unlost.{KeepsPlace}
+use Rattle.raid_laws.proofs.Noted.{current_few}
+use Rattle.raid_laws.proofs.Over.{number_room}
 use Rattle.pool_image.specs.Disks.{disks_of, identities_of}
 use Rattle.pool_image.specs.Drives.{Found, first_of}
 use Rattle.pool_image.specs.Meaning.{array_sectors, is_member}

@@ -1,5 +1,5 @@
 -- What an event does to the arrays of a book.
-use Rattle.raid_rack.specs.Raid.{Raid}
+use Rattle.raid_laws.specs.Raid.{Raid}
 use Rattle.pool.specs.Keeping.{KeepsBook}
 use Rattle.pool.proofs.Enlisted.{book_but}
 use Rattle.shr_tool.specs.Events.{Event}

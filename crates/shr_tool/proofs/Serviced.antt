@@ -20,12 +20,12 @@ use Rattle.array_core.proofs.Stripped.{some_same}
 use Rattle.array_image.specs.Left.{IsLeft}
 use Rattle.array_image.specs.Places.{log_slice, state_sector}
 use Rattle.array_image.specs.States.{is_current}
-use Rattle.raid_rack.specs.Book.{after_same}
-use Rattle.raid_rack.specs.Agreeing.{HasOwnRows, SayTruth}
-use Rattle.raid_rack.specs.Raid.{IsTold, is_over}
-use Rattle.raid_rack.specs.Runs.{KeepsMoments}
+use Rattle.raid_laws.specs.Book.{after_same}
+use Rattle.raid_laws.specs.Agreeing.{HasOwnRows, SayTruth}
+use Rattle.raid_laws.specs.Raid.{IsTold, is_over}
+use Rattle.raid_laws.specs.Runs.{KeepsMoments}
 use Rattle.raid_rack.proofs.TruthAgrees.{truth_said}
-use Rattle.raid_rack.proofs.Whole.{own_rows}
+use Rattle.raid_laws.proofs.Whole.{own_rows}
 use Rattle.assembler.specs.Sound.{TargetsLand}
 use Rattle.pool_image.specs.Disks.{Disks}
 use Rattle.pool_image.specs.Drives.{Found}

@@ -22,16 +22,16 @@ use Rattle.array_core.proofs.Opened.{current_below}
 use Rattle.array_core.specs.Seats.{seat_of as slot_of}
 use Rattle.array_core.proofs.Stripped.{some_same}
 use Rattle.array_model.specs.View.{View as ArrayView}
-use Rattle.raid_rack.specs.Enlisting.{enlisted, new_table}
-use Rattle.raid_rack.specs.NewDrive.{SeatsDrive, is_reached, joins}
-use Rattle.raid_rack.proofs.Over.{number_room}
+use Rattle.raid_laws.specs.Enlisting.{enlisted, new_table}
+use Rattle.raid_laws.specs.NewDrive.{SeatsDrive, is_reached, joins}
+use Rattle.raid_laws.proofs.Over.{number_room}
 use Rattle.pool_image.specs.Disks.{Disks, disks_of, identities_of}
 use Rattle.pool_image.specs.Drives.{Found, first_of as first_in}
 use Rattle.pool_image.specs.Meaning.{array_sectors, is_member, is_table}
 use Rattle.pool_model.specs.Alone.{IsStranger, IsTabled, TakesAlone}
 use Rattle.pool_model.specs.InService.{InService}
 use Rattle.pool_model.specs.Left.{HasNoSuper, IsPickOff}
-use Rattle.raid_rack.specs.Missing.{raised}
+use Rattle.raid_laws.specs.Missing.{raised}
 use Rattle.pool_model.specs.Taken.{AreDistinct, AreSerial, KeepsOff, KeepsRest, SeatsNew, taken}
 use Rattle.pool_model.proofs.Alone.{alone_taken, says_own, stranger_former, tabled_taken}
 use Rattle.shr_tool.proofs.NewTabled.{tabled_new}

@@ -5,8 +5,8 @@ use Rattle.slice_rack.specs.Slices.{IsOrderly, disk_of, place_of, seat_of, secto
 use Rattle.flat_array.specs.Array.{FlatArray}
 use Rattle.gpt_table.specs.declared.TableCopy.TheVariants.{Primary}
 use Rattle.array_image.specs.Places.{log_sectors, log_slice, slice_of}
-use Rattle.raid_rack.specs.Enlisting.{next_drive}
-use Rattle.raid_rack.specs.NewDrive.{sectors_laid}
+use Rattle.raid_laws.specs.Enlisting.{next_drive}
+use Rattle.raid_laws.specs.NewDrive.{sectors_laid}
 use Rattle.pool_model.specs.Left.{IsPickOff}
 use Rattle.pool_model.specs.Stopped.{LieOn}
 use Rattle.pool.specs.Moment.{IsNamed, moment_of, views_of}

@@ -11,12 +11,12 @@ use Rattle.flat_array.specs.Array.{FlatArray}
 use Rattle.lvm_group.specs.Runs.{array_of, sector_of}
 use Rattle.pool_state.specs.declared.contents.Plan.TheVariants.{Replace as Replacing}
 use Rattle.array_image.specs.Places.{super_sector}
-use Rattle.raid_rack.specs.Book.{after_same}
-use Rattle.raid_rack.specs.Enlisting.{Enlists, IsOpenDisk, enlisted}
-use Rattle.raid_rack.specs.Laws.{live_parts}
-use Rattle.raid_rack.specs.Losses.{has_other}
-use Rattle.raid_rack.specs.NewDrive.{SeatsDrive, joins}
-use Rattle.raid_rack.specs.Raid.{IsTold, is_over}
+use Rattle.raid_laws.specs.Book.{after_same}
+use Rattle.raid_laws.specs.Enlisting.{Enlists, IsOpenDisk, enlisted}
+use Rattle.raid_laws.specs.Laws.{live_parts}
+use Rattle.raid_laws.specs.Losses.{has_other}
+use Rattle.raid_laws.specs.NewDrive.{SeatsDrive, joins}
+use Rattle.raid_laws.specs.Raid.{IsTold, is_over}
 use Rattle.pool_image.specs.Disks.{disks_of}
 use Rattle.pool_image.specs.Drives.{Found, first_of}
 use Rattle.pool_image.specs.Meaning.{array_sectors, is_member}

@@ -28,11 +28,11 @@ use Rattle.pool_rest.specs.Resting.{WritesDrives}
 use Rattle.assembler.specs.declared.refusal.Refusal.{Refusal}
 use Rattle.assembler.specs.declared.refusal.Refusal.TheVariants as refusal
 use Rattle.assembler.specs.Causes.{ArraysOn, HasRefusalCause, RefusesArrays, RefusesPool}
-use Rattle.assembler.specs.Marking.{MarksDrives}
-use Rattle.assembler.specs.Moments.{HoldsAt}
+use Rattle.assembler_laws.specs.Marking.{MarksDrives}
+use Rattle.assembler_laws.specs.Moments.{HoldsAt}
 use Rattle.assembler.specs.Sound.{HaveOnePool, HoldSound, IsMeantBy, MayStop, SayTruths, StopsHold}
 use Rattle.assembler.specs.Wanting.{HasUsedUp, LeavesPool}
-use Rattle.assembler.specs.Writing.{WritesPool}
+use Rattle.assembler_laws.specs.Writing.{WritesPool}
 use Rattle.pool_format.specs.declared.formatting.CreateFault.{CreateFault}
 use Rattle.pool_format.specs.declared.formatting.CreateFault.TheVariants.{Layout, Gone, Memory}
 use Rattle.pool_format.specs.declared.Birth.{Birth}

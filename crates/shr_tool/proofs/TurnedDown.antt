@@ -11,15 +11,15 @@ use Rattle.slice_rack.specs.Slices.{Slices, seat_of}
 use Rattle.flat_array.specs.Array.{FlatArray}
 use Rattle.slice_rack.specs.Sliced.{slices_of}
 use Rattle.lvm_group.specs.Runs.{Linear, array_of}
-use Rattle.raid_rack.specs.Enlisting.{new_table}
-use Rattle.raid_rack.specs.Raid.{IsTold}
+use Rattle.raid_laws.specs.Enlisting.{new_table}
+use Rattle.raid_laws.specs.Raid.{IsTold}
 use Rattle.pool_state.specs.declared.contents.Copied.{Copied}
 use Rattle.pool_state.specs.declared.contents.State.{State}
 use Rattle.pool_state.specs.Sector.{decoded}
 use Rattle.array_image.specs.Places.{state_sector}
 use Rattle.array_image.specs.States.{is_current}
-use Rattle.raid_rack.specs.Missing.{raised}
-use Rattle.raid_rack.proofs.Over.{number_room}
+use Rattle.raid_laws.specs.Missing.{raised}
+use Rattle.raid_laws.proofs.Over.{number_room}
 use Rattle.pool_image.specs.Disks.{disks_of, identities_of}
 use Rattle.pool_image.specs.Drives.{Found}
 use Rattle.pool_model.specs.Left.{IsPickOff}

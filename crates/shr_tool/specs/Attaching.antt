@@ -3,9 +3,8 @@ use Rattle.std.specs.Prelude.{◌≡◌, ◌≢◌, ℕ, ◌<◌, ◌≤◌, Lis
 use Rattle.rack.specs.declared.AttachFault.{AttachFault}
 use Rattle.rack.specs.declared.AttachFault.TheVariants.{Failed, Twice, Memory}
 use Rattle.rack.specs.Seen.{Image, Seen, Rose}
-use Rattle.rack.specs.Shelf.{Shelf}
+use Rattle.rack.specs.Shelf.{Differ, Shelf}
 use Rattle.shr_tool.specs.Entry.{waiting_at, IsEntryImage, IsWaiting}
-use Rattle.rack_file.specs.Files.{Differ}
 
 -- all names were attached: disk d is what waited under name d, and up to now each stop left what waited
 pub record AreAttached (x y : Seen) (s t : Shelf) (names : List (List ℕ)) : Type 0 where

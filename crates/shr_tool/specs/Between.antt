@@ -7,11 +7,11 @@ use Rattle.slice_rack.specs.Sliced.{sliced}
 use Rattle.array_image.specs.States.{is_current}
 use Rattle.pool_state.specs.declared.contents.Plan.TheVariants.{Replace as Replacing}
 use Rattle.pool_state.specs.declared.contents.State.{State}
-use Rattle.raid_rack.specs.Book.{IsAfter}
-use Rattle.raid_rack.specs.Enlisting.{enlisted}
-use Rattle.raid_rack.specs.Logs.{LogsBetween}
+use Rattle.raid_laws.specs.Book.{IsAfter}
+use Rattle.raid_laws.specs.Enlisting.{enlisted}
+use Rattle.raid_laws.specs.Logs.{LogsBetween}
 use Rattle.lvm_group.specs.Runs.{Linear}
-use Rattle.raid_rack.specs.Raid.{Raid, is_over}
+use Rattle.raid_laws.specs.Raid.{Raid, is_over}
 use Rattle.pool_image.specs.Drives.{Found}
 use Rattle.pool_model.specs.Laid.{HaveOtherIds}
 use Rattle.pool_model.specs.Grouped.{AreHeadsLive}

@@ -4,8 +4,8 @@ use Rattle.rack.specs.Values.{Keeps}
 use Rattle.rack.specs.Seen.{Seen}
 use Rattle.array_model.specs.View.{sectors_of}
 use Rattle.lvm_group.specs.Runs.{data_start}
-use Rattle.raid_rack.specs.Raid.{IsTold, Raid, held_in, live_of}
-use Rattle.raid_rack.specs.Truths.{KeepsTruths}
+use Rattle.raid_laws.specs.Raid.{IsTold, Raid, held_in, live_of}
+use Rattle.raid_laws.specs.Truths.{KeepsTruths}
 
 -- The pool is the same, and its arrays are of as many sectors as before. Each of these that can be had afterwards could be had before; where the array was
 -- told it is told still, and a sector before the first extent keeps its values. Superblocks that said an array's truth do so.

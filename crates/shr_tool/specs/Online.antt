@@ -1,9 +1,10 @@
 -- Each attached disk is asked to answer before a pool is opened. One that refuses is offline, as if it weren't there.
-use Rattle.std.specs.Prelude.{◌≡◌, ℕ, Bool, List}
+use Rattle.std.specs.Prelude.{◌≡◌, ℕ, ◌<◌, Bool, true, List}
 use Rattle.rack.specs.Seen.{Seen}
 use Rattle.rack.specs.Shelf.{Shelf}
+use Rattle.rack.specs.Untouched.{KeepsDisk}
 use Rattle.array_image.specs.Places.{state_sector}
-use Rattle.online_bay.specs.Online.{Asks, online_of}
+use Rattle.online_bay.specs.Online.{Asks, is_offline, online_of}
 use Rattle.shr_tool.specs.declared.opening.Task.{Task}
 use Rattle.shr_tool.specs.declared.status.Status.{Status}
 use Rattle.shr_tool.specs.Opened.{OpenOutcome}
@@ -25,11 +26,12 @@ abbrev pub online_runs : {B : Type 0} → (B → B → Type 0) → Online B → 
 online_runs runs x y = (y.offline ≡ x.offline) × runs x.bay y.bay
 
 -- Each disk was asked for the sector of its state: the offline ones refused, and the others answered. Of these a pool was opened, or not, and the task done
--- on it.
+-- on it. The offline ones were left alone.
 pub record OnlineOutcome {B : Type 0} (seen : B → Seen) (shelf : B → Shelf) (runs : B → B → Type 0) (attached after : B) (task : Task) (text rest out out' : List ℕ) (status : Status)
     : Type 0 where
   pub asked : Online B
   pub asks : Asks seen runs attached asked.bay state_sector asked.offline
+  pub kept : (d : ℕ) → d < (seen asked.bay).disks → is_offline asked.offline d ≡ true → KeepsDisk (shelf asked.bay).told (seen asked.bay) (seen after) d
   -- which are offline in the end
   pub offline : List Bool
   pub outcome :

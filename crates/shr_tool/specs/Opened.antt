@@ -8,8 +8,8 @@ use Rattle.md_super.specs.declared.superblock.Super.{Super}
 use Rattle.array_image.specs.States.{is_current}
 use Rattle.lvm_group.specs.Runs.{data_start}
 use Rattle.slice_rack.specs.Sliced.{slices_of}
-use Rattle.raid_rack.specs.Book.{IsAfter}
-use Rattle.raid_rack.specs.Raid.{IsTold}
+use Rattle.raid_laws.specs.Book.{IsAfter}
+use Rattle.raid_laws.specs.Raid.{IsTold}
 use Rattle.pool_check.specs.Settling.{IsSettled}
 use Rattle.pool_image.specs.Alike.{MeansTheSame}
 use Rattle.pool_image.specs.Disks.{disks_of}
@@ -20,19 +20,19 @@ use Rattle.pool_rest.specs.Resting.{WritesDrives}
 use Rattle.assembler.specs.declared.refusal.Refusal.{Refusal}
 use Rattle.assembler.specs.declared.refusal.Refusal.TheVariants.{BadVolume, Memory}
 use Rattle.assembler.specs.Causes.{HasRefusalCause}
-use Rattle.assembler.specs.Holding.{IsArrayOf}
-use Rattle.assembler.specs.Marking.{MarksDrives}
-use Rattle.assembler.specs.Raising.{most_opening}
+use Rattle.assembler_laws.specs.Holding.{IsArrayOf}
+use Rattle.assembler_laws.specs.Marking.{MarksDrives}
+use Rattle.assembler_laws.specs.Raising.{most_opening}
 use Rattle.assembler.specs.Refusing.{is_early}
 use Rattle.pool_model.specs.Grouped.{HaveOwnAreas, HoldGroup, IsVolumeOf}
 use Rattle.pool_model.specs.Left.{AreAlone, AreElsewhere, IsPickOff}
 use Rattle.pool_model.specs.Pools.{AreSlicesOf}
 use Rattle.pool_model.specs.Stopped.{HaveTables}
-use Rattle.assembler.specs.Moments.{SaysVolume}
+use Rattle.assembler_laws.specs.Moments.{SaysVolume}
 use Rattle.assembler.specs.Sound.{HaveAgreed, HaveGatesUpTo, HoldSound, IsMeantRefusal, KeepsPool, MayStop, SayTruths, StopsHold, StopsMean, TargetsLand}
 use Rattle.assembler.specs.Volume.{AllLive}
 use Rattle.assembler.specs.Wanting.{HasUsedUp, LeavesPool}
-use Rattle.assembler.specs.Writing.{WritesPool}
+use Rattle.assembler_laws.specs.Writing.{WritesPool}
 use Rattle.pool.specs.Keeping.{HasMarkedSeats}
 use Rattle.shr_script.specs.Reply.{refused_line}
 use Rattle.shr_tool.specs.declared.opening.Task.{Task}

@@ -23,9 +23,9 @@ use Rattle.pool_model.specs.Taken.{AreSerial}
 use Rattle.slice_rack.specs.Slices.{IsOrderly, disk_of}
 use Rattle.slice_rack.specs.Sliced.{slices_of}
 use Rattle.array_core.specs.TruthHeld.{HoldTruth}
-use Rattle.raid_rack.specs.Agreeing.{AgreeLeaving}
-use Rattle.raid_rack.specs.Book.{IsAfter}
-use Rattle.raid_rack.specs.Raid.{IsTold, is_over}
+use Rattle.raid_laws.specs.Agreeing.{AgreeLeaving}
+use Rattle.raid_laws.specs.Book.{IsAfter}
+use Rattle.raid_laws.specs.Raid.{IsTold, is_over}
 use Rattle.assembler.specs.Sound.{HaveOnePool, TargetsLand}
 use Rattle.shr_script.specs.Line.{Line}
 use Rattle.flat_array.specs.Array.{FlatArray, flushed}

@@ -14,7 +14,7 @@ use Rattle.array_image.specs.Places.{state_sector, super_sector}
 use Rattle.array_image.specs.States.{id_of, is_current}
 use Rattle.array_core.specs.TruthHeld.{HoldTruth}
 use Rattle.lvm_group.specs.Runs.{sectors_in}
-use Rattle.raid_rack.specs.Enlisting.{enlisted}
+use Rattle.raid_laws.specs.Enlisting.{enlisted}
 use Rattle.pool_image.specs.Disks.{Disks, Identity, identities_of}
 use Rattle.pool_image.specs.Drives.{Found, first_of}
 use Rattle.pool_image.specs.Meaning.{is_member}

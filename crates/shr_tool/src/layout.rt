@@ -6,6 +6,3 @@ mod lines;
 mod print;
 
 pub use print::print_layout;
-
-#[cfg(test)]
-mod tests;

@@ -43,7 +43,7 @@ pub fn answer_in<R: Bay>(
 ) -> Answer
     requires { (volume (view R.seen R.shelf pool.old)).fit }
     ensures answers { Answers (view R.seen R.shelf pool.old) (view R.seen R.shelf pool.new) line.now result text.new.items }
-    ensures lenders { R.lenders (bay_in pool.new) ≡ R.lenders (bay_in pool.old) }
+    ensures frame { R.frame (bay_in pool.old) (bay_in pool.new) }
 {
     match line {
         Ok(command) => perform(pool, command, text),
@@ -68,7 +68,7 @@ fn word_of(fault: LineFault) -> &'static [u8]
 fn perform<R: Bay>(pool: &mut Pool<R>, command: &Command, text: &mut ReplyText) -> Answer
     requires { (volume (view R.seen R.shelf pool.old)).fit }
     ensures answers { Answers (view R.seen R.shelf pool.old) (view R.seen R.shelf pool.new) (Ok command.now) result text.new.items }
-    ensures lenders { R.lenders (bay_in pool.new) ≡ R.lenders (bay_in pool.old) }
+    ensures frame { R.frame (bay_in pool.old) (bay_in pool.new) }
 {
     match command {
         Command::Read { sector } => return perform_read(pool, *sector, text),
@@ -215,7 +215,7 @@ fn perform_replace<R: Bay>(
 ) -> Answer
     requires { (volume (view R.seen R.shelf pool.old)).fit }
     ensures answers { Answers (view R.seen R.shelf pool.old) (view R.seen R.shelf pool.new) (Ok (Replace place name.now)) result text.new.items }
-    ensures lenders { R.lenders (bay_in pool.new) ≡ R.lenders (bay_in pool.old) }
+    ensures frame { R.frame (bay_in pool.old) (bay_in pool.new) }
 {
     // No place is greater than the last number of 32 bits.
     let place = place.min(u64::from(u32::MAX)) as u32;

@@ -55,7 +55,7 @@ pub fn answer_script<R: Bay, I: Source, O: Sink>(
 ) -> Stopped
     requires { (volume (view R.seen R.shelf pool.old)).fit }
     ensures continues { Continues (view R.seen R.shelf pool.old) (view R.seen R.shelf pool.new) }
-    ensures lenders { R.lenders (bay_in pool.new) ≡ R.lenders (bay_in pool.old) }
+    ensures frame { R.frame (bay_in pool.old) (bay_in pool.new) }
     ensures source { I.faults input.old ≤ I.faults input.new }
     ensures sink { O.faults out.old ≤ O.faults out.new }
     ensures cause { HasStopCause result.cause (I.faults input.old) (I.faults input.new) (O.faults out.old) (O.faults out.new) }
@@ -112,7 +112,7 @@ fn answer_last<R: Bay, O: Sink>(
 ) -> Stopped
     requires { (volume (view R.seen R.shelf pool.old)).fit }
     ensures continues { Continues (view R.seen R.shelf pool.old) (view R.seen R.shelf pool.new) }
-    ensures lenders { R.lenders (bay_in pool.new) ≡ R.lenders (bay_in pool.old) }
+    ensures frame { R.frame (bay_in pool.old) (bay_in pool.new) }
     ensures sink { O.faults out.old ≤ O.faults out.new }
     ensures cause { HasStopCause result.cause 0 0 (O.faults out.old) (O.faults out.new) }
     ensures told { O.told out.old → O.told out.new }
@@ -134,7 +134,7 @@ fn answer_line<R: Bay, O: Sink>(
 ) -> Result<Answer, Stop>
     requires { (volume (view R.seen R.shelf pool.old)).fit }
     ensures continues { Continues (view R.seen R.shelf pool.old) (view R.seen R.shelf pool.new) }
-    ensures lenders { R.lenders (bay_in pool.new) ≡ R.lenders (bay_in pool.old) }
+    ensures frame { R.frame (bay_in pool.old) (bay_in pool.new) }
     ensures sink { O.faults out.old ≤ O.faults out.new }
     ensures cause { IfErr result (λ stop. HasStopCause stop 0 0 (O.faults out.old) (O.faults out.new)) }
     ensures told { O.told out.old → O.told out.new }
@@ -159,7 +159,7 @@ fn answer<R: Bay, O: Sink>(
     requires fit { (volume (view R.seen R.shelf pool.old)).fit }
     requires replied { IsReplied said.now }
     ensures continues { Continues (view R.seen R.shelf pool.old) (view R.seen R.shelf pool.new) }
-    ensures lenders { R.lenders (bay_in pool.new) ≡ R.lenders (bay_in pool.old) }
+    ensures frame { R.frame (bay_in pool.old) (bay_in pool.new) }
     ensures sink { O.faults out.old ≤ O.faults out.new }
     ensures cause { IfErr result (λ stop. HasStopCause stop 0 0 (O.faults out.old) (O.faults out.new)) }
     ensures told { O.told out.old → O.told out.new }

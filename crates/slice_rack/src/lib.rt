@@ -130,8 +130,6 @@ impl<R: Rack> Rack for SliceRack<R> {
 
     ghost unwritten = { λ old new. Unit {0} };
 
-    ghost lenders = { λ rack. R.lenders rack.rack };
-
     fn disks(&self) -> u32 {
         272
     }
@@ -179,8 +177,6 @@ impl<R: Rack> Rack for SliceRack<R> {
     ghost unwritten_same = { λ x. tt };
 
     ghost unwritten_then = { λ x y z one two. tt };
-
-    ghost runs_lenders = { λ x y runs. R.runs_lenders x.rack y.rack runs.below };
 }
 
 impl<R: Rack> SliceRack<R> {

@@ -25,7 +25,7 @@ pub fn serve_pool<R: Bay, I: Source, O: Sink>(
 ) -> Status
     requires { (volume (view R.seen R.shelf pool.old)).fit }
     ensures continues { Continues (view R.seen R.shelf pool.old) (view R.seen R.shelf pool.new) }
-    ensures lenders { R.lenders (bay_in pool.new) ≡ R.lenders (bay_in pool.old) }
+    ensures frame { R.frame (bay_in pool.old) (bay_in pool.new) }
     ensures source { I.faults input.old ≤ I.faults input.new }
     ensures sink { O.faults out.old ≤ O.faults out.new }
     ensures cause { HasStatusCause result (I.faults input.old) (I.faults input.new) (O.faults out.old) (O.faults out.new) }

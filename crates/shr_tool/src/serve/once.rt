@@ -22,7 +22,7 @@ use shr_script::ReplyText;
 pub fn show_pool<R: Bay, O: Sink>(pool: &mut Pool<R>, out: &mut O) -> Status
     requires { (volume (view R.seen R.shelf pool.old)).fit }
     ensures continues { Continues (view R.seen R.shelf pool.old) (view R.seen R.shelf pool.new) }
-    ensures lenders { R.lenders (bay_in pool.new) ≡ R.lenders (bay_in pool.old) }
+    ensures frame { R.frame (bay_in pool.old) (bay_in pool.new) }
     ensures sink { O.faults out.old ≤ O.faults out.new }
     ensures cause { HasStatusCause result 0 0 (O.faults out.old) (O.faults out.new) }
     ensures other { result ≢ Status.Limit }
@@ -40,7 +40,7 @@ pub fn show_pool<R: Bay, O: Sink>(pool: &mut Pool<R>, out: &mut O) -> Status
 fn answer_status<R: Bay, O: Sink>(pool: &mut Pool<R>, out: &mut O) -> Stopped
     requires { (volume (view R.seen R.shelf pool.old)).fit }
     ensures continues { Continues (view R.seen R.shelf pool.old) (view R.seen R.shelf pool.new) }
-    ensures lenders { R.lenders (bay_in pool.new) ≡ R.lenders (bay_in pool.old) }
+    ensures frame { R.frame (bay_in pool.old) (bay_in pool.new) }
     ensures sink { O.faults out.old ≤ O.faults out.new }
     ensures cause { HasStopCause result.cause 0 0 (O.faults out.old) (O.faults out.new) }
     ensures other { result.cause ≢ Stop.Limit }

@@ -1,5 +1,5 @@
 use Rattle.std.proofs.Common.{◌∙◌, sym, ap}
-use Rattle.commit_log.specs.View.{LogView}
+use Rattle.log_laws.specs.View.{LogView}
 use Rattle.array_core.proofs.RowTargets.{data_staged, both_staged}
 use Rattle.array_core.proofs.Array.stage_change.Goals as goal
 

@@ -1,6 +1,6 @@
 use Rattle.std.proofs.Common.{◌∙◌, refl, sym, subst, ap, inr}
 use Rattle.rack.proofs.Reading.{only_reads_start}
-use Rattle.commit_log.specs.View.{LogView}
+use Rattle.log_laws.specs.View.{LogView}
 use Rattle.array_model.proofs.Views.{notes_none}
 use Rattle.array_core.specs.Stands.{layout_of}
 use Rattle.array_core.specs.Logging.{StagedRow, staged_copies}

@@ -1,6 +1,6 @@
 use Rattle.std.proofs.Common.{false, refl, ℕ, ◌<◌, ◌∙◌, Bool, sym, subst, inl}
 use Rattle.std.proofs.lemmas.Bool.{both_ways}
-use Rattle.commit_log.specs.Phases.{AreLogs}
+use Rattle.log_laws.specs.Phases.{AreLogs}
 use Rattle.array_model.specs.View.{is_whole_array}
 use Rattle.array_model.proofs.Alone.{alone_lacks}
 use Rattle.array_core.specs.Settling.{Readies}

@@ -1,7 +1,7 @@
 use Rattle.std.proofs.Common.{◌∙◌, List, refl, sym, ap, subst, inl, inr}
 use Rattle.rack.specs.Targets.{Target}
-use Rattle.commit_log.specs.View.{LogView, committed}
-use Rattle.commit_log.specs.Kept.{LogKept}
+use Rattle.log_laws.specs.View.{LogView, committed}
+use Rattle.log_laws.specs.Kept.{LogKept}
 use Rattle.array_model.specs.View.{has_gone}
 use Rattle.array_model.proofs.Views.{notes_then}
 use Rattle.array_core.specs.Pool.{MayLog}

@@ -1,7 +1,7 @@
 use Rattle.std.proofs.Common.{List, refl, ap, subst, ◌∙◌, arith}
 use Rattle.std.proofs.lemmas.List.{take_all}
 use Rattle.std.proofs.lemmas.Option.{slice_get-get_or}
-use Rattle.commit_log.specs.View.{LogView}
+use Rattle.log_laws.specs.View.{LogView}
 use Rattle.array_core.specs.declared.slots.Slot.{Slot}
 use Rattle.array_core.specs.Staging.{AddsSupers}
 use Rattle.array_core.proofs.Adding.{adds_none, adds_more}

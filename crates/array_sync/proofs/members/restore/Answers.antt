@@ -1,5 +1,5 @@
 use Rattle.array_model.proofs.Views.{notes_none}
-use Rattle.array_sync.proofs.Restoring.{few_wanting, given_here, spent_here}
+use Rattle.sync_laws.proofs.Restoring.{few_wanting, given_here, spent_here}
 use Rattle.array_sync.proofs.members.restore.Goals as goal
 
 pub returns-then-position-row_members-clause-notes : goal.returns-then-position-row_members-clause-notes

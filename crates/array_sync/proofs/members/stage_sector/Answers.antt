@@ -1,10 +1,10 @@
 use Rattle.std.proofs.Common.{ap, ◌∙◌, ◌+◌, ◌++◌, ◌∷◌, [], ℕ, arith}
 use Rattle.rack.specs.Targets.{target}
 use Rattle.array_image.specs.Places.{data_sector}
-use Rattle.commit_log.specs.View.{LogView}
+use Rattle.log_laws.specs.View.{LogView}
 use Rattle.md_super.specs.declared.superblock.Super.{Super}
 use Rattle.array_model.proofs.Reading.{slice_same}
-use Rattle.array_sync.proofs.Restoring.{member_sector}
+use Rattle.sync_laws.proofs.Restoring.{member_sector}
 use Rattle.array_sync.proofs.members.stage_sector.Goals as goal
 
 pub slice_at-requires : goal.slice_at-requires

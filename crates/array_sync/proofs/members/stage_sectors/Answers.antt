@@ -1,15 +1,15 @@
 use Rattle.std.proofs.Common.{ap, ◌≡◌, ◌-◌, ◌*◌, ℕ, ◌∙◌, subst, refl, le-ltb, arith}
 use Rattle.rack.proofs.Reading.{only_reads_start, only_reads_join}
-use Rattle.commit_log.specs.View.{LogView}
+use Rattle.log_laws.specs.View.{LogView}
 use Rattle.md_super.specs.declared.superblock.Super.{Super}
 use Rattle.array_model.specs.View.{member_on}
 use Rattle.array_model.proofs.Reading.{slices_then}
 use Rattle.array_model.proofs.Views.{notes_none, notes_then}
-use Rattle.array_sync.specs.Rows.{AddsCopies, IsGiven, OfMember}
-use Rattle.array_sync.proofs.Copying.{added_length, no_copies}
-use Rattle.array_sync.proofs.Others.{stays_lacking}
-use Rattle.array_sync.proofs.Restoring.{member_next, spent_at_last}
-use Rattle.array_sync.proofs.Summing.{sector_then, sector_in_row}
+use Rattle.sync_laws.specs.Rows.{AddsCopies, IsGiven, OfMember}
+use Rattle.sync_laws.proofs.Copying.{added_length, no_copies}
+use Rattle.sync_laws.proofs.Others.{stays_lacking}
+use Rattle.sync_laws.proofs.Restoring.{member_next, spent_at_last}
+use Rattle.sync_laws.proofs.Summing.{sector_then, sector_in_row}
 use Rattle.array_sync.proofs.members.stage_sectors.Goals as goal
 
 pub loop-sector-init : goal.loop-sector-init

@@ -1,6 +1,6 @@
 use Rattle.std.proofs.Common.{◌≡◌, ◌*◌, ◌/◌, ℕ, List, [], is_ok, sym, ap, subst, ◌∙◌, arith}
 use Rattle.rack.specs.Targets.{Target}
-use Rattle.commit_log.specs.View.{LogView, names}
+use Rattle.log_laws.specs.View.{LogView, names}
 use Rattle.array_image.specs.Stripes.{Layout}
 use Rattle.array_model.specs.declared.Seat.TheVariants.{Rebuilding}
 use Rattle.array_model.specs.View.{View}
@@ -12,12 +12,12 @@ use Rattle.array_core.specs.declared.Change.{Change}
 use Rattle.array_core.specs.Staging.{AddsSupersOf}
 use Rattle.array_core.specs.Superblocks.{adopted}
 use Rattle.array_core.proofs.LogWrites.{few_in_order, reads_goes, goes_then}
-use Rattle.array_sync.specs.Rows.{others_give, row_spent}
-use Rattle.array_sync.specs.Steps.{Steps, reach_on, rebuilt}
-use Rattle.array_sync.proofs.Answering.{lacking, not_ok, staged_few}
-use Rattle.array_sync.proofs.MemberStaged.{change_is, gives_err, gives_none, gives_ok, gives_row, member_apart, member_had, member_leaves, member_some, member_steps, member_valid, row_start, staged}
-use Rattle.array_sync.proofs.Rebuilt.{next_array, place_found, reach_before, rebuilding, row_inside, stage_is}
-use Rattle.array_sync.proofs.Stepping.{refused_steps}
+use Rattle.sync_laws.specs.Rows.{others_give, row_spent}
+use Rattle.sync_laws.specs.Steps.{Steps, reach_on, rebuilt}
+use Rattle.sync_laws.proofs.Answering.{lacking, not_ok, staged_few}
+use Rattle.sync_laws.proofs.MemberStaged.{change_is, gives_err, gives_none, gives_ok, gives_row, member_apart, member_had, member_leaves, member_some, member_steps, member_valid, row_start, staged}
+use Rattle.sync_laws.proofs.Rebuilt.{next_array, place_found, reach_before, rebuilding, row_inside, stage_is}
+use Rattle.sync_laws.proofs.Stepping.{refused_steps}
 use Rattle.array_sync.proofs.rebuilding.rebuild_row.Goals as goal
 
 pub position-position-requires : goal.position-position-requires

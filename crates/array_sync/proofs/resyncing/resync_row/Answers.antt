@@ -1,6 +1,6 @@
 use Rattle.std.proofs.Common.{◌≡◌, ◌+◌, ◌*◌, ℕ, List, [], is_ok, sym, ap, subst, ◌∙◌, arith}
 use Rattle.rack.specs.Targets.{Target}
-use Rattle.commit_log.specs.View.{LogView}
+use Rattle.log_laws.specs.View.{LogView}
 use Rattle.array_image.specs.Stripes.{Layout}
 use Rattle.array_model.specs.View.{View}
 use Rattle.array_model.specs.Members.{first_of_row, row_layout}
@@ -10,12 +10,12 @@ use Rattle.array_model.proofs.Views.{same_view_then}
 use Rattle.array_core.specs.Staging.{AddsSupersOf}
 use Rattle.array_core.specs.Superblocks.{adopted}
 use Rattle.array_core.proofs.LogWrites.{few_in_order, reads_goes, goes_then}
-use Rattle.array_sync.specs.Rows.{lacks_row}
-use Rattle.array_sync.specs.Steps.{Steps, offset_after, resynced}
-use Rattle.array_sync.proofs.Answering.{lacking, not_ok, refused_by, served_by, staged_few}
-use Rattle.array_sync.proofs.RowStaged.{row_apart, row_had, row_lacks, row_leaves, row_some, row_steps, row_valid, staged}
-use Rattle.array_sync.proofs.Stepping.{refused_steps}
-use Rattle.array_sync.proofs.Views.{IsUnsynced, next_array, stage_is}
+use Rattle.sync_laws.specs.Rows.{lacks_row}
+use Rattle.sync_laws.specs.Steps.{Steps, offset_after, resynced}
+use Rattle.sync_laws.proofs.Answering.{lacking, not_ok, refused_by, served_by, staged_few}
+use Rattle.sync_laws.proofs.RowStaged.{row_apart, row_had, row_lacks, row_leaves, row_some, row_steps, row_valid, staged}
+use Rattle.sync_laws.proofs.Stepping.{refused_steps}
+use Rattle.sync_laws.proofs.Views.{IsUnsynced, next_array, stage_is}
 use Rattle.array_sync.proofs.resyncing.resync_row.Goals as goal
 
 pub stage_row-requires-clause-room : goal.stage_row-requires-clause-room

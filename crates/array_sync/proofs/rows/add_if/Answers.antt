@@ -1,7 +1,7 @@
 use Rattle.std.proofs.Common.{sym, ◌∙◌}
 use Rattle.array_image.specs.Held.{current_in}
 use Rattle.array_model.proofs.Views.{notes_none}
-use Rattle.array_sync.proofs.Summing.{added_none, added_one}
+use Rattle.sync_laws.proofs.Summing.{added_none, added_one}
 use Rattle.array_sync.proofs.rows.add_if.Goals as goal
 
 pub returns-then-not-is_source-clause-notes : goal.returns-then-not-is_source-clause-notes

@@ -1,6 +1,6 @@
 use Rattle.std.proofs.Common.{ap, ◌∙◌}
 use Rattle.parity.specs.Xor.{xor}
-use Rattle.array_sync.proofs.Summing.{piece_counts, piece_is, spent_lacks}
+use Rattle.sync_laws.proofs.Summing.{piece_counts, piece_is, spent_lacks}
 use Rattle.array_sync.proofs.rows.add_source.Goals as goal
 
 pub returns-in-Ok-clause-counts : goal.returns-in-Ok-clause-counts

@@ -1,9 +1,9 @@
 use Rattle.std.proofs.Common.{ap, ◌≡◌, ◌∙◌, refl, arith}
-use Rattle.commit_log.specs.View.{LogView}
+use Rattle.log_laws.specs.View.{LogView}
 use Rattle.array_model.proofs.Layouts.{row_layout_is}
 use Rattle.array_model.proofs.Views.{same_view}
-use Rattle.array_sync.specs.Rows.{OfSector}
-use Rattle.array_sync.proofs.Copying.{added_length, copies_by, copies_next, no_copies}
+use Rattle.sync_laws.specs.Rows.{OfSector}
+use Rattle.sync_laws.proofs.Copying.{added_length, copies_by, copies_next, no_copies}
 use Rattle.array_sync.proofs.rows.stage_copies.Goals as goal
 
 pub loop-position-init : goal.loop-position-init

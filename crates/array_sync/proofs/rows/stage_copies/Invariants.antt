@@ -1,5 +1,5 @@
 use Rattle.std.proofs.Common.{◌≡◌}
-use Rattle.array_sync.specs.Rows.{AddsCopies, OfSector}
+use Rattle.sync_laws.specs.Rows.{AddsCopies, OfSector}
 use Rattle.array_sync.proofs.rows.stage_copies.Given as goal
 
 abbrev pub invariant-loop-position : goal.invariant-loop-position

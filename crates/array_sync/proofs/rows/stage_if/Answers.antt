@@ -1,10 +1,10 @@
 use Rattle.std.proofs.Common.{refl, sym, ap, ◌∙◌, ◌+◌, ◌++◌, ◌∷◌, [], ℕ, arith}
 use Rattle.rack.specs.Targets.{target}
 use Rattle.array_image.specs.Places.{data_sector}
-use Rattle.commit_log.specs.View.{LogView}
+use Rattle.log_laws.specs.View.{LogView}
 use Rattle.array_model.proofs.Layouts.{row_layout_is}
-use Rattle.array_sync.proofs.Copying.{no_copies, one_target}
-use Rattle.array_sync.proofs.Summing.{is_not}
+use Rattle.sync_laws.proofs.Copying.{no_copies, one_target}
+use Rattle.sync_laws.proofs.Summing.{is_not}
 use Rattle.array_sync.proofs.rows.stage_if.Goals as goal
 
 pub returns-then-is_source-clause-added : goal.returns-then-is_source-clause-added

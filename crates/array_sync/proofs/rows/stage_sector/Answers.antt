@@ -1,7 +1,7 @@
 use Rattle.std.proofs.Common.{subst, ◌≡◌, ℕ}
-use Rattle.array_sync.specs.Rows.{AddsCopies, OfSector, SourcesCount}
-use Rattle.array_sync.proofs.Copying.{sector_copies}
-use Rattle.array_sync.proofs.Summing.{members_then, sector_then}
+use Rattle.sync_laws.specs.Rows.{AddsCopies, OfSector, SourcesCount}
+use Rattle.sync_laws.proofs.Copying.{sector_copies}
+use Rattle.sync_laws.proofs.Summing.{members_then, sector_then}
 use Rattle.array_sync.proofs.rows.stage_sector.Goals as goal
 
 pub stage_copies-requires-clause-sector : goal.stage_copies-requires-clause-sector

@@ -1,11 +1,11 @@
 use Rattle.std.proofs.Common.{ap, ◌≡◌, ◌-◌, ◌*◌, ℕ, ◌∙◌, subst, refl, arith}
 use Rattle.rack.proofs.Reading.{only_reads_start, only_reads_join}
-use Rattle.commit_log.specs.View.{LogView}
+use Rattle.log_laws.specs.View.{LogView}
 use Rattle.array_model.proofs.Reading.{slices_then}
 use Rattle.array_model.proofs.Views.{notes_none, notes_then}
-use Rattle.array_sync.specs.Rows.{AddsCopies, IsRowSum, OfRow}
-use Rattle.array_sync.proofs.Copying.{added_length, no_copies, row_step}
-use Rattle.array_sync.proofs.Summing.{row_left, sector_then, sector_in_row, lacks_at_last}
+use Rattle.sync_laws.specs.Rows.{AddsCopies, IsRowSum, OfRow}
+use Rattle.sync_laws.proofs.Copying.{added_length, no_copies, row_step}
+use Rattle.sync_laws.proofs.Summing.{row_left, sector_then, sector_in_row, lacks_at_last}
 use Rattle.array_sync.proofs.rows.stage_sectors.Goals as goal
 
 pub loop-sector-init : goal.loop-sector-init

@@ -1,7 +1,7 @@
 use Rattle.std.proofs.Common.{◌≡◌, ◌*◌, ◌-◌}
 use Rattle.rack.specs.Sequences.{OnlyReads}
 use Rattle.array_model.specs.Members.{Notes}
-use Rattle.array_sync.specs.Rows.{AddsCopies, IsRowSum, OfRow}
+use Rattle.sync_laws.specs.Rows.{AddsCopies, IsRowSum, OfRow}
 use Rattle.array_sync.proofs.rows.stage_sectors.Given as goal
 
 abbrev pub invariant-loop-sector : goal.invariant-loop-sector

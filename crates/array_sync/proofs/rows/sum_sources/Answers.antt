@@ -4,7 +4,7 @@ use Rattle.array_image.specs.Held.{current_in}
 use Rattle.array_model.proofs.Layouts.{row_layout_is}
 use Rattle.array_model.proofs.Reading.{slices_then}
 use Rattle.array_model.proofs.Views.{notes_none, notes_then}
-use Rattle.array_sync.proofs.Summing.{counts_next, members_then, row_left, sector_then, sum_next}
+use Rattle.sync_laws.proofs.Summing.{counts_next, members_then, row_left, sector_then, sum_next}
 use Rattle.array_sync.proofs.rows.sum_sources.Goals as goal
 
 pub loop-position-init : goal.loop-position-init

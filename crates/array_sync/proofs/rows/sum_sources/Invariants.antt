@@ -4,7 +4,7 @@ use Rattle.array_image.specs.Held.{current_in}
 use Rattle.array_model.specs.View.{shape_of}
 use Rattle.array_model.specs.Says.{IsOpen}
 use Rattle.array_model.specs.Members.{Notes}
-use Rattle.array_sync.specs.Rows.{SourcesCount, row_sum}
+use Rattle.sync_laws.specs.Rows.{SourcesCount, row_sum}
 use Rattle.array_sync.proofs.rows.sum_sources.Given as goal
 
 abbrev pub invariant-loop-position : goal.invariant-loop-position

@@ -1,5 +1,5 @@
 use Rattle.std.proofs.Common.{sym}
-use Rattle.array_sync.proofs.Summing.{no_sum}
+use Rattle.sync_laws.proofs.Summing.{no_sum}
 use Rattle.array_sync.proofs.rows.zero_sector.Goals as goal
 
 pub returns : goal.returns

@@ -1,6 +1,6 @@
 use Rattle.std.proofs.Common.{◌≡◌, ◌+◌, ◌*◌, ℕ, List, [], is_ok, sym, ap, subst, ◌∙◌, arith}
 use Rattle.rack.specs.Targets.{Target}
-use Rattle.commit_log.specs.View.{LogView}
+use Rattle.log_laws.specs.View.{LogView}
 use Rattle.array_image.specs.Stripes.{Layout}
 use Rattle.array_image.specs.SoundArray.{first_unsynced}
 use Rattle.array_model.specs.View.{View}
@@ -11,10 +11,10 @@ use Rattle.array_core.specs.declared.Change.{Change}
 use Rattle.array_core.specs.Staging.{AddsSupersOf}
 use Rattle.array_core.specs.Superblocks.{adopted, resynced_to}
 use Rattle.array_core.proofs.LogWrites.{few_in_order}
-use Rattle.array_sync.specs.Rows.{lacks_two}
-use Rattle.array_sync.specs.Steps.{Zeroes, offset_after, zeroed}
-use Rattle.array_sync.proofs.Answering.{not_ok, refused_by, served_by, staged_few}
-use Rattle.array_sync.proofs.ZeroStaged.{staged, staged_room, zero_apart, zero_had, zero_leaves, zero_refused, zero_some, zero_steps, zero_valid, zeroed_array, zeros_lacks}
+use Rattle.sync_laws.specs.Rows.{lacks_two}
+use Rattle.sync_laws.specs.Steps.{Zeroes, offset_after, zeroed}
+use Rattle.sync_laws.proofs.Answering.{not_ok, refused_by, served_by, staged_few}
+use Rattle.sync_laws.proofs.ZeroStaged.{staged, staged_room, zero_apart, zero_had, zero_leaves, zero_refused, zero_some, zero_steps, zero_valid, zeroed_array, zeros_lacks}
 use Rattle.array_sync.proofs.zeroing.zero_row.Goals as goal
 
 pub returns-then-lacks_two-clause-zeroes : goal.returns-then-lacks_two-clause-zeroes

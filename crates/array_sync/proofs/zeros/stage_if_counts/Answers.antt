@@ -1,8 +1,8 @@
 use Rattle.std.proofs.Common.{◌≡◌, true, ℕ, ◌*◌, sym, ap, subst, ◌∙◌, arith}
 use Rattle.std.proofs.lemmas.Bool.{both_ways}
 use Rattle.array_model.proofs.Views.{same_view}
-use Rattle.array_sync.specs.Rows.{AreZeros, OfMember, counts_in}
-use Rattle.array_sync.proofs.Copying.{copies_by, no_copies}
+use Rattle.sync_laws.specs.Rows.{AreZeros, OfMember, counts_in}
+use Rattle.sync_laws.proofs.Copying.{copies_by, no_copies}
 use Rattle.array_sync.proofs.zeros.stage_if_counts.Goals as goal
 
 pub returns-then-counts_in-clause-added : goal.returns-then-counts_in-clause-added

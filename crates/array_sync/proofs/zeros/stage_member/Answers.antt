@@ -1,10 +1,10 @@
 use Rattle.std.proofs.Common.{ap, ◌≡◌, ◌+◌, ◌-◌, ◌*◌, ◌++◌, ◌∷◌, [], ℕ, List, ◌∙◌, refl, sym, subst, arith}
 use Rattle.rack.specs.Targets.{Target, target}
 use Rattle.array_image.specs.Places.{data_sector}
-use Rattle.commit_log.specs.View.{LogView}
-use Rattle.array_sync.specs.Rows.{AddsCopies, AreZeros, OfMember}
-use Rattle.array_sync.proofs.Copying.{added_length, no_copies}
-use Rattle.array_sync.proofs.Zeroed.{zeros_next}
+use Rattle.log_laws.specs.View.{LogView}
+use Rattle.sync_laws.specs.Rows.{AddsCopies, AreZeros, OfMember}
+use Rattle.sync_laws.proofs.Copying.{added_length, no_copies}
+use Rattle.sync_laws.proofs.Zeroed.{zeros_next}
 use Rattle.array_sync.proofs.zeros.stage_member.Goals as goal
 
 pub loop-sector-init : goal.loop-sector-init

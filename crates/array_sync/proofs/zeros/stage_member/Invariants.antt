@@ -1,5 +1,5 @@
 use Rattle.std.proofs.Common.{◌≡◌, ◌*◌, ◌-◌}
-use Rattle.array_sync.specs.Rows.{AddsCopies, AreZeros, OfMember}
+use Rattle.sync_laws.specs.Rows.{AddsCopies, AreZeros, OfMember}
 use Rattle.array_sync.proofs.zeros.stage_member.Given as goal
 
 abbrev pub invariant-loop-sector : goal.invariant-loop-sector

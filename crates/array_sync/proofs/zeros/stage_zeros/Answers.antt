@@ -1,11 +1,11 @@
 use Rattle.std.proofs.Common.{ap, ◌≡◌, ◌≤◌, ◌*◌, ◌∙◌, refl, arith}
 use Rattle.md_super.specs.declared.superblock.Super.{Super}
-use Rattle.commit_log.specs.View.{LogView}
+use Rattle.log_laws.specs.View.{LogView}
 use Rattle.array_model.proofs.Noting.{final_is}
 use Rattle.array_model.proofs.Views.{same_view}
-use Rattle.array_sync.specs.Rows.{AreZeros, OfCounting}
-use Rattle.array_sync.proofs.Copying.{added_length, copies_by, no_copies}
-use Rattle.array_sync.proofs.Zeroed.{zeros_more}
+use Rattle.sync_laws.specs.Rows.{AreZeros, OfCounting}
+use Rattle.sync_laws.proofs.Copying.{added_length, copies_by, no_copies}
+use Rattle.sync_laws.proofs.Zeroed.{zeros_more}
 use Rattle.array_sync.proofs.zeros.stage_zeros.Goals as goal
 
 pub loop-position-init : goal.loop-position-init

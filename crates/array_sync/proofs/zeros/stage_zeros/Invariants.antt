@@ -1,5 +1,5 @@
 use Rattle.std.proofs.Common.{◌≡◌, ◌*◌}
-use Rattle.array_sync.specs.Rows.{AddsCopies, AreZeros, OfCounting}
+use Rattle.sync_laws.specs.Rows.{AddsCopies, AreZeros, OfCounting}
 use Rattle.array_sync.proofs.zeros.stage_zeros.Given as goal
 
 abbrev pub invariant-loop-position : goal.invariant-loop-position

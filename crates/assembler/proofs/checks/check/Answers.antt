@@ -15,14 +15,14 @@ use Rattle.pool_check.specs.Settling.{AreCompared}
 use Rattle.pool_check.specs.Slots.{AreSlots}
 use Rattle.pool_check.proofs.Valid.{valid_fit}
 use Rattle.pool_scan.specs.Scanning.{IsUnfaulted}
-use Rattle.assembler.specs.Holding.{HoldPool, drives_of}
-use Rattle.assembler.proofs.Finding.{found_copied, found_drives, found_holds}
-use Rattle.assembler.proofs.Later.{holds_later}
-use Rattle.assembler.specs.Members.{AreMembers}
+use Rattle.assembler_laws.specs.Holding.{HoldPool, drives_of}
+use Rattle.assembler_laws.proofs.Finding.{found_copied, found_drives, found_holds}
+use Rattle.assembler_laws.proofs.Later.{holds_later}
+use Rattle.assembler_laws.specs.Members.{AreMembers}
 use Rattle.assembler.specs.declared.refusal.Refusal.TheVariants.{Damaged}
 use Rattle.assembler.specs.Refusing.{FailsCheck, by_check, seats_left}
 use Rattle.assembler.proofs.Refusals.{fails_check, fails_log, loses_left}
-use Rattle.assembler.proofs.Unseated.{check_members, logs_only, no_members, nobody_lost, seating, seats_are, seats_before, taken, taken_by}
+use Rattle.assembler_laws.proofs.Unseated.{check_members, logs_only, no_members, nobody_lost, seating, seats_are, seats_before, taken, taken_by}
 use Rattle.assembler.proofs.checks.check.Goals as goal
 
 none_of : (o : Option ℕ) → ((place : ℕ) → o ≡ Some place → ⊥) → o ≡ None

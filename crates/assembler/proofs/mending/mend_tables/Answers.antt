@@ -4,7 +4,7 @@ use Rattle.slice_rack.specs.SliceRack.{tables, below_of}
 use Rattle.slice_rack.specs.Slices.{seat_of}
 use Rattle.pool_check.specs.Drives.{Loses, flag_by, seats_by}
 use Rattle.pool_check.specs.Settling.{IsSettled, IsTableSector, IsTrueOf, KeepsTable}
-use Rattle.assembler.proofs.LeftOut.{left_distinct, left_inside, mends_so}
+use Rattle.assembler_laws.proofs.LeftOut.{left_distinct, left_inside, mends_so}
 use Rattle.assembler.proofs.Settling.{settling_leaves}
 use Rattle.assembler.proofs.mending.mend_tables.Goals as goal
 

@@ -24,12 +24,12 @@ use Rattle.pool_rest.proofs.Unwritten.{reads_mean}
 use Rattle.pool_scan.proofs.Valid.{valid_arrays}
 use Rattle.pool_check.proofs.Settled.{settled_told}
 use Rattle.pool_check.proofs.Valid.{valid_fit}
-use Rattle.raid_rack.specs.Book.{IsAfter, after_then}
-use Rattle.raid_rack.specs.Laws.{live_parts}
-use Rattle.raid_rack.specs.Raid.{is_over}
+use Rattle.raid_laws.specs.Book.{IsAfter, after_then}
+use Rattle.raid_laws.specs.Laws.{live_parts}
+use Rattle.raid_laws.specs.Raid.{is_over}
 use Rattle.array_model.specs.View.{sectors_of}
-use Rattle.assembler.specs.Marking.{AreMarkedFor}
-use Rattle.assembler.specs.Raising.{most_opening}
+use Rattle.assembler_laws.specs.Marking.{AreMarkedFor}
+use Rattle.assembler_laws.specs.Raising.{most_opening}
 use Rattle.assembler.specs.Refusing.{is_early, meant_by}
 use Rattle.pool_model.specs.Left.{IsPickOff}
 use Rattle.pool_model.specs.Pools.{AreSlicesOf}
@@ -39,17 +39,17 @@ use Rattle.assembler.proofs.Grouped.{group_opened}
 use Rattle.assembler.proofs.Causes.{refuses_drives}
 use Rattle.assembler.proofs.Rereading.{rereading_leaves}
 use Rattle.assembler.proofs.Refusals.{check_early, finding_sound, meant_finding, memory_sound}
-use Rattle.assembler.proofs.Written.{writes_then_reads}
+use Rattle.assembler_laws.proofs.Written.{writes_then_reads}
 use Rattle.pool_image.proofs.Founds.{joined_same, super_same, truths_same}
 use Rattle.assembler.proofs.Elsewhere.{elsewhere}
-use Rattle.assembler.proofs.Founded.{array_later, array_same}
+use Rattle.assembler_laws.proofs.Founded.{array_later, array_same}
 use Rattle.assembler.proofs.Entry.{meaning_entry, means_still, only_pool, quiet_first, quiet_last, refusal_entry, rest_found, rested_so}
 use Rattle.assembler.proofs.Leaving.{opening_leaves}
 use Rattle.assembler.proofs.Making.{marked_calls, marked_then}
 use Rattle.assembler.proofs.Meaning.{check_fails}
 use Rattle.assembler.proofs.Mended.{opening_settled}
 use Rattle.assembler.proofs.Volumes.{volume_opened, volume_refused}
-use Rattle.assembler.proofs.Lies.{slices_same, volume_same}
+use Rattle.assembler_laws.proofs.Lies.{slices_same, volume_same}
 use Rattle.assembler.proofs.Raised.{raises_truth}
 use Rattle.assembler.proofs.opening.assemble.Answers.Assembling.{a, x, y, z, t, known, ax, ay, yz, says_so, ready, marked, drives_only, tables_kept, from_y, rested, f, same, checked, state, members, holds, lie, passes, early, arrays, made, opened, texts, own_texts, first_quiet, nobody_failed, live_first, live_last, marks_made, off_alone, off_slices, landing, number_read, raised}
 use Rattle.assembler.proofs.opening.assemble.Answers.Stopping.{checked_leaves, marks_last, opened_leaves, opened_reopens, opened_says, refused_leaves}

@@ -14,28 +14,28 @@ use Rattle.array_image.specs.States.{current_places}
 use Rattle.pool_scan.proofs.Valid.{valid_arrays}
 use Rattle.array_model.specs.View.{View, HasFault, IsArray, sectors_of}
 use Rattle.array_core.specs.Seats.{gone, restarted}
-use Rattle.commit_log.specs.Opening.{ReplayCall}
-use Rattle.commit_log.specs.View.{names}
+use Rattle.log_laws.specs.Opening.{ReplayCall}
+use Rattle.log_laws.specs.View.{names}
 use Rattle.raid_rack.specs.RaidRack.{IsRunning, SliceRuns, arrays_in, no_array, raid_in, slices_in, slices_seen}
-use Rattle.raid_rack.specs.Agreeing.{MakesAgree}
-use Rattle.raid_rack.specs.Book.{IsAfter}
-use Rattle.raid_rack.specs.Cleaning.{NoneFails}
-use Rattle.raid_rack.specs.Moves.{AreMarked, IsSet, Mends}
-use Rattle.raid_rack.specs.Truths.{KeepsTruths, MakesTruths}
+use Rattle.raid_laws.specs.Agreeing.{MakesAgree}
+use Rattle.raid_laws.specs.Book.{IsAfter}
+use Rattle.raid_laws.specs.Cleaning.{NoneFails}
+use Rattle.raid_laws.specs.Moves.{AreMarked, IsSet, Mends}
+use Rattle.raid_laws.specs.Truths.{KeepsTruths, MakesTruths}
 use Rattle.raid_rack.proofs.Mended.{each_items}
-use Rattle.assembler.specs.Holding.{HoldsArrays}
+use Rattle.assembler_laws.specs.Holding.{HoldsArrays}
 use Rattle.assembler.proofs.Causes.{made_array}
-use Rattle.assembler.proofs.Holding.{rack_closed, rack_still}
+use Rattle.assembler_laws.proofs.Holding.{rack_closed, rack_still}
 use Rattle.assembler.proofs.Live.{opened_live}
 use Rattle.assembler.proofs.Making.{by_list, keeps, marked as making_marked, marked_so, mended as making_mended, parts as making_parts, replayed, same as making_same, settled}
 use Rattle.assembler.proofs.Mended.{absent_still, closed_members, marking_so, mended_members, mended_reads, mended_so, rack_writes, reads_agree, reads_makes, reads_mend, reads_move}
 use Rattle.assembler.proofs.Entry.{quiet_last}
-use Rattle.assembler.proofs.Marks.{all_marked, marked_for, some_unmarked}
+use Rattle.assembler_laws.proofs.Marks.{all_marked, marked_for, some_unmarked}
 use Rattle.assembler.proofs.Raised.{raises_made}
 use Rattle.assembler.proofs.Running.{array_now, current_logs, rack_running, twice}
-use Rattle.assembler.proofs.Sizes.{total_small}
+use Rattle.assembler_laws.proofs.Sizes.{total_small}
 use Rattle.assembler.proofs.Stopping.{making_leaves}
-use Rattle.assembler.proofs.Whole.{whole_member}
+use Rattle.assembler_laws.proofs.Whole.{whole_member}
 use Rattle.assembler.proofs.raid.make_rack.Goals as goal
 
 pub close_gates-gone-requires-clause-logs : goal.close_gates-gone-requires-clause-logs

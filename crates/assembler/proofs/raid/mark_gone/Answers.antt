@@ -3,7 +3,7 @@ use Rattle.std.proofs.lemmas.Bool.{both_ways}
 use Rattle.slice_rack.specs.SliceRack.{below_of, tables}
 use Rattle.slice_rack.specs.Runs.{runs_join}
 use Rattle.raid_rack.specs.RaidRack.{raid_in, slices_in, slices_seen}
-use Rattle.raid_rack.proofs.Agreeing.{agree_then}
+use Rattle.raid_laws.proofs.Agreeing.{agree_then}
 use Rattle.raid_rack.proofs.Raises.{raises_more, raises_then}
 use Rattle.raid_rack.proofs.Truths.{makes_after}
 use Rattle.assembler.proofs.Mended.{mends_then}

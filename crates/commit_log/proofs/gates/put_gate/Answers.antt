@@ -2,8 +2,8 @@ use Rattle.std.proofs.Common.{◌≡◌, List, ℕ, ap, ◌∙◌}
 use Rattle.shr_base.specs.Blocks.{put_all}
 use Rattle.shr_base.specs.Crc.{crc32_of}
 use Rattle.array_image.specs.Record.{gate_of}
-use Rattle.commit_log.proofs.Records.{sum_field}
-use Rattle.commit_log.proofs.GateRead.{gate_fields, gate_reads}
+use Rattle.log_laws.proofs.Records.{sum_field}
+use Rattle.log_laws.proofs.GateRead.{gate_fields, gate_reads}
 use Rattle.commit_log.proofs.gates.put_gate.Goals as goal
 
 pub returns : goal.returns

@@ -1,7 +1,7 @@
 use Rattle.std.proofs.Common.{◌+◌, ℕ, sym, ◌∙◌, inr, inl, arith}
 use Rattle.std.proofs.lemmas.Bool.{cases_lt}
 use Rattle.rack.proofs.Reading.{same_after}
-use Rattle.commit_log.proofs.Loads.{count_kept}
+use Rattle.log_laws.proofs.Loads.{count_kept}
 use Rattle.commit_log.proofs.loading.read_record.Goals as goal
 
 pub returns-in-Ok-clause-all : goal.returns-in-Ok-clause-all

@@ -2,8 +2,8 @@ use Rattle.std.proofs.Common.{◌≡◌, ◌<◌, ◌+◌, ◌*◌, ℕ, List, l
 use Rattle.rack.specs.Calls.{Reads}
 use Rattle.rack.proofs.Reading.{only_reads_then}
 use Rattle.shr_base.specs.Blocks.{put_at}
-use Rattle.commit_log.specs.Bytes.{sector_in}
-use Rattle.commit_log.proofs.Loads.{read_more, unspent_more, sector_other, length_put}
+use Rattle.log_laws.specs.Bytes.{sector_in}
+use Rattle.log_laws.proofs.Loads.{read_more, unspent_more, sector_other, length_put}
 use Rattle.commit_log.proofs.loading.read_sectors.Goals as goal
 
 pub loop-at-preserved : goal.loop-at-preserved

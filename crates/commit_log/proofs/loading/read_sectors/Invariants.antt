@@ -1,6 +1,6 @@
 use Rattle.std.proofs.Common.{◌≡◌, ◌<◌, ◌≤◌, ◌+◌, ℕ, length, false}
 use Rattle.rack.specs.Sequences.{OnlyReads}
-use Rattle.commit_log.specs.Bytes.{record_bytes, sector_in}
+use Rattle.log_laws.specs.Bytes.{record_bytes, sector_in}
 use Rattle.commit_log.proofs.loading.read_sectors.Given as goal
 
 abbrev pub invariant-loop-at : goal.invariant-loop-at

@@ -1,8 +1,8 @@
 use Rattle.std.proofs.Common.{◌≡◌, ◌==◌, ◌+◌, ◌*◌, List, ℕ, take, replicate, ap, ap₂, ◌∙◌}
 use Rattle.shr_base.specs.Blocks.{put_at}
 use Rattle.shr_base.specs.Crc.{crc32_of}
-use Rattle.commit_log.specs.Bytes.{targets_in}
-use Rattle.commit_log.proofs.Loads.{sum_taken, sum_targets}
+use Rattle.log_laws.specs.Bytes.{targets_in}
+use Rattle.log_laws.proofs.Loads.{sum_taken, sum_targets}
 use Rattle.commit_log.proofs.loading.take_sum.Goals as goal
 
 pub returns-clause-sum : goal.returns-clause-sum

@@ -1,8 +1,8 @@
 use Rattle.std.proofs.Common.{◌≡◌, List, ℕ, take, ◌*◌, ◌+◌, subst, sym, ap, ◌∙◌}
 use Rattle.shr_base.specs.Blocks.{put_all}
 use Rattle.shr_base.specs.Crc.{crc32_of}
-use Rattle.commit_log.specs.Bytes.{targets_in, IsSealed}
-use Rattle.commit_log.proofs.Records.{sum_field, headed, sealed_targets, is_sealed}
+use Rattle.log_laws.specs.Bytes.{targets_in, IsSealed}
+use Rattle.log_laws.proofs.Records.{sum_field, headed, sealed_targets, is_sealed}
 use Rattle.commit_log.proofs.record.put_head.Goals as goal
 
 pub returns-clause-targets : goal.returns-clause-targets

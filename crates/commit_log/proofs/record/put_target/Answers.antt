@@ -1,7 +1,7 @@
 use Rattle.std.proofs.Common.{◌≡◌, ◌+◌, List, ℕ, ap, ◌∙◌}
 use Rattle.shr_base.specs.Blocks.{put_all}
-use Rattle.commit_log.specs.Bytes.{targets_in}
-use Rattle.commit_log.proofs.Records.{target_fields, added_targets}
+use Rattle.log_laws.specs.Bytes.{targets_in}
+use Rattle.log_laws.proofs.Records.{target_fields, added_targets}
 use Rattle.commit_log.proofs.record.put_target.Goals as goal
 
 pub returns : goal.returns

@@ -1,5 +1,5 @@
-use Rattle.commit_log.specs.Phases.{went}
-use Rattle.commit_log.proofs.Closing.{closes_all}
+use Rattle.log_laws.specs.Phases.{went}
+use Rattle.log_laws.proofs.Closing.{closes_all}
 use Rattle.commit_log.proofs.writing.close_gates.Goals as goal
 
 pub returns-then-is_none-clause-settles : goal.returns-then-is_none-clause-settles

@@ -1,7 +1,7 @@
 use Rattle.std.proofs.Common.{◌≡◌, ◌+◌, ℕ, length, subst, arith}
-use Rattle.commit_log.specs.Phases.{Puts, IsLogOf, IsOfRecord, IsOnEach, went}
-use Rattle.commit_log.specs.Bytes.{sector_in}
-use Rattle.commit_log.proofs.Rounds.{record_then, record_settled}
+use Rattle.log_laws.specs.Phases.{Puts, IsLogOf, IsOfRecord, IsOnEach, went}
+use Rattle.log_laws.specs.Bytes.{sector_in}
+use Rattle.log_laws.proofs.Rounds.{record_then, record_settled}
 use Rattle.commit_log.proofs.writing.settle_record.Goals as goal
 use Rattle.std.proofs.Common.{List}
 

@@ -1,5 +1,5 @@
 use Rattle.std.proofs.Common.{length}
-use Rattle.commit_log.specs.Phases.{Puts, IsLogOf, IsOfRecord, went}
+use Rattle.log_laws.specs.Phases.{Puts, IsLogOf, IsOfRecord, went}
 use Rattle.commit_log.proofs.writing.settle_record.Given as goal
 
 abbrev pub invariant-loop-at : goal.invariant-loop-at

@@ -1,8 +1,8 @@
 use Rattle.std.proofs.Common.{◌≡◌, ℕ, subst, arith}
 use Rattle.rack.specs.Sequences.{IsPayload}
-use Rattle.commit_log.specs.Bytes.{targets_in}
-use Rattle.commit_log.specs.Phases.{Puts, SyncsAll, IsTargeted, IsTargetedBelow, IsWanted, went}
-use Rattle.commit_log.proofs.Rounds.{puts_no_targets, targets_then, targeted_then, targets_settled}
+use Rattle.log_laws.specs.Bytes.{targets_in}
+use Rattle.log_laws.specs.Phases.{Puts, SyncsAll, IsTargeted, IsTargetedBelow, IsWanted, went}
+use Rattle.log_laws.proofs.Rounds.{puts_no_targets, targets_then, targeted_then, targets_settled}
 use Rattle.commit_log.proofs.writing.settle_targets.Goals as goal
 
 pub loop-at-init : goal.loop-at-init

@@ -1,6 +1,6 @@
 use Rattle.rack.specs.Sequences.{IsPayload}
-use Rattle.commit_log.specs.Bytes.{targets_in}
-use Rattle.commit_log.specs.Phases.{Puts, SyncsAll, IsWanted, IsTargeted, IsTargetedBelow, went}
+use Rattle.log_laws.specs.Bytes.{targets_in}
+use Rattle.log_laws.specs.Phases.{Puts, SyncsAll, IsWanted, IsTargeted, IsTargetedBelow, went}
 use Rattle.commit_log.proofs.writing.settle_targets.Given as goal
 
 abbrev pub invariant-loop-at : goal.invariant-loop-at

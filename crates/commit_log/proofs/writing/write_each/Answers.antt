@@ -1,6 +1,6 @@
 use Rattle.std.proofs.Common.{length}
-use Rattle.commit_log.specs.Phases.{went}
-use Rattle.commit_log.proofs.Each.{each_then}
+use Rattle.log_laws.specs.Phases.{went}
+use Rattle.log_laws.proofs.Each.{each_then}
 use Rattle.commit_log.proofs.writing.write_each.Goals as goal
 
 pub loop-place-preserved : goal.loop-place-preserved

@@ -1,5 +1,5 @@
 use Rattle.std.proofs.Common.{length}
-use Rattle.commit_log.specs.Phases.{Puts, IsLogOf, IsOnEach, went}
+use Rattle.log_laws.specs.Phases.{Puts, IsLogOf, IsOnEach, went}
 use Rattle.commit_log.proofs.writing.write_each.Given as goal
 
 abbrev pub invariant-loop-place : goal.invariant-loop-place

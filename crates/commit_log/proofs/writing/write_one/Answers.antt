@@ -1,6 +1,6 @@
 use Rattle.std.proofs.Common.{sym, ◌∙◌}
-use Rattle.commit_log.specs.Phases.{went}
-use Rattle.commit_log.proofs.Calling.{puts_one, puts_lost}
+use Rattle.log_laws.specs.Phases.{went}
+use Rattle.log_laws.proofs.Calling.{puts_one, puts_lost}
 use Rattle.commit_log.proofs.writing.write_one.Goals as goal
 
 pub returns-in-Err-clause-puts : goal.returns-in-Err-clause-puts

@@ -10,8 +10,8 @@ use Rattle.slice_rack.specs.SliceRack.{below_of, tables}
 use Rattle.pool_state.specs.declared.contents.Plan.TheVariants.{Replace}
 use Rattle.raid_rack.specs.declared.arrays.Arrays.{Arrays}
 use Rattle.raid_rack.specs.declared.arrays.RaidRack.{RaidRack}
-use Rattle.raid_rack.specs.Enlisting.{Enlists, IsNotWhole, IsRefused, new_table}
-use Rattle.raid_rack.specs.NewDrive.{ReachesAll, SeatsDrive, reaches_all}
+use Rattle.raid_laws.specs.Enlisting.{Enlists, IsNotWhole, IsRefused, new_table}
+use Rattle.raid_laws.specs.NewDrive.{ReachesAll, SeatsDrive, reaches_all}
 use Rattle.raid_rack.specs.RaidRack.{IsFit, arrays_in, arrays_of as arrays_by_number, raid_in, refused_in, slices_in, slices_seen}
 use Rattle.pool.specs.declared.replacing.GrowFault.TheVariants.{Gone, NotWhole}
 use Rattle.pool.specs.Replaced.{is_vacant}

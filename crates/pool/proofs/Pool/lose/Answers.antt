@@ -1,5 +1,5 @@
 use Rattle.std.proofs.Common.{◌≡◌, false, sym, ap, subst, ◌∙◌, Err}
-use Rattle.raid_rack.specs.Losses.{has_other}
+use Rattle.raid_laws.specs.Losses.{has_other}
 use Rattle.raid_rack.specs.RaidRack.{IsFit, arrays_in, raid_in, slices_seen}
 use Rattle.pool.specs.declared.calls.LoseFault.TheVariants.{LastDrive}
 use Rattle.pool.specs.View.{view}

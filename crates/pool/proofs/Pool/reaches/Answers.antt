@@ -1,5 +1,5 @@
 use Rattle.std.proofs.Common.{sym, ap, subst, ◌∙◌}
-use Rattle.raid_rack.specs.NewDrive.{reaches_all}
+use Rattle.raid_laws.specs.NewDrive.{reaches_all}
 use Rattle.raid_rack.specs.RaidRack.{IsFit, arrays_in, arrays_of as arrays_by_number, slices_seen}
 use Rattle.pool.proofs.Shown.{views_are}
 use Rattle.pool.specs.View.{arrays_of}

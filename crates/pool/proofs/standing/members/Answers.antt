@@ -2,7 +2,7 @@ use Rattle.std.proofs.Common.{◌<◌, cond, List, ℕ, [], ◌∷◌, ◌++◌,
 use Rattle.std.specs.List.{range_with_len}
 use Rattle.array_image.specs.Supers.{is_named}
 use Rattle.arrayvec.specs.ArrayVec.{ArrayVec}
-use Rattle.commit_log.proofs.Naming.{filter_more}
+use Rattle.log_laws.proofs.Naming.{filter_more}
 use Rattle.pool.proofs.Rooms.{filter_room}
 use Rattle.pool.proofs.standing.members.Goals as goal
 use Rattle.pool.proofs.standing.members.Goals.{then-is_named, else-is_named}

@@ -2,7 +2,7 @@ use Rattle.std.proofs.Common.{◌≡◌, ◌+◌, ◌-◌, ◌*◌, ◌%◌, ℕ
 use Rattle.std.specs.List.{range_with_len}
 use Rattle.parity.specs.Xor.{xor, xor_all}
 use Rattle.raid_map.specs.LeftSymmetric.{row_at}
-use Rattle.array_sync.proofs.Agreeing.{total_more, total_none}
+use Rattle.sync_laws.proofs.Agreeing.{total_more, total_none}
 use Rattle.pool_format.specs.Data.{group_sector}
 use Rattle.pool_format.proofs.Written.{map_twice}
 use Rattle.pool_format.proofs.members.parity_sector.Goals as goal

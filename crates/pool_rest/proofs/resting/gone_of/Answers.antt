@@ -1,6 +1,6 @@
 use Rattle.std.proofs.Common.{◌≡◌, ◌⊎◌, ℕ, ◌+◌, ◌≤◌, Bool, List, length, not, true, false, refl, sym, ap, subst, ◌∙◌, arith, inl, inr}
 use Rattle.std.proofs.lemmas.Bool.{both_ways, cases_eq}
-use Rattle.commit_log.specs.View.{names}
+use Rattle.log_laws.specs.View.{names}
 use Rattle.pool_scan.specs.Choosing.{seat_by}
 use Rattle.pool_rest.specs.Resting.{IsFlagged}
 use Rattle.pool_rest.proofs.Listed.{pushed, few_pushed, of_pushed, pushed_other, pushed_in}

@@ -1,5 +1,5 @@
 use Rattle.std.proofs.Common.{◌≡◌, ◌⊎◌, ◌<◌, ◌≤◌, ℕ, true, length, Some}
-use Rattle.commit_log.specs.View.{names}
+use Rattle.log_laws.specs.View.{names}
 use Rattle.pool_scan.specs.Choosing.{seat_by}
 use Rattle.pool_rest.specs.Resting.{IsFlagged}
 use Rattle.pool_rest.proofs.resting.gone_of.Given as goal

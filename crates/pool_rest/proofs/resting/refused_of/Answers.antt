@@ -1,6 +1,6 @@
 use Rattle.std.proofs.Common.{◌≡◌, ℕ, ◌+◌, ◌≤◌, Bool, List, length, not, true, false, refl, sym, ap, subst, ◌∙◌, arith, inl, inr}
 use Rattle.std.proofs.lemmas.Bool.{both_ways}
-use Rattle.commit_log.specs.View.{names}
+use Rattle.log_laws.specs.View.{names}
 use Rattle.pool_scan.specs.Choosing.{seat_by}
 use Rattle.pool_rest.proofs.Listed.{few_pushed, of_pushed}
 use Rattle.pool_rest.proofs.resting.refused_of.Goals as goal

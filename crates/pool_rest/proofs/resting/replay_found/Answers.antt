@@ -3,7 +3,7 @@ use Rattle.std.specs.List.{list_all}
 use Rattle.array_image.specs.Record.{is_target}
 use Rattle.pool_scan.specs.Scanning.{AllTold, IsUnfaulted, now_in}
 use Rattle.pool_scan.specs.Choosing.{AreOf, seat_by}
-use Rattle.commit_log.specs.View.{names}
+use Rattle.log_laws.specs.View.{names}
 use Rattle.std.proofs.Common.{◌≡◌, ◌⊎◌, ◌||◌, Some, true, sym, ap, subst, ◌∙◌, inl, inr}
 use Rattle.rack.specs.Seen.{Rose, Stays}
 use Rattle.rack.specs.Sequences.{WritesOnly}

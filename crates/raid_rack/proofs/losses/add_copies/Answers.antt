@@ -1,8 +1,8 @@
 use Rattle.std.proofs.Common.{List, ℕ, refl, ap, subst, ◌∙◌, arith}
 use Rattle.std.proofs.lemmas.List.{take_all}
-use Rattle.commit_log.specs.View.{LogView}
-use Rattle.raid_rack.specs.Losses.{AddsCopies}
-use Rattle.raid_rack.proofs.Copies.{copies_none, copies_more}
+use Rattle.log_laws.specs.View.{LogView}
+use Rattle.raid_laws.specs.Losses.{AddsCopies}
+use Rattle.raid_laws.proofs.Copies.{copies_none, copies_more}
 use Rattle.raid_rack.proofs.losses.add_copies.Goals as goal
 
 pub loop-place-init : goal.loop-place-init

@@ -1,5 +1,5 @@
 use Rattle.std.proofs.Common.{◌≡◌, ◌≤◌, ◌+◌, take, length}
-use Rattle.raid_rack.specs.Losses.{AddsCopies}
+use Rattle.raid_laws.specs.Losses.{AddsCopies}
 use Rattle.raid_rack.proofs.losses.add_copies.Given as goal
 
 abbrev pub invariant-loop-place : goal.invariant-loop-place

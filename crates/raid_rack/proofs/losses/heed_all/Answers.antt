@@ -1,6 +1,6 @@
 use Rattle.std.proofs.Common.{arith}
 use Rattle.array_core.specs.Seats.{heeded}
-use Rattle.raid_rack.proofs.Each.{changed_first, changed_more, changed_all}
+use Rattle.raid_laws.proofs.Each.{changed_first, changed_more, changed_all}
 use Rattle.raid_rack.proofs.losses.heed_all.Goals as goal
 
 pub loop-array-init : goal.loop-array-init

@@ -1,5 +1,5 @@
 use Rattle.array_core.specs.Seats.{heeded}
-use Rattle.raid_rack.proofs.Each.{ChangedBelow}
+use Rattle.raid_laws.proofs.Each.{ChangedBelow}
 use Rattle.raid_rack.proofs.losses.heed_all.Given as goal
 
 abbrev pub invariant-loop-array : goal.invariant-loop-array

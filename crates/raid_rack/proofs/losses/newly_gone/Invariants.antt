@@ -1,5 +1,5 @@
 use Rattle.std.proofs.Common.{◌≡◌, ◌≤◌, filter, take, length}
-use Rattle.raid_rack.specs.Losses.{has_gone}
+use Rattle.raid_laws.specs.Losses.{has_gone}
 use Rattle.raid_rack.proofs.losses.newly_gone.Given as goal
 
 abbrev pub invariant-loop-place : goal.invariant-loop-place

@@ -1,5 +1,5 @@
 use Rattle.array_core.specs.Seats.{gone}
-use Rattle.raid_rack.proofs.Each.{ChangedBelow}
+use Rattle.raid_laws.proofs.Each.{ChangedBelow}
 use Rattle.raid_rack.proofs.losses.note_gone.Given as goal
 
 abbrev pub invariant-loop-array : goal.invariant-loop-array

@@ -1,5 +1,5 @@
 use Rattle.array_core.specs.Seats.{restarted}
-use Rattle.raid_rack.proofs.Each.{ChangedBelow}
+use Rattle.raid_laws.proofs.Each.{ChangedBelow}
 use Rattle.raid_rack.proofs.losses.restart_rebuilds.Given as goal
 
 abbrev pub invariant-loop-array : goal.invariant-loop-array

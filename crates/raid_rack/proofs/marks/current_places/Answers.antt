@@ -2,8 +2,8 @@ use Rattle.std.proofs.Common.{◌≡◌, ℕ, List, [], ◌∷◌, ◌++◌, fil
 use Rattle.std.specs.List.{range_with_len}
 use Rattle.pool_state.specs.declared.contents.Drive.{Drive}
 use Rattle.array_image.specs.States.{is_current, current_places}
-use Rattle.commit_log.proofs.Naming.{filter_more}
-use Rattle.raid_rack.proofs.Missing.{current_here}
+use Rattle.log_laws.proofs.Naming.{filter_more}
+use Rattle.raid_laws.proofs.Missing.{current_here}
 use Rattle.raid_rack.proofs.marks.current_places.Goals as goal
 
 pub loop-place-preserved : goal.loop-place-preserved

@@ -2,9 +2,9 @@ use Rattle.std.proofs.Common.{◌≡◌, ◌+◌, ◌<◌, List, [], ◌∷◌, 
 use Rattle.std.proofs.lemmas.List.{take_more, length-take-le}
 use Rattle.std.proofs.Math.Seq.{take-length}
 use Rattle.pool_state.specs.declared.contents.Drive.{Drive}
-use Rattle.commit_log.specs.View.{names}
-use Rattle.raid_rack.specs.Missing.{missing_if, marked_from}
-use Rattle.raid_rack.proofs.Missing.{marked_more}
+use Rattle.log_laws.specs.View.{names}
+use Rattle.raid_laws.specs.Missing.{missing_if, marked_from}
+use Rattle.raid_laws.proofs.Missing.{marked_more}
 use Rattle.raid_rack.proofs.marks.marked.Goals as goal
 
 pub loop-place-init : goal.loop-place-init

@@ -1,5 +1,5 @@
 use Rattle.std.proofs.Common.{◌≡◌, length, take}
-use Rattle.raid_rack.specs.Missing.{marked_from}
+use Rattle.raid_laws.specs.Missing.{marked_from}
 use Rattle.raid_rack.proofs.marks.marked.Given as goal
 
 abbrev pub invariant-loop-place : goal.invariant-loop-place

@@ -1,5 +1,5 @@
 use Rattle.std.proofs.Common.{◌≡◌, ◌≤◌, ◌+◌, ◌*◌, ◌^◌}
-use Rattle.raid_rack.specs.NewDrive as spec
+use Rattle.raid_laws.specs.NewDrive as spec
 use Rattle.raid_rack.proofs.new_drive.first_in.Given as goal
 
 abbrev pub invariant-loop-lower : goal.invariant-loop-lower

@@ -1,5 +1,5 @@
 use Rattle.std.proofs.Common.{◌≡◌, ℕ, nat_lt, if◌then◌else◌, false, length}
-use Rattle.raid_rack.specs.NewDrive as spec
+use Rattle.raid_laws.specs.NewDrive as spec
 use Rattle.raid_rack.specs.RaidRack.{is_written}
 use Rattle.raid_rack.proofs.new_drive.joining.Given as goal
 

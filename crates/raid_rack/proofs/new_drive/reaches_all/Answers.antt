@@ -4,7 +4,7 @@ use Rattle.std.proofs.lemmas.Bool.{le-leb}
 use Rattle.std.proofs.lemmas.List.{take_all}
 use Rattle.std.proofs.lemmas.List.Folds.{list_all_at, list_all_more}
 use Rattle.std.proofs.lemmas.List.FromFn.{get_or-range_with_len, length-range_with_len}
-use Rattle.raid_rack.specs.NewDrive.{is_reached}
+use Rattle.raid_laws.specs.NewDrive.{is_reached}
 use Rattle.raid_rack.proofs.new_drive.reaches_all.Goals as goal
 
 and_false : (b c : Bool) → c ≡ false → (b && c) ≡ false

@@ -1,7 +1,7 @@
 use Rattle.std.proofs.Common.{◌≡◌, ◌+◌}
 use Rattle.slice_rack.specs.Sliced.{slices_of}
 use Rattle.slice_rack.specs.SliceRack.{tables, below_of}
-use Rattle.raid_rack.specs.NewDrive.{AreLaid, SeatsFirst}
+use Rattle.raid_laws.specs.NewDrive.{AreLaid, SeatsFirst}
 use Rattle.raid_rack.proofs.new_drive.seat_drive.Given as goal
 
 abbrev pub invariant-loop-number : goal.invariant-loop-number

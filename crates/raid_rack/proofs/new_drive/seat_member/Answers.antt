@@ -3,7 +3,7 @@ use Rattle.std.proofs.lemmas.Option.{slice_get-get_or}
 use Rattle.std.specs.Option.{option_map_or}
 use Rattle.md_super.specs.declared.superblock.Super.{Super}
 use Rattle.slice_rack.specs.SliceRack.{below_of, tables}
-use Rattle.raid_rack.specs.NewDrive.{length_in, slice_length}
+use Rattle.raid_laws.specs.NewDrive.{length_in, slice_length}
 use Rattle.raid_rack.proofs.LayingDrive.{laid_more}
 use Rattle.raid_rack.proofs.new_drive.seat_member.Goals as goal
 

@@ -1,7 +1,7 @@
 use Rattle.std.proofs.Common.{◌≡◌, ◌++◌, [], ◌∷◌, List, length, if◌then◌else◌, ap, ap₂, refl, sym, ◌∙◌, arith, length-append}
 use Rattle.arrayvec.specs.ArrayVec.{ArrayVec}
 use Rattle.gpt_table.specs.declared.Entry.{Entry}
-use Rattle.raid_rack.specs.NewDrive as spec
+use Rattle.raid_laws.specs.NewDrive as spec
 use Rattle.raid_rack.proofs.LayingDrive.{entries_more}
 use Rattle.raid_rack.proofs.new_drive.table_of.Goals.{then-joins, else-joins}
 use Rattle.raid_rack.proofs.new_drive.table_of.Goals as goal

@@ -1,5 +1,5 @@
 use Rattle.std.proofs.Common.{◌≡◌, ◌≤◌, ◌+◌, length}
-use Rattle.raid_rack.specs.NewDrive as spec
+use Rattle.raid_laws.specs.NewDrive as spec
 use Rattle.raid_rack.proofs.new_drive.table_of.Given as goal
 
 abbrev pub invariant-loop-number : goal.invariant-loop-number

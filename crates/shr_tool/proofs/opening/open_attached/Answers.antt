@@ -9,28 +9,22 @@ use Rattle.shr_tool.proofs.Through.{marks_through, pool_through, refused_through
 use Rattle.shr_tool.proofs.Told.{task_for}
 use Rattle.shr_tool.proofs.opening.open_attached.Goals as goal
 
-same_head : {a b : ℕ} {p q : List ℕ} → a ∷ p ≡ b ∷ q → a ≡ b
-same_head same = cc
-
-same_tail : {a b : ℕ} {p q : List ℕ} → a ∷ p ≡ b ∷ q → p ≡ q
-same_tail same = cc
-
-pub returns-in-Ok-clause-lenders : goal.returns-in-Ok-clause-lenders
-returns-in-Ok-clause-lenders g c =
+pub returns-in-Ok-clause-frame : goal.returns-in-Ok-clause-frame
+returns-in-Ok-clause-frame g c =
     let last = c.do_on-status.new.pool in
     let opens = c.in-Ok.ensures in
     let does = c.do_on-status.ensures in
     let inner = c.into_inner-bay.ensures in
     let back : c.bay-1.given.0 ≡ (bay_in last).now =
-    c.bay-1.given.1 (sym (ap (λ b. b.ghost_name) inner ∙ same_head does.lenders ∙ opens.runs.0)) ∙ ap (λ b. b.now) inner in
-    ap g.B.Rack.lenders back ∙ same_tail does.lenders ∙ g.met.B.Rack.runs_lenders _ _ opens.runs.1
+    c.bay-1.given.1 (sym (ap (λ b. b.ghost_name) inner ∙ does.frame.0 ∙ opens.runs.0)) ∙ ap (λ b. b.now) inner in
+    subst (g.B.Bay.frame c.args.bay.now) (sym back) (g.met.B.Bay.frame_then _ _ _ (g.met.B.Bay.runs_frame _ _ opens.runs.1) does.frame.1)
 
-pub returns-in-Err-clause-lenders : goal.returns-in-Err-clause-lenders
-returns-in-Err-clause-lenders g c =
+pub returns-in-Err-clause-frame : goal.returns-in-Err-clause-frame
+returns-in-Err-clause-frame g c =
     let refuses = c.in-Err.ensures in
     let same : c.bay-in-Err-1.given.0 ≡ c.in-Err.back.rack.now =
     c.bay-in-Err-1.given.1 (sym refuses.returned.0) in
-    ap g.B.Rack.lenders same ∙ g.met.B.Rack.runs_lenders _ _ refuses.returned.1
+    subst (g.B.Bay.frame c.args.bay.now) (sym same) (g.met.B.Bay.runs_frame _ _ refuses.returned.1)
 
 pub returns-in-Ok-clause-outcome : goal.returns-in-Ok-clause-outcome
 returns-in-Ok-clause-outcome g c =
@@ -45,7 +39,7 @@ returns-in-Ok-clause-outcome g c =
     let does = c.do_on-status.ensures in
     let inner = c.into_inner-bay.ensures in
     let back : c.bay-1.given.0 ≡ (bay_in last).now =
-    c.bay-1.given.1 (sym (ap (λ b. b.ghost_name) inner ∙ same_head does.lenders ∙ opens.runs.0)) ∙ ap (λ b. b.now) inner in
+    c.bay-1.given.1 (sym (ap (λ b. b.ghost_name) inner ∙ does.frame.0 ∙ opens.runs.0)) ∙ ap (λ b. b.now) inner in
     λ source sink.
     inr
     (subst

@@ -1,5 +1,5 @@
 -- The disks are asked, and the pool opened on those that answer, or memory is wanting. The bay comes back as it was left.
-use Rattle.std.proofs.Common.{◌≡◌, ℕ, List, ◌∷◌, ◌∙◌, ap, sym, subst, inl, inr, MutBor}
+use Rattle.std.proofs.Common.{◌≡◌, ◌∙◌, ap, sym, subst, inl, inr, MutBor}
 use Rattle.rack.specs.Sequences.{OnlyReads}
 use Rattle.array_image.specs.Places.{state_sector}
 use Rattle.online_bay.specs.declared.OnlineBay.{OnlineBay}
@@ -7,9 +7,6 @@ use Rattle.online_bay.specs.OnlineBay.{bay_in, offline_in}
 use Rattle.shr_tool.specs.Online.{OnlineOutcome, online_runs, online_seen, online_shelf}
 use Rattle.shr_tool.proofs.Online.{asks_through, outcome_through}
 use Rattle.shr_tool.proofs.opening.open_online.Goals as goal
-
-same_head : {a b : ℕ} {p q : List ℕ} → a ∷ p ≡ b ∷ q → a ≡ b
-same_head same = cc
 
 pub returns-in-Ok-clause-outcome : goal.returns-in-Ok-clause-outcome
 returns-in-Ok-clause-outcome g c =
@@ -22,7 +19,7 @@ returns-in-Ok-clause-outcome g c =
     let does = c.open_attached-status.ensures in
     let inner = c.into_inner-bay.ensures in
     let back : c.bay-1.given.0 ≡ (bay_in last).now =
-    c.bay-1.given.1 (sym (ap (λ b. b.ghost_name) inner ∙ same_head does.lenders ∙ asks.kept.0)) ∙ ap (λ b. b.now) inner in
+    c.bay-1.given.1 (sym (ap (λ b. b.ghost_name) inner ∙ does.frame.0.0 ∙ asks.kept.0)) ∙ ap (λ b. b.now) inner in
     λ source sink.
     inr
     (subst
@@ -32,6 +29,7 @@ returns-in-Ok-clause-outcome g c =
     (record {
       asked = record { bay = (bay_in online).now; offline = offline_in online };
       asks = asks_through seen _ runs (λ r. r.now) (λ r s ran. ran.1) _ (bay_in online) state_sector (offline_in online) asks;
+      kept = does.frame.1.kept;
       offline = offline_in last;
       outcome =
           outcome_through (online_seen seen) (online_shelf shelf) _ (online_runs runs) (λ (r : OnlineBay (MutBor g.row.B.Denot)). record { bay = (bay_in r).now; offline = offline_in r })

@@ -15,7 +15,7 @@ pub lines-init : goal.lines-init
 lines-init g c =
     let left = g.I.Source.left c.args.input.now in
     record {
-      lenders = refl;
+      frame = g.met.R.Bay.frame_same _;
       continues = continues_same _ c.requires;
       source = omega arith;
       sink = omega arith;
@@ -64,7 +64,7 @@ pub lines-preserved : goal.lines-preserved
 lines-preserved g c =
     let before = c.lines.invariant in
     record {
-      lenders = c.answer_line.ensures.lenders ∙ before.lenders;
+      frame = g.met.R.Bay.frame_then _ _ _ before.frame c.answer_line.ensures.frame;
       continues = continues_then _ _ _ before.continues c.answer_line.ensures.continues;
       source = let old = before.source in let now = c.next.ensures.faults in omega arith;
       sink = let old = before.sink in let now = c.answer_line.ensures.sink in omega arith;

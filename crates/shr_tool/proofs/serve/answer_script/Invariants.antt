@@ -13,7 +13,7 @@ invariant-lines g l =
     let left = g.I.Source.left in
     let taken = g.O.Sink.taken in
     record {
-      lenders : g.R.Rack.lenders (bay_in l.pool) ≡ g.R.Rack.lenders (bay_in l.fn.pool);
+      frame : g.R.Bay.frame (bay_in l.fn.pool) (bay_in l.pool);
       continues : Continues (shown l.fn.pool) (shown l.pool);
       source : g.I.Source.faults l.fn.input ≤ g.I.Source.faults l.input;
       sink : g.O.Sink.faults l.fn.out ≤ g.O.Sink.faults l.out;

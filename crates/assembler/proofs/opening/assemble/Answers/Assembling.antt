@@ -3,7 +3,7 @@ use Rattle.slice_rack.specs.SliceRack.{below_of, tables}
 use Rattle.slice_rack.specs.Sliced.{slices_of}
 use Rattle.raid_rack.specs.RaidRack.{raid_in, slices_in, slices_seen}
 use Rattle.array_image.specs.States.{is_current}
-use Rattle.commit_log.specs.View.{names}
+use Rattle.log_laws.specs.View.{names}
 use Rattle.pool_state.specs.declared.contents.State.{State}
 use Rattle.std.proofs.Common.{◌≡◌, ◌+◌, ◌*◌, ◌<◌, ◌≤◌, ◌&&◌, ℕ, is_none, is_some, List, Option, Some, None, option_map, sym, ap, ap₂, subst, ◌∙◌, arith}
 use Rattle.rack.specs.Seen.{Image, Rose, Seen, Stays}
@@ -30,36 +30,36 @@ use Rattle.array_model.specs.View.{HasFault}
 use Rattle.pool_scan.specs.Scanning.{IsUnfaulted, now_in}
 use Rattle.pool_scan.proofs.Valid.{valid_arrays}
 use Rattle.raid_rack.proofs.Live.{runs_unused}
-use Rattle.assembler.specs.Marking.{AreMarkedFor}
-use Rattle.assembler.specs.Holding.{HoldPool, HoldsArrays}
-use Rattle.assembler.specs.Members.{AreMembers}
+use Rattle.assembler_laws.specs.Marking.{AreMarkedFor}
+use Rattle.assembler_laws.specs.Holding.{HoldPool, HoldsArrays}
+use Rattle.assembler_laws.specs.Members.{AreMembers}
 use Rattle.pool_model.specs.Left.{AreAlone, AreElsewhere, IsPickOff}
 use Rattle.pool_model.specs.Pools.{AreSlicesOf}
 use Rattle.pool_model.specs.Stopped.{HaveTables}
 use Rattle.pool_model.proofs.Found.{found_is, some_made}
 use Rattle.pool_model.proofs.SameAlone.{alone_same, same_back}
-use Rattle.assembler.specs.Raising.{RaisesOver, most_opening}
+use Rattle.assembler_laws.specs.Raising.{RaisesOver, most_opening}
 use Rattle.assembler.specs.Sound.{HaveGatesUpTo, HoldSound, MayStop, TargetsLand}
 use Rattle.assembler.specs.Volume.{AllLive}
-use Rattle.assembler.specs.Writing.{IsDriveOrTable}
-use Rattle.assembler.proofs.Alone.{alone_off, unsliced}
+use Rattle.assembler_laws.specs.Writing.{IsDriveOrTable}
+use Rattle.assembler_laws.proofs.Alone.{alone_off, unsliced}
 use Rattle.assembler.proofs.Apart.{lands_apart, tables_landed}
 use Rattle.assembler.proofs.AtRest.{pool_alone, rest_alone, rest_sound}
 use Rattle.assembler.proofs.Causes.{loses_since, marked_since}
-use Rattle.assembler.proofs.Drives.{members_drives}
+use Rattle.assembler_laws.proofs.Drives.{members_drives}
 use Rattle.assembler.proofs.Early.{early_leaves}
 use Rattle.assembler.proofs.Elsewhere.{elsewhere}
-use Rattle.assembler.proofs.Finding.{same as found_by_rest}
+use Rattle.assembler_laws.proofs.Finding.{same as found_by_rest}
 use Rattle.assembler.proofs.Entry.{IsRested, quiet_first, quiet_last, pool_same, rest_found, rested_so}
 use Rattle.assembler.proofs.Leaving.{IsAsRead}
-use Rattle.assembler.proofs.Marks.{marks_of, some_is}
+use Rattle.assembler_laws.proofs.Marks.{marks_of, some_is}
 use Rattle.assembler.proofs.Meaning.{check_passes}
 use Rattle.assembler.proofs.Mended.{opening_keeps}
 use Rattle.assembler.proofs.Volumes.{live_later}
-use Rattle.assembler.proofs.Lies.{slices_lie}
+use Rattle.assembler_laws.proofs.Lies.{slices_lie}
 use Rattle.assembler.proofs.Numbered.{number_found}
 use Rattle.assembler.proofs.Raised.{opening_few, raises_later}
-use Rattle.assembler.proofs.Written.{rack_then}
+use Rattle.assembler_laws.proofs.Written.{rack_then}
 use Rattle.assembler.proofs.opening.assemble.Given.{Over}
 use Rattle.assembler.proofs.opening.assemble.Goals.{After-make_rack, In-Ok-open_volume}
 

@@ -35,7 +35,7 @@ use Rattle.pool_model.proofs.Openings.{opened_from, opened_same}
 use Rattle.pool_model.proofs.Refused.{table_there}
 use Rattle.pool_model.proofs.Settled.{idle_pool}
 use Rattle.pool_model.proofs.Unrefused.{unrefused_by}
-use Rattle.assembler.specs.Moments.{SaysVolume}
+use Rattle.assembler_laws.specs.Moments.{SaysVolume}
 use Rattle.assembler.specs.Sound.{HoldSound, MayStop, StopsMean, TargetsLand}
 use Rattle.assembler.specs.Rested.{HoldRested}
 use Rattle.assembler.specs.Volume.{AllLive, AreStill}
@@ -45,8 +45,8 @@ use Rattle.assembler.proofs.Bringing.{GivesOpened, bringing_gives, bringing_leav
 use Rattle.assembler.proofs.Entry.{quiet_first, rested_so}
 use Rattle.assembler.proofs.Grouped.{brought_volume, given_volume}
 use Rattle.assembler.proofs.Leaving.{brought_says, saying_leaves}
-use Rattle.assembler.proofs.Lies.{slices_same}
-use Rattle.assembler.proofs.Marks.{marks_still}
+use Rattle.assembler_laws.proofs.Lies.{slices_same}
+use Rattle.assembler_laws.proofs.Marks.{marks_still}
 use Rattle.assembler.proofs.Reopening.{brought_meaning, own_rested, still_meaning}
 use Rattle.assembler.proofs.Replaying.{replaying_leaves}
 use Rattle.assembler.proofs.Rested.{rested_reads}

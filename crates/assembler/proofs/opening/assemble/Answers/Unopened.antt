@@ -19,13 +19,13 @@ use Rattle.pool_image.proofs.Founds.{joined_same, refused_same}
 use Rattle.array_model.specs.View.{HasFault}
 use Rattle.pool_scan.specs.Scanning.{IsUnfaulted, now_in}
 use Rattle.pool_scan.proofs.Valid.{valid_arrays}
-use Rattle.raid_rack.specs.Book.{IsAfter}
-use Rattle.raid_rack.specs.Raid.{Raid, is_used_up}
+use Rattle.raid_laws.specs.Book.{IsAfter}
+use Rattle.raid_laws.specs.Raid.{Raid, is_used_up}
 use Rattle.raid_rack.proofs.Live.{runs_unused}
 use Rattle.assembler.specs.declared.refusal.Refusal.{Refusal}
 use Rattle.assembler.specs.declared.refusal.Refusal.TheVariants.{BadVolume, Memory}
 use Rattle.assembler.specs.Causes.{HasChecked, IsBadOn, IsShortOn, RefusesArrays, RefusesPool, arrays_on}
-use Rattle.assembler.specs.Members.{AreMembers}
+use Rattle.assembler_laws.specs.Members.{AreMembers}
 use Rattle.pool_model.specs.Left.{AreAlone, HoldSame, IsServed}
 use Rattle.pool_model.specs.Pools.{AreSlicesOf}
 use Rattle.pool_model.proofs.Again.{left_known}
@@ -38,13 +38,13 @@ use Rattle.pool_model.proofs.Values.{HoldValues, same_again}
 use Rattle.assembler.specs.Sound.{HoldSound, KeepsPool, LieApart, TargetsLand}
 use Rattle.assembler.specs.Volume.{AllLive, AreStill}
 use Rattle.assembler.specs.Wanting.{HasUsedUp}
-use Rattle.assembler.proofs.Clean.{usable_truth}
+use Rattle.assembler_laws.proofs.Clean.{usable_truth}
 use Rattle.assembler.proofs.Entry.{only_pool, quiet_first, quiet_last, refusal_entry}
 use Rattle.assembler.proofs.Leaving.{refused_leaves}
-use Rattle.assembler.proofs.Marks.{marks_still}
+use Rattle.assembler_laws.proofs.Marks.{marks_still}
 use Rattle.assembler.proofs.Served.{shapes_kept, later, served, supers_kept, values_kept}
 use Rattle.assembler.proofs.Volumes.{live_later}
-use Rattle.assembler.proofs.Lies.{slices_same}
+use Rattle.assembler_laws.proofs.Lies.{slices_same}
 use Rattle.assembler.proofs.opening.assemble.Given.{Over}
 use Rattle.assembler.proofs.opening.assemble.Goals.{After-make_rack, In-Err-open_volume}
 use Rattle.assembler.proofs.opening.assemble.Answers.Assembling.{disks_still, a, x, y, z, t, known, ay, yz, ready, lost, marked, tables_kept, from_y, rested, f, same, checked, state, members, holds, lie, passes, early, arrays, landing, marks_made, off_alone, off_slices}

@@ -1,5 +1,5 @@
 use Rattle.std.proofs.Common.{◌==◌, Some, sym, ◌∙◌}
-use Rattle.commit_log.proofs.GateRead.{gate_there, no_gate}
+use Rattle.log_laws.proofs.GateRead.{gate_there, no_gate}
 use Rattle.commit_log.proofs.gates.Gate.decode.Goals as goal
 
 pub returns-then-is_well_formed : goal.returns-then-is_well_formed

@@ -1,4 +1,4 @@
-use Rattle.commit_log.specs.Phases.{went}
+use Rattle.log_laws.specs.Phases.{went}
 use Rattle.commit_log.proofs.ReplayCalls.{shuts_all, shuts_none}
 use Rattle.commit_log.proofs.log.Log.close.Goals as goal
 

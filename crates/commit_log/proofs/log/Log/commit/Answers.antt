@@ -3,11 +3,11 @@ use Rattle.std.specs.List.{range_with_len, list_all}
 use Rattle.rack.specs.Targets.{Target}
 use Rattle.rack.specs.Sequences.{IsPayload}
 use Rattle.array_image.specs.Record.{is_target, are_apart}
-use Rattle.commit_log.specs.View.{LogView, names, in_order, next_number}
-use Rattle.commit_log.specs.Bytes.{targets_in}
-use Rattle.commit_log.specs.Phases.{Settles, IsLogOf, IsOfRecord, IsTargeted, IsWanted, went}
-use Rattle.commit_log.specs.Commits.{CommitCall}
-use Rattle.commit_log.proofs.Naming.{names_listed, listed_in_order}
+use Rattle.log_laws.specs.View.{LogView, names, in_order, next_number}
+use Rattle.log_laws.specs.Bytes.{targets_in}
+use Rattle.log_laws.specs.Phases.{Settles, IsLogOf, IsOfRecord, IsTargeted, IsWanted, went}
+use Rattle.log_laws.specs.Commits.{CommitCall}
+use Rattle.log_laws.proofs.Naming.{names_listed, listed_in_order}
 use Rattle.commit_log.proofs.Story.{logs_named, valid_apart}
 use Rattle.commit_log.proofs.Committing.{Done, commit_call}
 use Rattle.commit_log.proofs.log.Log.commit.Goals as goal

@@ -5,12 +5,12 @@ use Rattle.rack.specs.Targets.{Target}
 use Rattle.array_image.specs.Places.{log_slice}
 use Rattle.array_image.specs.Record.{GateAt}
 use Rattle.commit_log.specs.declared.scan.PlacedGate as placed
-use Rattle.commit_log.specs.View.{LogView, names, in_order}
-use Rattle.commit_log.specs.Bytes.{targets_in}
-use Rattle.commit_log.specs.Phases.{went}
-use Rattle.commit_log.specs.Opening.{PendingCall}
+use Rattle.log_laws.specs.View.{LogView, names, in_order}
+use Rattle.log_laws.specs.Bytes.{targets_in}
+use Rattle.log_laws.specs.Phases.{went}
+use Rattle.log_laws.specs.Opening.{PendingCall}
 use Rattle.commit_log.specs.Scans.{IsScan, at_is, pending_seen, is_damaged}
-use Rattle.commit_log.proofs.Naming.{names_listed, listed_in_order}
+use Rattle.log_laws.proofs.Naming.{names_listed, listed_in_order}
 use Rattle.commit_log.proofs.Story.{logs_named}
 use Rattle.commit_log.proofs.Finding.{scan_asked, looks_call}
 use Rattle.commit_log.proofs.log.Log.pending.Goals as goal

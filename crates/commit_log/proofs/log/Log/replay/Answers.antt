@@ -2,10 +2,10 @@ use Rattle.std.proofs.Common.{◌≡◌, ℕ, true, false, Some, List, filter, s
 use Rattle.std.specs.List.{range_with_len}
 use Rattle.rack.specs.Targets.{Target}
 use Rattle.rack.specs.Sequences.{IsPayload}
-use Rattle.commit_log.specs.View.{LogView, names, in_order}
-use Rattle.commit_log.specs.Phases.{Settles, IsTargeted, IsWanted, went}
-use Rattle.commit_log.specs.Opening.{ReplayCall}
-use Rattle.commit_log.proofs.Naming.{names_listed, listed_in_order}
+use Rattle.log_laws.specs.View.{LogView, names, in_order}
+use Rattle.log_laws.specs.Phases.{Settles, IsTargeted, IsWanted, went}
+use Rattle.log_laws.specs.Opening.{ReplayCall}
+use Rattle.log_laws.proofs.Naming.{names_listed, listed_in_order}
 use Rattle.commit_log.proofs.Story.{logs_named}
 use Rattle.commit_log.proofs.ReplayCalls.{Replayed, replay_call}
 use Rattle.commit_log.proofs.log.Log.replay.Goals as goal

@@ -1,6 +1,6 @@
 use Rattle.std.proofs.Common.{◌≡◌, ◌-◌, ℕ, find, ap, ◌∙◌, arith}
 use Rattle.std.specs.List.{range_with_len}
-use Rattle.commit_log.specs.Phases.{went}
+use Rattle.log_laws.specs.Phases.{went}
 use Rattle.commit_log.proofs.lost.Lost.first.Goals as goal
 
 pub returns : goal.returns

@@ -1,8 +1,8 @@
 use Rattle.std.proofs.Common.{◌≡◌, ℕ, List, ◌++◌, ◌∷◌, [], filter, sym, ap, ◌∙◌, refl, arith, append-nil, length-append, length}
 use Rattle.std.specs.List.{range_with_len}
 use Rattle.std.proofs.lemmas.Bool.{cond-true, cond-false}
-use Rattle.commit_log.specs.Phases.{went}
-use Rattle.commit_log.proofs.Naming.{filter_more}
+use Rattle.log_laws.specs.Phases.{went}
+use Rattle.log_laws.proofs.Naming.{filter_more}
 use Rattle.commit_log.proofs.lost.Lost.list.Goals.{then-has, else-has}
 use Rattle.commit_log.proofs.lost.Lost.list.Goals as goal
 

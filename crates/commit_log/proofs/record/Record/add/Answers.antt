@@ -1,5 +1,5 @@
 use Rattle.std.proofs.Common.{arith}
-use Rattle.commit_log.proofs.Targets.{length_targets}
+use Rattle.log_laws.proofs.Targets.{length_targets}
 use Rattle.commit_log.proofs.record.Record.add.Goals as goal
 
 pub invariant_of-self-clause-counted : goal.invariant_of-self-clause-counted

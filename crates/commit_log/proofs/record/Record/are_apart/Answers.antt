@@ -2,8 +2,8 @@ use Rattle.std.proofs.Common.{◌&&◌, ◌+◌, not, sym, ap₂, ◌∙◌, ari
 use Rattle.std.specs.List.{list_any}
 use Rattle.rack.specs.Targets.{is_at}
 use Rattle.array_image.specs.Record.{are_apart}
-use Rattle.commit_log.specs.Bytes.{target_in, targets_in}
-use Rattle.commit_log.proofs.Checked.{failed, apart_more, apart_none}
+use Rattle.log_laws.specs.Bytes.{target_in, targets_in}
+use Rattle.log_laws.proofs.Checked.{failed, apart_more, apart_none}
 use Rattle.commit_log.proofs.record.Record.are_apart.Goals as goal
 
 pub loop-at-init : goal.loop-at-init

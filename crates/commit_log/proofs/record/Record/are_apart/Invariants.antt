@@ -1,6 +1,6 @@
 use Rattle.std.proofs.Common.{◌≡◌, true}
 use Rattle.array_image.specs.Record.{are_apart}
-use Rattle.commit_log.specs.Bytes.{targets_in}
+use Rattle.log_laws.specs.Bytes.{targets_in}
 use Rattle.commit_log.proofs.record.Record.are_apart.Given as goal
 
 abbrev pub invariant-loop-at : goal.invariant-loop-at

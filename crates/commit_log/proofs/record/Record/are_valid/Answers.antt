@@ -2,8 +2,8 @@ use Rattle.std.proofs.Common.{◌≡◌, ◌&&◌, ◌+◌, true, false, not, �
 use Rattle.std.specs.List.{list_all}
 use Rattle.array_image.specs.Record.{is_target}
 use Rattle.array_image.specs.Places.{slice_of}
-use Rattle.commit_log.specs.Bytes.{target_in, targets_in}
-use Rattle.commit_log.proofs.Checked.{failed, all_more, all_none}
+use Rattle.log_laws.specs.Bytes.{target_in, targets_in}
+use Rattle.log_laws.proofs.Checked.{failed, all_more, all_none}
 use Rattle.commit_log.proofs.record.Record.are_valid.Goals as goal
 
 pub loop-at-init : goal.loop-at-init

@@ -1,6 +1,6 @@
 use Rattle.std.proofs.Common.{◌==◌, ◌&&◌, ◌||◌, sym, ap₂, ◌∙◌}
-use Rattle.commit_log.specs.Bytes.{target_in}
-use Rattle.commit_log.proofs.Checked.{any_more, any_none, any_at}
+use Rattle.log_laws.specs.Bytes.{target_in}
+use Rattle.log_laws.proofs.Checked.{any_more, any_none, any_at}
 use Rattle.commit_log.proofs.record.Record.is_before.Goals as goal
 
 pub loop-before-init : goal.loop-before-init

@@ -1,7 +1,7 @@
 use Rattle.std.proofs.Common.{◌≡◌, false}
 use Rattle.std.specs.List.{list_any}
 use Rattle.rack.specs.Targets.{is_at}
-use Rattle.commit_log.specs.Bytes.{target_in, targets_in}
+use Rattle.log_laws.specs.Bytes.{target_in, targets_in}
 use Rattle.commit_log.proofs.record.Record.is_before.Given as goal
 
 abbrev pub invariant-loop-before : goal.invariant-loop-before

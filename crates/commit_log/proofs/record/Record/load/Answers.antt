@@ -1,7 +1,7 @@
 use Rattle.std.proofs.Common.{◌≡◌, ◌+◌, ◌++◌, List, ℕ, length, take, drop, ap, sym, ◌∙◌, arith}
 use Rattle.std.proofs.lemmas.List.{take_at}
-use Rattle.commit_log.specs.Bytes.{targets_in, passes}
-use Rattle.commit_log.proofs.Loads.{loaded, not_loaded}
+use Rattle.log_laws.specs.Bytes.{targets_in, passes}
+use Rattle.log_laws.proofs.Loads.{loaded, not_loaded}
 use Rattle.commit_log.proofs.Amid.{half_most}
 use Rattle.commit_log.proofs.record.Record.load.Goals as goal
 

@@ -1,10 +1,10 @@
 use Rattle.std.proofs.Common.{◌||◌, sym, ap, ap₂, ◌∙◌, List}
 use Rattle.std.proofs.lemmas.Bool.{ne_eqb}
 use Rattle.rack.specs.Targets.{Target}
-use Rattle.commit_log.specs.Bytes.{target_in}
-use Rattle.commit_log.specs.Phases.{has_target}
-use Rattle.commit_log.proofs.Targets.{no_targets}
-use Rattle.commit_log.proofs.Rounds.{has_at, has_more}
+use Rattle.log_laws.specs.Bytes.{target_in}
+use Rattle.log_laws.specs.Phases.{has_target}
+use Rattle.log_laws.proofs.Targets.{no_targets}
+use Rattle.log_laws.proofs.Rounds.{has_at, has_more}
 use Rattle.commit_log.proofs.record.Record.names.Goals as goal
 
 pub loop-at-init : goal.loop-at-init

@@ -1,6 +1,6 @@
 use Rattle.std.proofs.Common.{◌≡◌, false}
-use Rattle.commit_log.specs.Bytes.{targets_in}
-use Rattle.commit_log.specs.Phases.{has_target}
+use Rattle.log_laws.specs.Bytes.{targets_in}
+use Rattle.log_laws.specs.Phases.{has_target}
 use Rattle.commit_log.proofs.record.Record.names.Given as goal
 
 abbrev pub invariant-loop-at : goal.invariant-loop-at

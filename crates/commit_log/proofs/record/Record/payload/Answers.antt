@@ -1,7 +1,7 @@
 use Rattle.std.proofs.Common.{◌≡◌, ◌-◌, ◌==◌, ◌&&◌, true, List, ℕ, Some, sym, ap, ap₂, ◌∙◌, arith}
 use Rattle.rack.specs.Targets.{is_at}
-use Rattle.commit_log.specs.Bytes.{target_in}
-use Rattle.commit_log.proofs.Targets.{payload_none_at, payload_some_at}
+use Rattle.log_laws.specs.Bytes.{target_in}
+use Rattle.log_laws.proofs.Targets.{payload_none_at, payload_some_at}
 use Rattle.commit_log.proofs.record.Record.payload.Goals as goal
 
 pub returns-then-eq : goal.returns-then-eq

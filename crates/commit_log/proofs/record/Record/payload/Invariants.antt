@@ -1,6 +1,6 @@
 use Rattle.std.proofs.Common.{◌≡◌, ◌<◌, ◌≤◌, ℕ, false}
 use Rattle.rack.specs.Targets.{is_at}
-use Rattle.commit_log.specs.Bytes.{target_in}
+use Rattle.log_laws.specs.Bytes.{target_in}
 use Rattle.commit_log.proofs.record.Record.payload.Given as goal
 
 abbrev pub invariant-loop-at : goal.invariant-loop-at

@@ -1,7 +1,7 @@
 use Rattle.std.proofs.Common.{◌≡◌, ℕ, ◌/◌, List, [], length, slice_index_or, ap, ◌∙◌}
 use Rattle.std.specs.Simd.{first_chunks}
 use Rattle.shr_base.specs.Blocks.{bytes_at}
-use Rattle.commit_log.proofs.Records.{chunk_at}
+use Rattle.log_laws.proofs.Records.{chunk_at}
 use Rattle.commit_log.proofs.record.Record.sector.Goals as goal
 
 pub returns : goal.returns

@@ -1,5 +1,5 @@
 use Rattle.std.proofs.Common.{◌≡◌, true, false, sym, ◌∙◌, arith}
-use Rattle.commit_log.specs.View.{names}
+use Rattle.log_laws.specs.View.{names}
 use Rattle.commit_log.proofs.Story.{logs_named}
 use Rattle.commit_log.proofs.Scanning.{scan_over, scan_found}
 use Rattle.commit_log.proofs.scan.Scan.of.Goals.{then-contains, else-contains}

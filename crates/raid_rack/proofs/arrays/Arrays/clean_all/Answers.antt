@@ -3,7 +3,7 @@ use Rattle.raid_rack.specs.RaidRack.{raid_by}
 use Rattle.raid_rack.proofs.Raises.{raises_more, raises_none, raises_then}
 use Rattle.raid_rack.proofs.Cleanings.{cleans_all, cleans_none, cleans_then, first_apart, first_more}
 use Rattle.raid_rack.proofs.Truths.{truths_same, truths_then}
-use Rattle.raid_rack.proofs.Unlost.{unlost_same, unlost_then}
+use Rattle.raid_laws.proofs.Unlost.{unlost_same, unlost_then}
 use Rattle.raid_rack.proofs.arrays.Arrays.clean_all.Goals as goal
 
 pub loop-number-init : goal.loop-number-init

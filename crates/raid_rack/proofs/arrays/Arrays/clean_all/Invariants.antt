@@ -1,9 +1,9 @@
 use Rattle.std.proofs.Common.{◌*◌, nat_lt}
-use Rattle.raid_rack.specs.Cleaning.{Cleans}
-use Rattle.raid_rack.specs.Moves.{RaisesBy}
+use Rattle.raid_laws.specs.Cleaning.{Cleans}
+use Rattle.raid_laws.specs.Moves.{RaisesBy}
 use Rattle.raid_rack.specs.RaidRack.{IsRunning, raid_by}
-use Rattle.raid_rack.specs.Truths.{KeepsTruths}
-use Rattle.raid_rack.specs.Unlost.{KeepsUnlost}
+use Rattle.raid_laws.specs.Truths.{KeepsTruths}
+use Rattle.raid_laws.specs.Unlost.{KeepsUnlost}
 use Rattle.raid_rack.proofs.arrays.Arrays.clean_all.Given as goal
 
 abbrev pub invariant-loop-number : goal.invariant-loop-number

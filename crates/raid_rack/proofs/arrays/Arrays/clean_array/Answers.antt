@@ -1,15 +1,15 @@
 use Rattle.std.proofs.Common.{[], ◌==◌, get_or, slice_set, inl, refl, subst, sym, arith}
 use Rattle.arrayvec.specs.ArrayVec.{with_items}
 use Rattle.array_image.specs.Places.{log_slice}
-use Rattle.raid_rack.specs.Book.{after_same}
-use Rattle.raid_rack.specs.Cleaning.{Ends}
+use Rattle.raid_laws.specs.Book.{after_same}
+use Rattle.raid_laws.specs.Cleaning.{Ends}
 use Rattle.raid_rack.specs.RaidRack.{no_array, raid_by}
 use Rattle.raid_rack.proofs.Raises.{cleans_raise}
 use Rattle.raid_rack.proofs.RaisedCalls.{raises_call}
 use Rattle.raid_rack.proofs.Steps.{same_element, items_set}
 use Rattle.raid_rack.proofs.Cleanings.{clean_call, clean_running, cleans_one}
 use Rattle.raid_rack.proofs.TruthTurns.{truths_write}
-use Rattle.raid_rack.proofs.Unlost.{unlost_still, unlost_then}
+use Rattle.raid_laws.proofs.Unlost.{unlost_still, unlost_then}
 use Rattle.raid_rack.proofs.arrays.Arrays.clean_array.Goals as goal
 
 pub mend-requires : goal.mend-requires

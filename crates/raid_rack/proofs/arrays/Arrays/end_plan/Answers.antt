@@ -3,9 +3,9 @@ use Rattle.std.proofs.lemmas.Option.{slice_get-get_or}
 use Rattle.arrayvec.specs.ArrayVec.{with_items}
 use Rattle.rack.specs.Targets.{Target}
 use Rattle.pool_state.specs.declared.contents.State.{State}
-use Rattle.commit_log.specs.View.{LogView}
+use Rattle.log_laws.specs.View.{LogView}
 use Rattle.array_core.specs.Seats.{gone as without}
-use Rattle.raid_rack.specs.Losses.{AddsCopies}
+use Rattle.raid_laws.specs.Losses.{AddsCopies}
 use Rattle.raid_rack.proofs.Mended.{each_items}
 use Rattle.raid_rack.proofs.Worked.{close_places, closes_alone, closes_empty, closes_one, closes_raise, closing_of, copies_distinct, copies_had, copies_valid, has_closed}
 use Rattle.raid_rack.proofs.TruthTurns.{closed_truths}

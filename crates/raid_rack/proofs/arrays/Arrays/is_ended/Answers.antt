@@ -1,5 +1,5 @@
 use Rattle.std.proofs.Common.{List, ℕ, ◌==◌, ◌||◌, length, ap, ◌∙◌}
-use Rattle.raid_rack.specs.Raid.{is_used_up}
+use Rattle.raid_laws.specs.Raid.{is_used_up}
 use Rattle.raid_rack.specs.RaidRack.{raid_by}
 use Rattle.raid_rack.proofs.Ended.{empty_by}
 use Rattle.raid_rack.proofs.arrays.Arrays.is_ended.Goals as goal

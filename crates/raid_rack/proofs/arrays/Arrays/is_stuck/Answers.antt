@@ -1,6 +1,6 @@
 use Rattle.std.proofs.Common.{true, false, refl, ap, sym, ◌∙◌, arith}
 use Rattle.array_model.specs.View.{View}
-use Rattle.array_sync.specs.Rows.{lacks_row}
+use Rattle.sync_laws.specs.Rows.{lacks_row}
 use Rattle.raid_rack.specs.RaidRack.{no_array, raid_by}
 use Rattle.raid_rack.proofs.Steps.{same_element}
 use Rattle.raid_rack.proofs.Worked.{stuck_by_code}

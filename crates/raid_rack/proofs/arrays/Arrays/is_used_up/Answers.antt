@@ -1,7 +1,7 @@
 use Rattle.std.proofs.Common.{◌||◌, nat_lt, ap, sym, ◌∙◌, le-ltb, arith}
 use Rattle.std.specs.List.{list_any}
 use Rattle.array_model.specs.View.{View}
-use Rattle.raid_rack.specs.Raid.{last_number}
+use Rattle.raid_laws.specs.Raid.{last_number}
 use Rattle.raid_rack.proofs.Ended.{used_up_by}
 use Rattle.raid_rack.proofs.arrays.Arrays.is_used_up.Goals as goal
 

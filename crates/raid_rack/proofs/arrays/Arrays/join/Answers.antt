@@ -6,23 +6,23 @@ use Rattle.pool_state.specs.Valid.{is_valid}
 use Rattle.pool_state.specs.declared.contents.Plan.{Plan}
 use Rattle.pool_state.specs.declared.contents.State.{State}
 use Rattle.array_image.specs.States.{is_current}
-use Rattle.commit_log.specs.View.{LogView, names}
+use Rattle.log_laws.specs.View.{LogView, names}
 use Rattle.array_core.specs.Seats.{gone as without, renewed}
 use Rattle.array_model.specs.View.{View}
 use Rattle.raid_rack.specs.declared.arrays.Arrays.{Arrays}
-use Rattle.raid_rack.specs.Enlisting.{enlisted, next_drive}
-use Rattle.raid_rack.specs.NewDrive.{joins}
+use Rattle.raid_laws.specs.Enlisting.{enlisted, next_drive}
+use Rattle.raid_laws.specs.NewDrive.{joins}
 use Rattle.raid_rack.specs.RaidRack.{is_written, raid_by}
-use Rattle.raid_rack.proofs.Added.{names_current}
+use Rattle.raid_laws.proofs.Added.{names_current}
 use Rattle.raid_rack.proofs.Enlisted.{current_enlisted, listed_enlisted, valid_enlisted}
-use Rattle.raid_rack.proofs.Adding.{all_apart, all_had, are_valid}
-use Rattle.raid_rack.specs.Settling.{IsMarking}
+use Rattle.raid_laws.proofs.Adding.{all_apart, all_had, are_valid}
+use Rattle.raid_laws.specs.Settling.{IsMarking}
 use Rattle.raid_rack.proofs.Joining.{listed_raid}
 use Rattle.raid_rack.proofs.JoinCalls.{IsJoining, joins_each, joins_finds, joins_enlisted, joins_marking, joins_raises, joins_running, joins_truths}
 use Rattle.raid_rack.proofs.Mended.{each_items, on_named, some_copies}
-use Rattle.raid_rack.proofs.Noted.{current_few}
-use Rattle.raid_rack.proofs.Whole.{heeded_left}
-use Rattle.raid_rack.specs.Moves.{IsUnmarked}
+use Rattle.raid_laws.proofs.Noted.{current_few}
+use Rattle.raid_laws.proofs.Whole.{heeded_left}
+use Rattle.raid_laws.specs.Moves.{IsUnmarked}
 use Rattle.raid_rack.proofs.Renewed.{joins_missing, renewed_count, renewed_get, renewed_number, renewed_unmarked}
 use Rattle.raid_rack.proofs.arrays.Arrays.join.Given.{Over}
 use Rattle.raid_rack.proofs.arrays.Arrays.join.Goals as goal

@@ -2,8 +2,8 @@ use Rattle.std.proofs.Common.{◌∷◌, [], option_map, slice_get, ap, subst, �
 use Rattle.arrayvec.specs.ArrayVec.{with_items}
 use Rattle.commit_log.proofs.Deciding.{names_first}
 use Rattle.array_core.specs.Seats.{gone}
-use Rattle.raid_rack.specs.Raid.{Raid}
-use Rattle.raid_rack.specs.Moves.{Mends}
+use Rattle.raid_laws.specs.Raid.{Raid}
+use Rattle.raid_laws.specs.Moves.{Mends}
 use Rattle.raid_rack.specs.RaidRack.{raid_by}
 use Rattle.raid_rack.proofs.Mended.{each_items}
 use Rattle.raid_rack.proofs.RaisedCalls.{raises_noted}

@@ -3,10 +3,10 @@ use Rattle.std.proofs.lemmas.Bool.{both_ways, eq-eqb}
 use Rattle.std.proofs.lemmas.Option.{slice_get-get_or}
 use Rattle.std.specs.Cmp.Lexicographic.{same_text, other_text}
 use Rattle.arrayvec.specs.ArrayVec.{with_items}
-use Rattle.commit_log.specs.View.{LogView}
+use Rattle.log_laws.specs.View.{LogView}
 use Rattle.array_core.specs.Seats.{gone as without}
-use Rattle.raid_rack.specs.Losses.{newly_gone}
-use Rattle.raid_rack.proofs.Adding.{are_valid, all_apart, all_had}
+use Rattle.raid_laws.specs.Losses.{newly_gone}
+use Rattle.raid_laws.proofs.Adding.{are_valid, all_apart, all_had}
 use Rattle.raid_rack.proofs.Mended.{IsTurn, each_items, has_noted, marking_of, ends_turn, ends_empty, ends_early, on_named, on_valid, on_logs, some_copies, not_of_true, not_of_false}
 use Rattle.raid_rack.specs.RaidRack.{raid_by}
 use Rattle.raid_rack.proofs.arrays.Arrays.mark.Goals as goal

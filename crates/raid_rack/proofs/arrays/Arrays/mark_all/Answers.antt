@@ -1,15 +1,15 @@
 use Rattle.std.proofs.Common.{ap, refl, subst, sym, ◌∙◌, inl, inr, arith}
 use Rattle.raid_rack.specs.declared.arrays.Arrays.{Arrays}
-use Rattle.raid_rack.specs.Losses.{newly_gone}
-use Rattle.raid_rack.specs.Moves.{AreMarked}
+use Rattle.raid_laws.specs.Losses.{newly_gone}
+use Rattle.raid_laws.specs.Moves.{AreMarked}
 use Rattle.raid_rack.specs.RaidRack.{raid_by}
-use Rattle.raid_rack.proofs.Agreeing.{agree_then}
-use Rattle.raid_rack.proofs.Moving.{moves_same, moves_then}
+use Rattle.raid_laws.proofs.Agreeing.{agree_then}
+use Rattle.raid_laws.proofs.Moving.{moves_same, moves_then}
 use Rattle.raid_rack.proofs.Raises.{raises_more, raises_none, raises_then}
 use Rattle.raid_rack.proofs.Turned.{none_newly}
 use Rattle.raid_rack.proofs.Rounds.{done_agree, newly_unmarked, turns_first, turns_next, turns_done, no_length, some_length}
 use Rattle.raid_rack.proofs.TruthTurns.{done_truths, turn_truths}
-use Rattle.raid_rack.proofs.Unlost.{unlost_same, unlost_then}
+use Rattle.raid_laws.proofs.Unlost.{unlost_same, unlost_then}
 use Rattle.raid_rack.proofs.arrays.Arrays.mark_all.Goals as goal
 
 pub loop-turn-init : goal.loop-turn-init

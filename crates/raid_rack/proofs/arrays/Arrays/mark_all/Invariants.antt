@@ -1,8 +1,8 @@
 use Rattle.std.proofs.Common.{◌≡◌, ◌⊎◌}
-use Rattle.raid_rack.specs.Agreeing.{MakesAgree}
-use Rattle.raid_rack.specs.Moves.{AreMarked, Moves, RaisesBy}
+use Rattle.raid_laws.specs.Agreeing.{MakesAgree}
+use Rattle.raid_laws.specs.Moves.{AreMarked, Moves, RaisesBy}
 use Rattle.raid_rack.specs.RaidRack.{IsRunning, raid_by}
-use Rattle.raid_rack.specs.Unlost.{KeepsUnlost}
+use Rattle.raid_laws.specs.Unlost.{KeepsUnlost}
 use Rattle.raid_rack.proofs.Rounds.{HasTurns}
 use Rattle.raid_rack.proofs.TruthTurns.{HasTruths}
 use Rattle.raid_rack.proofs.arrays.Arrays.mark_all.Given as goal

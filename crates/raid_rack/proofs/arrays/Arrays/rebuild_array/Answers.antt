@@ -1,19 +1,19 @@
 use Rattle.std.proofs.Common.{◌&&◌, ◌||◌, Bool, not, get_or, slice_set, is_ok, refl, ap, sym, subst, ◌∙◌, arith}
 use Rattle.std.proofs.lemmas.Option.{slice_get-get_or}
 use Rattle.arrayvec.specs.ArrayVec.{with_items}
-use Rattle.commit_log.specs.View.{LogView}
+use Rattle.log_laws.specs.View.{LogView}
 use Rattle.array_model.specs.View.{View}
-use Rattle.array_sync.specs.Steps.{HasRowLeft}
+use Rattle.sync_laws.specs.Steps.{HasRowLeft}
 use Rattle.raid_rack.specs.RaidRack.{no_array, raid_by}
-use Rattle.raid_rack.specs.Raid.{is_empty, is_used_up}
-use Rattle.raid_rack.specs.Works.{RebuildsOne}
+use Rattle.raid_laws.specs.Raid.{is_empty, is_used_up}
+use Rattle.raid_laws.specs.Works.{RebuildsOne}
 use Rattle.raid_rack.proofs.Mended.{on_named}
-use Rattle.raid_rack.proofs.Noted.{current_few}
+use Rattle.raid_laws.proofs.Noted.{current_few}
 use Rattle.raid_rack.proofs.RaisedCalls.{raises_call}
 use Rattle.raid_rack.proofs.Rebuilt.{answered_refused_not, has_rebuilt, rebuilds_one, rebuilding_parts, rebuilt_raise, row_left}
 use Rattle.raid_rack.proofs.Resynced.{step_later, step_raise}
 use Rattle.raid_rack.proofs.Steps.{same_element, items_set}
-use Rattle.raid_rack.proofs.Whole.{heeded_left}
+use Rattle.raid_laws.proofs.Whole.{heeded_left}
 use Rattle.raid_rack.proofs.TruthTurns.{truths_step}
 use Rattle.raid_rack.proofs.arrays.Arrays.rebuild_array.Goals as goal
 

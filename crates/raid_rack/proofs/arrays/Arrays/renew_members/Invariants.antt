@@ -1,5 +1,5 @@
 use Rattle.std.proofs.Common.{◌≡◌, ℕ, ◌&&◌, nat_lt, slice_get}
-use Rattle.raid_rack.specs.Enlisting as spec
+use Rattle.raid_laws.specs.Enlisting as spec
 use Rattle.raid_rack.specs.RaidRack.{is_written}
 use Rattle.raid_rack.proofs.arrays.Arrays.renew_members.Given as goal
 

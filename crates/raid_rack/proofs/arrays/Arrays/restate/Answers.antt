@@ -2,10 +2,10 @@ use Rattle.std.proofs.Common.{◌≡◌, ◌==◌, [], get_or, length, ap, sym, 
 use Rattle.std.proofs.lemmas.Bool.{both_ways}
 use Rattle.std.proofs.lemmas.Option.{slice_get-get_or}
 use Rattle.arrayvec.specs.ArrayVec.{with_items}
-use Rattle.commit_log.specs.View.{LogView}
+use Rattle.log_laws.specs.View.{LogView}
 use Rattle.array_core.specs.Seats.{gone as without, heeded}
-use Rattle.raid_rack.specs.Losses.{newly_gone}
-use Rattle.raid_rack.proofs.Adding.{all_apart, all_had, are_valid}
+use Rattle.raid_laws.specs.Losses.{newly_gone}
+use Rattle.raid_laws.proofs.Adding.{all_apart, all_had, are_valid}
 use Rattle.raid_rack.proofs.Mended.{each_items, on_logs, on_named, on_valid, some_copies}
 use Rattle.raid_rack.proofs.Restating.{has_restated, has_settled, marking_anew, restates_alone, restates_early, restates_then}
 use Rattle.raid_rack.proofs.Rounds.{no_length, some_length}

@@ -1,19 +1,19 @@
 use Rattle.std.proofs.Common.{ℕ, ◌≡◌, ◌<◌, false, not, get_or, slice_set, is_ok, ap, sym, subst, ◌∙◌, arith}
 use Rattle.std.proofs.lemmas.Option.{slice_get-get_or}
 use Rattle.arrayvec.specs.ArrayVec.{with_items}
-use Rattle.commit_log.specs.View.{LogView}
+use Rattle.log_laws.specs.View.{LogView}
 use Rattle.array_model.specs.View.{View, rows_of}
-use Rattle.array_sync.specs.Rows.{lacks_row}
-use Rattle.array_sync.specs.Steps.{resynced}
+use Rattle.sync_laws.specs.Rows.{lacks_row}
+use Rattle.sync_laws.specs.Steps.{resynced}
 use Rattle.raid_rack.specs.RaidRack.{no_array, raid_by}
-use Rattle.raid_rack.specs.Works.{is_stuck}
-use Rattle.raid_rack.specs.Losing.{only_then}
+use Rattle.raid_laws.specs.Works.{is_stuck}
+use Rattle.raid_laws.specs.Losing.{only_then}
 use Rattle.raid_rack.proofs.Mended.{on_named}
-use Rattle.raid_rack.proofs.Noted.{current_few}
+use Rattle.raid_laws.proofs.Noted.{current_few}
 use Rattle.raid_rack.proofs.RaisedCalls.{raises_call}
 use Rattle.raid_rack.proofs.Resynced.{answered_refused, answered_served, grown, has_resynced, lacks_less, resynced_raise, step_later, step_raise, stepped_rows, steps_one}
 use Rattle.raid_rack.proofs.Steps.{same_element, items_set}
-use Rattle.raid_rack.proofs.Whole.{heeded_left}
+use Rattle.raid_laws.proofs.Whole.{heeded_left}
 use Rattle.raid_rack.proofs.Worked.{unstuck}
 use Rattle.raid_rack.proofs.TruthTurns.{truths_step}
 use Rattle.raid_rack.proofs.arrays.Arrays.resync_array.Goals as goal

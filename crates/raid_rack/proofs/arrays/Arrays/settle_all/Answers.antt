@@ -1,10 +1,10 @@
 use Rattle.arrayvec.specs.ArrayVec.{with_items}
 use Rattle.raid_rack.specs.declared.arrays.Arrays.{Arrays}
 use Rattle.std.proofs.Common.{◌<◌, length, slice_set, ap, refl, subst, sym, ◌∙◌, arith}
-use Rattle.commit_log.specs.View.{LogView}
-use Rattle.raid_rack.specs.Settling.{SettlesTo}
+use Rattle.log_laws.specs.View.{LogView}
+use Rattle.raid_laws.specs.Settling.{SettlesTo}
 use Rattle.raid_rack.specs.RaidRack.{no_array, raid_by}
-use Rattle.raid_rack.proofs.Settling.{settles_first}
+use Rattle.raid_laws.proofs.Settling.{settles_first}
 use Rattle.raid_rack.proofs.Steps.{same_element, items_set, length_set, settle_slices, settle_step}
 use Rattle.raid_rack.proofs.arrays.Arrays.settle_all.Goals as goal
 

@@ -1,5 +1,5 @@
 use Rattle.std.proofs.Common.{◌≡◌, length}
-use Rattle.raid_rack.specs.Settling.{SettlesTo}
+use Rattle.raid_laws.specs.Settling.{SettlesTo}
 use Rattle.raid_rack.specs.RaidRack.{raid_by}
 use Rattle.raid_rack.proofs.arrays.Arrays.settle_all.Given as goal
 

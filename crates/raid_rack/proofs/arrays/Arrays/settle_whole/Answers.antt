@@ -1,8 +1,8 @@
 use Rattle.std.proofs.Common.{◌≡◌, [], ap, sym, ◌∙◌}
 use Rattle.arrayvec.specs.ArrayVec.{with_items}
-use Rattle.commit_log.specs.View.{LogView}
+use Rattle.log_laws.specs.View.{LogView}
 use Rattle.array_core.specs.Seats.{heeded}
-use Rattle.raid_rack.specs.Losses.{newly_gone}
+use Rattle.raid_laws.specs.Losses.{newly_gone}
 use Rattle.raid_rack.proofs.Mended.{each_items}
 use Rattle.raid_rack.proofs.Restating.{has_settled, restates_early}
 use Rattle.raid_rack.proofs.Rounds.{no_length, some_length}
@@ -10,7 +10,7 @@ use Rattle.raid_rack.proofs.SettledWhole.{lost_marked, settles_whole}
 use Rattle.raid_rack.specs.RaidRack.{raid_by}
 use Rattle.raid_rack.proofs.Truths.{makes_keeps}
 use Rattle.raid_rack.proofs.TruthTurns.{early_made}
-use Rattle.raid_rack.proofs.Unlost.{unlost_reads, unlost_then}
+use Rattle.raid_laws.proofs.Unlost.{unlost_reads, unlost_then}
 use Rattle.raid_rack.proofs.arrays.Arrays.settle_whole.Goals as goal
 
 pub returns-then-not-is_empty-clause-mends : goal.returns-then-not-is_empty-clause-mends

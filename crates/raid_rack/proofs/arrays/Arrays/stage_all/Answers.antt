@@ -1,10 +1,10 @@
 use Rattle.std.proofs.Common.{◌≡◌, ◌<◌, length, ap, refl, subst, ◌∙◌, arith}
-use Rattle.commit_log.specs.View.{LogView}
+use Rattle.log_laws.specs.View.{LogView}
 use Rattle.array_core.specs.Staging.{AddsSupersOf}
 use Rattle.array_model.specs.View.{IsArray, View}
 use Rattle.raid_rack.specs.declared.arrays.Arrays.{Arrays}
 use Rattle.raid_rack.specs.RaidRack.{no_array, raid_by}
-use Rattle.raid_rack.proofs.Settling.{staged_more}
+use Rattle.raid_laws.proofs.Settling.{staged_more}
 use Rattle.raid_rack.proofs.Steps.{same_element}
 use Rattle.raid_rack.proofs.arrays.Arrays.stage_all.Goals as goal
 

@@ -1,5 +1,5 @@
 use Rattle.std.proofs.Common.{◌≡◌}
-use Rattle.raid_rack.specs.Settling.{HasStaged}
+use Rattle.raid_laws.specs.Settling.{HasStaged}
 use Rattle.raid_rack.specs.RaidRack.{raid_by}
 use Rattle.raid_rack.proofs.arrays.Arrays.stage_all.Given as goal
 

@@ -1,16 +1,16 @@
 use Rattle.std.proofs.Common.{get_or, slice_set, ap, refl, arith}
 use Rattle.std.proofs.lemmas.Option.{slice_get-get_or}
 use Rattle.arrayvec.specs.ArrayVec.{with_items}
-use Rattle.commit_log.specs.View.{LogView}
+use Rattle.log_laws.specs.View.{LogView}
 use Rattle.raid_rack.specs.RaidRack.{no_array, raid_by}
 use Rattle.raid_rack.proofs.Mended.{on_named}
-use Rattle.raid_rack.proofs.Noted.{current_few}
+use Rattle.raid_laws.proofs.Noted.{current_few}
 use Rattle.raid_rack.proofs.Sent.{has_written, later_number, writes_one}
 use Rattle.raid_rack.proofs.Raises.{writes_raise}
 use Rattle.raid_rack.proofs.RaisedCalls.{logs_raise, raises_call}
 use Rattle.raid_rack.proofs.Sparing.{spares_write}
 use Rattle.raid_rack.proofs.Steps.{same_element, items_set}
-use Rattle.raid_rack.proofs.Whole.{heeded_left}
+use Rattle.raid_laws.proofs.Whole.{heeded_left}
 use Rattle.raid_rack.proofs.TruthTurns.{truths_write}
 use Rattle.raid_rack.proofs.arrays.Arrays.write_array.Goals as goal
 

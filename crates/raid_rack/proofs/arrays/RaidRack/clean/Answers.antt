@@ -1,5 +1,5 @@
 use Rattle.slice_rack.specs.SliceRack.{tables, below_of}
-use Rattle.raid_rack.specs.Laws.{stops_inside}
+use Rattle.raid_laws.specs.Laws.{stops_inside}
 use Rattle.slice_rack.specs.Sliced.{slices_of}
 use Rattle.raid_rack.specs.RaidRack.{IsFit, written_in}
 use Rattle.raid_rack.proofs.CleanImages.{clean_images}

@@ -1,8 +1,8 @@
 use Rattle.std.proofs.Common.{refl}
 use Rattle.slice_rack.specs.SliceRack.{tables, below_of}
-use Rattle.raid_rack.specs.Laws.{stops_inside}
+use Rattle.raid_laws.specs.Laws.{stops_inside}
 use Rattle.raid_rack.specs.RaidRack.{raid_in, slices_seen, written_in}
-use Rattle.raid_rack.specs.Runs.{raid_runs_same}
+use Rattle.raid_laws.specs.Runs.{raid_runs_same}
 use Rattle.raid_rack.proofs.Serving.{brings_keep, runs_call}
 use Rattle.raid_rack.proofs.arrays.RaidRack.close.Goals as goal
 

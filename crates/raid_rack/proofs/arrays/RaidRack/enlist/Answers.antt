@@ -2,12 +2,12 @@ use Rattle.std.proofs.Common.{◌≡◌, ℕ, ◌-◌, ◌≤◌, ◌<◌, ◌^�
 use Rattle.std.proofs.lemmas.Bool.{ne_eqb}
 use Rattle.pool_state.specs.declared.contents.Drive.{Drive}
 use Rattle.raid_rack.specs.declared.arrays.Arrays.{Arrays}
-use Rattle.raid_rack.specs.Raid.{Raid}
-use Rattle.raid_rack.specs.Vacated.{vacated}
+use Rattle.raid_laws.specs.Raid.{Raid}
+use Rattle.raid_laws.specs.Vacated.{vacated}
 use Rattle.pool_state.specs.declared.contents.State.{State}
 use Rattle.array_model.specs.View.{View}
-use Rattle.raid_rack.specs.Truths.{JoinsTruths, KeepsTruths}
-use Rattle.raid_rack.specs.Unlost.{KeepsUnlost}
+use Rattle.raid_laws.specs.Truths.{JoinsTruths, KeepsTruths}
+use Rattle.raid_laws.specs.Unlost.{KeepsUnlost}
 use Rattle.raid_rack.proofs.Seating.{all_small, new_slices, seats_set}
 use Rattle.rack.specs.Seen.{Rose, Stays}
 use Rattle.rack.specs.Sequences.{WritesOnly}
@@ -20,14 +20,14 @@ use Rattle.array_image.specs.States.{is_current}
 use Rattle.slice_rack.specs.Runs.{IsSliced, inside_still}
 use Rattle.slice_rack.specs.Slices.{Slices}
 use Rattle.shr_base.specs.declared.Id.{Id}
-use Rattle.raid_rack.specs.Enlisting.{Enlists, FindsEach, HasLost, HasNewSlices, IsEnlisted, JoinsEach, SettlesWhole, new_table, next_drive, with_drive}
-use Rattle.raid_rack.specs.Moves.{IsSet, IsUnmarked, Mends}
-use Rattle.raid_rack.specs.NewDrive.{IsOfDrive, LaysDrive, ReachesAll, SeatsDrive, drive_table, joins}
+use Rattle.raid_laws.specs.Enlisting.{Enlists, FindsEach, HasLost, HasNewSlices, IsEnlisted, JoinsEach, SettlesWhole, new_table, next_drive, with_drive}
+use Rattle.raid_laws.specs.Moves.{IsSet, IsUnmarked, Mends}
+use Rattle.raid_laws.specs.NewDrive.{IsOfDrive, LaysDrive, ReachesAll, SeatsDrive, drive_table, joins}
 use Rattle.raid_rack.specs.RaidRack.{IsFit, IsRunning, raid_by, slices_in}
-use Rattle.raid_rack.proofs.Apart.{fit_still, not_whole, refused_lay, running_still}
+use Rattle.raid_rack.proofs.NotTaken.{fit_still, not_whole, refused_lay, running_still}
 use Rattle.raid_rack.proofs.Enlisted.{table_writable}
 use Rattle.raid_rack.proofs.EnlistRetired.{back_each, back_finds, back_joined, back_less, back_raises, back_truths, retired_heeded, retired_members, retired_missing, retired_raid, retired_set}
-use Rattle.raid_rack.proofs.Missing.{current_marked, length_marked, units_marked}
+use Rattle.raid_laws.proofs.Missing.{current_marked, length_marked, units_marked}
 use Rattle.raid_rack.proofs.Renewing.{AreSameMembers, reaches_same, same_members, seats_same}
 use Rattle.raid_rack.proofs.EnlistAll.{enlists, seats}
 use Rattle.raid_rack.proofs.arrays.RaidRack.enlist.Given.{Over}

@@ -1,5 +1,5 @@
 use Rattle.slice_rack.specs.SliceRack.{tables, below_of}
-use Rattle.raid_rack.specs.Laws.{stops_inside}
+use Rattle.raid_laws.specs.Laws.{stops_inside}
 use Rattle.raid_rack.proofs.Serving.{lose_moments, lose_stays}
 use Rattle.raid_rack.proofs.arrays.RaidRack.lose.Goals as goal
 

@@ -1,5 +1,5 @@
 use Rattle.slice_rack.specs.SliceRack.{tables, below_of}
-use Rattle.raid_rack.specs.Laws.{stops_inside}
+use Rattle.raid_laws.specs.Laws.{stops_inside}
 use Rattle.raid_rack.specs.RaidRack.{raid_by, written_in}
 use Rattle.raid_rack.proofs.Truths.{makes_keeps}
 use Rattle.raid_rack.proofs.Serving.{moves_keep, runs_moves}

@@ -2,11 +2,11 @@ use Rattle.std.proofs.Common.{Bool, nat_lt, refl, subst, ltb-true}
 use Rattle.std.proofs.lemmas.Bool.{and_parts}
 use Rattle.slice_rack.specs.SliceRack.{tables, below_of}
 use Rattle.array_model.specs.View.{rows_of}
-use Rattle.raid_rack.specs.Laws.{stops_inside}
+use Rattle.raid_laws.specs.Laws.{stops_inside}
 use Rattle.slice_rack.specs.Sliced.{slices_of}
 use Rattle.raid_rack.specs.RaidRack.{raid_by, raid_in, slices_seen, written_in}
-use Rattle.raid_rack.specs.Runs.{raid_runs_same}
-use Rattle.raid_rack.specs.Works.{ResyncsOne}
+use Rattle.raid_laws.specs.Runs.{raid_runs_same}
+use Rattle.raid_laws.specs.Works.{ResyncsOne}
 use Rattle.raid_rack.proofs.Serving.{brings_keep, runs_call}
 use Rattle.raid_rack.proofs.Worked.{resyncs_one}
 use Rattle.raid_rack.proofs.arrays.RaidRack.resync.Goals as goal

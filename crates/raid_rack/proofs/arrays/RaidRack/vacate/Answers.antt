@@ -1,7 +1,7 @@
 use Rattle.std.proofs.Common.{sym, subst}
 use Rattle.slice_rack.specs.SliceRack.{below_of, tables}
 use Rattle.slice_rack.specs.Sliced.{slices_of}
-use Rattle.raid_rack.specs.Moves.{IsSet}
+use Rattle.raid_laws.specs.Moves.{IsSet}
 use Rattle.raid_rack.specs.RaidRack.{raid_by, slices_in}
 use Rattle.raid_rack.proofs.Seating.{others_set}
 use Rattle.raid_rack.proofs.arrays.RaidRack.vacate.Goals as goal

@@ -1,5 +1,5 @@
 use Rattle.raid_rack.specs.RaidRack.{raid_in, slices_seen, written_in}
-use Rattle.raid_rack.specs.Runs.{raid_runs_same}
+use Rattle.raid_laws.specs.Runs.{raid_runs_same}
 use Rattle.raid_rack.proofs.arrays.RaidRack.work.Goals as goal
 
 pub returns-in-TakeOver-clause-book : goal.returns-in-TakeOver-clause-book

@@ -2,10 +2,10 @@ use Rattle.std.proofs.Common.{sym, subst, arith}
 use Rattle.rack.specs.Calls.{Reads}
 use Rattle.slice_rack.specs.SliceRack.{tables, below_of}
 use Rattle.slice_rack.specs.Sliced.{slices_of}
-use Rattle.raid_rack.specs.Runs.{RaidRuns}
+use Rattle.raid_laws.specs.Runs.{RaidRuns}
 use Rattle.raid_rack.specs.RaidRack.{IsFit, SliceRuns, raid_by, raid_in, raid_seen, refused_in, slices_in, slices_seen, written_in}
 use Rattle.raid_rack.specs.AllRuns.{IsOneCall, Serves, Spares}
-use Rattle.raid_rack.specs.Laws.{stops_inside}
+use Rattle.raid_laws.specs.Laws.{stops_inside}
 use Rattle.raid_rack.proofs.Raises.{raises_more}
 use Rattle.raid_rack.proofs.Serving.{read_call, runs_moves, served_call}
 use Rattle.raid_rack.proofs.disks.RaidRackRack.read.Goals as goal

@@ -1,7 +1,7 @@
 use Rattle.std.proofs.Common.{refl, arith}
 use Rattle.slice_rack.specs.SliceRack.{tables, below_of}
 use Rattle.raid_rack.specs.RaidRack.{written_in}
-use Rattle.raid_rack.specs.Laws.{stops_inside}
+use Rattle.raid_laws.specs.Laws.{stops_inside}
 use Rattle.raid_rack.proofs.Raises.{raises_more}
 use Rattle.raid_rack.proofs.Serving.{sync_call, runs_moves}
 use Rattle.raid_rack.proofs.disks.RaidRackRack.sync.Goals as goal

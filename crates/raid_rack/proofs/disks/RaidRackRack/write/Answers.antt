@@ -2,11 +2,11 @@ use Rattle.std.proofs.Common.{◌<◌, ap, sym, subst, ◌∙◌}
 use Rattle.rack.specs.Calls.{Writes}
 use Rattle.slice_rack.specs.SliceRack.{tables, below_of}
 use Rattle.slice_rack.specs.Sliced.{slices_of}
-use Rattle.raid_rack.specs.Moves.{written_at}
-use Rattle.raid_rack.specs.Runs.{RaidRuns}
+use Rattle.raid_laws.specs.Moves.{written_at}
+use Rattle.raid_laws.specs.Runs.{RaidRuns}
 use Rattle.raid_rack.specs.RaidRack.{IsFit, SliceRuns, raid_by, raid_in, raid_seen, refused_in, slices_in, slices_seen, is_written, written_in}
 use Rattle.raid_rack.specs.AllRuns.{IsOneCall, Serves, Spares}
-use Rattle.raid_rack.specs.Laws.{stops_inside}
+use Rattle.raid_laws.specs.Laws.{stops_inside}
 use Rattle.raid_rack.proofs.Serving.{flags_kept, write_call, runs_call, served_call}
 use Rattle.raid_rack.proofs.disks.RaidRackRack.write.Goals as goal
 

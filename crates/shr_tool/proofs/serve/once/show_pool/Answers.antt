@@ -9,8 +9,8 @@ use Rattle.shr_tool.proofs.serve.once.show_pool.Goals as goal
 pub returns-clause-continues : goal.returns-clause-continues
 returns-clause-continues g c = continues_then _ _ _ c.answer_status-stopped.ensures.continues (continues_of _ _ c.end.ensures.ended.passes)
 
-pub returns-clause-lenders : goal.returns-clause-lenders
-returns-clause-lenders g c = g.met.R.Rack.runs_lenders _ _ c.end.ensures.runs ∙ c.answer_status-stopped.ensures.lenders
+pub returns-clause-frame : goal.returns-clause-frame
+returns-clause-frame g c = g.met.R.Bay.frame_then _ _ _ c.answer_status-stopped.ensures.frame (g.met.R.Bay.runs_frame _ _ c.end.ensures.runs)
 
 pub returns-clause-cause : goal.returns-clause-cause
 returns-clause-cause g c = status_cause _ _ _ _ _ _ _ c.status_of.ensures c.answer_status-stopped.ensures.cause

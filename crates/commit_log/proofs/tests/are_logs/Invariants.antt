@@ -1,6 +1,0 @@
-use Rattle.std.proofs.Common.{◌≡◌, ◌<◌, ◌*◌, ℕ, slice_index}
-use Rattle.commit_log.proofs.tests.are_logs.Given as goal
-
-abbrev pub invariant-loop-place : goal.invariant-loop-place
-invariant-loop-place g l =
-    (j : ℕ) → j < l.place-index → (slice_index l.on j < 16) × ((g.R.Rack.seen l.rack).sectors (17 * slice_index l.on j) ≡ 8192)

@@ -1,0 +1,9 @@
+pub mod View
+pub mod Bytes
+pub mod Phases
+pub mod Standing
+pub mod Commits
+pub mod Opening
+pub mod Kept
+pub mod AtRest
+pub mod Saying
