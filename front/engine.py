@@ -50,9 +50,20 @@ def _is_runnable(path: str) -> bool:
     return os.path.isfile(path) and os.access(path, os.X_OK)
 
 
+def _line(path: str) -> str:
+    try:
+        with open(path, encoding="ascii", errors="replace") as it:
+            return it.read().strip()
+    except OSError:
+        return ""
+
+
 def _is_built_of_these(top: str, built: str) -> bool:
+    """Whether an engine was built here after the last change of a source. The release's own sources needn't be looked at."""
     if not _is_runnable(built):
         return False
+    if _line(f"{built}.sources") == _line(os.path.join(top, "release", "SOURCES")):
+        return not _is_runnable(os.path.join(top, "release", "shr_tool"))
     try:
         return os.stat(built).st_mtime >= _newest_source(top)
     except OSError:

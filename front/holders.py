@@ -7,7 +7,7 @@ from dataclasses import dataclass
 from front.disks import Disk
 
 WRITING = os.O_WRONLY | os.O_RDWR
-NOT_FILES = ("/dev/", "/proc/", "/sys/", "/memfd:")
+NOT_FILES = ("/proc/", "/sys/", "/memfd:")
 
 
 @dataclass(frozen=True)
@@ -66,7 +66,8 @@ def _open_files(process: str, files: dict[tuple[int, int], Disk]) -> list[Holder
     for number in os.listdir(f"/proc/{process}/fd"):
         link = f"/proc/{process}/fd/{number}"
         try:
-            if os.readlink(link).startswith(NOT_FILES):
+            target = os.readlink(link)
+            if not target.startswith("/") or target.startswith(NOT_FILES):
                 continue
             status = os.stat(link)
             disk = files.get((status.st_dev, status.st_ino))

@@ -8,6 +8,11 @@ python=${ROSKUBEL_PYTHON:-/usr/bin/python3}
 [ -x "$python" ] || python=$(command -v python3) || { echo 'no python3: the front is passed over'; exit 0; }
 "$python" -c 'import sys; sys.exit(sys.version_info < (3, 11))' || { echo 'no Python 3.11: the front is passed over'; exit 0; }
 
+# The images are kept in memory where there is room for them: a test makes up to 300 MB.
+if [ "$(df --output=avail -B1M /dev/shm 2>/dev/null | tail -n 1)" -ge 4096 ] 2>/dev/null; then
+  export TMPDIR=/dev/shm
+fi
+
 modules=("$@")
 [ $# -gt 0 ] || mapfile -t modules < <(cd "$top/front/tests" && printf '%s\n' test_*.py | sed 's/\.py$//')
 
