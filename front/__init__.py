@@ -5,4 +5,4 @@ does long work in pieces, and says what a refusal means. It adds no promise of i
 by the engine alone.
 """
 
-VERSION = "1.0"
+VERSION = "0.1.0"

@@ -1,6 +1,8 @@
 """The word `help`: synopses, what a word does, and what a refusal of the engine means."""
 
+import hashlib
 import os
+import subprocess
 
 from front import VERSION
 from front.engine import FORMS, TOP, NoEngine, find_engine
@@ -54,15 +56,27 @@ def help_word(call: Call) -> int:
     return 0
 
 
+def _of_which_sources() -> str | None:
+    """Whether the release is of the sources as they are, where there are sources."""
+    script, stamp = os.path.join(TOP, "tools", "lib", "sources.sh"), os.path.join(TOP, "release", "SOURCES")
+    if not os.path.exists(script) or not os.path.exists(stamp):
+        return None
+    done = subprocess.run(["bash", "-c", '. "$0" && sources_hash "$1"', script, TOP], capture_output=True, text=True, check=False)
+    with open(stamp, encoding="ascii") as it:
+        same = it.read().strip() == done.stdout.strip()
+    return "release of these sources" if same else "release of other sources: ROSKUBEL_BUILD=1 ./roskubel builds the engine anew"
+
+
 def version() -> int:
     """The front's version, the engine and its hash."""
-    import hashlib
-
     print(f"roskubel {VERSION}")
     try:
         path = find_engine()
         with open(path, "rb") as it:
             print(f"engine {path}\nsha256 {hashlib.sha256(it.read()).hexdigest()}")
+        sources = _of_which_sources()
+        if sources:
+            print(sources)
     except (NoEngine, OSError) as error:
         print(f"no engine: {error}")
         return 1

@@ -5,6 +5,7 @@ import os
 import subprocess
 import unittest
 
+from front import VERSION
 from front.engine import TOP
 
 # It is run by whoever makes a release, and has no words.
@@ -13,6 +14,12 @@ WITHOUT = {"release"}
 
 class Scripts(unittest.TestCase):
     """All of them, as a user would ask."""
+
+    def test_version(self) -> None:
+        with open(os.path.join(TOP, "VERSION"), encoding="ascii") as it:
+            self.assertEqual(it.read().strip(), VERSION)
+        with open(os.path.join(TOP, "packaging", "debian", "changelog"), encoding="utf-8") as it:
+            self.assertTrue(it.readline().startswith(f"roskubel ({VERSION}) "))
 
     def test_usage(self) -> None:
         for path in sorted(glob.glob(os.path.join(TOP, "tests", "*.sh")) + glob.glob(os.path.join(TOP, "tools", "*"))):
