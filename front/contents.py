@@ -5,6 +5,7 @@ import subprocess
 from collections.abc import Callable
 
 from front.disks import CannotRead, Disk
+from front.fields import SECTOR
 from front.look import Look
 from front.state import STATE_SECTOR, decode_state
 from front.superblocks import is_super
@@ -86,14 +87,27 @@ def _blkid(path: str) -> str | None:
     return f"what blkid knows as {name}" if name else None
 
 
+def _written_places(disk: Disk) -> list[int]:
+    """The sectors where the file system has bytes of an image after a hole, the first ones."""
+    places: list[int] = []
+    at = 0
+    try:
+        while len(places) < SAMPLES:
+            at = os.lseek(disk.fd, at, os.SEEK_DATA)
+            places.append(at // SECTOR)
+            at = os.lseek(disk.fd, at, os.SEEK_HOLE)
+    except OSError:
+        pass
+    return places
+
+
 def _has_data(disk: Disk) -> bool:
     """Whether samples over the image have a byte that isn't zero. A sparse image has none where it was never written."""
-    try:
-        os.lseek(disk.fd, 0, os.SEEK_DATA)
-    except OSError:
+    written = _written_places(disk)
+    if not written:
         return False
     last = max(0, disk.sectors - SAMPLE)
-    places = {last * number // SAMPLES for number in range(SAMPLES + 1)}
+    places = {*written, *(last * number // SAMPLES for number in range(SAMPLES + 1))}
     return any(any(disk.read(at, SAMPLE)) for at in sorted(places))
 
 

@@ -115,7 +115,7 @@ def start(words: Sequence[str], stdin: int | None = None, stdout: int | None = N
     One that shares the front's input is ended with it. One that is fed by the front ends its script where the front goes.
     """
     path = find_engine()
-    hook = _end_with_parent if stdin is None else None
+    hook = None if stdin == subprocess.PIPE else _end_with_parent
     try:
         return subprocess.Popen([path, *words], stdin=stdin, stdout=stdout, preexec_fn=hook, process_group=0 if apart else None)
     except OSError as error:

@@ -203,6 +203,8 @@ def _place_of(word: str, images: list[str]) -> int:
     """The place that a number or an image names."""
     if word.isdecimal():
         return int(word)
+    if not os.path.exists(word):
+        raise Objection(f"{word} isn't there: name the drive's place by number, as `roskubel check IMAGE..` says it")
     with Disks([word, *(image for image in images if not _same(image, word))]) as disks:
         look = look_at(disks.disks)
         identity = look.identities[0].drive_id()

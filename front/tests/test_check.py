@@ -87,6 +87,18 @@ class Check(PoolCase):
         found = self.check(4, "too-few", "a", "b")
         self.as_foreseen(found, "a", "b")
 
+    def test_a_drive_just_taken_in(self) -> None:
+        images = self.make(TEN, TEN, TEN)
+        self.write(images, "lose 1")
+        self.write(images, "replace 1 b", "step 100")
+        self.image("new", TEN)
+        self.write(images, "replace 2 new")
+        found = self.check(2, "works are left", "a", "b", "new")
+        self.as_foreseen(found, "a", "b", "new")
+        self.assertEqual(self.call("resume", "a", "b", "new"), 0, self.err)
+        self.killed(["a", "b", "new"], "replace 0 c\nread 0\n", 2)
+        self.check(2, "works are left", "c", "b", "new")
+
     def test_no_pool(self) -> None:
         self.image("zeros", TEN)
         self.check(4, "no-pool", "zeros")

@@ -71,6 +71,7 @@ class Slips(PoolCase):
             ("md", 4096, b"\xfc\x4e\x2b\xa9\x01\0\0\0", "md array"),
             ("mbr", 446 + 4, b"\x83" + bytes(59) + b"\x55\xaa", "MBR"),
             ("photo", 100, b"something", "bytes that aren't zero"),
+            ("middle", 512 * 40001, b"something", "bytes that aren't zero"),
             ("tail", 512 * TEN - 9, b"something", "bytes that aren't zero"),
         ):
             self.patch(self.image(name, TEN), at, data)
