@@ -4,7 +4,9 @@ import os
 import sys
 
 if sys.version_info < (3, 11):
-    sys.exit("roskubel: Python 3.11 is wanted, and this is %d.%d; ROSKUBEL_PYTHON names another one" % sys.version_info[:2])
+    sys.exit(
+        "roskubel: Python 3.11 is wanted, and this is %d.%d; ROSKUBEL_PYTHON names another one" % sys.version_info[:2]
+    )
 sys.path[0] = os.path.dirname(os.path.dirname(os.path.abspath(__file__)))
 
 

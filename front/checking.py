@@ -64,7 +64,11 @@ def _kind(look: Look, disk: int) -> str:
     if look.state is None or identity.copy.state.pool != look.state.pool:
         return f"a drive of the pool {identity.copy.state.pool.hex()}"
     place = look.state.place_of(identity.copy.drive_id)
-    return "a former drive of this pool" if place is None else f"the drive of place {place}, which is marked missing: it is stale"
+    return (
+        "a former drive of this pool"
+        if place is None
+        else f"the drive of place {place}, which is marked missing: it is stale"
+    )
 
 
 def facts(look: Look, in_use: list[str], status: int, says: str) -> dict[str, object]:

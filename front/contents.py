@@ -78,7 +78,12 @@ def _blkid(path: str) -> str | None:
         return None
     try:
         said = subprocess.run(
-            [program, "-p", "-o", "export", path], capture_output=True, text=True, errors="replace", timeout=10, check=False
+            [program, "-p", "-o", "export", path],
+            capture_output=True,
+            text=True,
+            errors="replace",
+            timeout=10,
+            check=False,
         ).stdout
     except (OSError, subprocess.TimeoutExpired):
         return None

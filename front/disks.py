@@ -64,9 +64,7 @@ class Disk:
         data = data.ljust(count * SECTOR, b"\0")
         if not self.overlay:
             return data
-        return b"".join(
-            self.overlay.get(first + at, data[at * SECTOR : (at + 1) * SECTOR]) for at in range(count)
-        )
+        return b"".join(self.overlay.get(first + at, data[at * SECTOR : (at + 1) * SECTOR]) for at in range(count))
 
     def put_over(self, sector: int, payload: bytes) -> None:
         """Reads this payload in a sector from now on. The image keeps what it has."""

@@ -109,7 +109,9 @@ def _end_with_parent() -> None:
     ctypes.CDLL(None, use_errno=True).prctl(DEATH_SIGNAL, int(signal.SIGTERM))
 
 
-def start(words: Sequence[str], stdin: int | None = None, stdout: int | None = None, apart: bool = False) -> "subprocess.Popen[bytes]":
+def start(
+    words: Sequence[str], stdin: int | None = None, stdout: int | None = None, apart: bool = False
+) -> "subprocess.Popen[bytes]":
     """Starts the engine with these words; `apart` from the interrupts of the front's terminal.
 
     One that shares the front's input is ended with it. One that is fed by the front ends its script where the front goes.
@@ -117,7 +119,9 @@ def start(words: Sequence[str], stdin: int | None = None, stdout: int | None = N
     path = find_engine()
     hook = None if stdin == subprocess.PIPE else _end_with_parent
     try:
-        return subprocess.Popen([path, *words], stdin=stdin, stdout=stdout, preexec_fn=hook, process_group=0 if apart else None)
+        return subprocess.Popen(
+            [path, *words], stdin=stdin, stdout=stdout, preexec_fn=hook, process_group=0 if apart else None
+        )
     except OSError as error:
         raise cannot_run(path, error) from error
 

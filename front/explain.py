@@ -12,7 +12,10 @@ from front.texts import STATUSES, Text, find_text
 def _array(look: Look | None, number: int) -> str:
     if look is None or number >= len(look.arrays):
         return f"array {number}"
-    names = [look.path(member.place) or f"the drive of place {member.place}, which isn't there" for member in look.arrays[number].members]
+    names = [
+        look.path(member.place) or f"the drive of place {member.place}, which isn't there"
+        for member in look.arrays[number].members
+    ]
     return f"array {number} ({', '.join(names)})" if names else f"array {number}"
 
 

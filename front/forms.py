@@ -40,17 +40,23 @@ def _before_import(look: Look, call: Call) -> list[str]:
     if room is not None and stat.S_ISREG(status.st_mode):
         rest = status.st_size - os.lseek(0, 0, os.SEEK_CUR)
         if rest > room:
-            return [f"the file has {rest} bytes, and the volume {room}: all that fits would be written over what it holds, so nothing was"]
+            return [
+                f"the file has {rest} bytes, and the volume {room}: all that fits would be written over what it holds, so nothing was"
+            ]
     held_there = volume_contents(look)
     if held_there and not call.permits().yes:
-        return [f"the volume of {look.path(min(look.seats))} and the others holds {held_there}: an import writes over it (--yes does so)"]
+        return [
+            f"the volume of {look.path(min(look.seats))} and the others holds {held_there}: an import writes over it (--yes does so)"
+        ]
     return []
 
 
 def _before(form: str, call: Call) -> Look | None:
     """The guard before a form. Where an image can't be read the engine says so itself, before it writes anything."""
     if form == "export" and os.isatty(1):
-        raise Objection("export puts the volume's bytes on standard output, which is a terminal: roskubel export IMAGE.. >FILE")
+        raise Objection(
+            "export puts the volume's bytes on standard output, which is a terminal: roskubel export IMAGE.. >FILE"
+        )
     try:
         with Disks(_names(form, call.rest)) as disks:
             look = before_opening(disks, call.permits())

@@ -65,7 +65,9 @@ def rivals(look: Look) -> list[str]:
     for place, others in look.rivals.items():
         disks = [look.seats[place], *others]
         names = " and ".join(f"{look.disks[disk].path} ({_numbers(look, disk)})" for disk in disks)
-        found.append(f"{names} are both the drive of place {place}: name the current one alone, and keep its copy elsewhere")
+        found.append(
+            f"{names} are both the drive of place {place}: name the current one alone, and keep its copy elsewhere"
+        )
     return found
 
 

@@ -25,7 +25,9 @@ def synopsis() -> str:
     lines.append("the engine's own forms, which the guard looks at first (--engine FORM .. passes it by):")
     lines += [f"  roskubel {form} {FORM_SYNOPSES[form]}" for form in FORMS]
     lines.append("  options before a form's images: --degraded (a drive is left out), --accept-stale, --yes")
-    lines.append(f"roskubel help WORD tells more, also of a refusal: roskubel help dirty-degraded. The manual: {manual()}")
+    lines.append(
+        f"roskubel help WORD tells more, also of a refusal: roskubel help dirty-degraded. The manual: {manual()}"
+    )
     return "\n".join(lines)
 
 
@@ -36,7 +38,10 @@ def _of_word(name: str) -> str:
 
 
 def _of_refusal(name: str) -> str:
-    return "\n".join(f"refused {text.word} {text.behind}".rstrip() + f" ({GROUPS[text.group].lower()}): {text.sentence()}" for text in of_word(name))
+    return "\n".join(
+        f"refused {text.word} {text.behind}".rstrip() + f" ({GROUPS[text.group].lower()}): {text.sentence()}"
+        for text in of_word(name)
+    )
 
 
 def help_word(call: Call) -> int:
@@ -61,10 +66,16 @@ def _of_which_sources() -> str | None:
     script, stamp = os.path.join(TOP, "tools", "lib", "sources.sh"), os.path.join(TOP, "release", "SOURCES")
     if not os.path.exists(script) or not os.path.exists(stamp):
         return None
-    done = subprocess.run(["bash", "-c", '. "$0" && sources_hash "$1"', script, TOP], capture_output=True, text=True, check=False)
+    done = subprocess.run(
+        ["bash", "-c", '. "$0" && sources_hash "$1"', script, TOP], capture_output=True, text=True, check=False
+    )
     with open(stamp, encoding="ascii") as it:
         same = it.read().strip() == done.stdout.strip()
-    return "release of these sources" if same else "release of other sources: ROSKUBEL_BUILD=1 ./roskubel builds the engine anew"
+    return (
+        "release of these sources"
+        if same
+        else "release of other sources: ROSKUBEL_BUILD=1 ./roskubel builds the engine anew"
+    )
 
 
 def version() -> int:

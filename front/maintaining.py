@@ -89,7 +89,9 @@ def do_works(session: Session, what: str, wanted: int | None, interrupts: Interr
             return Outcome(left, False, refused)
         left = after
         seconds = time.monotonic() - began
-        piece = max(1, min(LARGEST_PIECE, piece * 2 if seconds < PIECE_SECONDS / 2 else int(piece * PIECE_SECONDS / seconds)))
+        piece = max(
+            1, min(LARGEST_PIECE, piece * 2 if seconds < PIECE_SECONDS / 2 else int(piece * PIECE_SECONDS / seconds))
+        )
         progress.show((first - left) * WORK_BYTES)
     progress.end((first - left) * WORK_BYTES)
     return Outcome(left, left > goal, "")
@@ -120,14 +122,18 @@ def _end(names: list[str], outcome: Outcome, status: int) -> int:
     if outcome.refused:
         tell(explain_line(outcome.refused, "line") or outcome.refused)
     if outcome.interrupted:
-        tell(f"interrupted: the pool is ended cleanly, and {outcome.left} works are left; `roskubel resume {' '.join(names)}` goes on")
+        tell(
+            f"interrupted: the pool is ended cleanly, and {outcome.left} works are left; `roskubel resume {' '.join(names)}` goes on"
+        )
         return INTERRUPTED
     with Disks(names) as disks:
         look = look_at(disks.disks)
         stands = status_of(look)
         lost = [place for place in look.missing()]
         for place in lost:
-            tell(f"the drive of place {place} is missing: it refused a call while it was written; see whether its file system is full")
+            tell(
+                f"the drive of place {place} is missing: it refused a call while it was written; see whether its file system is full"
+            )
         print(advice(look, names, [], stands), flush=True)
     return status or stands or (REFUSED if outcome.refused else 0)
 
@@ -210,7 +216,9 @@ def _place_of(word: str, images: list[str]) -> int:
         identity = look.identities[0].drive_id()
         place = look.state.place_of(identity) if look.state and identity else None
     if place is None:
-        raise Objection(f"{word} isn't a drive of this pool: name its place by number, as `roskubel check IMAGE..` says it")
+        raise Objection(
+            f"{word} isn't a drive of this pool: name its place by number, as `roskubel check IMAGE..` says it"
+        )
     return place
 
 
@@ -273,7 +281,9 @@ def replace(call: Call) -> int:
         with _new_image(new, least) as fresh:
             found = [blocked] if blocked else _check_new(look, fresh, permits, _used(look, place))
             if units_of(fresh.disks[0].sectors, state.extent) < state.drives[place].units:
-                found.append(f"{new} is too small: it has {fresh.disks[0].sectors * 512} bytes, and the drive of place {place} needs {least}")
+                found.append(
+                    f"{new} is too small: it has {fresh.disks[0].sectors * 512} bytes, and the drive of place {place} needs {least}"
+                )
         old = look.path(place)
     if found:
         raise Objection(*found)

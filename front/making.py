@@ -45,7 +45,9 @@ def plan_of(disks: list[Disk], wanted: int | None) -> tuple[int, Standing]:
             raise Objection(explain_line(f"refused {error.word}", "create") or error.word) from error
         disk = disks[error.drive]
         least = (RESERVE + extent) * 512
-        raise Objection(f"{disk.path} is too small: it has {disk.sectors * 512} bytes, and a drive needs {least} with extents of {show_extent(extent)}") from error
+        raise Objection(
+            f"{disk.path} is too small: it has {disk.sectors * 512} bytes, and a drive needs {least} with extents of {show_extent(extent)}"
+        ) from error
 
 
 def _written(standing: Standing, extent: int, disks: list[Disk]) -> tuple[int, dict[str, int]]:
@@ -115,9 +117,15 @@ def new(call: Call) -> int:
         tell("note: all images are on one file system, so one lost disk may lose them all")
     status, line = run_create(["create", str(extent), *map(plain_path, call.rest)], total)
     if status == 0:
-        print(f"{line}\na volume of {show(standing.capacity * extent * 512)} on {len(call.rest)} images, extents of {show_extent(extent)}")
+        print(
+            f"{line}\na volume of {show(standing.capacity * extent * 512)} on {len(call.rest)} images, extents of {show_extent(extent)}"
+        )
         sys.stdout.flush()
     else:
         print(line, flush=True)
-        tell(explain_line(line, "create", call.rest) or explain_status(status) or f"the engine ended with status {status}")
+        tell(
+            explain_line(line, "create", call.rest)
+            or explain_status(status)
+            or f"the engine ended with status {status}"
+        )
     return status

@@ -89,7 +89,10 @@ def _notes(standing: Standing, right: int) -> list[str]:
         kind = "mirror" if len(layer.members) == 2 else "RAID-5"
         high = f"{_extents(layer.height)} high, offers {layer.extents}"
         notes.append((_color(number), f"layer {number}: {kind} of {len(layer.members)}, {high}"))
-    notes += [("#c8c8c8", f"unused: {_extents(units)} that only drive {drive} has") for drive, units in standing.unused().items()]
+    notes += [
+        ("#c8c8c8", f"unused: {_extents(units)} that only drive {drive} has")
+        for drive, units in standing.unused().items()
+    ]
     parts = []
     for line, (color, words) in enumerate(notes):
         parts.append(_box(right, TOP + 24 * line, 14, 14, color))

@@ -16,6 +16,7 @@ from front.verdict import expected_refusal
 from front.volume import group_of
 from front.words import Call, WrongWords
 
+
 @dataclass(frozen=True)
 class Drives:
     """What is planned: the sectors of each drive, its name if it is an image, and the pool that stands on them, if any."""
@@ -43,11 +44,15 @@ def standing_of(look: Look) -> Standing:
     refusal = expected_refusal(look)
     state = look.state
     if refusal or state is None:
-        raise Objection(f"the pool of these images can't be planned: {explain_line(refusal.line(), 'status', (), look) if refusal else ''}")
+        raise Objection(
+            f"the pool of these images can't be planned: {explain_line(refusal.line(), 'status', (), look) if refusal else ''}"
+        )
     if state.plan != "nothing":
         raise Objection("a change of this pool is being carried out: `roskubel resume IMAGE..` first, and plan then")
     layers = tuple(
-        Layer(tuple(member.place for member in array.members), array.truth.height(state.extent)) for array in look.arrays if array.truth
+        Layer(tuple(member.place for member in array.members), array.truth.height(state.extent))
+        for array in look.arrays
+        if array.truth
     )
     group, _ = group_of(look)
     segments = group.segments if group else ()
@@ -96,7 +101,9 @@ def _table(drives: Drives, standing: Standing) -> list[str]:
         size = show(drives.sectors[place] * 512) if place < len(drives.sectors) else show(units * scale)
         name = f"  {drives.names[place]}" if place < len(drives.names) and drives.names[place] else ""
         rest = f", {show(unused[place] * scale)} unused, since no other drive is as large" if place in unused else ""
-        lines.append(f"drive {place:<3} {size:>10}   its loss: {show(standing.used(place) * scale)} to rebuild{rest}{name}")
+        lines.append(
+            f"drive {place:<3} {size:>10}   its loss: {show(standing.used(place) * scale)} to rebuild{rest}{name}"
+        )
     for number, layer in enumerate(standing.layers):
         places = " ".join(map(str, layer.members))
         lines.append(
@@ -115,7 +122,11 @@ def _why_not(word: str) -> str:
 def _growth(drives: Drives, grown: Standing | None, word: str | None, sectors: tuple[int, ...]) -> list[str]:
     scale = drives.extent * 512
     lines = ["", f"now                 {show(drives.standing.capacity * scale):>10}"]
-    after = f"{show(grown.capacity * scale):>10}   the layers that stand keep their heights" if grown else _why_not(word or "")
+    after = (
+        f"{show(grown.capacity * scale):>10}   the layers that stand keep their heights"
+        if grown
+        else _why_not(word or "")
+    )
     lines.append(f"after this growth   {after}")
     fresh = layout(tuple(units_of(own, drives.extent) for own in sectors))
     lines.append(f"as a new pool       {show(fresh.capacity * scale):>10}   of the same drives")

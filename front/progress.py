@@ -13,7 +13,9 @@ PLAIN_SECONDS = 10.0
 class Progress:
     """Says on standard error how many of so many bytes are done, how fast, and how long the rest takes."""
 
-    def __init__(self, what: str, total: int, stream: TextIO | None = None, plain_seconds: float = PLAIN_SECONDS) -> None:
+    def __init__(
+        self, what: str, total: int, stream: TextIO | None = None, plain_seconds: float = PLAIN_SECONDS
+    ) -> None:
         self.what = what
         self.total = max(total, 1)
         self.stream = stream or sys.stderr

@@ -47,7 +47,9 @@ def share(call: Call) -> int:
     words += [f"image={os.path.abspath(image)}" for image in images]
     child = subprocess.Popen(words)
     undo = pass_signals_on(child)
-    tell(f"the volume is shared: nbd+unix:///?socket={os.path.abspath(socket)} (an interrupt ends it, and the pool cleanly)")
+    tell(
+        f"the volume is shared: nbd+unix:///?socket={os.path.abspath(socket)} (an interrupt ends it, and the pool cleanly)"
+    )
     try:
         status = child.wait()
     finally:

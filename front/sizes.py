@@ -26,7 +26,9 @@ def parse_size(word: str) -> int:
         raise NoSize(f"'{word}' is no size: write it as 4T, 500G, 1.5TiB or 79104s (sectors), or name an image file")
     whole, part, unit, byte = found.groups()
     if not unit and not byte:
-        raise NoSize(f"'{word}' says no unit: write {word}B for bytes, {word}s for sectors of 512 bytes, or 4T, 500G, 1.5TiB")
+        raise NoSize(
+            f"'{word}' says no unit: write {word}B for bytes, {word}s for sectors of 512 bytes, or 4T, 500G, 1.5TiB"
+        )
     scale = _unit(unit or "")
     digits = part or ""
     total = int(whole + digits) * scale

@@ -28,5 +28,7 @@ def too_little(disks: list[Disk], used: dict[str, int]) -> list[str]:
         more = sum(wanted(disk, used[disk.path]) for disk in ours)
         if more > free:
             names = ", ".join(disk.path for disk in ours)
-            said.append(f"the file system of {names} has {show(free)} free, and {show(more)} are wanted: make room on it first")
+            said.append(
+                f"the file system of {names} has {show(free)} free, and {show(more)} are wanted: make room on it first"
+            )
     return said

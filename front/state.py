@@ -74,7 +74,9 @@ def _is_valid(state: State, own: int) -> bool:
     plan = state.plan != "nothing" or state.plan_place == 0
     arrays = 1 <= state.made <= 16 and state.made - 1 <= state.ready <= state.made and state.ready >= 1
     units = all(1 <= drive.units < 1 << 41 for drive in state.drives)
-    return extent and plan and arrays and units and own < count and state.plan_place < count and 1 <= state.epoch < 1 << 63
+    return (
+        extent and plan and arrays and units and own < count and state.plan_place < count and 1 <= state.epoch < 1 << 63
+    )
 
 
 def decode_state(sector: bytes) -> Copy | None:

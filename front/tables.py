@@ -83,5 +83,3 @@ def has_mbr(read: Read, sectors: int) -> bool:
         return False
     sector = read(0, 1)
     return sector[510:512] == b"\x55\xaa" and any(sector[446 + 16 * number + 4] for number in range(4))
-
-

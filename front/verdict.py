@@ -114,7 +114,12 @@ def stale_drives(look: Look) -> list[Stale]:
     newest_gate = max((gate.number for gate in look.gates.values()), default=0)
     for place, gate in look.gates.items():
         # A drive that was just taken in has a gate of number 0, up to the next change.
-        is_new = gate.number == 0 and look.state is not None and look.state.plan != "nothing" and look.state.plan_place == place
+        is_new = (
+            gate.number == 0
+            and look.state is not None
+            and look.state.plan != "nothing"
+            and look.state.plan_place == place
+        )
         if gate.well_formed and place in look.seats and not is_new:
             note(place, newest_gate - gate.number, "changes of the commit log")
     for place, disk in look.seats.items():

@@ -40,7 +40,12 @@ WORDS = {
             flags=("yes",),
             options=("extent",),
         ),
-        Word("check", "[--json] IMAGE..", "a look that writes nothing: how the pool stands, and what to do", flags=("json",)),
+        Word(
+            "check",
+            "[--json] IMAGE..",
+            "a look that writes nothing: how the pool stands, and what to do",
+            flags=("json",),
+        ),
         Word(
             "replace",
             "[--yes] [--accept-stale] PLACE|IMAGE NEW IMAGE..",
@@ -49,7 +54,12 @@ WORDS = {
         ),
         Word("grow", "[--yes] NEW IMAGE..", "adds the image NEW to the pool, and grows the volume", flags=("yes",)),
         Word("resync", "IMAGE..", "makes the rows agree that a stop left", flags=("degraded", "accept-stale")),
-        Word("resume", "IMAGE..", "goes on with a rebuilding or a growth that was interrupted", flags=("degraded", "accept-stale")),
+        Word(
+            "resume",
+            "IMAGE..",
+            "goes on with a rebuilding or a growth that was interrupted",
+            flags=("degraded", "accept-stale"),
+        ),
         Word(
             "share",
             "[--degraded] [--accept-stale] SOCKET IMAGE..",

@@ -36,7 +36,9 @@ class PoolCase(unittest.TestCase):
     def call(self, *words: str, script: str | bytes = "", program: str = ROSKUBEL) -> int:
         """Calls the front, or another program, in the folder; its output and errors are kept. Answers its status."""
         given = script.encode() if isinstance(script, str) else script
-        done = subprocess.run([program, *words], input=given, capture_output=True, cwd=self.folder, check=False, timeout=120)
+        done = subprocess.run(
+            [program, *words], input=given, capture_output=True, cwd=self.folder, check=False, timeout=120
+        )
         self.raw = done.stdout
         self.out, self.err = done.stdout.decode(errors="replace"), done.stderr.decode(errors="replace")
         return done.returncode

@@ -119,7 +119,9 @@ class Slips(PoolCase):
         with open(self.path("long"), "wb") as it:
             it.truncate(1280 * 512 + 1)
         with open(self.path("long"), "rb") as it:
-            done = subprocess.run([ROSKUBEL, "import", *images], stdin=it, capture_output=True, cwd=self.folder, check=False)
+            done = subprocess.run(
+                [ROSKUBEL, "import", *images], stdin=it, capture_output=True, cwd=self.folder, check=False
+            )
         self.assertEqual(done.returncode, STATUS)
         self.assertIn(b"655361 bytes, and the volume 655360", done.stderr)
         self.write(images, "write 2 " + "00" * 56 + "53ef")
@@ -131,7 +133,13 @@ class Slips(PoolCase):
         for words in (["help"], ["--help"], ["help", "check"], ["help", "dirty-degraded"], ["--version"]):
             self.assertEqual(self.call(*words), 0)
             self.assertNotEqual(self.out, "")
-        wrong: list[tuple[list[str], str]] = [([], "usage"), (["mount"], "help"), (["check", "--all", "a"], "--json"), (["1TB"], "help"), (["help", "x"], "x")]
+        wrong: list[tuple[list[str], str]] = [
+            ([], "usage"),
+            (["mount"], "help"),
+            (["check", "--all", "a"], "--json"),
+            (["1TB"], "help"),
+            (["help", "x"], "x"),
+        ]
         for words, said in wrong:
             self.assertEqual(self.call(*words), 2)
             self.assertIn(said, self.err)

@@ -29,7 +29,9 @@ class Layouts(unittest.TestCase):
         chance = random.Random(60)
         for _ in range(MIXES):
             extent, sectors = random_mix(chance)
-            done = subprocess.run([find_engine(), "layout", str(extent), *map(str, sectors)], capture_output=True, text=True, check=False)
+            done = subprocess.run(
+                [find_engine(), "layout", str(extent), *map(str, sectors)], capture_output=True, text=True, check=False
+            )
             units = tuple(units_of(own, extent) for own in sectors)
             try:
                 ours = layout(units)
@@ -109,7 +111,13 @@ class Sizes(unittest.TestCase):
         self.assertEqual([show(size) for size in (0, 999, 1500, 4 * 10**12)], ["0 B", "999 B", "1.50 kB", "4.00 TB"])
 
     def test_extents(self) -> None:
-        for sectors, extent in (([10**9, 10**9], 8192), ([79104, 79104], 256), ([200000, 200000], 1024), ([10**9, 79104], 256), ([78000, 78000], 128)):
+        for sectors, extent in (
+            ([10**9, 10**9], 8192),
+            ([79104, 79104], 256),
+            ([200000, 200000], 1024),
+            ([10**9, 79104], 256),
+            ([78000, 78000], 128),
+        ):
             self.assertEqual(best_extent(sectors), extent)
 
 

@@ -42,9 +42,16 @@ class Recipes(PoolCase):
         for line in recipes()[name]:
             found = STATUS.search(line)
             done = subprocess.run(
-                ["bash", "-c", STATUS.sub("", line)], cwd=self.folder, env=environment, capture_output=True, text=True, check=False
+                ["bash", "-c", STATUS.sub("", line)],
+                cwd=self.folder,
+                env=environment,
+                capture_output=True,
+                text=True,
+                check=False,
             )
-            self.assertEqual(done.returncode, int(found.group(1)) if found else 0, f"{line}\n{done.stdout}{done.stderr}")
+            self.assertEqual(
+                done.returncode, int(found.group(1)) if found else 0, f"{line}\n{done.stdout}{done.stderr}"
+            )
         self.assertEqual(self.call("export", *after), 0, self.err)
         self.assertEqual(self.raw[: len(self.volume)], self.volume)
 

@@ -73,7 +73,10 @@ class Shared(PoolCase):
 
     def test_a_file_system(self) -> None:
         found = [shutil.which(name) for name in ("nbdkit", "nbdcopy", "mkfs.ext4", "e2fsck")]
-        if not all(found) or subprocess.run(["nbdkit", "python", "--dump-plugin"], capture_output=True, check=False).returncode:
+        if (
+            not all(found)
+            or subprocess.run(["nbdkit", "python", "--dump-plugin"], capture_output=True, check=False).returncode
+        ):
             print("passed over: nbdkit with its plugin for Python, nbdcopy and e2fsprogs aren't all here")
             return
         size = 77824 + 128 * 128
@@ -81,7 +84,9 @@ class Shared(PoolCase):
         volume = "nbd+unix:///?socket=sock"
         with open(self.path("ext4"), "wb") as it:
             it.truncate(2 * 128 * 128 * 512)
-        subprocess.run(["mkfs.ext4", "-q", "-d", os.path.dirname(__file__), self.path("ext4")], check=True, capture_output=True)
+        subprocess.run(
+            ["mkfs.ext4", "-q", "-d", os.path.dirname(__file__), self.path("ext4")], check=True, capture_output=True
+        )
         run = self.shared("a", "b", "c")
         self.copied("ext4", volume)
         self.assertEqual(self.call("status", "a", "b", "c"), 9)

@@ -44,8 +44,15 @@ class Through(PoolCase):
         images = self.make(TEN, TEN)
         for words in (["serve", *images], ["export", *images], ["import", *images], ["check", *images]):
             before = self.hashes()
-            for closed, null in (("<&-", "</dev/null"), (">&-", ">/dev/null"), ("2>&-", "2>/dev/null"), ("<&- >&- 2>&-", "</dev/null >/dev/null 2>&1")):
-                found = [self.call("-c", f'"$0" "$@" {how}', ROSKUBEL, *words, program="bash") for how in (closed, null)]
+            for closed, null in (
+                ("<&-", "</dev/null"),
+                (">&-", ">/dev/null"),
+                ("2>&-", "2>/dev/null"),
+                ("<&- >&- 2>&-", "</dev/null >/dev/null 2>&1"),
+            ):
+                found = [
+                    self.call("-c", f'"$0" "$@" {how}', ROSKUBEL, *words, program="bash") for how in (closed, null)
+                ]
                 self.assertEqual(found[0], found[1], (words, closed))
             self.assertEqual(self.hashes(), before)
 
@@ -54,7 +61,12 @@ class Through(PoolCase):
         for form in ("status", "export", "serve"):
             with open("/dev/full", "wb") as full:
                 done = subprocess.run(
-                    [ROSKUBEL, form, *images], input=b"size\n", stdout=full, stderr=subprocess.PIPE, cwd=self.folder, check=False
+                    [ROSKUBEL, form, *images],
+                    input=b"size\n",
+                    stdout=full,
+                    stderr=subprocess.PIPE,
+                    cwd=self.folder,
+                    check=False,
                 )
             self.assertEqual(done.returncode, 5)
 

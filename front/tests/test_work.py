@@ -34,7 +34,11 @@ class Replace(FilledCase):
     """A drive is replaced."""
 
     def test_by_place_and_by_image(self) -> None:
-        for target, gone, after in (("1", True, ["a", "new", "c"]), ("b", False, ["a", "new", "c"]), ("0", True, ["new", "b", "c"])):
+        for target, gone, after in (
+            ("1", True, ["a", "new", "c"]),
+            ("b", False, ["a", "new", "c"]),
+            ("0", True, ["new", "b", "c"]),
+        ):
             self.filled(TEN, TWENTY, THIRTY)
             self.image("new", TWENTY if "b" not in after else TEN)
             lost = next(image for image in "abc" if image not in after)
@@ -107,7 +111,11 @@ class Replace(FilledCase):
         os.unlink(self.path("b"))
         self.image("new", LARGE)
         with subprocess.Popen(
-            [ROSKUBEL, "replace", "1", "new", "a", "c"], stderr=subprocess.PIPE, stdout=subprocess.PIPE, cwd=self.folder, text=True
+            [ROSKUBEL, "replace", "1", "new", "a", "c"],
+            stderr=subprocess.PIPE,
+            stdout=subprocess.PIPE,
+            cwd=self.folder,
+            text=True,
         ) as run:
             # It is amid the rebuilding where the new drive is the pool's.
             for _ in range(600):
@@ -155,7 +163,9 @@ class FullFileSystem(FilledCase):
         """A small file system in the folder."""
         os.mkdir(self.path("small"))
         done = subprocess.run(
-            ["mount", "-t", "tmpfs", "-o", f"size={size}", "tmpfs", self.path("small")], capture_output=True, check=False
+            ["mount", "-t", "tmpfs", "-o", f"size={size}", "tmpfs", self.path("small")],
+            capture_output=True,
+            check=False,
         )
         if done.returncode:
             self.skipTest("no file system can be mounted here")
