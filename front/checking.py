@@ -105,12 +105,21 @@ def advice(look: Look, names: list[str], found: list[str], status: int) -> str:
         return f"place {look.absent()[0]} isn't named: name its image too, or the pool goes on without it"
     if status == DEGRADED:
         place = look.missing()[0]
-        return f"the drive of place {place} is missing: `roskubel replace {place} NEW IMAGE..` takes a new one in; another loss costs data"
+        return (
+            f"the drive of place {place} is missing: `roskubel replace {place} NEW IMAGE..` takes a new one in; "
+            f"another loss costs data"
+        )
     left = works_left(look)
     if status == PLANNED:
-        return f"{sum(left.values())} works are left: `roskubel resume IMAGE..` does them; until then another loss may cost data"
+        return (
+            f"{sum(left.values())} works are left: `roskubel resume IMAGE..` does them; until then another loss may "
+            f"cost data"
+        )
     if status == UNCLEAN:
-        return f"{left['resync']} rows are left to resync by a run that was stopped, or goes on: `roskubel resync IMAGE..` makes them agree"
+        return (
+            f"{left['resync']} rows are left to resync by a run that was stopped, or goes on: `roskubel resync "
+            f"IMAGE..` makes them agree"
+        )
     return "the pool is whole: nothing to do"
 
 

@@ -107,7 +107,10 @@ def _written_places(disk: Disk) -> list[int]:
 
 
 def _has_data(disk: Disk) -> bool:
-    """Whether samples over the image have a byte that isn't zero. A sparse image has none where it was never written."""
+    """Whether samples over the image have a byte that isn't zero.
+
+    A sparse image has none where it was never written.
+    """
     written = _written_places(disk)
     if not written:
         return False

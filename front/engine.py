@@ -59,7 +59,10 @@ def _line(path: str) -> str:
 
 
 def _is_built_of_these(top: str, built: str) -> bool:
-    """Whether an engine was built here after the last change of a source. The release's own sources needn't be looked at."""
+    """Whether an engine was built here after the last change of a source.
+
+    The release's own sources needn't be looked at.
+    """
     if not _is_runnable(built):
         return False
     if _line(f"{built}.sources") == _line(os.path.join(top, "release", "SOURCES")):
@@ -71,7 +74,8 @@ def _is_built_of_these(top: str, built: str) -> bool:
 
 
 def _candidates(top: str) -> Iterable[str]:
-    """What may be the engine, the first best: one that was built here of these sources, the release, an installed one."""
+    """What may be the engine, the first best: one that was built here of these sources, the release, an installed
+    one."""
     built = os.path.join(top, "out", "shr_tool")
     if _is_built_of_these(top, built):
         yield built
@@ -91,7 +95,8 @@ def find_engine(top: str = TOP) -> str:
     for path in _candidates(top):
         return path
     raise NoEngine(
-        f"there is no engine: {os.path.join(top, 'release', 'shr_tool')} isn't there. It comes with the repository's release/ "
+        f"there is no engine: {os.path.join(top, 'release', 'shr_tool')} isn't there. It comes with the "
+        f"repository's release/ "
         "(Linux on x86-64). With the Rattle kit's `rt` on the path, `ROSKUBEL_BUILD=1 ./roskubel` proves and builds it"
     )
 
@@ -99,7 +104,8 @@ def find_engine(top: str = TOP) -> str:
 def cannot_run(path: str, error: OSError) -> NoEngine:
     """What is wanted where an engine is there and doesn't run."""
     return NoEngine(
-        f"{path} doesn't run here ({error.strerror}). It is for Linux on x86-64. Elsewhere, with the Rattle kit's `rt` on the path, "
+        f"{path} doesn't run here ({error.strerror}). It is for Linux on x86-64. Elsewhere, with the Rattle kit's "
+        f"`rt` on the path, "
         "`ROSKUBEL_BUILD=1 ./roskubel` proves and builds it"
     )
 
@@ -114,7 +120,8 @@ def start(
 ) -> "subprocess.Popen[bytes]":
     """Starts the engine with these words; `apart` from the interrupts of the front's terminal.
 
-    One that shares the front's input is ended with it. One that is fed by the front ends its script where the front goes.
+    One that shares the front's input is ended with it. One that is fed by the front ends its script where the front
+    goes.
     """
     path = find_engine()
     hook = None if stdin == subprocess.PIPE else _end_with_parent

@@ -41,12 +41,14 @@ def _before_import(look: Look, call: Call) -> list[str]:
         rest = status.st_size - os.lseek(0, 0, os.SEEK_CUR)
         if rest > room:
             return [
-                f"the file has {rest} bytes, and the volume {room}: all that fits would be written over what it holds, so nothing was"
+                f"the file has {rest} bytes, and the volume {room}: all that fits would be written over what it "
+                f"holds, so nothing was"
             ]
     held_there = volume_contents(look)
     if held_there and not call.permits().yes:
         return [
-            f"the volume of {look.path(min(look.seats))} and the others holds {held_there}: an import writes over it (--yes does so)"
+            f"the volume of {look.path(min(look.seats))} and the others holds {held_there}: an import writes over "
+            f"it (--yes does so)"
         ]
     return []
 
@@ -126,7 +128,8 @@ def _after(call: Call, before: Look) -> None:
         if place not in known:
             path = before.path(place) or after.path(place)
             tell(
-                f"the drive of place {place} ({path}) is marked missing since this run: a line lost it, or it refused a call; "
+                f"the drive of place {place} ({path}) is marked missing since this run: a line lost it, or it "
+                f"refused a call; "
                 "see whether its file system is full, and the host's log"
             )
 

@@ -27,7 +27,8 @@ class Objection(Exception):
 
 @dataclass
 class Permits:
-    """What the caller allows: a drive left out, a stale one, all that would be overwritten; a place that is replaced."""
+    """What the caller allows: a drive left out, a stale one, all that would be overwritten; a place that is
+    replaced."""
 
     degraded: bool = False
     accept_stale: bool = False
@@ -49,7 +50,8 @@ def same_files(disks: Disks) -> list[str]:
 def held(disks: list[Disk], try_lock: bool = True) -> list[str]:
     """Objections where another program holds an image."""
     return [
-        f"{holder.disk.path} is in use by {holder.who}: end that first, since each would overwrite what the other believes"
+        f"{holder.disk.path} is in use by {holder.who}: end that first, since each would overwrite what the other "
+        f"believes"
         for holder in holders_of(disks, try_lock)
     ]
 
@@ -105,17 +107,24 @@ def find_nearby(look: Look, place: int) -> str | None:
 def _left_out(look: Look, place: int) -> str:
     found = find_nearby(look, place)
     if found:
-        return f"{found} is the drive of place {place}, and isn't named: name it too, or it is marked missing for good (--degraded goes on without it)"
+        return (
+            f"{found} is the drive of place {place}, and isn't named: name it too, or it is marked missing for good "
+            f"(--degraded goes on without it)"
+        )
     units = look.state.drives[place].units if look.state else 0
     size = drive_sectors(units, look.state.extent if look.state else 0) * 512
     return (
-        f"the drive of place {place}, an image of {size} bytes or more, isn't among the named images: name its file too, "
+        f"the drive of place {place}, an image of {size} bytes or more, isn't among the named images: name its "
+        f"file too, "
         f"or it is marked missing for good (--degraded goes on without it)"
     )
 
 
 def left_out(look: Look, permits: Permits) -> list[str]:
-    """Objections where one current drive isn't named. Where more aren't, the engine refuses the pool and writes nothing."""
+    """Objections where one current drive isn't named.
+
+    Where more aren't, the engine refuses the pool and writes nothing.
+    """
     absent = [place for place in look.absent() if place not in permits.replaced]
     if permits.degraded or len(look.absent()) != 1:
         return []
@@ -125,7 +134,8 @@ def left_out(look: Look, permits: Permits) -> list[str]:
 def _behind(look: Look, stale: Stale) -> str:
     path = look.path(stale.place)
     return (
-        f"{path} (place {stale.place}) is behind the other drives by {stale.behind} {stale.of}, as an image restored from a backup is, "
+        f"{path} (place {stale.place}) is behind the other drives by {stale.behind} {stale.of}, as an image "
+        f"restored from a backup is, "
         "and would give old bytes. Leave it out and take it in as a new drive: "
         f"roskubel replace {stale.place} {path} with the other images (--accept-stale goes on with its old bytes)"
     )

@@ -9,7 +9,10 @@ from front.engine import FORMS, TOP, NoEngine, find_engine
 from front.texts import GROUPS, of_word
 from front.words import FORM_SYNOPSES, WORDS, Call, WrongWords
 
-CHECK_STATUSES = "check ends with 0 whole, 1 rows to resync, 2 a plan or a rebuilding is going on, 3 degraded, 4 a refusal is to be expected"
+CHECK_STATUSES = (
+    "check ends with 0 whole, 1 rows to resync, 2 a plan or a rebuilding is going on, 3 degraded, 4 a refusal is "
+    "to be expected"
+)
 
 
 def manual() -> str:

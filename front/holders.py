@@ -19,7 +19,10 @@ class Holder:
 
 
 def _is_locked(disk: Disk) -> bool:
-    """Whether another program has an exclusive lock on it. A shared one is tried, so that two looks don't meet as holders."""
+    """Whether another program has an exclusive lock on it.
+
+    A shared one is tried, so that two looks don't meet as holders.
+    """
     try:
         fcntl.flock(disk.fd, fcntl.LOCK_SH | fcntl.LOCK_NB)
     except BlockingIOError:
@@ -31,7 +34,8 @@ def _is_locked(disk: Disk) -> bool:
 
 
 def _listed_locks(files: dict[tuple[int, int], Disk]) -> list[Holder]:
-    """Exclusive locks as the system lists them, with nothing locked for a moment: a look by a timer is in nobody's way."""
+    """Exclusive locks as the system lists them, with nothing locked for a moment: a look by a timer is in nobody's
+    way."""
     found: list[Holder] = []
     try:
         with open("/proc/locks", encoding="ascii", errors="replace") as it:
@@ -107,7 +111,10 @@ def _loops(files: dict[tuple[int, int], Disk]) -> list[Holder]:
 
 
 def holders_of(disks: list[Disk], try_lock: bool = True) -> list[Holder]:
-    """Who else holds these images, each image once. Without `try_lock` no image is locked for a moment, as the engine could meet it."""
+    """Who else holds these images, each image once.
+
+    Without `try_lock` no image is locked for a moment, as the engine could meet it.
+    """
     files = {disk.file: disk for disk in disks}
     found = {holder.disk.path: holder for holder in [*_listed_locks(files), *_loops(files), *_writers(files)]}
     for disk in disks:

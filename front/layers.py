@@ -170,7 +170,8 @@ def _finished(
 
 
 def best_extent(sectors: list[int], largest: int = 8192) -> int:
-    """The largest extent up to one, at which no drive is refused and rounding costs less than a hundredth of the volume."""
+    """The largest extent up to one, at which no drive is refused and rounding costs less than a hundredth of the
+    volume."""
     finest = _offered(sectors, 128)
     extent = largest
     while extent > 128:

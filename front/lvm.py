@@ -38,7 +38,8 @@ class Segment:
 
 @dataclass(frozen=True)
 class Group:
-    """A volume group's text: its name, id, number, extent in sectors, physical volumes by name, and the volume's segments."""
+    """A volume group's text: its name, id, number, extent in sectors, physical volumes by name, and the volume's
+    segments."""
 
     name: str
     id: str
@@ -76,7 +77,8 @@ def decode_label(sectors: bytes) -> Label | None:
 
 
 def decode_header(sector: bytes) -> tuple[int, int, int] | None:
-    """The first location of a metadata header: offset and size in bytes, and the text's sum; zeros where it has none."""
+    """The first location of a metadata header: offset and size in bytes, and the text's sum; zeros where it has
+    none."""
     if u32(sector, 0) != lvm_crc(sector[4:]) or sector[4:20] != HEADER_WORD or u32(sector, 20) != 1:
         return None
     return u64(sector, 40), u64(sector, 48), u32(sector, 56)

@@ -123,7 +123,8 @@ def _end(names: list[str], outcome: Outcome, status: int) -> int:
         tell(explain_line(outcome.refused, "line") or outcome.refused)
     if outcome.interrupted:
         tell(
-            f"interrupted: the pool is ended cleanly, and {outcome.left} works are left; `roskubel resume {' '.join(names)}` goes on"
+            f"interrupted: the pool is ended cleanly, and {outcome.left} works are left; `roskubel resume "
+            f"{' '.join(names)}` goes on"
         )
         return INTERRUPTED
     with Disks(names) as disks:
@@ -132,7 +133,8 @@ def _end(names: list[str], outcome: Outcome, status: int) -> int:
         lost = [place for place in look.missing()]
         for place in lost:
             tell(
-                f"the drive of place {place} is missing: it refused a call while it was written; see whether its file system is full"
+                f"the drive of place {place} is missing: it refused a call while it was written; see whether its "
+                f"file system is full"
             )
         print(advice(look, names, [], stands), flush=True)
     return status or stands or (REFUSED if outcome.refused else 0)
@@ -186,9 +188,15 @@ def _not_ready(look: Look, place: int | None) -> str | None:
         return "a change of the pool is being carried out: `roskubel resume IMAGE..` first"
     others = [other for other in (*look.missing(), *look.absent()) if other != place]
     if others:
-        return f"the drive of place {others[0]} is missing or isn't named too: only a pool that is whole but for one drive takes a new one in"
+        return (
+            f"the drive of place {others[0]} is missing or isn't named too: only a pool that is whole but for one "
+            f"drive takes a new one in"
+        )
     if works_left(look)["resync"]:
-        return f"{works_left(look)['resync']} rows are left to resync: `roskubel resync IMAGE..` first, with all drives named"
+        return (
+            f"{works_left(look)['resync']} rows are left to resync: `roskubel resync IMAGE..` first, with all "
+            f"drives named"
+        )
     return None
 
 
@@ -282,7 +290,8 @@ def replace(call: Call) -> int:
             found = [blocked] if blocked else _check_new(look, fresh, permits, _used(look, place))
             if units_of(fresh.disks[0].sectors, state.extent) < state.drives[place].units:
                 found.append(
-                    f"{new} is too small: it has {fresh.disks[0].sectors * 512} bytes, and the drive of place {place} needs {least}"
+                    f"{new} is too small: it has {fresh.disks[0].sectors * 512} bytes, and the drive of place "
+                    f"{place} needs {least}"
                 )
         old = look.path(place)
     if found:

@@ -46,7 +46,8 @@ def plan_of(disks: list[Disk], wanted: int | None) -> tuple[int, Standing]:
         disk = disks[error.drive]
         least = (RESERVE + extent) * 512
         raise Objection(
-            f"{disk.path} is too small: it has {disk.sectors * 512} bytes, and a drive needs {least} with extents of {show_extent(extent)}"
+            f"{disk.path} is too small: it has {disk.sectors * 512} bytes, and a drive needs {least} with extents "
+            f"of {show_extent(extent)}"
         ) from error
 
 
@@ -118,7 +119,8 @@ def new(call: Call) -> int:
     status, line = run_create(["create", str(extent), *map(plain_path, call.rest)], total)
     if status == 0:
         print(
-            f"{line}\na volume of {show(standing.capacity * extent * 512)} on {len(call.rest)} images, extents of {show_extent(extent)}"
+            f"{line}\na volume of {show(standing.capacity * extent * 512)} on {len(call.rest)} images, extents of "
+            f"{show_extent(extent)}"
         )
         sys.stdout.flush()
     else:

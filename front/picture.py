@@ -1,4 +1,5 @@
-"""An SVG picture of layers: each drive is a column, to scale, and each layer a band over the drives that are its members.
+"""An SVG picture of layers: each drive is a column, to scale, and each layer a band over the drives that are its
+members.
 
 A part that lies in no layer, since only one drive has it, is grey. The drive whose size doesn't count is named in the
 last line.

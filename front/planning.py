@@ -19,7 +19,8 @@ from front.words import Call, WrongWords
 
 @dataclass(frozen=True)
 class Drives:
-    """What is planned: the sectors of each drive, its name if it is an image, and the pool that stands on them, if any."""
+    """What is planned: the sectors of each drive, its name if it is an image, and the pool that stands on them, if
+    any."""
 
     sectors: tuple[int, ...]
     names: tuple[str, ...]
@@ -45,7 +46,8 @@ def standing_of(look: Look) -> Standing:
     state = look.state
     if refusal or state is None:
         raise Objection(
-            f"the pool of these images can't be planned: {explain_line(refusal.line(), 'status', (), look) if refusal else ''}"
+            f"the pool of these images can't be planned: "
+            f"{explain_line(refusal.line(), 'status', (), look) if refusal else ''}"
         )
     if state.plan != "nothing":
         raise Objection("a change of this pool is being carried out: `roskubel resume IMAGE..` first, and plan then")
@@ -107,7 +109,8 @@ def _table(drives: Drives, standing: Standing) -> list[str]:
     for number, layer in enumerate(standing.layers):
         places = " ".join(map(str, layer.members))
         lines.append(
-            f"layer {number:<3} {show(layer.extents * scale):>10}   {layer.kind}, {show(layer.height * scale)} of each of the drives {places}"
+            f"layer {number:<3} {show(layer.extents * scale):>10}   {layer.kind}, {show(layer.height * scale)} of "
+            f"each of the drives {places}"
         )
     lines.append(f"usable    {show(standing.capacity * scale):>10}   any one drive may be lost without a loss of data")
     lines.append(f"unused    {show(sum(unused.values()) * scale):>10}")

@@ -48,7 +48,8 @@ def share(call: Call) -> int:
     child = subprocess.Popen(words)
     undo = pass_signals_on(child)
     tell(
-        f"the volume is shared: nbd+unix:///?socket={os.path.abspath(socket)} (an interrupt ends it, and the pool cleanly)"
+        f"the volume is shared: nbd+unix:///?socket={os.path.abspath(socket)} (an interrupt ends it, and the pool "
+        f"cleanly)"
     )
     try:
         status = child.wait()

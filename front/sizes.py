@@ -20,7 +20,10 @@ def _unit(word: str) -> int:
 
 
 def parse_size(word: str) -> int:
-    """The bytes of a size: `4T`, `500G`, `1.5TiB`, `79104s` for sectors. A number alone is refused, since it says no unit."""
+    """The bytes of a size: `4T`, `500G`, `1.5TiB`, `79104s` for sectors.
+
+    A number alone is refused, since it says no unit.
+    """
     found = SIZE.fullmatch(word.strip())
     if not found:
         raise NoSize(f"'{word}' is no size: write it as 4T, 500G, 1.5TiB or 79104s (sectors), or name an image file")

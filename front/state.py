@@ -21,7 +21,8 @@ class Drive:
 
 @dataclass(frozen=True)
 class State:
-    """How a pool stands: `extent` in sectors, `made` arrays of which `ready` serve the volume, the plan and its place."""
+    """How a pool stands: `extent` in sectors, `made` arrays of which `ready` serve the volume, the plan and its
+    place."""
 
     pool: bytes
     epoch: int

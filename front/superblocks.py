@@ -15,7 +15,8 @@ ROW = 128
 
 @dataclass(frozen=True)
 class Super:
-    """A superblock: sizes and offsets in sectors of a member; `roles` has the position of each place, or 0xfffe and above."""
+    """A superblock: sizes and offsets in sectors of a member; `roles` has the position of each place, or 0xfffe and
+    above."""
 
     feature_map: int
     set_id: bytes

@@ -8,7 +8,8 @@ from dataclasses import dataclass
 
 @dataclass(frozen=True)
 class Text:
-    """A refusal: its word, what stands behind it, where it comes, how the manual names {it}, what it means, what to do."""
+    """A refusal: its word, what stands behind it, where it comes, how the manual names {it}, what it means, what to
+    do."""
 
     word: str
     behind: str
@@ -54,7 +55,8 @@ TEXTS = (
         "I",
         "images",
         "image number I, counted from 0,",
-        "{it} can't be opened for reading and writing, is no regular file, has a length that isn't a multiple of 512 bytes, "
+        "{it} can't be opened for reading and writing, is no regular file, has a length that isn't a multiple of "
+        "512 bytes, "
         "has 2^48 sectors or more, or is held by another run.",
         "Look at its path, owner and length, and for another run over it. No image has been read or written.",
     ),
@@ -89,9 +91,11 @@ TEXTS = (
         "P PART",
         "images",
         "the drive of place P",
-        "A part of {it} isn't valid: `table`, the GPT, neither copy of which is valid, or which isn't the one of this drive; `state`, "
+        "A part of {it} isn't valid: `table`, the GPT, neither copy of which is valid, or which isn't the one of "
+        "this drive; `state`, "
         "the copy of the pool's state; `log`, the commit log; `superblock`, that of an array.",
-        "Make a copy of the image before anything else, and look at it with `examine`. Where no other drive is missing, leave its "
+        "Make a copy of the image before anything else, and look at it with `examine`. Where no other drive is "
+        "missing, leave its "
         "image out and put a new one in its place with `replace`: the others have all that it held.",
     ),
     Text(
@@ -100,7 +104,8 @@ TEXTS = (
         "images",
         "array A",
         "Two members of {it} or more are missing or being rebuilt, or it has no valid superblock.",
-        "A drive can be replaced only where the others still hold what it held: what the array held has to come from a backup. "
+        "A drive can be replaced only where the others still hold what it held: what the array held has to come "
+        "from a backup. "
         "Where one of the two is at hand and was only left out, name it too.",
     ),
     Text(
@@ -108,9 +113,11 @@ TEXTS = (
         "A",
         "images",
         "array A",
-        "A member of {it} is absent or missing, and a run that was stopped has left rows of it to resync: what the member had in "
+        "A member of {it} is absent or missing, and a run that was stopped has left rows of it to resync: what "
+        "the member had in "
         "them can't be told from the others.",
-        "Name the absent image too, and the pool opens. Where its drive is lost for good, keep copies of all images: a real Linux "
+        "Name the absent image too, and the pool opens. Where its drive is lost for good, keep copies of all "
+        "images: a real Linux "
         "reads the copies by force, and few rows may be wrong; docs/RECOVERY.md says how.",
     ),
     Text(
@@ -127,7 +134,8 @@ TEXTS = (
         "images",
         "image D, counted from 0,",
         "In `create` and `examine`: {it} refused a call: it can't be read or written to any more.",
-        "Look at the host's log, and whether its file system is full. What `create` wrote so far stays; make the pool again.",
+        "Look at the host's log, and whether its file system is full. What `create` wrote so far stays; make the "
+        "pool again.",
     ),
     Text(
         "too-few",
@@ -175,7 +183,8 @@ TEXTS = (
         "S",
         "lines",
         "sector S",
-        "{it} can't be read or written any more: two drives of its array are missing, or one is and rows of the array were left to "
+        "{it} can't be read or written any more: two drives of its array are missing, or one is and rows of the "
+        "array were left to "
         "resync. Of a `fill` the sectors before it are written.",
         "Other sectors of the volume may still be there: read them in this run, since the pool isn't opened again.",
     ),
@@ -192,7 +201,8 @@ TEXTS = (
         "",
         "lines",
         "",
-        "`lose` names a place that the pool doesn't have, or that is missing already; `replace` one that the pool doesn't have.",
+        "`lose` names a place that the pool doesn't have, or that is missing already; `replace` one that the "
+        "pool doesn't have.",
         "`check` says the places.",
     ),
     Text("last-drive", "", "lines", "", "`lose` names the only drive that isn't missing.", ""),
@@ -218,7 +228,8 @@ TEXTS = (
         "",
         "lines",
         "",
-        "A drive is missing (for `replace`: another one than the place's), or was found gone in this line and is marked.",
+        "A drive is missing (for `replace`: another one than the place's), or was found gone in this line and is "
+        "marked.",
         "Replace that drive first.",
     ),
     Text(
@@ -234,7 +245,8 @@ TEXTS = (
         "",
         "lines",
         "",
-        "The line isn't built yet; of `replace`, the image has another number of extents than the drive had, which this engine doesn't do.",
+        "The line isn't built yet; of `replace`, the image has another number of extents than the drive had, "
+        "which this engine doesn't do.",
         "Make the image as large as the old one was.",
     ),
     Text(
@@ -243,7 +255,8 @@ TEXTS = (
         "lines",
         "",
         "The new drive's extents lie between those of the pool's drives, or below all of them.",
-        "Take one that is as large as a drive of the pool, or at least as large as the largest; `plan` says what is admitted.",
+        "Take one that is as large as a drive of the pool, or at least as large as the largest; `plan` says what "
+        "is admitted.",
     ),
     Text(
         "smaller",
@@ -309,7 +322,8 @@ STATUSES = {
     5: "the output failed: a full file system, or a reader that went; the pool was ended cleanly",
     7: "memory was wanting",
     8: "a sector was spent, or a work stuck: too many drives of an array are missing",
-    143: "the engine was ended by a signal; the pool opens again, and a whole array that was being written has rows to resync",
+    143: "the engine was ended by a signal; the pool opens again, and a whole array that was being written has rows "
+    "to resync",
 }
 
 ORDER = {

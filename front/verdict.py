@@ -1,4 +1,5 @@
-"""What is to be expected of a pool that was looked at: the engine's refusal, the works that are left, and how it stands."""
+"""What is to be expected of a pool that was looked at: the engine's refusal, the works that are left, and how it
+stands."""
 
 from dataclasses import dataclass
 
@@ -135,7 +136,8 @@ def _top(look: Look, array: Array) -> int:
 
 
 def _growth_works(look: Look) -> int:
-    """Works of a plan beyond rebuilding: reshapes of layers that the plan's drive joins, a new layer, and the volume's growth."""
+    """Works of a plan beyond rebuilding: reshapes of layers that the plan's drive joins, a new layer, and the
+    volume's growth."""
     state = look.state
     assert state is not None
     works, grows = 0, False
@@ -174,7 +176,8 @@ def works_left(look: Look) -> dict[str, int]:
 
 
 def status_of(look: Look) -> int:
-    """How the pool stands: 0 whole, 1 rows to resync, 2 a plan or a rebuilding, 3 degraded, 4 a refusal is to be expected."""
+    """How the pool stands: 0 whole, 1 rows to resync, 2 a plan or a rebuilding, 3 degraded, 4 a refusal is to be
+    expected."""
     try:
         refused = expected_refusal(look) is not None
     except CannotRead:

@@ -1,4 +1,5 @@
-"""Runs over random pools that are killed at any moment: `check` foresees what the engine then answers, and calls nothing stale.
+"""Runs over random pools that are killed at any moment: `check` foresees what the engine then answers, and calls
+nothing stale.
 
 More of them, for some minutes: python3 -m front.tests.test_foreseen SEED SECONDS
 """

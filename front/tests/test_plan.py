@@ -1,4 +1,5 @@
-"""`plan` equals the engine's `layout`; growth follows the rules of layers and of admission, and the engine's own growth."""
+"""`plan` equals the engine's `layout`; growth follows the rules of layers and of admission, and the engine's own
+growth."""
 
 import random
 import subprocess
@@ -102,8 +103,8 @@ class Sizes(unittest.TestCase):
 
     def test_sizes(self) -> None:
         for word, size in (
-            ("4T", 4 * 10**12), ("500G", 500 * 10**9), ("1.5TiB", 3 << 39), ("1,5TiB", 3 << 39), ("79104s", 79104 * 512),
-            ("8tb", 8 * 10**12), ("100B", 100), ("2 TB", 2 * 10**12), ("0.1KiB", 102),
+            ("4T", 4 * 10**12), ("500G", 500 * 10**9), ("1.5TiB", 3 << 39), ("1,5TiB", 3 << 39),
+            ("79104s", 79104 * 512), ("8tb", 8 * 10**12), ("100B", 100), ("2 TB", 2 * 10**12), ("0.1KiB", 102),
         ):  # fmt: skip
             self.assertEqual(parse_size(word), size, word)
         for word in ("4", "T", "-4T", "4X", "", "1.T", "4TT"):
