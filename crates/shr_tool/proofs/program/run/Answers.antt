@@ -3,7 +3,7 @@ use Rattle.std.proofs.Common.{◌∙◌, Some, refl, inl, sym, ap, subst, map, d
 use Rattle.shr_tool.specs.Run.{PoolOutcome, CreateOutcome}
 use Rattle.shr_tool.specs.Examining.{ExamineOutcome}
 use Rattle.shr_tool.proofs.FormLemmas.{create_same}
-use Rattle.shr_tool.proofs.run.run.Goals as goal
+use Rattle.shr_tool.proofs.program.run.Goals as goal
 
 pub returns-in-Err-Memory-clause-serve : goal.returns-in-Err-Memory-clause-serve
 returns-in-Err-Memory-clause-serve g c = λ form input out. (c.refuse.result, c.code-in-Err-Memory.ensures, PoolOutcome.no_memory refl (c.refuse.ensures.says out))
