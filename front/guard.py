@@ -155,7 +155,15 @@ def objections(look: Look, permits: Permits) -> list[str]:
 def before_opening(disks: Disks, permits: Permits) -> Look:
     """Looks at the images, and raises an Objection where the pool mustn't be opened."""
     found = same_files(disks) + held(disks.disks)
-    look = look_at(disks.disks)
+    try:
+        look = look_at(disks.disks)
+    except CannotRead as error:
+        if permits.degraded:
+            raise
+        raise Objection(
+            f"{error}: its drive would be marked missing for good; copy what can be read of it first "
+            "(--degraded goes on without it)"
+        ) from error
     if not found:
         found = objections(look, permits)
     if found:

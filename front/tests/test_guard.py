@@ -6,8 +6,9 @@ import shutil
 import subprocess
 import unittest
 
+from front.disks import CannotRead, Disks
 from front.engine import find_engine
-from front.guard import STATUS
+from front.guard import STATUS, Objection, Permits, before_opening
 from front.tests.pools import ONE, ROSKUBEL, TEN, THIRTY, TWENTY, PoolCase
 
 
@@ -108,6 +109,16 @@ class Slips(PoolCase):
         with open(self.path("b"), "rb") as it:
             fcntl.flock(it, fcntl.LOCK_EX)
             self.refused(["export", *images], "b is in use", "locked")
+
+    def test_an_image_that_fails(self) -> None:
+        self.make(TEN, TEN)
+        with Disks([self.path("a"), self.path("b")]) as disks:
+            os.close(disks.disks[1].fd)
+            disks.disks[1].fd = os.open("/proc/self/mem", os.O_RDONLY)
+            with self.assertRaisesRegex(Objection, "b: sector 2048 can't be read"):
+                before_opening(disks, Permits())
+            with self.assertRaises(CannotRead):
+                before_opening(disks, Permits(degraded=True))
 
     def test_bytes_for_sectors(self) -> None:
         self.assertEqual(self.call("layout", "128", "1000000000000", "1000000000000"), 0)

@@ -7,6 +7,7 @@ import subprocess
 
 from front.engine import TOP
 from front.tests.pools import PoolCase
+from front.texts import TEXTS
 
 RECIPE = re.compile(r"<!-- recipe: (\w+) -->\n```sh\n(.*?)```", re.S)
 STATUS = re.compile(r"\s+# status (\d+)$")
@@ -109,6 +110,13 @@ class Recipes(PoolCase):
         with open(self.path("volume.img"), "wb") as it:
             it.write(self.volume)
         self.follow("again", ["one.img", "two.img", "three.img"])
+
+    def test_each_refusal_is_in_it(self) -> None:
+        with open(os.path.join(TOP, "docs", "RECOVERY.md"), encoding="utf-8") as it:
+            page = it.read()
+        for text in TEXTS:
+            if text.group == "images":
+                self.assertIn(f"refused {text.word}", page)
 
     def test_each_recipe_has_a_test(self) -> None:
         tests = {name.removeprefix("test_") for name in dir(self) if name.startswith("test_")}
