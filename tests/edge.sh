@@ -97,6 +97,7 @@ for _ in $(seq 100); do
 done
 : >script
 refused_as_is 'a second program' 'refused attach 0\n' serve a b c
+truncate -s $((512 * 79104)) new
 refused_as_is 'one that would make a pool' 'refused attach 1\n' create 128 new b
 kill -9 "$first"
 wait "$first" 2>/dev/null
