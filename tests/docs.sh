@@ -1,7 +1,7 @@
 #!/usr/bin/env bash
 # The documents (the .md files at the top, in docs/ and in bench/): each relative link and its anchor exist, README has at most
 # 150 lines, and no line has more than 120 characters, but for rows of tables outside README. README's lines behind
-# '<!-- run' print what it says, by the program of out/ or of release/, where one is there.
+# '<!-- run' print what it says, by the front over the program of out/ or of release/, where one is there.
 # usage: tests/docs.sh [--links | --help]    --links: README's lines aren't run
 [ "${1:-}" != --help ] || { sed -n '2,5s/^# //p' "$0"; exit; }
 . "$(dirname "$(readlink -f "${BASH_SOURCE[0]}")")/lib/checks.sh"
@@ -102,7 +102,8 @@ for tool in "$top/out/shr_tool" "$top/release/shr_tool" ''; do
 done
 if [ -n "$tool" ]; then
   mkdir bin
-  ln -s "$tool" bin/roskubel
+  ln -s "$top/roskubel" bin/roskubel
+  export ROSKUBEL_ENGINE=$tool
   PATH=$folder/bin:$PATH
   awk '/^<!-- run/ { wanted = 1; next } /^```$/ { inside = wanted && !inside; if (!inside) wanted = 0; next } inside' \
     "$top/README.md" >wanted
@@ -110,7 +111,7 @@ if [ -n "$tool" ]; then
     case $line in
       '$ '*)
         echo "$line"
-        bash -c "${line#\$ }" </dev/null
+        bash -c "${line#\$ }" </dev/null 2>/dev/null
         ;;
     esac
   done <wanted >printed

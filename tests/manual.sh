@@ -18,19 +18,21 @@ fi
 
 # The examples in their order, as the page shows them: a line that begins with `$ ` is run, what follows it is its output.
 mkdir bin
-ln -s "$tool" bin/roskubel
+ln -s "$top/roskubel" bin/roskubel
 PATH=$folder/bin:$PATH
 sed -n '/^\.\\" example$/,/^\.Ed$/p' "$page" | grep -v '^\.' | sed 's/\\e/\\/g' >wanted
 while read -r line; do
   case $line in
     '$ '*)
       echo "$line"
-      bash -c "${line#\$ }" </dev/null
+      bash -c "${line#\$ }" </dev/null 2>>said
       ;;
   esac
 done <wanted >printed
 expect 'there are examples' test -s wanted
 expect 'they print what the page says' diff wanted printed
+
+expect 'its diagnostics are those of the table' "$top/tools/diagnostics" --check
 
 # Each refusal that the page on the program has is explained.
 for word in $(grep -oE '`refused [a-z-]+' "$top/docs/PROGRAM.md" | cut -d' ' -f2 | sort -u); do

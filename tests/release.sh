@@ -28,7 +28,14 @@ printf 'layer 0 members 0 1 height 10 extents 10\ncapacity 10\nbound 10 spared 0
 prefix/bin/roskubel layout 128 79104 79104 >out </dev/null
 expect 'the installed program runs' cmp wanted out
 expect 'the manual page is in its place' test -s prefix/share/man/man8/roskubel.8
-expect 'so is the completion' test -s prefix/share/bash-completion/completions/roskubel
+expect 'so are the completions' test -s prefix/share/bash-completion/completions/roskubel -a -s prefix/share/zsh/site-functions/_roskubel
+truncate -s 40M one two
+expect 'the installed front makes a pool' prefix/bin/roskubel new one two
+expect 'and looks at it' prefix/bin/roskubel check two one
+rm one two
+if command -v zsh >/dev/null; then
+  expect 'zsh reads its completion' zsh -n prefix/share/zsh/site-functions/_roskubel
+fi
 expect 'install wants a prefix' bash -c "! '$top/tools/install'"
 
 # completion: the forms by their beginnings, and files where names are meant
@@ -40,5 +47,6 @@ completed() {
 expect 'a form is completed' test "$(completed roskubel se)" = serve
 expect 'an image is completed' test "$(completed roskubel serve fir)" = first.img
 expect 'an extent is not' test -z "$(completed roskubel create fir)"
+expect 'an option is completed' test "$(completed roskubel new --y)" = --yes
 
 close

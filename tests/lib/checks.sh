@@ -1,5 +1,12 @@
-# For checks, which source this file: a folder of their own, `expect` and `close`.
+# For checks, which source this file: `--help`, a folder of their own, `expect` and `close`.
 set -uo pipefail
+
+# What a script says of itself at its top, and its usage.
+if [ "${1:-}" = --help ]; then
+  sed -n '2,/^[^#]/s/^# \{0,1\}//p' "$0"
+  grep -q '^# usage: ' "$0" || echo "usage: tests/${0##*/}"
+  exit
+fi
 
 top=$(cd "$(dirname "$(readlink -f "${BASH_SOURCE[0]}")")/../.." && pwd)
 folder=$(mktemp -d)

@@ -1,5 +1,5 @@
 # For checks by a Linux in an emulated machine, which source this file: `guest_kernel` and `guest_run`. The machine has the kernel and the tools of
-# Debian's packages in a file system in memory, and images as its disks, which it can't write.
+# Debian's packages in a file system in memory, and images as its disks, which it can't write unless `guest_access` is readonly=off.
 
 # What the kernel's modules are for: the disks, md and the device mapper.
 guest_modules=(virtio_pci virtio_blk raid1 raid456 dm-mod)
@@ -30,14 +30,16 @@ guest_tool() {
 
 # guest_root SCRIPT: the file system, in the folder `root`. Its first program loads the modules, runs the script and turns the machine off.
 guest_root() {
-  local release module file
+  local release module kind file
   release=$(ls kernel/lib/modules)
   mkdir -p root/bin root/sbin root/modules
   cp "$(command -v busybox)" root/bin/
   guest_tool mdadm root
   guest_tool lvm root
+  for file in ${guest_more[@]+"${guest_more[@]}"}; do guest_tool "$file" root; done
   for module in "${guest_modules[@]}"; do
-    modprobe -d "$PWD/kernel" -S "$release" --show-depends "$module" | while read -r _ file _; do
+    modprobe -d "$PWD/kernel" -S "$release" --show-depends "$module" | while read -r kind file _; do
+      [ "$kind" != builtin ] || continue
       grep -qsx "${file##*/}" root/order || { cp "$file" root/modules/ && echo "${file##*/}" >>root/order; }
     done
   done
@@ -63,7 +65,7 @@ guest_run() {
   local image disks=()
   guest_root "$1"
   shift
-  for image in "$@"; do disks+=(-drive "file=$image,if=virtio,format=raw,readonly=on"); done
+  for image in "$@"; do disks+=(-drive "file=$image,if=virtio,format=raw,${guest_access:-readonly=on}"); done
   timeout 300 qemu-system-x86_64 -M q35 -m 512 -nographic -no-reboot -kernel kernel/boot/vmlinuz-* -initrd root.gz \
     -append 'console=ttyS0 quiet panic=-1' "${disks[@]}" </dev/null 2>&1 | tr -d '\r'
 }

@@ -12,11 +12,11 @@ mod layout;
 mod making;
 mod opening;
 mod perform;
+mod program;
 mod refusals;
-mod run;
 mod saying;
 mod serve;
 mod showing;
 mod status;
 
-pub use run::run;
+pub use program::run;

@@ -1,5 +1,5 @@
 -- The lines so far are answered; at most the rest of a script's limit is left.
-use Rattle.std.proofs.Common.{◌≡◌, ◌-◌, ◌^◌, ◌≤◌, ◌++◌}
+use Rattle.std.proofs.Common.{◌-◌, ◌^◌, ◌≤◌, ◌++◌}
 use Rattle.pool.specs.View.{bay_in, view}
 use Rattle.pool.specs.Continuing.{Continues}
 use Rattle.shr_script.specs.Pieces.{pending, taken_by}

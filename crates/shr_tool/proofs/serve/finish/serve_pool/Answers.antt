@@ -2,7 +2,7 @@
 use Rattle.raid_rack.specs.RaidRack.{slices_in}
 use Rattle.pool.specs.View.{arrays_of, bay_in, view}
 use Rattle.shr_tool.proofs.Finishing.{limit_status, outcome_by, status_cause, status_limit}
-use Rattle.std.proofs.Common.{◌∙◌, ◌^◌}
+use Rattle.std.proofs.Common.{◌^◌}
 use Rattle.pool.proofs.Continuing.{continues_of, continues_then}
 use Rattle.shr_tool.proofs.Limits.{keeps_limit}
 use Rattle.shr_tool.proofs.serve.finish.serve_pool.Goals as goal

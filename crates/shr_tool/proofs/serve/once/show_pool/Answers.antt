@@ -2,7 +2,6 @@
 use Rattle.raid_rack.specs.RaidRack.{slices_in}
 use Rattle.pool.specs.View.{arrays_of, bay_in, view}
 use Rattle.shr_tool.proofs.Finishing.{limit_status, outcome_by, status_cause}
-use Rattle.std.proofs.Common.{◌∙◌}
 use Rattle.pool.proofs.Continuing.{continues_of, continues_then}
 use Rattle.shr_tool.proofs.serve.once.show_pool.Goals as goal
 

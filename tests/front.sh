@@ -1,0 +1,42 @@
+#!/usr/bin/env bash
+# The front: its unit tests over real images, module by module at the same time. They take no network.
+# usage: tests/front.sh [MODULE..]    say tests/front.sh test_guard
+. "$(dirname "$(readlink -f "${BASH_SOURCE[0]}")")/lib/checks.sh"
+
+# The Python that the launcher takes.
+python=${ROSKUBEL_PYTHON:-/usr/bin/python3}
+[ -x "$python" ] || python=$(command -v python3) || { echo 'no python3: the front is passed over'; exit 0; }
+"$python" -c 'import sys; sys.exit(sys.version_info < (3, 11))' || { echo 'no Python 3.11: the front is passed over'; exit 0; }
+
+# The images are kept in memory where there is room for them: a test makes up to 300 MB.
+if [ "$(df --output=avail -B1M /dev/shm 2>/dev/null | tail -n 1)" -ge 4096 ] 2>/dev/null; then
+  export TMPDIR=/dev/shm
+fi
+
+# nbdkit shows a shared volume; without it that test is passed over.
+if [ $# -eq 0 ] && have nbdkit nbdkit && have nbdcopy libnbd-bin && ! nbdkit python --dump-plugin >/dev/null 2>&1; then
+  DEBIAN_FRONTEND=noninteractive timeout 60 apt-get install -y --no-install-recommends nbdkit-plugin-python </dev/null >/dev/null 2>&1
+fi
+
+modules=("$@")
+[ $# -gt 0 ] || mapfile -t modules < <(cd "$top/front/tests" && printf '%s\n' test_*.py | sed 's/\.py$//')
+
+# run MODULE: its tests, with what they say in a file.
+run() { (cd "$top" && "$python" -m unittest "front.tests.$1") >"$folder/$1" 2>&1; }
+
+for module in "${modules[@]}"; do
+  run "$module" &
+  [ "$(jobs -rp | wc -l)" -lt 6 ] || wait -n
+done
+wait
+for module in "${modules[@]}"; do
+  if tail -n 1 "$folder/$module" | grep -q '^OK'; then
+    passed=$((passed + $(sed -n 's/^Ran \([0-9]*\) tests\{0,1\} in .*/\1/p' "$folder/$module")))
+    grep -h '^passed over' "$folder/$module"
+  else
+    failed=$((failed + 1))
+    echo "FAILED: $module"
+    tail -n 40 "$folder/$module"
+  fi
+done
+close
