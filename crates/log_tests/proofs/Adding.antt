@@ -1,5 +1,7 @@
 -- Targets that a commit may have, one after the other.
-use Rattle.std.proofs.Common.{◌≡◌, ℕ, ◌&&◌, true, List, [], ◌∷◌, ◌++◌, None, refl, sym, subst, ap₂, ◌∙◌, inl, inr}
+use Rattle.std.proofs.Common.{◌≡◌, ℕ, ◌&&◌, true, List, [], ◌∷◌, ◌++◌, Option, Some, None, refl, sym, subst, ap₂, ◌∙◌, inl, inr}
+use Rattle.std.specs.List.{list_all}
+use Rattle.std.specs.Option.{option_or}
 use Rattle.std.proofs.lemmas.List.Folds.{list_all-append}
 use Rattle.rack.specs.Seen.{Seen}
 use Rattle.rack.specs.Sequences.{IsPayload}
@@ -14,6 +16,11 @@ use Rattle.log_tests.specs.Ready.{CanCommit}
 -- none may be committed
 pub none_added : (a : Seen) → CanCommit [] a
 none_added a = record { valid = refl; apart = refl; had = λ d s v is. absurd is }
+
+-- what is looked for in two lists and isn't there isn't in the first one
+pub none_first : (o p : Option (List ℕ)) → option_or o p ≡ None → o ≡ None
+none_first None p none = refl
+none_first (Some v) p none = absurd (cc)
 
 -- a payload of targets with one more
 payload_more : (xs : List Target) (t : Target) (d s : ℕ) (v : List ℕ) (P : Type 0) → IsPayload (xs ++ t ∷ []) d s v → (IsPayload xs d s v → P) → (is_at d s t ≡ true → P) → P

@@ -1,6 +1,7 @@
 //! Slices in memory with a log, and its calls, once all that they need has been tested.
 
-ghost use Rattle.std.specs.Prelude.{◌≡◌, true};
+ghost use Rattle.std.specs.Prelude.{◌≡◌, ◌<◌, ◌++◌, ◌∷◌, ℕ, List, [], length, true};
+ghost use Rattle.log_laws.specs.View.{most_sectors};
 ghost use Rattle.array_image.specs.Record.{is_target};
 ghost use Rattle.log_laws.specs.Phases.{AreLogs};
 ghost use Rattle.log_tests.specs.Ready.{CanCommit};
@@ -43,20 +44,38 @@ fn is_valid(at: Target) -> bool
     at.disk < 272 && (at.disk % 17 != 0 || at.sector == 0)
 }
 
-/// Adds a target that a bay has, apart from those that were added.
+/// Whether a log takes a target: one that a bay has, apart from those that were added.
+fn takes<R: Bay>(log: &Log, bay: &R, at: Target) -> bool
+    requires ready { CanCommit log.now.added (R.seen bay.now) }
+    ensures room { result ≡ true → length log.now.added < most_sectors }
+    ensures ready { result ≡ true → (v : List ℕ) → CanCommit (log.now.added ++ target at.disk at.sector v ∷ []) (R.seen bay.now) }
+{
+    if !is_valid(at) {
+        return false;
+    }
+    if at.disk >= bay.disks() {
+        return false;
+    }
+    if at.sector >= bay.sectors(at.disk) {
+        return false;
+    }
+    match log.payload(&at) {
+        Some(_) => false,
+        None => log.room() > 0,
+    }
+}
+
+/// Adds a target.
 fn add<R: Bay>(rt: &impl Abort, log: &mut Log, bay: &R, at: Target, byte: u8)
     requires ready { CanCommit log.old.added (R.seen bay.now) }
     ensures ready { CanCommit log.new.added (R.seen bay.now) }
 {
-    assert!(rt; is_valid(at));
-    assert!(rt; at.disk < bay.disks());
-    assert!(rt; at.sector < bay.sectors(at.disk));
-    assert!(rt; log.room() > 0);
-    assert!(rt; log.payload(&at).is_none());
+    assert!(rt; takes(log, bay, at));
     log.add(at, &[byte; 512]);
 }
 
 /// Adds these targets alone.
+#[tactic(auto, using(crate::proofs::Adding::none_added))]
 pub(crate) fn fill<R: Bay>(rt: &impl Abort, log: &mut Log, bay: &R, targets: &[Filled])
     ensures ready { CanCommit log.new.added (R.seen bay.now) }
 {

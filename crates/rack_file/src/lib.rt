@@ -5,6 +5,11 @@
 //! told. `Gone` comes only where the disk's count rose, and `Failed` of attaching only where the
 //! bay's did.
 //!
+//! **Buffers.** The files themselves are [`ImageFiles`]: positioned reads and writes of many sectors,
+//! a sync, and a buffer of 64 KiB for each, as the crate `buffered_bay` asks. The bay is that crate's
+//! over them, so neighbouring sectors go to a file in one call, and its contract says what of it is
+//! proved over files that tell what they hold. What is dirty is written when the bay goes.
+//!
 //! **One bay a file.** A file's exclusive lock is taken when it is attached and kept until the bay
 //! goes, so a file that another program has open as an image, or this bay by another path, can't be
 //! attached. It is synced once when it is attached, so that no sector of it stands in memory alone.
@@ -12,190 +17,90 @@
 //! **The contract for the layer above** is that of `Bay`.
 #![tactic(auto)]
 
-ghost use Rattle.std.specs.Prelude.{◌≡◌, ◌≢◌, ◌<◌, ◌≤◌, ◌^◌, ◌++◌, [], ◌∷◌, ℕ, length, slice_get, Some, None, OnErr, IfOk, IfErr, IfSome, IfNone, refl};
-ghost use Rattle.rack.specs.declared.AttachFault.TheVariants.{Failed, Memory};
-ghost use Rattle.rack.specs.Seen.{Rose};
-ghost use Rattle.rack.specs.Shelf.{KeepsShelf};
-ghost use Rattle.rack_file.specs.Files.{names_of, Differ, files_seen, files_shelf, NotesFault};
+ghost use Rattle.std.specs.Prelude.{◌≡◌, []};
 
+mod buffer;
 mod disk;
+mod files;
 mod lock;
 
+use buffered_bay::BufferedBay;
 pub use disk::FileDisk;
-use disk::{SECTOR_BYTES, open_disk};
+pub use files::ImageFiles;
 pub use lock::LockFile;
 use rack::{AttachFault, Bay, Gone, Rack};
 use std::alloc::Global;
-use std::fs::{Files, OpenFile};
-use std::os::unix::fs::FileExt;
-
-// Disks of a bay at most, so that their numbers fit.
-const MOST_DISKS: usize = 1 << 16;
 
 /// Image files, attached by their paths.
 #[derive(Drop)]
-pub struct FileBay<'a, R: Files> {
-    rt: &'a R,
-    alloc: Global,
-    disks: Vec<FileDisk<R::File>>,
-    faults: u64,
-    ghost counted: { faults < 2 ^ 64 },
-    ghost few: { length disks.items ≤ 65536 },
-    ghost differ: { Differ (names_of disks.items) },
+pub struct FileBay<'a> {
+    bay: BufferedBay<ImageFiles<'a>>,
 }
 
-impl<'a, R: Files> FileBay<'a, R>
-where
-    R::File: FileExt + LockFile,
-{
+impl<'a> FileBay<'a> {
     /// A bay with nothing attached.
-    pub fn new(rt: &'a R, alloc: Global) -> FileBay<'a, R>
-        ensures { result.disks.items ≡ [] }
+    pub fn new(rt: &'a HostRuntime, alloc: Global) -> FileBay<'a>
+        ensures { result.bay.files.disks.items ≡ [] }
     {
         FileBay {
-            rt,
-            alloc,
-            disks: Vec::new(alloc),
-            faults: 0,
+            bay: BufferedBay::new(alloc, ImageFiles::new(rt, alloc)),
         }
-    }
-
-    // The disk that a path is attached as.
-    fn position(&self, name: &str) -> Option<usize>
-        ensures found { IfSome result (λ d. slice_get (names_of self.now.disks.items) d ≡ Some name.now) }
-        ensures none { IfNone result ((d : ℕ) → slice_get (names_of self.now.disks.items) d ≢ Some name.now) }
-    {
-        for (at, disk) in self.disks.iter().enumerate() {
-            if disk.name.bytes() == name.as_bytes() {
-                return Some(at);
-            }
-        }
-        None
-    }
-
-    // Adds a disk of a new name.
-    fn add(&mut self, disk: FileDisk<R::File>) -> Result<u32, AttachFault>
-        requires room { length self.old.disks.items < 65536 }
-        requires new { (d : ℕ) → slice_get (names_of self.old.disks.items) d ≢ Some disk.name }
-        ensures added { IfOk result (λ number. (number ≡ length self.old.disks.items) × (self.new.disks.items ≡ self.old.disks.items ++ disk ∷ [])) }
-        ensures refused { IfErr result (λ e. (e ≡ Memory) × (self.new.disks.items ≡ self.old.disks.items)) }
-        ensures faults { self.new.faults ≡ self.old.faults }
-    {
-        let number = self.disks.len();
-        match self.disks.push(disk) {
-            Ok(()) => Ok(number as u32),
-            Err(_) => Err(AttachFault::Memory),
-        }
-    }
-
-    // Counts a fault of a disk.
-    fn note_fault(&mut self, disk: u32)
-        requires { disk < length self.old.disks.items }
-        ensures noted { NotesFault self.old.disks.items self.new.disks.items disk }
-        ensures shelf { KeepsShelf (files_shelf self.old.disks.items self.old.faults) (files_shelf self.new.disks.items self.new.faults) }
-    {
-        let file = &mut self.disks[disk as usize];
-        file.faults = file.faults.saturating_add(1);
-    }
-
-    // Counts a fault of the bay.
-    fn refuse(&mut self) -> AttachFault
-        ensures why { result ≡ Failed }
-        ensures disks { self.new.disks.items ≡ self.old.disks.items }
-        ensures rose { Rose self.old.faults self.new.faults }
-        ensures grows { self.old.faults ≤ self.new.faults }
-    {
-        self.faults = self.faults.saturating_add(1);
-        AttachFault::Failed
     }
 }
 
-impl<'a, R: Files> Rack for FileBay<'a, R>
-where
-    R::File: FileExt + LockFile,
-{
-    ghost use Rattle.rack.specs.Shelf.{keeps_shelf_same, keeps_shelf_then};
+impl<'a> Rack for FileBay<'a> {
+    ghost use Rattle.std.specs.Prelude.{refl};
+    ghost use Rattle.rack_file.specs.Files.{files_seen, files_shelf};
+    ghost use Rattle.rack.specs.Shelf.{KeepsShelf, keeps_shelf_same, keeps_shelf_then};
 
-    ghost seen = { λ b. files_seen b.disks.items };
+    ghost seen = { λ b. files_seen b.bay.files.disks.items };
 
-    ghost runs = { λ old new. KeepsShelf (files_shelf old.disks.items old.faults) (files_shelf new.disks.items new.faults) };
+    ghost runs = { λ old new. KeepsShelf (files_shelf old.bay.files.disks.items old.bay.files.faults) (files_shelf new.bay.files.disks.items new.bay.files.faults) };
 
     ghost once = { λ old new. Unit {0} };
 
     ghost unwritten = { λ old new. Unit {0} };
 
     fn disks(&self) -> u32 {
-        self.disks.len() as u32
+        self.bay.disks()
     }
 
     fn sectors(&self, disk: u32) -> u64 {
-        self.disks[disk as usize].sectors
+        self.bay.sectors(disk)
     }
 
     fn read(&mut self, disk: u32, sector: u64, into: &mut [u8; 512]) -> Result<(), Gone> {
-        let file = &self.disks[disk as usize].file;
-        match file.read_exact_at(into, sector * SECTOR_BYTES) {
-            Ok(()) => Ok(()),
-            Err(_) => {
-                self.note_fault(disk);
-                Err(Gone { disk })
-            }
-        }
+        self.bay.read(disk, sector, into)
     }
 
     fn write(&mut self, disk: u32, sector: u64, from: &[u8; 512]) -> Result<(), Gone> {
-        let file = &self.disks[disk as usize].file;
-        match file.write_all_at(from, sector * SECTOR_BYTES) {
-            Ok(()) => Ok(()),
-            Err(_) => {
-                self.note_fault(disk);
-                Err(Gone { disk })
-            }
-        }
+        self.bay.write(disk, sector, from)
     }
 
     fn sync(&mut self, disk: u32) -> Result<(), Gone> {
-        match self.disks[disk as usize].file.sync_data() {
-            Ok(()) => Ok(()),
-            Err(_) => {
-                self.note_fault(disk);
-                Err(Gone { disk })
-            }
-        }
+        self.bay.sync(disk)
     }
 
     ghost sound = { λ b fit traced. absurd traced };
 
-    ghost runs_same = { λ b. keeps_shelf_same (files_shelf b.disks.items b.faults) };
+    ghost runs_same = { λ b. keeps_shelf_same (files_shelf b.bay.files.disks.items b.bay.files.faults) };
 
-    ghost runs_then = { λ x y z. keeps_shelf_then (files_shelf x.disks.items x.faults) (files_shelf y.disks.items y.faults) (files_shelf z.disks.items z.faults) };
+    ghost runs_then = { λ x y z. keeps_shelf_then (files_shelf x.bay.files.disks.items x.bay.files.faults) (files_shelf y.bay.files.disks.items y.bay.files.faults) (files_shelf z.bay.files.disks.items z.bay.files.faults) };
 
     ghost unwritten_same = { λ x. tt };
 
     ghost unwritten_then = { λ x y z one two. tt };
 }
 
-impl<'a, R: Files> Bay for FileBay<'a, R>
-where
-    R::File: FileExt + LockFile,
-{
+impl<'a> Bay for FileBay<'a> {
+    ghost use Rattle.std.specs.Prelude.{refl};
+    ghost use Rattle.rack_file.specs.Files.{files_shelf};
     ghost use Rattle.rack_file.specs.FilesLaws.{bounded_files, names-length};
 
-    ghost shelf = { λ b. files_shelf b.disks.items b.faults };
+    ghost shelf = { λ b. files_shelf b.bay.files.disks.items b.bay.files.faults };
 
     fn attach(&mut self, name: &str) -> Result<u32, AttachFault> {
-        match self.position(name) {
-            Some(disk) => return Err(AttachFault::Twice { disk: disk as u32 }),
-            None => {}
-        }
-        if self.disks.len() >= MOST_DISKS {
-            return Err(self.refuse());
-        }
-        match open_disk(self.rt, self.alloc, name) {
-            Ok(disk) => self.add(disk),
-            Err(AttachFault::Memory) => Err(AttachFault::Memory),
-            Err(_) => Err(self.refuse()),
-        }
+        self.bay.attach(name)
     }
 
     ghost always_fit = { λ b. tt };
@@ -204,7 +109,7 @@ where
 
     ghost lasting = { λ b. tt };
 
-    ghost bounded = { λ b d inside. bounded_files b.disks.items d };
+    ghost bounded = { λ b d inside. bounded_files b.bay.files.disks.items d };
 
     ghost frame = { λ old new. Unit {0} };
 
@@ -216,7 +121,7 @@ where
 
     ghost frame_then = { λ x y z one two. tt };
 
-    ghost numbered = { λ b. names-length b.disks.items };
+    ghost numbered = { λ b. names-length b.bay.files.disks.items };
 }
 
 #[cfg(test)]

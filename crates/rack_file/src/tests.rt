@@ -1,7 +1,7 @@
 //! Attaching real files: whose lock refuses a name, and when it is gone.
 
 use crate::FileBay;
-use rack::{AttachFault, Bay};
+use rack::{AttachFault, Bay, Rack};
 use std::fs::File;
 use std::test::Fail;
 use std::{env, fs, process};
@@ -131,5 +131,68 @@ fn locks_belong_to_openings(rt: HostRuntime) -> Result<(), Fail> {
         }
     }
     fs::remove_dir_all(&rt, dir.as_str())?;
+    Ok(())
+}
+
+// Sectors that are written in a row of calls, to a file of 300.
+const ORDERS: [&[u64]; 6] = [
+    &[0, 1, 2, 3],
+    &[5, 3, 4, 5],
+    &[126, 127, 128, 129],
+    &[299, 0, 298, 1],
+    &[7, 7, 8, 6],
+    &[],
+];
+
+// The bytes of a sector in the `turn`-th write.
+fn pattern(turn: usize, sector: u64) -> [u8; 512] {
+    [(turn as u64 % 100 * 2 + sector % 2 + 1) as u8; 512]
+}
+
+// Writes the sectors, and reads the whole disk.
+fn run_order(
+    bay: &mut FileBay<'_>,
+    disk: u32,
+    order: &[u64],
+    into: &mut Vec<u8>,
+) -> Result<(), Fail> {
+    for (turn, sector) in order.iter().enumerate() {
+        if disk < bay.disks() && *sector < bay.sectors(disk) {
+            bay.write(disk, *sector, &pattern(turn, *sector))?;
+        }
+    }
+    for sector in 0..300 {
+        let mut bytes = [0; 512];
+        if disk < bay.disks() && sector < bay.sectors(disk) {
+            bay.read(disk, sector, &mut bytes)?;
+        }
+        into.extend_from_slice(&bytes)?;
+    }
+    Ok(())
+}
+
+#[test]
+fn what_was_written_is_in_the_file(rt: HostRuntime) -> Result<(), Fail> {
+    let temp = env::temp_dir(&rt)?;
+    let number = process::id(rt.process());
+    let name = format!(in rt.alloc(); "{}/rack-file-order-{number}", temp.as_path().as_str())?;
+    for order in ORDERS {
+        File::create(&rt, name.as_str())?.set_len(153_600)?;
+        let mut want = vec![in rt.alloc(); 0u8; 153_600]?;
+        for (turn, sector) in order.iter().enumerate() {
+            let at = (*sector % 300) as usize * 512;
+            want[at..at + 512].copy_from_slice(&pattern(turn, *sector));
+        }
+        let mut read = Vec::new(rt.alloc());
+        {
+            let mut bay = FileBay::new(&rt, rt.alloc());
+            let disk = bay.attach(name.as_str())?;
+            run_order(&mut bay, disk, order, &mut read)?;
+        }
+        assert!(rt; read.as_slice() == want.as_slice(), "read: {order:?}");
+        let kept = fs::read(&rt, name.as_str())?;
+        assert!(rt; kept.as_slice() == want.as_slice(), "kept: {order:?}");
+    }
+    fs::remove_file(&rt, name.as_str())?;
     Ok(())
 }

@@ -23,7 +23,7 @@ const NO_MEMORY: u8 = 7;
 
 fn main(rt: HostRuntime) -> ExitCode {
     // Before an image is opened, which would else get the number of a stream that is closed.
-    let Ok(_streams) = streams::occupy(&rt) else {
+    let Ok(_streams) = streams::occupy(&rt, rt.alloc()) else {
         return ExitCode::from(NO_OUTPUT);
     };
     let Some(words) = words(&rt) else {

@@ -3,10 +3,10 @@
 //! A file that is opened gets the lowest descriptor that is free. With standard output closed the first image would get its number,
 //! and replies would be written over the image; with standard input closed the image's own bytes would be read as the script.
 
-use arrayvec::ArrayVec;
-use std::fd::AsRawFd;
+use std::alloc::Global;
 use std::fs::{File, Files, OpenOptions};
 use std::io;
+use std::os::fd::AsRawFd;
 
 /// The standard streams: input, output and error.
 const STREAMS: usize = 3;
@@ -15,17 +15,17 @@ const STREAMS: usize = 3;
 const STANDARD_ERROR: i32 = 2;
 
 /// Opens `/dev/null` for each of the standard streams that is closed. They are closed again where the files are dropped.
-pub fn occupy<R: Files>(rt: &R) -> io::Result<ArrayVec<R::File, STREAMS>>
+pub fn occupy<R: Files>(rt: &R, alloc: Global) -> io::Result<Vec<R::File>>
 where
     R::File: AsRawFd,
 {
-    let mut opened = ArrayVec::new();
+    let mut opened = Vec::new(alloc);
     for _ in 0..STREAMS {
         let file = open_null(rt)?;
         if file.as_raw_fd() > STANDARD_ERROR {
             break;
         }
-        let _ = opened.try_push(file);
+        opened.push(file)?;
     }
     Ok(opened)
 }

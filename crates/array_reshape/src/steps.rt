@@ -1,0 +1,194 @@
+//! The steps of a reshape, each by one commit of the log.
+
+ghost use Rattle.std.specs.Prelude.{◌≡◌, ◌⊎◌, ◌<◌, ◌-◌, ◌*◌, ◌^◌, ℕ, List, [], None, true, false, is_ok, OnOk, IfErr};
+ghost use Rattle.array_image.specs.Supers.{is_reshaping};
+ghost use Rattle.md_super.specs.Profile.{is_mirror, is_raid5};
+ghost use Rattle.array_model.specs.View.{View, rows_of};
+ghost use Rattle.array_model.specs.Members.{HasSlices};
+ghost use Rattle.log_laws.specs.View.{committed, emptied};
+ghost use Rattle.log_laws.specs.Phases.{AreLogs};
+ghost use Rattle.array_core.specs.Pool.{Goes};
+ghost use Rattle.array_core.specs.Seats.{seat_of};
+ghost use Rattle.array_core.specs.Superblocks.{raised};
+ghost use Rattle.array_core.specs.Writing.{KeepsElsewhere};
+ghost use Rattle.reshape_laws.specs.Ahead.{ahead, finished, taken_over};
+ghost use Rattle.reshape_laws.specs.Reshapes.{Reshapes, joined, lacks_joined, lacks_two};
+
+use crate::changes;
+use crate::members::{absent_in, answer, join, lacks_joined, lacks_two, next_row};
+use crate::rows::stage_row;
+use array_core::{Array, Spent};
+use commit_log::Log;
+use rack::{Places, Rack};
+use shr_base::Id;
+
+/// Makes RAID-5 of two members of a mirror, by one commit of superblocks. The members are synced first: a mirror of which one member
+/// is left is written past the log, and as RAID-5 each sector of a member has to have one value.
+pub fn take_over<R: Rack>(
+    array: &mut Array,
+    rack: &mut R,
+    log: &mut Log,
+    on: &Places,
+) -> Result<(), Spent>
+    requires slices { HasSlices array.old (R.seen rack.old) }
+    requires disks { (R.seen rack.old).disks ≡ 272 }
+    requires logs { AreLogs (R.seen rack.old).sectors on.now.items }
+    requires empty { log.old.added ≡ [] }
+    requires grown { array.old.young ≡ false }
+    requires synced { array.old.resync ≡ rows_of array.old }
+    requires clean { array.old.truth.resync_offset ≡ 2 ^ 64 - 1 }
+    requires mirror { is_mirror array.old.truth ≡ true }
+    ensures reshapes { Reshapes array.old (taken_over array.old (raised array.old.truth.events)) array.new log.old.number log.new.number on.now.items (R.seen rack.old) (R.seen rack.new) (is_ok result) }
+    ensures elsewhere { KeepsElsewhere false array.old on.now.items (R.seen rack.old) (R.seen rack.new) }
+    ensures goes { Goes (R.seen rack.old) (R.seen rack.new) }
+    ensures log { (log.new ≡ emptied log.old) ⊎ (log.new ≡ committed log.old) }
+    ensures runs { R.runs rack.old rack.new }
+    ensures served { OnOk result (lacks_two array.new ≡ false) }
+    ensures refused { IfErr result (λ e. (e.sector ≡ 0) × (lacks_two array.new ≡ true)) }
+{
+    array.rules();
+    array.unsynced_rows();
+    let change = changes::taken_over(array);
+    array.stage(log, &change);
+    array.sync(rack);
+    if lacks_two(array) {
+        log.clear();
+        return answer(array, 0);
+    }
+    let lost = log.commit(rack, on);
+    array.note_all(&lost);
+    array.rules();
+    let answered = answer(array, 0);
+    array.adopt(&change);
+    answered
+}
+
+/// Begins a reshape to one member more, by one commit of superblocks. The member joins on a place that has none, at the last position,
+/// with its id on this drive. Where its place isn't among those of the log's commits it is missing, and gets no superblock.
+pub fn begin<R: Rack>(
+    array: &mut Array,
+    rack: &mut R,
+    log: &mut Log,
+    on: &Places,
+    place: u32,
+    drive: &Id,
+) -> Result<(), Spent>
+    requires slices { HasSlices (joined array.old on.now.items place drive.now) (R.seen rack.old) }
+    requires disks { (R.seen rack.old).disks ≡ 272 }
+    requires logs { AreLogs (R.seen rack.old).sectors on.now.items }
+    requires empty { log.old.added ≡ [] }
+    requires grown { array.old.young ≡ false }
+    requires synced { array.old.resync ≡ rows_of array.old }
+    requires clean { array.old.truth.resync_offset ≡ 2 ^ 64 - 1 }
+    requires raid5 { is_raid5 array.old.truth ≡ true }
+    requires still { is_reshaping array.old.truth ≡ false }
+    requires place { place < 16 }
+    requires joins { seat_of array.old place ≡ None }
+    ensures reshapes { Reshapes array.old (joined array.old on.now.items place drive.now) array.new log.old.number log.new.number on.now.items (R.seen rack.old) (R.seen rack.new) (is_ok result) }
+    ensures elsewhere { KeepsElsewhere false (joined array.old on.now.items place drive.now) on.now.items (R.seen rack.old) (R.seen rack.new) }
+    ensures goes { Goes (R.seen rack.old) (R.seen rack.new) }
+    ensures log { (log.new ≡ emptied log.old) ⊎ (log.new ≡ committed log.old) }
+    ensures runs { R.runs rack.old rack.new }
+    ensures served { OnOk result ((lacks_joined array.old on.now.items place ≡ false) × (lacks_two array.new ≡ false)) }
+    ensures refused { IfErr result (λ e. (e.sector ≡ 0) × ((lacks_joined array.old on.now.items place ≡ true) ⊎ (lacks_two array.new ≡ true))) }
+{
+    array.rules();
+    array.truth_rules();
+    array.unsynced_rows();
+    if lacks_joined(array, on, place) {
+        log.clear();
+        return Err(Spent { sector: 0 });
+    }
+    join(array, on, place, drive);
+    array.stage_own(log);
+    let lost = log.commit(rack, on);
+    array.note_all(&lost);
+    answer(array, 0)
+}
+
+/// Moves the next row: it holds what the array had there, and zeros past the array's old end. One commit of the log has the row on each
+/// member that counts there when the call begins, and the superblocks with the position behind it; a row that lacks a member is
+/// computed from the others. It is refused exactly where two members are missing after the losses of this call.
+pub fn row<R: Rack>(
+    array: &mut Array,
+    rack: &mut R,
+    log: &mut Log,
+    on: &Places,
+) -> Result<(), Spent>
+    requires slices { HasSlices array.old (R.seen rack.old) }
+    requires disks { (R.seen rack.old).disks ≡ 272 }
+    requires logs { AreLogs (R.seen rack.old).sectors on.now.items }
+    requires empty { log.old.added ≡ [] }
+    requires grown { array.old.young ≡ false }
+    requires synced { array.old.resync ≡ rows_of array.old }
+    requires reshaping { is_reshaping array.old.truth ≡ true }
+    requires left { array.old.truth.reshape_position < (array.old.truth.raid_disks - 1) * array.old.truth.size }
+    ensures reshapes { Reshapes array.old (ahead array.old (raised array.old.truth.events)) array.new log.old.number log.new.number on.now.items (R.seen rack.old) (R.seen rack.new) (is_ok result) }
+    ensures elsewhere { KeepsElsewhere false array.old on.now.items (R.seen rack.old) (R.seen rack.new) }
+    ensures goes { Goes (R.seen rack.old) (R.seen rack.new) }
+    ensures log { (log.new ≡ emptied log.old) ⊎ (log.new ≡ committed log.old) }
+    ensures runs { R.runs rack.old rack.new }
+    ensures served { OnOk result (lacks_two array.new ≡ false) }
+    ensures refused { IfErr result (λ e. (e.sector ≡ array.old.truth.reshape_position) × (lacks_two array.new ≡ true)) }
+{
+    array.rules();
+    array.unsynced_rows();
+    let position = array.truth().reshape_position;
+    if lacks_two(array) {
+        log.clear();
+        return answer(array, position);
+    }
+    let row = next_row(array);
+    let absent = absent_in(array, row);
+    let change = changes::moved(array);
+    array.stage(log, &change);
+    if !stage_row(array, rack, log, row, absent) {
+        log.clear();
+        return answer(array, position);
+    }
+    let lost = log.commit(rack, on);
+    array.note_all(&lost);
+    array.rules();
+    let answered = answer(array, position);
+    array.adopt(&change);
+    answered
+}
+
+/// Ends a reshape that has no row left, by one commit of superblocks.
+pub fn finish<R: Rack>(
+    array: &mut Array,
+    rack: &mut R,
+    log: &mut Log,
+    on: &Places,
+) -> Result<(), Spent>
+    requires slices { HasSlices array.old (R.seen rack.old) }
+    requires disks { (R.seen rack.old).disks ≡ 272 }
+    requires logs { AreLogs (R.seen rack.old).sectors on.now.items }
+    requires empty { log.old.added ≡ [] }
+    requires grown { array.old.young ≡ false }
+    requires synced { array.old.resync ≡ rows_of array.old }
+    requires reshaping { is_reshaping array.old.truth ≡ true }
+    requires whole { array.old.truth.reshape_position ≡ (array.old.truth.raid_disks - 1) * array.old.truth.size }
+    ensures reshapes { Reshapes array.old (finished array.old (raised array.old.truth.events)) array.new log.old.number log.new.number on.now.items (R.seen rack.old) (R.seen rack.new) (is_ok result) }
+    ensures elsewhere { KeepsElsewhere false array.old on.now.items (R.seen rack.old) (R.seen rack.new) }
+    ensures goes { Goes (R.seen rack.old) (R.seen rack.new) }
+    ensures log { (log.new ≡ emptied log.old) ⊎ (log.new ≡ committed log.old) }
+    ensures runs { R.runs rack.old rack.new }
+    ensures served { OnOk result (lacks_two array.new ≡ false) }
+    ensures refused { IfErr result (λ e. (e.sector ≡ 0) × (lacks_two array.new ≡ true)) }
+{
+    array.rules();
+    array.unsynced_rows();
+    if lacks_two(array) {
+        log.clear();
+        return answer(array, 0);
+    }
+    let change = changes::finished(array);
+    array.stage(log, &change);
+    let lost = log.commit(rack, on);
+    array.note_all(&lost);
+    array.rules();
+    let answered = answer(array, 0);
+    array.adopt(&change);
+    answered
+}

@@ -1,0 +1,3 @@
+pub mod View
+pub mod StoreCalls
+pub mod Buffered
