@@ -53,6 +53,19 @@ def _before_import(look: Look, call: Call) -> list[str]:
     return []
 
 
+def _own_streams(disks: Disks) -> list[str]:
+    """Objections where the input or the output is one of the images."""
+    found = []
+    for number, name in ((0, "input"), (1, "output"), (2, "error")):
+        status = os.fstat(number)
+        for disk in disks.disks:
+            if disk.file == (status.st_dev, status.st_ino):
+                found.append(f"standard {name} is {disk.path}, an image of the pool: name another file")
+                if number == 2:
+                    os.dup2(os.open(os.devnull, os.O_WRONLY), 2)
+    return found
+
+
 def _before(form: str, call: Call) -> Look | None:
     """The guard before a form. Where an image can't be read the engine says so itself, before it writes anything."""
     if form == "export" and os.isatty(1):
@@ -61,6 +74,9 @@ def _before(form: str, call: Call) -> Look | None:
         )
     try:
         with Disks(_names(form, call.rest)) as disks:
+            found = _own_streams(disks)
+            if found:
+                raise Objection(*found)
             look = before_opening(disks, call.permits())
             found = _before_import(look, call) if form == "import" else []
             if form == "trial" and not call.permits().yes:

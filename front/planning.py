@@ -159,6 +159,20 @@ def _replaced(drives: Drives, place_word: str, word: str) -> tuple[Standing | No
     return grown, _growth(drives, grown, refused, others)
 
 
+def _put_picture(path: str, picture: str) -> None:
+    """Writes a picture, over no file but an older picture."""
+    try:
+        if os.path.exists(path):
+            with open(path, "rb") as old:
+                head = old.read(4)
+            if head and head != b"<svg":
+                raise Objection(f"{path} is there already, and no picture: name another file")
+        with open(path, "w", encoding="utf-8") as it:
+            it.write(picture + "\n")
+    except OSError as error:
+        raise Objection(f"{path}: {error.strerror}") from error
+
+
 def plan(call: Call) -> int:
     """The word `plan`. Its status is 0 where there is a pool and the growth is admitted, else 6."""
     if not call.rest:
@@ -180,6 +194,5 @@ def plan(call: Call) -> int:
     print("\n".join(lines))
     picture = call.value("svg")
     if picture:
-        with open(picture, "w", encoding="utf-8") as it:
-            it.write(draw(grown or drives.standing) + "\n")
+        _put_picture(picture, draw(grown or drives.standing))
     return 0 if grown else 6

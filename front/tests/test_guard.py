@@ -140,6 +140,15 @@ class Slips(PoolCase):
         self.assertEqual(self.call("import", "--yes", *images, script="hello"), 0)
         self.assertEqual(self.out, "imported 5\n")
 
+    def test_an_image_as_a_stream(self) -> None:
+        images = self.make(TEN, TEN)
+        before = self.hashes()
+        for how in ("<b", ">>b", "2>>b"):
+            self.assertEqual(self.call("-c", f'"$0" serve a b {how}', ROSKUBEL, program="bash"), STATUS)
+        self.assertEqual(self.call("-c", '"$0" import a b <b', ROSKUBEL, program="bash"), STATUS)
+        self.assertIn("standard input is b", self.err)
+        self.assertEqual((self.hashes(), images), (before, ["a", "b"]))
+
     def test_words(self) -> None:
         for words in (["help"], ["--help"], ["help", "check"], ["help", "dirty-degraded"], ["--version"]):
             self.assertEqual(self.call(*words), 0)

@@ -157,6 +157,10 @@ class Words(PoolCase):
         before = self.hashes()
         self.assertEqual(self.call("plan", *images, "--add", "c", "--svg", "picture.svg"), 0, self.err)
         self.assertIn("layer 2", self.out)
+        self.assertEqual(self.call("plan", "1T", "1T", "--svg", "picture.svg"), 0)
+        self.assertEqual(self.call("plan", "1T", "1T", "--svg", "a"), 9)
+        self.assertIn("a is there already", self.err)
+        self.assertEqual(self.call("plan", "1T", "1T", "--svg", "none/picture.svg"), 9)
         xml.etree.ElementTree.parse(self.path("picture.svg"))
         self.assertEqual({name: text for name, text in self.hashes().items() if name in images}, before)
 
