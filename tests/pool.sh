@@ -162,7 +162,7 @@ serve 'the pool is not opened any more' 6 'size\n' 'refused too-few 0\n' first s
 
 # A run that is killed leaves its mark: two events, all rows left to resync. The next run keeps it.
 make 'killed' "${two[@]}"
-kill_run 1 'write 0 61\n' first second
+kill_run 2 'write 0 61\nflush\n' first second
 expect 'two events, all rows left to resync' test "$(word first 200) $(word first 208)" = '0200000000000000 0000000000000000'
 expect 'on the other member too' test "$(word second 200) $(word second 208)" = '0200000000000000 0000000000000000'
 serve 'opened again' 0 'read 0\nwrite 1 62\n' 'data 61\nok\n' first second
@@ -170,12 +170,12 @@ expect 'the mark stays' test "$(word first 200) $(word first 208)" = '0200000000
 serve 'a drive is lost while rows are left' 8 'lose 1\nread 0\nwrite 1 63\n' 'ok\nrefused spent 0\nrefused spent 1\n' first second
 serve 'the pool is not opened any more' 6 'size\n' 'refused dirty-degraded 0\n' first second
 make 'killed, of three' "${three[@]}"
-kill_run 4 'write 0 61\nflush\nwrite 128 62\nread 0\n' first second third
+kill_run 5 'write 0 61\nflush\nwrite 128 62\nread 0\nflush\n' first second third
 serve 'with a drive left out' 6 'size\n' 'refused dirty-degraded 0\n' first third
 serve 'with all drives' 0 'read 0\nread 128\nwrite 256 63\nread 256\n' 'data 61\ndata 62\nok\ndata 63\n' first second third
 make 'killed without a drive' "${three[@]}"
 serve 'the drive is lost' 0 'write 0 61\nwrite 128 62\nlose 1\n' 'ok\nok\nok\n' first second third
-kill_run 2 'write 0 63\nwrite 3839 64\n' first third
+kill_run 3 'write 0 63\nwrite 3839 64\nflush\n' first third
 serve 'opened again' 0 'read 0\nread 128\nread 3839\n' 'data 63\ndata 62\ndata 64\n' first third
 
 # Damage.

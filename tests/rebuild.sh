@@ -96,8 +96,9 @@ exec 3>pipe
 : >script
 put 3 65
 put 5000 66
+echo flush >>script
 cat script >&3
-for _ in $(seq 100); do [ "$(wc -l <out)" -ge 2 ] && break; sleep 0.1; done
+for _ in $(seq 100); do [ "$(wc -l <out)" -ge 3 ] && break; sleep 0.1; done
 kill -9 $! && wait $! 2>/dev/null
 exec 3>&-
 : >script
