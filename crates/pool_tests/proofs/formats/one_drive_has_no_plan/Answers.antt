@@ -1,7 +1,0 @@
-use Rattle.std.proofs.Common.{refl}
-use Rattle.std.specs.Int.Count.{ones}
-use Rattle.pool_tests.proofs.formats.one_drive_has_no_plan.Goals as goal
-
-pub format-requires-clause-extent : goal.format-requires-clause-extent
-unfolding ones
-format-requires-clause-extent g c = refl
