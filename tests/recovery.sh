@@ -38,8 +38,9 @@ mkfifo pipe
 : >out
 "$tool" serve "${images[@]}" <pipe >out 2>err &
 exec 3>pipe
-printf 'fill 100 300 5a\nwrite 70000 61\nread 0\n' >&3
-for _ in $(seq 100); do [ "$(wc -l <out)" -ge 3 ] && break; sleep 0.1; done
+# what is flushed is on all drives; a row that a stop tears in the middle would be read wrong without one of them
+printf 'fill 100 300 5a\nwrite 70000 61\nflush\nread 0\n' >&3
+for _ in $(seq 100); do [ "$(wc -l <out)" -ge 4 ] && break; sleep 0.1; done
 kill -9 $! && wait $! 2>/dev/null
 exec 3>&-
 pool dirty-degraded
