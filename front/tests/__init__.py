@@ -1,0 +1,1 @@
+"""Tests of the front over real images, by the engine that is at hand."""
