@@ -167,5 +167,5 @@ def plan(call: Call) -> int:
     picture = call.value("svg")
     if picture:
         with open(picture, "w", encoding="utf-8") as it:
-            it.write(draw(grown or drives.standing) + "\n")
+            it.write(draw(grown or drives.standing, drives.extent) + "\n")
     return 0 if grown else 6
