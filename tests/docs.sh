@@ -1,7 +1,7 @@
 #!/usr/bin/env bash
 # The documents (the .md files at the top, in docs/ and in bench/): each relative link and its anchor exist, README has at most
 # 150 lines, and no line has more than 120 characters, but for rows of tables outside README. README's lines behind
-# '<!-- run' print what it says, by the program of out/ or of release/, where one is there.
+# '<!-- run' print what it says, by the launcher, where out/ or release/ has an engine.
 # usage: tests/docs.sh [--links | --help]    --links: README's lines aren't run
 [ "${1:-}" != --help ] || { sed -n '2,5s/^# //p' "$0"; exit; }
 . "$(dirname "$(readlink -f "${BASH_SOURCE[0]}")")/lib/checks.sh"
@@ -95,26 +95,20 @@ expect 'links, anchors and lines of the documents' grep -q '^[0-9]* pages$' said
 
 [ "${1:-}" != --links ] || { close; exit; }
 
-# A line that begins with `$ ` is run, what follows it is its output.
-for tool in "$top/out/shr_tool" "$top/release/shr_tool" ''; do
-  said=$("$tool" </dev/null 2>/dev/null)
-  [ "$said" != 'refused words' ] || break
-done
-if [ -n "$tool" ]; then
-  mkdir bin
-  ln -s "$tool" bin/roskubel
-  PATH=$folder/bin:$PATH
+# A line that begins with `$ ` is run, what follows it is its output; what is said on standard error isn't compared.
+if [ -x "$top/out/shr_tool" ] || [ -x "$top/release/shr_tool" ]; then
+  PATH=$top:$PATH
   awk '/^<!-- run/ { wanted = 1; next } /^```$/ { inside = wanted && !inside; if (!inside) wanted = 0; next } inside' \
     "$top/README.md" >wanted
   while read -r line; do
     case $line in
       '$ '*)
         echo "$line"
-        bash -c "${line#\$ }" </dev/null
+        bash -c "${line#\$ }" </dev/null 2>/dev/null
         ;;
     esac
   done <wanted >printed
-  expect 'README has lines to run' grep -q '^\$ roskubel create' wanted
+  expect 'README has lines to run' grep -q '^\$ roskubel new' wanted
   expect 'they print what it says' diff wanted printed
 else
   echo "no program: README's lines aren't run"
