@@ -3,7 +3,11 @@
 //! **The model.** A [`FileBay`] has the disks of the files that were attached, in their order, each
 //! with its sectors of 512 bytes and its count of faults (specs/Files.antt). What a file holds isn't
 //! told. `Gone` comes only where the disk's count rose, and `Failed` of attaching only where the
-//! bay's did. That two paths are one file isn't noticed.
+//! bay's did.
+//!
+//! **One bay a file.** A file's exclusive lock is taken when it is attached and kept until the bay
+//! goes, so a file that another program has open as an image, or this bay by another path, can't be
+//! attached. It is synced once when it is attached, so that no sector of it stands in memory alone.
 //!
 //! **The contract for the layer above** is that of `Bay`.
 #![tactic(auto)]
@@ -15,9 +19,11 @@ ghost use Rattle.rack.specs.Shelf.{KeepsShelf};
 ghost use Rattle.rack_file.specs.Files.{names_of, Differ, files_seen, files_shelf, NotesFault};
 
 mod disk;
+mod lock;
 
 pub use disk::FileDisk;
 use disk::{SECTOR_BYTES, open_disk};
+pub use lock::LockFile;
 use rack::{AttachFault, Bay, Gone, Rack};
 use std::alloc::Global;
 use std::fs::{Files, OpenFile};
@@ -40,7 +46,7 @@ pub struct FileBay<'a, R: Files> {
 
 impl<'a, R: Files> FileBay<'a, R>
 where
-    R::File: FileExt,
+    R::File: FileExt + LockFile,
 {
     /// A bay with nothing attached.
     pub fn new(rt: &'a R, alloc: Global) -> FileBay<'a, R>
@@ -106,7 +112,7 @@ where
 
 impl<'a, R: Files> Rack for FileBay<'a, R>
 where
-    R::File: FileExt,
+    R::File: FileExt + LockFile,
 {
     ghost use Rattle.rack.specs.Shelf.{keeps_shelf_same, keeps_shelf_then};
 
@@ -171,7 +177,7 @@ where
 
 impl<'a, R: Files> Bay for FileBay<'a, R>
 where
-    R::File: FileExt,
+    R::File: FileExt + LockFile,
 {
     ghost use Rattle.rack_file.specs.FilesLaws.{bounded_files, names-length};
 
@@ -212,3 +218,6 @@ where
 
     ghost numbered = { λ b. names-length b.disks.items };
 }
+
+#[cfg(test)]
+mod tests;
