@@ -158,7 +158,7 @@ def check(call: Call) -> int:
     try:
         with Disks(call.rest) as disks:
             twice = same_files(disks)
-            in_use = [] if twice else [sentence.split(":")[0] for sentence in held(disks.disks)]
+            in_use = [] if twice else [sentence.split(":")[0] for sentence in held(disks.disks, try_lock=False)]
             look = look_at(disks.disks)
             # What leaves a drive out is a degraded pool here, and no refusal.
             found = twice + objections(look, Permits(degraded=True))

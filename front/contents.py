@@ -117,11 +117,11 @@ def _volume_reader(look: Look) -> tuple[Read, int] | None:
     group, bad = group_of(look)
     if group is None or bad is not None:
         return None
-    extent = group.extent
+    extent, segments = group.extent, group.segments
 
     def sector_of(sector: int) -> bytes:
         at, within = divmod(sector, extent)
-        for segment in group.segments:
+        for segment in segments:
             if segment.start <= at < segment.start + segment.count:
                 array = look.arrays[segment.array]
                 return read_array(look, array, 2048 + (segment.first + at - segment.start) * extent + within)

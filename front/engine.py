@@ -98,11 +98,15 @@ def _end_with_parent() -> None:
     ctypes.CDLL(None, use_errno=True).prctl(DEATH_SIGNAL, int(signal.SIGTERM))
 
 
-def start(words: Sequence[str], **ends: object) -> "subprocess.Popen[bytes]":
-    """Starts the engine with these words."""
+def start(words: Sequence[str], stdin: int | None = None, stdout: int | None = None, apart: bool = False) -> "subprocess.Popen[bytes]":
+    """Starts the engine with these words; `apart` from the interrupts of the front's terminal.
+
+    One that shares the front's input is ended with it. One that is fed by the front ends its script where the front goes.
+    """
     path = find_engine()
+    hook = _end_with_parent if stdin is None else None
     try:
-        return subprocess.Popen([path, *words], preexec_fn=_end_with_parent, **ends)  # type: ignore[call-overload]
+        return subprocess.Popen([path, *words], stdin=stdin, stdout=stdout, preexec_fn=hook, process_group=0 if apart else None)
     except OSError as error:
         raise cannot_run(path, error) from error
 
@@ -116,17 +120,14 @@ def replace_by_engine(words: Sequence[str]) -> None:
         raise cannot_run(path, error) from error
 
 
-def _pass_signals_on(child: "subprocess.Popen[bytes]") -> Callable[[], None]:
-    """A terminal's interrupt reaches the engine by itself, and the front waits for it; other signals are passed on."""
+def pass_signals_on(child: "subprocess.Popen[bytes]") -> Callable[[], None]:
+    """Signals go on to the child, and the front waits for its end. Answers what takes this back."""
 
     def pass_on(number: int, _frame: object) -> None:
         child.send_signal(number)
 
-    def wait(_number: int, _frame: object) -> None:
-        pass
-
-    wanted = {signal.SIGTERM: pass_on, signal.SIGHUP: pass_on, signal.SIGINT: wait, signal.SIGQUIT: wait}
-    before = {number: signal.signal(number, handler) for number, handler in wanted.items()}
+    numbers = (signal.SIGTERM, signal.SIGHUP, signal.SIGINT, signal.SIGQUIT)
+    before = {number: signal.signal(number, pass_on) for number in numbers}
 
     def undo() -> None:
         for number, handler in before.items():
@@ -161,7 +162,7 @@ def _relay(source: int, target: int) -> tuple[bytes, bool]:
 def run_form(words: Sequence[str], stdout: int = 1) -> tuple[int, str]:
     """Runs one of the engine's forms: its output goes on unchanged. Answers its status and the output's first bytes."""
     child = start(words, stdout=subprocess.PIPE)
-    undo = _pass_signals_on(child)
+    undo = pass_signals_on(child)
     try:
         assert child.stdout is not None
         head, taken = _relay(child.stdout.fileno(), stdout)
@@ -175,7 +176,7 @@ def run_form(words: Sequence[str], stdout: int = 1) -> tuple[int, str]:
 def run_straight(words: Sequence[str]) -> int:
     """Runs a form on the front's own input and output, with nothing in between. Answers its status."""
     child = start(words)
-    undo = _pass_signals_on(child)
+    undo = pass_signals_on(child)
     try:
         return _status(child.wait())
     finally:
@@ -186,12 +187,8 @@ class Session:
     """A run of `serve` over a pool, fed line by line. It ends the pool cleanly when it is left."""
 
     def __init__(self, images: Sequence[str]) -> None:
-        self.child = start(
-            ["serve", *map(plain_path, images)],
-            stdin=subprocess.PIPE,
-            stdout=subprocess.PIPE,
-            process_group=0,
-        )
+        words = ["serve", *map(plain_path, images)]
+        self.child = start(words, stdin=subprocess.PIPE, stdout=subprocess.PIPE, apart=True)
         self.sent = 0
         self.last = ""
 

@@ -46,11 +46,11 @@ def same_files(disks: Disks) -> list[str]:
     return [f"{one.path} and {other.path} are one file: name each image once"]
 
 
-def held(disks: list[Disk]) -> list[str]:
+def held(disks: list[Disk], try_lock: bool = True) -> list[str]:
     """Objections where another program holds an image."""
     return [
         f"{holder.disk.path} is in use by {holder.who}: end that first, since each would overwrite what the other believes"
-        for holder in holders_of(disks)
+        for holder in holders_of(disks, try_lock)
     ]
 
 

@@ -30,6 +30,23 @@ def _is_locked(disk: Disk) -> bool:
     return False
 
 
+def _listed_locks(files: dict[tuple[int, int], Disk]) -> list[Holder]:
+    """Exclusive locks as the system lists them, with nothing locked for a moment: a look by a timer is in nobody's way."""
+    found: list[Holder] = []
+    try:
+        with open("/proc/locks", encoding="ascii", errors="replace") as it:
+            lines = [line.split() for line in it]
+    except OSError:
+        return found
+    for words in lines:
+        if len(words) > 5 and words[1] == "FLOCK" and words[3] == "WRITE":
+            major, minor, inode = words[5].split(":")
+            disk = files.get((os.makedev(int(major, 16), int(minor, 16)), int(inode)))
+            if disk:
+                found.append(Holder(disk, f"{_name(words[4])}, which has locked it"))
+    return found
+
+
 def _name(process: str) -> str:
     try:
         with open(f"/proc/{process}/comm", encoding="utf-8", errors="replace") as it:
@@ -88,11 +105,11 @@ def _loops(files: dict[tuple[int, int], Disk]) -> list[Holder]:
     return found
 
 
-def holders_of(disks: list[Disk]) -> list[Holder]:
-    """Who else holds these images, each image once."""
+def holders_of(disks: list[Disk], try_lock: bool = True) -> list[Holder]:
+    """Who else holds these images, each image once. Without `try_lock` no image is locked for a moment, as the engine could meet it."""
     files = {disk.file: disk for disk in disks}
-    found = {holder.disk.path: holder for holder in [*_loops(files), *_writers(files)]}
+    found = {holder.disk.path: holder for holder in [*_listed_locks(files), *_loops(files), *_writers(files)]}
     for disk in disks:
-        if disk.path not in found and _is_locked(disk):
+        if try_lock and disk.path not in found and _is_locked(disk):
             found[disk.path] = Holder(disk, "another program, which has locked it")
     return [found[disk.path] for disk in disks if disk.path in found]

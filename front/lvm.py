@@ -172,7 +172,8 @@ def parse_group(text: str) -> Group:
     top = _section(words, 0)
     if words.peek():
         raise NoText("a brace too many")
-    name, body = next(((name, body) for name, body in top.items() if isinstance(body, dict)), ("", {}))
+    name = next((name for name, body in top.items() if isinstance(body, dict)), "")
+    body = _inner(top, name)
     volumes = {key: str(one["id"]) for key, one in _inner(body, "physical_volumes").items() if isinstance(one, dict)}
     logical = [one for one in _inner(body, "logical_volumes").values() if isinstance(one, dict)]
     if len(logical) != 1:

@@ -1,6 +1,7 @@
 """The entry: which word is called, and the statuses of what the front refuses by itself."""
 
 import importlib
+import io
 import os
 import shutil
 import subprocess
@@ -108,8 +109,8 @@ def main(words: list[str]) -> int:
         print(f"roskubel: Python 3.11 is wanted, and this is {sys.version.split()[0]}; ROSKUBEL_PYTHON names another one", file=sys.stderr)
         return 1
     for stream in (sys.stdout, sys.stderr):
-        if stream is not None:
-            stream.reconfigure(errors="backslashreplace")  # type: ignore[union-attr]
+        if isinstance(stream, io.TextIOWrapper):
+            stream.reconfigure(errors="backslashreplace")
     try:
         status = _refused(words)
         sys.stdout.flush()

@@ -68,7 +68,7 @@ def _bytes_written(child: "subprocess.Popen[bytes]") -> int:
 
 def run_create(words: list[str], total: int) -> tuple[int, str]:
     """Runs `create`, and says how far it is by what it has written. Answers its status and its line."""
-    child = start(words, stdin=subprocess.DEVNULL, stdout=subprocess.PIPE, process_group=0)
+    child = start(words, stdin=subprocess.DEVNULL, stdout=subprocess.PIPE, apart=True)
     progress = Progress("making the pool", total)
     try:
         while True:

@@ -36,8 +36,8 @@ def read_layout(lines: Iterable[str]) -> Standing:
         match line.split():
             case ["layer", _, "members", *members, "height", height, "extents", _]:
                 layers.append(Layer(tuple(map(int, members)), int(height)))
-            case ["unused", drive, units]:
-                unused[int(drive)] = int(units)
+            case ["unused", drive, extents]:
+                unused[int(drive)] = int(extents)
             case ["capacity", _] | ["bound", _, "spared", _]:
                 ends += 1
             case _:

@@ -16,7 +16,7 @@ class Check(PoolCase):
         self.assertIn(said, self.out)
         self.assertEqual(self.call("check", "--json", *images), status)
         self.assertEqual(self.hashes(), before)
-        found = json.loads(self.out)
+        found: dict[str, object] = json.loads(self.out)
         self.assertEqual(found["status"], status)
         return found
 

@@ -1,0 +1,188 @@
+"""Long work in pieces: replacing, resyncing, going on after an interrupt, and a host file system that is full."""
+
+import os
+import signal
+import subprocess
+import unittest
+
+from front.tests.pools import ROSKUBEL, TEN, THIRTY, TWENTY, PoolCase
+
+# Sectors of images whose rebuilding takes some seconds.
+LARGE = 77824 + 128 * 600
+
+
+class FilledCase(PoolCase):
+    """Has a pool whose volume is known."""
+
+    volume = b""
+
+    def filled(self, *sizes: int) -> list[str]:
+        """A pool whose volume is known."""
+        images = self.make(*sizes)
+        self.assertEqual(self.engine("export", *images), 0)
+        self.volume = os.urandom(len(self.raw))
+        self.assertEqual(self.engine("import", *images, script=self.volume), 0)
+        return images
+
+    def holds(self, *images: str) -> None:
+        """The volume on these images is the one that was filled."""
+        self.assertEqual(self.call("export", *images), 0, self.err)
+        self.assertEqual(self.raw, self.volume)
+
+
+class Replace(FilledCase):
+    """A drive is replaced."""
+
+    def test_by_place_and_by_image(self) -> None:
+        for target, gone, after in (("1", True, ["a", "new", "c"]), ("b", False, ["a", "new", "c"]), ("0", True, ["new", "b", "c"])):
+            self.filled(TEN, TWENTY, THIRTY)
+            self.image("new", TWENTY if "b" not in after else TEN)
+            lost = next(image for image in "abc" if image not in after)
+            if gone:
+                os.unlink(self.path(lost))
+            named = [image for image in "abc" if image != lost]
+            self.assertEqual(self.call("replace", target, "new", *named), 0, self.err)
+            self.assertIn("whole", self.out)
+            self.assertRegex(self.err, r"rebuilding place \d: 100 %")
+            self.assertNotIn("\r", self.err)
+            self.assertEqual(self.call("check", *after), 0)
+            self.holds(*after)
+            os.unlink(self.path("new"))
+
+    def test_a_stale_image_by_itself(self) -> None:
+        images = self.filled(TEN, TEN)
+        self.copy("a", "backup")
+        self.write(images, "write 0 61", "write 0 62", "write 0 63")
+        self.assertEqual(self.engine("export", *images), 0)
+        self.volume = self.raw
+        os.rename(self.path("backup"), self.path("a"))
+        self.assertEqual(self.call("replace", "0", "a", "a", "b"), 0, self.err)
+        self.holds("a", "b")
+
+    def test_a_name_with_spaces(self) -> None:
+        self.filled(TEN, TEN)
+        self.image("my new drive", TEN)
+        self.assertEqual(self.call("replace", "1", "my new drive", "a"), 0, self.err)
+        self.holds("a", "my new drive")
+
+    def test_refused(self) -> None:
+        self.filled(TEN, TWENTY, THIRTY)
+        self.image("new", TWENTY)
+        self.image("small", TEN)
+        self.image("large", THIRTY)
+        self.copy("new", "photo")
+        self.patch("photo", 7, b"text")
+        before = self.hashes()
+        for words, said in (
+            (["1", "none", "a", "c"], "none isn't there: make it with `truncate -s 41156608 none`"),
+            (["1", "small", "a", "c"], "small is too small: it has 40501248 bytes"),
+            (["1", "photo", "a", "c"], "photo holds bytes"),
+            (["1", "c", "a", "b"], "is the drive of place 2"),
+            (["7", "new", "a", "b", "c"], "no place 7"),
+            (["photo", "new", "a", "b", "c"], "photo isn't a drive of this pool"),
+            (["1", "new", "a"], "refused absent 2"),
+            (["0", "new", "a", "b"], "c is the drive of place 2"),
+        ):
+            self.assertEqual(self.call("replace", *words), 9, f"{words} {self.err}")
+            self.assertIn(said, self.err)
+            self.assertEqual({name: text for name, text in self.hashes().items() if name in before}, before)
+        self.assertEqual(self.call("replace", "1", "large", "a", "b", "c"), 6)
+        self.assertIn("refused unbuilt", self.err)
+
+    def test_blocked(self) -> None:
+        images = self.filled(TEN, TEN, TEN)
+        self.image("new", TEN)
+        self.killed(images, "write 0 61\n", 1)
+        self.assertEqual(self.call("replace", "1", "new", *images), 9)
+        self.assertIn("roskubel resync", self.err)
+        self.assertEqual(self.call("resync", *images), 0, self.err)
+        self.assertIn("resyncing: 100 %", self.err)
+        self.assertEqual(self.call("resync", *images), 0)
+        self.write(images, "lose 2")
+        self.assertEqual(self.call("replace", "1", "new", *images), 9)
+        self.assertIn("place 2", self.err)
+
+    def test_interrupted(self) -> None:
+        images = self.filled(LARGE, LARGE, LARGE)
+        os.unlink(self.path("b"))
+        self.image("new", LARGE)
+        with subprocess.Popen(
+            [ROSKUBEL, "replace", "1", "new", "a", "c"], stderr=subprocess.PIPE, stdout=subprocess.PIPE, cwd=self.folder, text=True
+        ) as run:
+            # It is amid the rebuilding where the new drive is the pool's.
+            for _ in range(600):
+                if self.call("check", "a", "new", "c") == 2:
+                    break
+            run.send_signal(signal.SIGINT)
+            _, said = run.communicate(timeout=60)
+        self.assertEqual(run.returncode, 130, said)
+        self.assertIn("roskubel resume a c new", said)
+        self.assertEqual(self.call("check", "a", "new", "c"), 2)
+        self.image("newer", LARGE)
+        self.assertEqual(self.call("replace", "0", "newer", "a", "new", "c"), 9)
+        self.assertIn("resume", self.err)
+        self.assertEqual(self.call("resume", "a", "new", "c"), 0, self.err)
+        self.assertIn("resuming: 100 %", self.err)
+        self.holds("a", "new", "c")
+        self.assertEqual(images, ["a", "b", "c"])
+
+
+class Grow(PoolCase):
+    """A pool grows, or the front says that the engine doesn't do it."""
+
+    def test_grow(self) -> None:
+        images = self.make(TEN, TWENTY)
+        self.image("new", TWENTY)
+        self.image("between", TEN + 640)
+        before = self.hashes()
+        self.assertEqual(self.call("grow", "between", *images), 9)
+        self.assertIn("between: refused size", self.err)
+        self.assertEqual(self.call("grow", "none", *images), 9)
+        self.assertIn("truncate -s", self.err)
+        status = self.call("grow", "new", *images)
+        if status == 6:
+            self.assertIn("doesn't grow a pool", self.err)
+            self.assertEqual(self.hashes(), before)
+        else:
+            self.assertEqual(status, 0, self.err)
+            self.assertEqual(self.call("check", *images, "new"), 0)
+
+
+class FullFileSystem(FilledCase):
+    """A host file system that has no room, where one can be mounted."""
+
+    def mounted(self, size: int) -> str:
+        """A small file system in the folder."""
+        os.mkdir(self.path("small"))
+        done = subprocess.run(
+            ["mount", "-t", "tmpfs", "-o", f"size={size}", "tmpfs", self.path("small")], capture_output=True, check=False
+        )
+        if done.returncode:
+            self.skipTest("no file system can be mounted here")
+        self.addCleanup(subprocess.run, ["umount", self.path("small")], check=False)
+        return "small/new"
+
+    def test_said_before(self) -> None:
+        self.filled(LARGE, LARGE)
+        new = self.image(self.mounted(1 << 24), LARGE)
+        os.unlink(self.path("b"))
+        before = self.hashes()
+        self.assertEqual(self.call("replace", "1", new, "a"), 9)
+        self.assertIn("small/new has 16.78 MB free", self.err)
+        self.assertEqual(self.hashes(), before)
+
+    def test_filled_amid_the_rebuilding(self) -> None:
+        self.filled(TEN, TEN, TEN)
+        new = self.image(self.mounted(1 << 24), TEN)
+        os.unlink(self.path("b"))
+        # The engine by itself says `left 0` and status 0, and the drive is missing.
+        with open(self.path("small/other"), "wb") as it:
+            it.write(bytes((1 << 24) - (1 << 20) - 4096 * 64))
+        words = ["--engine", "serve", "a", "c"]
+        self.assertEqual(self.call(*words, script=f"replace 1 {new}\nstep 1000\nstatus\n"), 0)
+        self.assertEqual(self.call("check", "a", "c", new), 3)
+        self.assertIn("missing", self.out)
+
+
+if __name__ == "__main__":
+    unittest.main()
