@@ -194,5 +194,5 @@ def plan(call: Call) -> int:
     print("\n".join(lines))
     picture = call.value("svg")
     if picture:
-        _put_picture(picture, draw(grown or drives.standing))
+        _put_picture(picture, draw(grown or drives.standing, drives.extent))
     return 0 if grown else 6
