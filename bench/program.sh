@@ -3,7 +3,7 @@
 set -euo pipefail
 
 top=$(cd "$(dirname "$(readlink -f "${BASH_SOURCE[0]}")")/.." && pwd)
-"$top/roskubel" </dev/null >/dev/null || [ $? -eq 2 ]
+"$top/roskubel" help >/dev/null
 program=$top/out/shr_tool
 [ -x "$program" ] || program=$top/release/shr_tool
 folder=$(mktemp -d)

@@ -111,10 +111,8 @@ def advice(look: Look, names: list[str], found: list[str], status: int) -> str:
         )
     left = works_left(look)
     if status == PLANNED:
-        return (
-            f"{sum(left.values())} works are left: `roskubel resume IMAGE..` does them; until then another loss may "
-            f"cost data"
-        )
+        risk = "; until then another loss may cost data" if left["rebuild"] else ""
+        return f"{sum(left.values())} works are left: `roskubel resume IMAGE..` does them{risk}"
     if status == UNCLEAN:
         return (
             f"{left['resync']} rows are left to resync by a run that was stopped, or goes on: `roskubel resync "
@@ -137,9 +135,9 @@ def _array_line(look: Look, array: Array) -> str:
     if array.resync_rows:
         states.append(f"{array.resync_rows} of {truth.rows} rows to resync")
     if truth.reshaping:
-        states.append("being reshaped")
+        states.append(f"{truth.rows - truth.moved_rows} of {truth.rows} rows to reshape")
     if array.young:
-        states.append("being made")
+        states.append(f"being made, {truth.resync_rows} of {truth.rows} rows to zero")
     places = " ".join(str(member.place) for member in array.members)
     return f"array {array.number}  {kind:<12} places {places:<10} {', '.join(states) or 'whole'}"
 

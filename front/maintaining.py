@@ -148,7 +148,7 @@ def _serve(images: list[str], line: str, what: str, wanted: int | None, after: l
             reply = session.ask(line)
             if reply != "ok":
                 session.close()
-                tell(_why_refused(reply, line))
+                tell(explain_line(reply, "line") or reply)
                 return REFUSED
         outcome = do_works(session, what, wanted, interrupts)
         missing = [one.split()[1] for one in session.status() if one.startswith("drive") and one.endswith("missing")]
@@ -156,12 +156,6 @@ def _serve(images: list[str], line: str, what: str, wanted: int | None, after: l
             tell(f"the pool's book says that the drive of place {', '.join(missing)} is missing")
         status = session.close()
     return _end(after, outcome, status)
-
-
-def _why_refused(reply: str, line: str) -> str:
-    if reply == "refused unbuilt" and line.startswith("add"):
-        return "this engine doesn't grow a pool by a drive yet (refused unbuilt): nothing was changed"
-    return explain_line(reply, "line") or reply
 
 
 def _is_former(look: Look, disk: Disk) -> bool:
@@ -307,6 +301,19 @@ def _grown(look: Look, disk: Disk) -> tuple[Standing | None, list[str]]:
     return grown, [f"{disk.path}: {explain_line(f'refused {word}', 'line')}"] if word else []
 
 
+def _little_room(look: Look, grown: Standing, new: Disk) -> list[str]:
+    """Whether the new image, and those that a new layer reaches, have room for all that is written to them."""
+    assert look.state is not None
+    disks, used = [new], {new.path: new.sectors * 512}
+    for layer in grown.layers[len(look.arrays) :]:
+        for place in layer.members:
+            if place in look.seats:
+                disk = look.disks[look.seats[place]]
+                disks.append(disk)
+                used[disk.path] = _used(look, place) + (SLICE_HEAD + layer.height * look.state.extent) * 512
+    return too_little(disks, used)
+
+
 def grow(call: Call) -> int:
     """The word `grow`."""
     if len(call.rest) < 3:
@@ -321,15 +328,18 @@ def grow(call: Call) -> int:
         least = drive_sectors(max(drive.units for drive in look.state.drives), look.state.extent) * 512
         with _new_image(new, least) as fresh:
             grown, found = _grown(look, fresh.disks[0])
-            used = fresh.disks[0].sectors * 512
-            found += _check_new(look, fresh, call.permits(), used)
+            found += _check_new(look, fresh, call.permits(), 0)
+            if grown and not found:
+                found = _little_room(look, grown, fresh.disks[0])
         if found or grown is None:
             raise Objection(*found)
-        gain = (grown.capacity - standing_of(look).capacity) * look.state.extent * 512
+        now = grown.capacity * look.state.extent * 512
+        gain = now - standing_of(look).capacity * look.state.extent * 512
+    images = [image for image in images if not _same(image, new)]
     with script_name(new) as name:
         status = _serve(images, f"add {name}", "growing", None, [*images, new])
     if status == 0:
-        print(f"the volume has {show(gain)} more")
+        print(f"the volume has {show(now)} now, {show(gain)} more")
     return status
 
 

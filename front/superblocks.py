@@ -56,6 +56,11 @@ class Super:
         """The rows that are left to resync."""
         return max(0, self.size - self.resync_offset) // ROW
 
+    @property
+    def moved_rows(self) -> int:
+        """The rows that a reshape has moved."""
+        return min(self.reshape_position // (ROW * (self.raid_disks - 1)), self.rows)
+
     def members(self) -> dict[int, int]:
         """The position of each place that has one."""
         return {place: role for place, role in enumerate(self.roles) if role < 0xFFFE}

@@ -47,7 +47,7 @@ TEXTS = (
         "",
         "words",
         "",
-        "The form, or the line of a script, is one that this engine doesn't have yet.",
+        "The form is one that this engine doesn't have yet.",
         "",
     ),
     Text(
@@ -245,9 +245,10 @@ TEXTS = (
         "",
         "lines",
         "",
-        "The line isn't built yet; of `replace`, the image has another number of extents than the drive had, "
-        "which this engine doesn't do.",
-        "Make the image as large as the old one was.",
+        "The image that is to replace a drive has another number of extents than the drive had, or with the one that is "
+        "to be added two drives would reach above all arrays, so that a new one would be made: this engine does neither "
+        "yet.",
+        "Make the image as large as the old one was, or as large as the highest array asks for.",
     ),
     Text(
         "size",

@@ -135,6 +135,22 @@ def _top(look: Look, array: Array) -> int:
     return sum(one.truth.height(look.state.extent) for one in look.arrays[: array.number + 1] if one.truth)
 
 
+def _is_short(look: Look) -> bool:
+    """Whether the volume has fewer extents than its arrays offer."""
+    state = look.state
+    assert state is not None
+    try:
+        group, _ = group_of(look)
+    except CannotTell:
+        return False
+    offered = sum(
+        one.truth.height(state.extent) * (1 if one.truth.level == 1 else one.truth.raid_disks - 1)
+        for one in look.arrays
+        if one.truth
+    )
+    return group is not None and group.extents < offered
+
+
 def _growth_works(look: Look) -> int:
     """Works of a plan beyond rebuilding: reshapes of layers that the plan's drive joins, a new layer, and the
     volume's growth."""
@@ -147,8 +163,7 @@ def _growth_works(look: Look) -> int:
             continue
         joined = any(member.place == state.plan_place for member in array.members)
         if truth.reshaping:
-            done = truth.reshape_position // (ROW * (truth.raid_disks - 1))
-            works, grows = works + truth.rows - min(done, truth.rows) + 1, True
+            works, grows = works + truth.rows - truth.moved_rows + 1, True
         elif not joined and state.drives[state.plan_place].units >= _top(look, array):
             works, grows = works + truth.rows + 2 + (truth.level == 1), True
     young = [array for array in look.arrays if array.young and array.truth]
@@ -158,7 +173,7 @@ def _growth_works(look: Look) -> int:
         new = layer_above(tuple(drive.units for drive in state.drives), _top(look, look.arrays[-1]))
         if new:
             works, grows = works + (new.height * state.extent + 2048) // ROW + 2, True
-    return works + 1 if grows else works
+    return works + 1 if grows or _is_short(look) else works
 
 
 def works_left(look: Look) -> dict[str, int]:

@@ -6,13 +6,13 @@ from front.fields import SECTOR, child_id, lvm_crc, lvm_text_id
 from front.look import Array, Look
 from front.lvm import LONGEST_TEXT, Group, NoText, decode_header, decode_label, parse_group
 from front.state import State
-from front.superblocks import DATA_SECTOR, ROW
+from front.superblocks import DATA_SECTOR, ROW, Super
 
 AREA = (4096, 1044480)
 
 
 class CannotTell(Exception):
-    """Too few members have a sector, or the array is being reshaped."""
+    """Too few members have a sector."""
 
 
 def _member_sector(look: Look, array: Array, place: int, sector: int) -> bytes:
@@ -30,12 +30,18 @@ def _by_role(array: Array) -> dict[int, int]:
     return {member.role: member.place for member in array.members}
 
 
+def _layout_at(truth: Super, sector: int) -> int:
+    """The members of the layout that a sector lies in: in a reshape all of them up to its position, else one fewer."""
+    is_old = truth.reshaping and sector >= truth.reshape_position
+    return truth.raid_disks - 1 if is_old else truth.raid_disks
+
+
 def read_array(look: Look, array: Array, sector: int) -> bytes:
     """A sector of an array: that of its member, or the XOR of the others."""
     truth = array.truth
-    if truth is None or truth.reshaping:
+    if truth is None:
         raise CannotTell(f"array {array.number}")
-    places, count = _by_role(array), truth.raid_disks
+    places, count = _by_role(array), _layout_at(truth, sector)
     if truth.level == 1:
         for role in sorted(places):
             if _counts(array, role, sector):
@@ -47,7 +53,7 @@ def read_array(look: Look, array: Array, sector: int) -> bytes:
     role, own = (parity + 1 + data) % count, ROW * row + sector % ROW
     if _counts(array, role, own):
         return _member_sector(look, array, places[role], own)
-    others = [other for other in places if other != role]
+    others = [other for other in places if other != role and other < count]
     if not all(_counts(array, other, own) for other in others):
         raise CannotTell(f"array {array.number}")
     total = 0

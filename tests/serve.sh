@@ -42,7 +42,9 @@ serve 'the last sector and the one past it' 0 'read 127\nread 128\nwrite 128 61\
   'data -\nrefused range\nrefused range\nrefused range\n'
 serve 'wrong lines' 0 'read\nread 0 \nread  0\nread -1\nread x\nread 18446744073709551616\nREAD 0\nquit now\nflush 1\nnone\n read 0\nwrite 0\nwrite 0 6\nwrite 0 6g\n' \
   "$(times 14 x | sed 's/x/refused syntax\\n/g')"
-serve 'lines that are not built yet' 0 'add x\n' 'refused unbuilt\n'
+serve 'drives that are not added' 0 'add x\nadd second\n' 'refused attach\nrefused twice\n'
+serve 'wrong lines of drives that are added' 0 'add\nadd \nadd x y\nadd a\tb\n' \
+  "$(times 4 x | sed 's/x/refused syntax\\n/g')"
 serve 'drives that are not replaced' 0 'replace 2 x\nreplace 0 x\n' 'refused no-such-drive\nrefused attach\n'
 serve 'wrong lines of drives that are replaced' 0 'replace\nreplace 0\nreplace 0 \nreplace x 0\nreplace 0 x y\nreplace 0 a\tb\n' \
   "$(times 6 x | sed 's/x/refused syntax\\n/g')"
@@ -61,7 +63,7 @@ serve 'a sector and a byte' 0 "write 5 $(times 1026 f)\nread 5\n" 'refused synta
 serve 'a line of 1100 bytes, which is only a wrong one' 0 "$(times 1100 x)\nread 0\n" 'refused syntax\ndata -\n'
 serve 'a line of 1101 bytes' 0 "$(times 1101 x)\nread 0\n" 'refused syntax\ndata -\n'
 serve 'a number is at most twenty digits' 0 "read $(times 20 0)\nread $(times 21 0)\n" 'data -\nrefused syntax\n'
-serve 'a line of 1101 bytes whose word is not built' 0 "add $(times 1097 x)\n" 'refused unbuilt\n'
+serve 'a line of 1101 bytes by which a drive is added' 0 "add $(times 1097 x)\nread 0\n" 'refused syntax\ndata -\n'
 serve 'a line far longer than a piece is read to its end' 0 "read $(times 20000 1)\nread 0\n" 'refused syntax\ndata -\n'
 
 # A line of 1025 bytes that lies over the end of the first piece of 4096 bytes, behind empty lines.

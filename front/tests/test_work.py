@@ -1,5 +1,6 @@
 """Long work in pieces: replacing, resyncing, going on after an interrupt, and a host file system that is full."""
 
+import json
 import os
 import signal
 import subprocess
@@ -92,6 +93,7 @@ class Replace(FilledCase):
             self.assertEqual({name: text for name, text in self.hashes().items() if name in before}, before)
         self.assertEqual(self.call("replace", "1", "large", "a", "b", "c"), 6)
         self.assertIn("refused unbuilt", self.err)
+        self.assertIn("Make the image as large as the old one was", self.err)
 
     def test_blocked(self) -> None:
         images = self.filled(TEN, TEN, TEN)
@@ -135,25 +137,102 @@ class Replace(FilledCase):
         self.assertEqual(images, ["a", "b", "c"])
 
 
-class Grow(PoolCase):
-    """A pool grows, or the front says that the engine doesn't do it."""
+class Grow(FilledCase):
+    """A pool grows by a drive."""
+
+    def has_grown(self, size: int, *images: str) -> None:
+        """The volume has so many sectors, those that it had hold what they held, and the others zeros."""
+        self.assertEqual(self.call("check", *images), 0, self.out)
+        self.volume += bytes(size * 512 - len(self.volume))
+        self.holds(*images)
 
     def test_grow(self) -> None:
-        images = self.make(TEN, TWENTY)
+        images = self.filled(TEN, TEN)
         self.image("new", TWENTY)
+        self.assertEqual(self.call("grow", "new", *images), 0, self.err)
+        self.assertRegex(self.err, r"growing: 100 %")
+        self.assertIn("the pool is whole", self.out)
+        self.assertRegex(self.out, r"the volume has 1\.31 MB now, .* more")
+        self.has_grown(2560, *images, "new")
+        for absent in "a", "b", "new":
+            left = [image for image in (*images, "new") if image != absent]
+            self.assertEqual(self.engine("export", *left), 0)
+            self.assertEqual(self.raw, self.volume)
+            # It is marked missing now, and taken in again.
+            place = str([*images, "new"].index(absent))
+            self.assertEqual(self.call("replace", place, absent, *left), 0, self.err)
+        self.image("my newer drive", TEN)
+        self.assertEqual(self.call("grow", "my newer drive", "new", *images), 0, self.err)
+        self.has_grown(3840, *images, "my newer drive", "new")
+
+    def test_refused(self) -> None:
+        images = self.filled(TEN, TWENTY, TWENTY)
         self.image("between", TEN + 640)
+        self.image("new", TWENTY)
+        self.copy("new", "photo")
+        self.patch("photo", 7, b"text")
         before = self.hashes()
-        self.assertEqual(self.call("grow", "between", *images), 9)
-        self.assertIn("between: refused size", self.err)
-        self.assertEqual(self.call("grow", "none", *images), 9)
-        self.assertIn("truncate -s", self.err)
-        status = self.call("grow", "new", *images)
-        if status == 6:
-            self.assertIn("doesn't grow a pool", self.err)
-            self.assertEqual(self.hashes(), before)
-        else:
-            self.assertEqual(status, 0, self.err)
-            self.assertEqual(self.call("check", *images, "new"), 0)
+        for words, said in (
+            (["between", *images], "between: refused size"),
+            (["none", *images], "none isn't there: make it with `truncate -s 41156608 none`"),
+            (["photo", *images], "photo holds bytes"),
+            (["b", *images], "b is the drive of place 1"),
+            (["new", "a", "b"], "c is the drive of place 2, and isn't named"),
+        ):
+            self.assertEqual(self.call("grow", *words), 9, f"{words} {self.err}")
+            self.assertIn(said, self.err)
+            self.assertEqual({name: text for name, text in self.hashes().items() if name in before}, before)
+        self.killed(images, "write 0 61\n", 1)
+        self.assertEqual(self.call("grow", "new", *images), 9)
+        self.assertIn("roskubel resync", self.err)
+        self.assertEqual(self.call("resync", *images), 0, self.err)
+        self.assertEqual(self.call("grow", "--yes", "photo", *images), 0, self.err)
+
+    def test_interrupted(self) -> None:
+        images = self.filled(LARGE, LARGE, LARGE)
+        self.image("new", LARGE)
+        with subprocess.Popen(
+            [ROSKUBEL, "grow", "new", *images],
+            stderr=subprocess.PIPE,
+            stdout=subprocess.PIPE,
+            cwd=self.folder,
+            text=True,
+        ) as run:
+            # It is amid the growth where the new drive is the pool's.
+            for _ in range(600):
+                if self.call("check", *images, "new") == 2:
+                    break
+            run.send_signal(signal.SIGINT)
+            _, said = run.communicate(timeout=60)
+        self.assertEqual(run.returncode, 130, said)
+        self.assertIn("roskubel resume a b c new", said)
+        self.assertEqual(self.call("check", *images, "new"), 2)
+        self.assertIn("plan  add of place 3", self.out)
+        self.holds(*images, "new")
+        self.image("newer", LARGE)
+        self.assertEqual(self.call("grow", "newer", *images, "new"), 9)
+        self.assertIn("resume", self.err)
+        self.assertEqual(self.call("resume", *images, "new"), 0, self.err)
+        self.assertIn("resuming: 100 %", self.err)
+        self.has_grown(3 * 600 * 128, *images, "new")
+
+    def test_left_as_the_engine_says(self) -> None:
+        images = self.filled(TEN, TWENTY, TWENTY)
+        self.image("new", TWENTY)
+        self.write(images, "add new")
+        images.append("new")
+        for _ in range(59):
+            self.assertEqual(self.engine("serve", *images, script="step 0\n"), 0)
+            left = int(self.out.split()[1])
+            self.call("check", "--json", *images)
+            facts = json.loads(self.out)
+            self.assertEqual(sum(facts["left"].values()), left)
+            self.assertEqual(facts["volume_bytes"], (6400 if left < 2 else 3840) * 512)
+            if left == 0:
+                return
+            count = 1 if left > 55 or 27 < left < 33 or left < 5 else 6
+            self.assertEqual(self.engine("serve", *images, script=f"step {count}\n"), 0)
+        self.fail("the works don't end")
 
 
 class FullFileSystem(FilledCase):

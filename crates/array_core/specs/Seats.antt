@@ -1,5 +1,5 @@
 -- What an array knows of its members, and how that changes.
-use Rattle.std.specs.Prelude.{ℕ, ◌-◌, ◌%◌, Bool, nat_lt, ◌==◌, ◌&&◌, ◌||◌, if◌then◌else◌, List, [], ◌∷◌, map, filter, find, Option, option_map, unwrap_or}
+use Rattle.std.specs.Prelude.{ℕ, ◌-◌, ◌%◌, Bool, nat_lt, ◌==◌, ◌&&◌, ◌||◌, false, if◌then◌else◌, List, [], ◌∷◌, map, filter, find, Option, option_map, unwrap_or}
 use Rattle.std.specs.List.{list_any, range_with_len}
 use Rattle.shr_base.specs.declared.Id.{Id}
 use Rattle.md_super.specs.declared.superblock.Super.{Super}
@@ -70,3 +70,7 @@ gone places v = record v { seats = (losing places v).seats; went = joined v.went
 -- nobody went
 abbrev pub heeded : View → View
 heeded v = record v { went = [] }
+
+-- it is young no more
+abbrev pub ready : View → View
+ready v = record v { young = false }

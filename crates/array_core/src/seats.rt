@@ -100,6 +100,13 @@ impl Array {
         );
     }
 
+    /// It is young no more: the volume has it from then on. No row is left to resync in an array whose rows are all zeroed.
+    pub fn ready(&mut self)
+        ensures { self.new ≡ spec.ready self.old }
+    {
+        self.young = false;
+    }
+
     /// Rebuilds that don't stand between two rows of their member's data begin again from row 0. On sound contents none is such.
     pub fn restart_rebuilds(&mut self)
         ensures { self.new ≡ spec.restarted self.old }

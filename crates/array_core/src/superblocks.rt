@@ -121,7 +121,7 @@ impl Array {
     }
 
     /// Whether its `resync_offset` was made 0 durably by a write of this run.
-    pub(crate) fn is_marked(&self) -> bool
+    pub fn is_marked(&self) -> bool
         ensures { result ≡ self.now.marked }
     {
         self.marked

@@ -15,7 +15,8 @@ pub struct Window {
     pub dirty_from: u64,
     /// The place behind the last dirty one.
     pub dirty_to: u64,
-    /// The sector behind the one that was read last, unless the disk was written since.
+    /// The sector behind the one that was read last. A write in between doesn't end a run of reads: so a sector that is read and written
+    /// goes on to the next one.
     pub next: Option<u64>,
     /// The disk needs a sync: it was written since the last one, or was never synced.
     pub unsynced: bool,
@@ -114,7 +115,6 @@ impl Window {
         } else {
             self.dirty_to = self.dirty_to.max(place + 1);
         }
-        self.next = None;
         self.unsynced = true;
     }
 }

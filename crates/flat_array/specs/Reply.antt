@@ -1,6 +1,6 @@
 -- The flat run: what each line replies and leaves.
 use Rattle.std.specs.Prelude.{ℕ, ◌+◌, ◌-◌, nat_le, nat_lt, if◌then◌else◌, List, [], ◌∷◌, ◌++◌, replicate, codes, decimal, Ok, Err}
-use Rattle.shr_script.specs.declared.Command.TheVariants.{Read, Write, Fill, Flush, Size, Lose, Replace, Step, Status, Quit, Unbuilt}
+use Rattle.shr_script.specs.declared.Command.TheVariants.{Read, Write, Fill, Flush, Size, Lose, Replace, Add, Step, Status, Quit}
 use Rattle.shr_script.specs.declared.LineFault.{LineFault}
 use Rattle.shr_script.specs.declared.LineFault.TheVariants.{Syntax, Memory}
 use Rattle.shr_script.specs.Line.{Line}
@@ -20,7 +20,8 @@ fault_word Memory = codes "memory"
 abbrev pub standing_text : ℕ → List ℕ
 standing_text size = as_line (codes "size " ++ decimal size) ++ as_line (codes "left 0") ++ as_line (codes "end")
 
--- the reply to a line; a flat array has no drive that could be lost or replaced, and no works of maintenance
+-- the reply to a line; a flat array has no drive that could be lost or replaced, no bay that an image could come from, and no works of
+-- maintenance
 abbrev pub reply : FlatArray → Line → List ℕ
 reply a (Ok (Read sector)) =
     if nat_lt sector a.size then data_line (a.values sector).current else refused_line (codes "range")
@@ -32,10 +33,10 @@ reply a (Ok Flush) = as_line (codes "ok")
 reply a (Ok Size) = as_line (codes "size " ++ decimal a.size)
 reply a (Ok (Lose place)) = refused_line (codes "no-such-drive")
 reply a (Ok (Replace place name)) = refused_line (codes "no-such-drive")
+reply a (Ok (Add name)) = refused_line (codes "attach")
 reply a (Ok (Step count)) = as_line (codes "left 0")
 reply a (Ok Status) = standing_text a.size
 reply a (Ok Quit) = []
-reply a (Ok Unbuilt) = refused_line (codes "unbuilt")
 reply a (Err fault) = refused_line (fault_word fault)
 
 -- the array after a line
@@ -48,10 +49,10 @@ after a (Ok Flush) = flushed a
 after a (Ok Size) = a
 after a (Ok (Lose place)) = a
 after a (Ok (Replace place name)) = a
+after a (Ok (Add name)) = a
 after a (Ok (Step count)) = a
 after a (Ok Status) = a
 after a (Ok Quit) = a
-after a (Ok Unbuilt) = a
 after a (Err fault) = a
 
 -- the reply to a line that is refused at a sector that can't be had
@@ -67,10 +68,10 @@ after_spent a (Ok Flush) at = a
 after_spent a (Ok Size) at = a
 after_spent a (Ok (Lose place)) at = a
 after_spent a (Ok (Replace place name)) at = a
+after_spent a (Ok (Add name)) at = a
 after_spent a (Ok (Step count)) at = a
 after_spent a (Ok Status) at = a
 after_spent a (Ok Quit) at = a
-after_spent a (Ok Unbuilt) at = a
 after_spent a (Err fault) at = a
 
 -- the replies to lines in a row

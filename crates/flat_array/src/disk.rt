@@ -118,11 +118,12 @@ impl FlatDisk {
             Ok(Command::Size) => put_size(alloc, self.size(), out),
             Ok(Command::Lose { .. }) => put_refused(b"no-such-drive", out),
             Ok(Command::Replace { .. }) => put_refused(b"no-such-drive", out),
+            // It has no bay to attach an image from.
+            Ok(Command::Add { .. }) => put_refused(b"attach", out),
             // It has no works of maintenance.
             Ok(Command::Step { .. }) => put_line(b"left 0", out),
             Ok(Command::Status) => put_standing(alloc, self.size(), out),
             Ok(Command::Quit) => Ok(()),
-            Ok(Command::Unbuilt) => put_refused(b"unbuilt", out),
             Err(LineFault::Syntax) => put_refused(b"syntax", out),
             Err(LineFault::Memory) => put_refused(b"memory", out),
         }

@@ -7,6 +7,7 @@ use Rattle.pool_state.specs.declared.contents.Plan.TheVariants.{Nothing}
 use Rattle.pool_state.specs.declared.contents.State.{State}
 use Rattle.pool_state.specs.declared.contents.Work.{Work}
 use Rattle.pool_state.specs.declared.contents.Work.TheVariants.{TakeOver, Begin, Extend, Close}
+use Rattle.growth_plan.specs.declared.ArrayNow.{ArrayNow}
 use Rattle.growth_plan.specs.declared.Progress.{Progress}
 use Rattle.growth_plan.specs.Book.{Standing, standing, height_of}
 use Rattle.growth_plan.specs.Target.{planned, joining, extents_at_end, targets}
@@ -39,7 +40,7 @@ none_rebuilt : (s : State) (xs : List Standing) → flat_map (rebuilds (record s
 none_rebuilt s [] = refl
 none_rebuilt s (x ∷ xs) = none_rebuilt s xs
 
-joins_some : (x : Standing) (place : Option ℕ) → option_map_or (joins x) place [] ≡ [] → place ≡ None
+pub joins_some : (x : Standing) (place : Option ℕ) → option_map_or (joins x) place [] ≡ [] → place ≡ None
 joins_some x None e = refl
 joins_some x (Some place) e =
     let parts = both_nil (if is_mirror x.now then TakeOver x.number ∷ [] else []) (Begin x.number place ∷ reshapes x.number x.now.rows) e in cc (parts.1)
@@ -60,6 +61,11 @@ idle s (x ∷ xs) e =
       ap (λ (n : ℕ). n ∷ map (extents_at_end (record s { plan = Nothing })) xs) same ∙ ap (λ (ns : List ℕ). extents_at_end s x ∷ ns) rest.1,
     )
 
+-- Without the plan the arrays offer what they did, where no array has anything left to take in.
+pub close_targets : (s : State) (arrays : List ArrayNow) → flat_map (growths s) (standing arrays) ≡ [] →
+    targets (record s { plan = Nothing }) arrays ≡ targets s arrays
+close_targets s arrays grown = ap (λ (es : List ℕ). targets_by s es (height_of arrays)) (idle s (standing arrays) grown).1
+
 pub close_done : (s : State) (p : Progress) (w : Work) (more : List Work) → closes s ≡ w ∷ more →
     flat_map (rebuilds s) (standing p.arrays.items) ≡ [] → flat_map (growths s) (standing p.arrays.items) ≡ [] →
     left_after w s p ≡ at_end s p (extends s p) more
@@ -72,8 +78,8 @@ close_done s p w more e rebuilt grown =
     let first : w ≡ Close = cc only in
     let last : [] ≡ more = cc only in
     let quiet = idle s (standing arrays) grown in
-    let target = ap (λ (es : List ℕ). targets_by s es (height_of arrays)) quiet.1 in
-    let extended : extends closed p ≡ extends s p = ap (λ (ts : List ℕ). if nat_lt p.extents (sum ts) then Extend ∷ [] else []) target in
+    let extended : extends closed p ≡ extends s p =
+    ap (λ (ts : List ℕ). if nat_lt p.extents (sum ts) then Extend ∷ [] else []) (close_targets s arrays grown) in
     ap (λ (v : Work). left_after v s p) first
     ∙ in_order-same _ _ _ (makes s arrays) (extends s p) more (flat_map resyncs (standing arrays)) (flat_map (rebuilds closed) (standing arrays))
     (flat_map (growths closed) (standing arrays)) (makes closed arrays) (extends closed p) (closes closed)

@@ -25,7 +25,7 @@ first_least level cut x xs None above is h = h x (yes_least level x xs None abov
 first_least level cut x xs (Some least) above is h = omega (arith, h (min x least) (yes_least level x xs (Some least) above is))
 
 -- a level that no least unit above another is below
-least_from : (level cut : ℕ) (xs : List ℕ) → ((least : ℕ) → least_above level xs ≡ Some least → cut ≤ least) → All (λ x. (x ≤ level) ⊎ (cut ≤ x)) xs
+pub least_from : (level cut : ℕ) (xs : List ℕ) → ((least : ℕ) → least_above level xs ≡ Some least → cut ≤ least) → All (λ x. (x ≤ level) ⊎ (cut ≤ x)) xs
 least_from level cut [] h = All-nil (λ x. (x ≤ level) ⊎ (cut ≤ x))
 least_from level cut (x ∷ xs) h =
     ⊎_elim
@@ -75,7 +75,7 @@ greatest_high level (x ∷ xs) some =
     (λ (long : level ≤ x). omega arith)
     (cases_lt x level)
 
-top_reached : (s : State) (p : Progress) (arrays : List ArrayNow) → arrays ≡ p.arrays.items → IsBook s p → IsSoundBook s p → 1 ≤ length arrays →
+pub top_reached : (s : State) (p : Progress) (arrays : List ArrayNow) → arrays ≡ p.arrays.items → IsBook s p → IsSoundBook s p → 1 ≤ length arrays →
     height_of arrays ≤ greatest (units_of s)
 top_reached s p [] are book sound some = absurd (omega arith)
 top_reached s p (a ∷ arrays) are book sound some =
@@ -89,7 +89,7 @@ top_reached s p (a ∷ arrays) are book sound some =
     let high = greatest_high found.0.top units (omega (arith, found.1.0, found.1.1)) in
     omega (arith, found.2, high)
 
-one_made : (s : State) → is_valid s 0 ≡ true → 1 ≤ s.made
+pub one_made : (s : State) → is_valid s 0 ≡ true → 1 ≤ s.made
 one_made s valid =
     let places = (and_parts (is_extent s.extent) _ valid).1 in
     let rest = (and_parts (has_places s 0) _ places).1 in
@@ -132,7 +132,7 @@ one_above units level cut rises e count =
     above_of units level cut e
     ∙ cond-false (is_redundant (layer_between units (level, cut))) (Some (layer_between units (level, cut))) None alone
 
-two_above : (units : List ℕ) (level cut : ℕ) → level < cut → least_above level units ≡ Some cut → count_above level units ≡ 2 →
+pub two_above : (units : List ℕ) (level cut : ℕ) → level < cut → least_above level units ≡ Some cut → count_above level units ≡ 2 →
     layer_above units level ≡ Some (layer_between units (level, cut))
 two_above units level cut rises e count =
     let pair : is_redundant (layer_between units (level, cut)) ≡ true =
@@ -178,7 +178,7 @@ targets_by_few s p book sound (two f) =
     let whole : sum_by (λ own. min own high) (units_of s) + excess high (units_of s) ≡ sum (units_of s) = parted_at high (units_of s) in
     omega (arith, more, extents, whole, ends_sum s p book sound, f.above, f.most, f.sum)
 
-count_few : (s : State) (p : Progress) → IsSoundBook s p → count_above (height_of p.arrays.items) (units_of s) ≤ 2
+pub count_few : (s : State) (p : Progress) → IsSoundBook s p → count_above (height_of p.arrays.items) (units_of s) ≤ 2
 count_few s p sound =
     let closed = nat_lt s.joined s.made || nat_le 16 s.made in
     let limit = cond_both {A = ℕ} closed 1 2 (λ n. n ≤ 2) (λ h. omega arith) (λ h. omega arith) in
@@ -201,7 +201,7 @@ fewer_above level cut (x ∷ xs) rises =
     (λ (under : x ≤ cut). let a = ap {B = ℕ} (λ b. cond b 1 0) (le-ltb cut x under) in omega (arith, rest, low, high, a))
     (cases_lt cut x)
 
-one_fewer : (level cut : ℕ) (xs : List ℕ) → level < cut → Contains xs cut → count_above cut xs + 1 ≤ count_above level xs
+pub one_fewer : (level cut : ℕ) (xs : List ℕ) → level < cut → Contains xs cut → count_above cut xs + 1 ≤ count_above level xs
 one_fewer level cut [] rises (k, inside, is) = absurd (omega arith)
 one_fewer level cut (x ∷ xs) rises (zero, inside, is) =
     let rest = fewer_above level cut xs rises in
@@ -220,7 +220,7 @@ one_fewer level cut (x ∷ xs) rises (suc k, inside, is) =
     (cases_lt cut x)
 
 -- above a level that at most one drive passes there is no layer
-alone_above : (units : List ℕ) (level : ℕ) → count_above level units ≤ 1 → Few level units → layer_above units level ≡ None
+pub alone_above : (units : List ℕ) (level : ℕ) → count_above level units ≤ 1 → Few level units → layer_above units level ≡ None
 alone_above units level alone (none f) = none_above units level f.least
 alone_above units level alone (one f) = one_above units level (greatest units) f.most f.least f.count
 alone_above units level alone (two f) = absurd (omega (arith, alone, f.count))

@@ -1,10 +1,10 @@
 -- A step of taking the plan's drive into an array is done.
-use Rattle.std.proofs.Common.{◌≡◌, ℕ, pos, ◌+◌, ◌-◌, ◌*◌, ◌&&◌, not, nat_le, List, [], ◌∷◌, ◌++◌, length, replicate, Option, Some, None, is_some, inl, inr, slice_index, Bool, true, false, ◌==◌, if◌then◌else◌, refl, sym, ap, ◌∙◌, arith, ⊎_elim, append-nil, append_assoc}
+use Rattle.std.proofs.Common.{IsPermutation, option_to_list, subst, ◌≡◌, ℕ, pos, ◌+◌, ◌-◌, ◌*◌, ◌&&◌, not, nat_le, List, [], ◌∷◌, ◌++◌, length, replicate, Option, Some, None, is_some, inl, inr, slice_index, Bool, true, false, if◌then◌else◌, refl, sym, ap, ◌∙◌, arith, ⊎_elim, append-nil, append_assoc}
 use Rattle.std.specs.Bool.{then_some}
 use Rattle.std.specs.List.{flat_map}
 use Rattle.std.specs.Option.{option_map_or, option_and_then}
-use Rattle.std.proofs.lemmas.Bool.{cases_Bool, eq-eqb, or_right, and_right, not_from_true}
-use Rattle.std.proofs.lemmas.List.{length-append}
+use Rattle.std.proofs.lemmas.Bool.{cases_Bool, and_right, not_from_true}
+use Rattle.std.proofs.lemmas.List.Sorted.{IsPermutation-refl}
 use Rattle.layer_plan.specs.Slicing.{has}
 use Rattle.pool_state.specs.declared.contents.State.{State}
 use Rattle.pool_state.specs.declared.contents.Work.{Work}
@@ -14,27 +14,25 @@ use Rattle.growth_plan.specs.declared.Progress.{Progress}
 use Rattle.growth_plan.specs.Book.{Standing, standing, units_of, height_of}
 use Rattle.growth_plan.specs.Target.{planned, joining, extents_at_end}
 use Rattle.growth_plan.specs.Works.{resyncs, rebuilds, reshapes, joins, growths, is_mirror, makes, extends, closes, works_left}
-use Rattle.growth_plan.specs.Doing.{change, begun}
+use Rattle.growth_plan.specs.Doing.{Book, after, change, with_arrays, inserted, begun}
+use Rattle.growth_plan.specs.Sound.{ends_with}
 use Rattle.growth_plan.proofs.Heads.{in_order, first_part, first_copy}
 use Rattle.growth_plan.proofs.Parts.{at, first_at, head_gone, swapped}
 use Rattle.growth_plan.proofs.OneArray.{put, array_done}
 use Rattle.growth_plan.proofs.RowsDone.{left_after, change_at}
+use Rattle.growth_plan.proofs.Inserted.{has_inserted, count_inserted, permuted}
 
 -- the array after its first step, and what stays of it
 pub record IsStep (s : State) (p : Progress) (below : List ArrayNow) (x : ArrayNow) (w : Work) (more : List Work) : Type 0 where
   pub to : ArrayNow → ArrayNow
-  pub does : left_after w s p ≡ works_left s (put p (change (length below) to p.arrays.items))
+  pub does : after w s p ≡ with_arrays s p (change (length below) to p.arrays.items)
   pub here : growths s (at below (to x)) ≡ more
   pub level : (to x).height ≡ x.height
   pub young : (to x).zero ≡ x.zero
   pub resync : resyncs (at below (to x)) ≡ resyncs (at below x)
   pub rebuild : rebuilds s (at below (to x)) ≡ rebuilds s (at below x)
   pub ends : extents_at_end s (at below (to x)) ≡ extents_at_end s (at below x)
-
--- a drive that has joined is a member
-has_last : (places : List ℕ) (place : ℕ) → has (places ++ place ∷ []) place ≡ true
-has_last [] place = rw (eq-eqb place place refl) refl
-has_last (q ∷ places) place = or_right (q == place) (has (places ++ place ∷ []) place) (has_last places place)
+  pub members : IsPermutation (ends_with s (at below x)) (ends_with s (at below (to x)))
 
 -- the drive that joins is the plan's
 passing : (test : ℕ → Bool) (o : Option ℕ) (place : ℕ) → option_and_then (λ q. then_some (test q) q) o ≡ Some place → o ≡ Some place
@@ -48,12 +46,12 @@ joining_is s x place e = passing (λ q. nat_le x.top (slice_index (units_of s) q
 joined_no : (s : State) (below : List ArrayNow) (x : ArrayNow) (place : ℕ) → joining s (at below x) ≡ Some place →
     joining s (at below (begun place x)) ≡ None
 joined_no s below x place e =
-    let member : has (x.members.items ++ place ∷ []) place ≡ true = has_last x.members.items place in
+    let member : has (inserted place x.members.items) place ≡ true = has_inserted place x.members.items in
     let reaches = nat_le (height_of below + x.height) (slice_index (units_of s) place) in
-    let fails : (reaches && not (has (x.members.items ++ place ∷ []) place)) ≡ false =
-    and_right reaches (not (has (x.members.items ++ place ∷ []) place)) (not_from_true (has (x.members.items ++ place ∷ []) place) member) in
+    let fails : (reaches && not (has (inserted place x.members.items) place)) ≡ false =
+    and_right reaches (not (has (inserted place x.members.items) place)) (not_from_true (has (inserted place x.members.items) place) member) in
     ap (λ (o : Option ℕ). option_and_then
-    (λ q. then_some (nat_le (height_of below + x.height) (slice_index (units_of s) q) && not (has (x.members.items ++ place ∷ []) q)) q) o)
+    (λ q. then_some (nat_le (height_of below + x.height) (slice_index (units_of s) q) && not (has (inserted place x.members.items) q)) q) o)
     (joining_is s (at below x) place e)
     ∙ ap (λ (b : Bool). then_some b place) fails
 
@@ -67,23 +65,24 @@ step_joining s p below x w more (Some place) is idle e =
     let first : w ≡ TakeOver (length below) = cc e1 in
     record {
       to = λ a. record a { level = pos 5 };
-      does = ap (λ (v : Work). left_after v s p) first;
+      does = ap (λ (v : Work). after v s p) first;
       here = rw idle (ap (λ (o : Option ℕ). option_map_or (joins (at below (record x { level = pos 5 }))) o []) is ∙ cc e1);
       level = refl;
       young = refl;
       resync = refl;
       rebuild = refl;
       ends = refl;
+      members = IsPermutation-refl (ends_with s (at below x));
     })
     (λ (raid : is_mirror x ≡ false).
     let e1 = rw raid at e in
     let first : w ≡ Begin (length below) place = cc e1 in
     let no = joined_no s below x place is in
-    let count : length (x.members.items ++ place ∷ []) + 0 ≡ length x.members.items + 1 =
-    omega (arith, length-append x.members.items (place ∷ [])) in
+    let count : length (inserted place x.members.items) + 0 ≡ length x.members.items + 1 =
+    omega (arith, count_inserted place x.members.items) in
     record {
       to = begun place;
-      does = ap (λ (v : Work). left_after v s p) first;
+      does = ap (λ (v : Work). after v s p) first;
       here =
           ap (λ (o : Option ℕ). reshapes (length below) x.rows ++ option_map_or (joins (at below (begun place x))) o []) no
           ∙ append-nil (reshapes (length below) x.rows) ∙ cc e1;
@@ -92,9 +91,14 @@ step_joining s p below x w more (Some place) is idle e =
       resync = refl;
       rebuild = refl;
       ends =
-          ap (λ (o : Option ℕ). (length (x.members.items ++ place ∷ []) + (if is_some o then 1 else 0) - 1) * x.height) no
+          ap (λ (o : Option ℕ). (length (inserted place x.members.items) + (if is_some o then 1 else 0) - 1) * x.height) no
           ∙ ap (λ (n : ℕ). (n - 1) * x.height) count
           ∙ sym (ap (λ (o : Option ℕ). (length x.members.items + (if is_some o then 1 else 0) - 1) * x.height) is);
+      members =
+          subst (λ (o : Option ℕ). IsPermutation (x.members.items ++ option_to_list o) (ends_with s (at below (begun place x)))) (sym is)
+          (subst (λ (ps : List ℕ). IsPermutation (x.members.items ++ place ∷ []) ps)
+          (sym (ap (λ (o : Option ℕ). inserted place x.members.items ++ option_to_list o) no ∙ append-nil (inserted place x.members.items)))
+          (permuted place x.members.items));
     })
     (cases_Bool (is_mirror x))
 
@@ -110,19 +114,20 @@ step_reshaping s p below x w more others rest on e =
           let others_are : others ≡ more = cc (none.1) in
           record {
             to = λ a. record a { reshaping = false };
-            does = ap (λ (v : Work). left_after v s p) first;
+            does = ap (λ (v : Work). after v s p) first;
             here = rest ∙ others_are;
             level = refl;
             young = refl;
             resync = refl;
             rebuild = refl;
             ends = refl;
+            members = IsPermutation-refl (ends_with s (at below x));
           }
       | inr some ↦
           let copy = first_copy x.reshape row w some.more some.here in
           record {
             to = λ a. record a { reshape = a.reshape - 1 };
-            does = ap (λ (v : Work). left_after v s p) copy.0;
+            does = ap (λ (v : Work). after v s p) copy.0;
             here =
                 rw on
                 (ap (λ (ws : List Work). reshapes n (x.reshape - 1) ++ ws) rest
@@ -133,10 +138,11 @@ step_reshaping s p below x w more others rest on e =
             resync = refl;
             rebuild = refl;
             ends = refl;
+            members = IsPermutation-refl (ends_with s (at below x));
           }
     ]
 
-step : (s : State) (p : Progress) (below : List ArrayNow) (x : ArrayNow) (w : Work) (more : List Work) →
+pub step : (s : State) (p : Progress) (below : List ArrayNow) (x : ArrayNow) (w : Work) (more : List Work) →
     growths s (at below x) ≡ w ∷ more → IsStep s p below x w more
 step s p below x w more e =
     ⊎_elim
@@ -161,4 +167,4 @@ growth_done s p w rest more e behind =
     (swapped (rebuilds s) found.below found.above x y it.level it.rebuild
     ∙ sym (ap (λ (xs : List ArrayNow). flat_map (rebuilds s) (standing xs)) found.arrays_are))
     (head_gone (growths s) found.below found.above x y found.more it.level found.quiet it.here ∙ sym found.behind) in
-    it.does ∙ ap (λ (xs : List ArrayNow). works_left s (put p xs)) news ∙ done ∙ sym behind
+    ap (λ (b : Book). works_left b.state b.progress) it.does ∙ ap (λ (xs : List ArrayNow). works_left s (put p xs)) news ∙ done ∙ sym behind

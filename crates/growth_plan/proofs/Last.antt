@@ -1,7 +1,9 @@
--- A plan is closed last: where that is the first of the works that are left, nothing else is left.
-use Rattle.std.proofs.Common.{◌≡◌, ℕ, zero, suc, ◌==◌, Bool, true, false, nat_lt, if◌then◌else◌, List, [], ◌∷◌, ◌++◌, replicate, is_some, slice_get, sum, Option, Some, None, refl}
+-- The volume is extended and the plan closed last: where one of these is the first of the works that are left, no earlier one is left.
+use Rattle.std.proofs.Common.{◌≡◌, ℕ, zero, suc, ◌<◌, ◌≤◌, ◌==◌, Bool, true, false, nat_lt, if◌then◌else◌, List, [], ◌∷◌, ◌++◌, length, replicate, is_some, slice_get, sum, Option, Some, None, refl, sym, ap, ◌∙◌, arith, ⊎_elim, append_assoc}
 use Rattle.std.specs.List.{flat_map}
 use Rattle.std.specs.Option.{option_map_or}
+use Rattle.std.proofs.lemmas.Bool.{cases_Bool, cases_lt, cond-true, lt-ltb}
+use Rattle.std.proofs.lemmas.List.{length-append, nil_from_length}
 use Rattle.pool_state.specs.declared.contents.State.{State}
 use Rattle.pool_state.specs.declared.contents.Work.{Work}
 use Rattle.pool_state.specs.declared.contents.Work.TheVariants.{Resync, Rebuild, TakeOver, Begin, Reshape, Finish, Make, Zero, Ready, Extend, Close}
@@ -11,12 +13,30 @@ use Rattle.growth_plan.specs.Book.{Standing, standing}
 use Rattle.growth_plan.specs.Target.{joining, new_layer, planned, targets}
 use Rattle.growth_plan.specs.Works.{resyncs, rebuilt, rebuilds, rebuilds_on, reshapes, is_mirror, joins, growths, growths_by, rows_of, zeros, makes, extends, closes, works_left}
 
--- works that don't begin with it
+-- the last works of all
+abbrev is_end : Work → Bool
+is_end (Resync n) = false
+is_end (Rebuild n place) = false
+is_end (TakeOver n) = false
+is_end (Begin n place) = false
+is_end (Reshape n) = false
+is_end (Finish n) = false
+is_end (Make n height) = false
+is_end (Zero n) = false
+is_end (Ready n) = false
+is_end Extend = true
+is_end Close = true
+
+-- works that don't begin with one of them
 abbrev IsEarlier : List Work → Type 0
-IsEarlier works = slice_get works 0 ≡ Some Close → ⊥
+IsEarlier works = (w : Work) → slice_get works 0 ≡ Some w → is_end w ≡ false
 
 none_early : IsEarlier []
-none_early = λ first. cc first
+none_early = λ w first. cc first
+
+-- a work with others behind it
+one_early : (v : Work) (works : List Work) → is_end v ≡ false → IsEarlier (v ∷ works)
+one_early v works early = λ w first. let same : v ≡ w = cc first in ap is_end (sym same) ∙ early
 
 both_early : (xs ys : List Work) → IsEarlier xs → IsEarlier ys → IsEarlier (xs ++ ys)
 both_early [] ys one two = two
@@ -34,24 +54,25 @@ each_early : {X : Type 0} (f : X → List Work) (xs : List X) → ((x : X) → I
 each_early f [] each = none_early
 each_early f (x ∷ xs) each = both_early (f x) (flat_map f xs) (each x) (each_early f xs each)
 
-copies_early : (k : ℕ) (w : Work) → (w ≡ Close → ⊥) → IsEarlier (replicate k w)
-copies_early zero w other = none_early
-copies_early (suc k) w other = λ first. other (cc first)
+copies_early : (k : ℕ) (w : Work) → is_end w ≡ false → IsEarlier (replicate k w)
+copies_early zero w early = none_early
+copies_early (suc k) w early = one_early w (replicate k w) early
 
 -- ---- the parts before it
 
 rebuilds_early : (place : Option ℕ) (x : Standing) → IsEarlier (rebuilds_on place x)
 rebuilds_early place x =
     maybe_early (λ p. if x.now.rebuilding == p then replicate x.now.rebuild (Rebuild x.number p) else []) place
-    (λ p. either_early (x.now.rebuilding == p) (replicate x.now.rebuild (Rebuild x.number p)) [] (copies_early x.now.rebuild (Rebuild x.number p) (λ is. cc is)) none_early)
+    (λ p. either_early (x.now.rebuilding == p) (replicate x.now.rebuild (Rebuild x.number p)) [] (copies_early x.now.rebuild (Rebuild x.number p) refl) none_early)
 
 reshapes_early : (number rows : ℕ) → IsEarlier (reshapes number rows)
-reshapes_early number rows = both_early (replicate rows (Reshape number)) (Finish number ∷ []) (copies_early rows (Reshape number) (λ is. cc is)) (λ first. cc first)
+reshapes_early number rows = both_early (replicate rows (Reshape number)) (Finish number ∷ []) (copies_early rows (Reshape number) refl) (one_early (Finish number) [] refl)
 
 joins_early : (x : Standing) (place : ℕ) → IsEarlier (joins x place)
 joins_early x place =
     both_early (if is_mirror x.now then TakeOver x.number ∷ [] else []) (Begin x.number place ∷ reshapes x.number x.now.rows)
-    (either_early (is_mirror x.now) (TakeOver x.number ∷ []) [] (λ first. cc first) none_early) (λ first. cc first)
+    (either_early (is_mirror x.now) (TakeOver x.number ∷ []) [] (one_early (TakeOver x.number) [] refl) none_early)
+    (one_early (Begin x.number place) (reshapes x.number x.now.rows) refl)
 
 growths_early : (place : Option ℕ) (x : Standing) → IsEarlier (growths_by place x)
 growths_early place x =
@@ -60,44 +81,122 @@ growths_early place x =
     (maybe_early (joins x) place (joins_early x))
 
 zeros_early : (number rows : ℕ) → IsEarlier (zeros number rows)
-zeros_early number rows = both_early (replicate rows (Zero number)) (Ready number ∷ []) (copies_early rows (Zero number) (λ is. cc is)) (λ first. cc first)
+zeros_early number rows = both_early (replicate rows (Zero number)) (Ready number ∷ []) (copies_early rows (Zero number) refl) (one_early (Ready number) [] refl)
 
 makes_early : (s : State) (arrays : List ArrayNow) → IsEarlier (makes s arrays)
 makes_early s arrays =
     either_early (nat_lt s.joined s.made) (zeros s.joined (option_map_or (λ array. array.zero) (slice_get arrays s.joined) 0))
     (option_map_or (λ layer. Make s.made layer.height ∷ zeros s.made (rows_of s layer.height)) (new_layer s arrays) [])
     (zeros_early s.joined (option_map_or (λ array. array.zero) (slice_get arrays s.joined) 0))
-    (maybe_early (λ layer. Make s.made layer.height ∷ zeros s.made (rows_of s layer.height)) (new_layer s arrays) (λ layer first. cc first))
-
-extends_early : (s : State) (p : Progress) → IsEarlier (extends s p)
-extends_early s p = either_early (nat_lt p.extents (sum (targets s p.arrays.items))) (Extend ∷ []) [] (λ first. cc first) none_early
+    (maybe_early (λ layer. Make s.made layer.height ∷ zeros s.made (rows_of s layer.height)) (new_layer s arrays)
+    (λ layer. one_early (Make s.made layer.height) (zeros s.made (rows_of s layer.height)) refl))
 
 -- ---- all works
 
--- where they begin with it there are no others
-abbrev IsAlone : List Work → Type 0
-IsAlone works = slice_get works 0 ≡ Some Close → works ≡ Close ∷ []
+-- where they begin with one of the last works, only these are left
+abbrev AreEnds : List Work → List Work → Type 0
+AreEnds ends works = (w : Work) → slice_get works 0 ≡ Some w → is_end w ≡ true → works ≡ ends
 
-behind : (xs ys : List Work) → IsEarlier xs → IsAlone ys → IsAlone (xs ++ ys)
-behind [] ys early alone = alone
-behind (x ∷ xs) ys early alone = λ first. absurd (early first)
+behind : (ends xs ys : List Work) → IsEarlier xs → AreEnds ends ys → AreEnds ends (xs ++ ys)
+behind ends [] ys early rest = rest
+behind ends (x ∷ xs) ys early rest = λ w first last. cc (early w first, last)
 
-closes_alone : (s : State) → IsAlone (closes s)
-closes_alone s = by (is_some (planned s.plan))
-  where
-    by : (b : Bool) → IsAlone (if b then Close ∷ [] else [])
-    by true first = refl
-    by false first = absurd (none_early first)
-
-pub close_alone : (s : State) (p : Progress) → slice_get (works_left s p) 0 ≡ Some Close → works_left s p ≡ Close ∷ []
-close_alone s p =
+ends_alone : (s : State) (p : Progress) → AreEnds (extends s p ++ closes s) (works_left s p)
+ends_alone s p =
     let arrays = standing p.arrays.items in
     let r = flat_map resyncs arrays in
     let b = flat_map (rebuilds s) arrays in
     let g = flat_map (growths s) arrays in
     let m = makes s p.arrays.items in
-    let e = extends s p in
-    behind r (b ++ (g ++ (m ++ (e ++ closes s)))) (each_early resyncs arrays (λ x. copies_early x.now.resync (Resync x.number) (λ is. cc is)))
-    (behind b (g ++ (m ++ (e ++ closes s))) (each_early (rebuilds s) arrays (rebuilds_early (rebuilt s)))
-    (behind g (m ++ (e ++ closes s)) (each_early (growths s) arrays (λ x. growths_early (joining s x) x))
-    (behind m (e ++ closes s) (makes_early s p.arrays.items) (behind e (closes s) (extends_early s p) (closes_alone s)))))
+    let e = extends s p ++ closes s in
+    behind e r (b ++ (g ++ (m ++ e))) (each_early resyncs arrays (λ x. copies_early x.now.resync (Resync x.number) refl))
+    (behind e b (g ++ (m ++ e)) (each_early (rebuilds s) arrays (rebuilds_early (rebuilt s)))
+    (behind e g (m ++ e) (each_early (growths s) arrays (λ x. growths_early (joining s x) x))
+    (behind e m e (makes_early s p.arrays.items) (λ w first last. refl))))
+
+-- the two of them
+close_of : (b c : Bool) → slice_get ((if b then Extend ∷ [] else []) ++ (if c then Close ∷ [] else [])) 0 ≡ Some Close →
+    (if b then Extend ∷ [] else []) ++ (if c then Close ∷ [] else []) ≡ Close ∷ []
+close_of true c first = cc first
+close_of false true first = refl
+close_of false false first = cc first
+
+extend_of : (b : Bool) (works : List Work) → (slice_get works 0 ≡ Some Extend → ⊥) → slice_get ((if b then Extend ∷ [] else []) ++ works) 0 ≡ Some Extend →
+    (if b then Extend ∷ [] else []) ++ works ≡ Extend ∷ works
+extend_of true works other first = refl
+extend_of false works other first = absurd (other first)
+
+no_extend : (c : Bool) → slice_get (if c then Close ∷ [] else []) 0 ≡ Some Extend → ⊥
+no_extend true first = cc first
+no_extend false first = cc first
+
+-- Where the plan's end is the first work that is left, nothing else is left.
+pub close_alone : (s : State) (p : Progress) → slice_get (works_left s p) 0 ≡ Some Close → works_left s p ≡ Close ∷ []
+close_alone s p first =
+    let ends = ends_alone s p Close first refl in
+    ends
+    ∙ close_of (nat_lt p.extents (sum (targets s p.arrays.items))) (is_some (planned s.plan))
+    (ap (λ (ws : List Work). slice_get ws 0) (sym ends) ∙ first)
+
+-- Where the volume's extension is the first, only the plan's end follows.
+pub extend_last : (s : State) (p : Progress) → slice_get (works_left s p) 0 ≡ Some Extend → works_left s p ≡ Extend ∷ closes s
+extend_last s p first =
+    let ends = ends_alone s p Extend first refl in
+    ends
+    ∙ extend_of (nat_lt p.extents (sum (targets s p.arrays.items))) (closes s) (no_extend (is_some (planned s.plan)))
+    (ap (λ (ws : List Work). slice_get ws 0) (sym ends) ∙ first)
+
+-- ---- one work at most
+
+-- Where at most one work is left, the volume has all that the arrays offer. Without a plan it has so beforehand.
+pub last_works : (s : State) (p : Progress) → (is_some (planned s.plan) ≡ false → sum (targets s p.arrays.items) ≤ p.extents) →
+    length (works_left s p) ≤ 1 → sum (targets s p.arrays.items) ≤ p.extents
+last_works s p closed few =
+    let arrays = standing p.arrays.items in
+    let r = flat_map resyncs arrays in
+    let b = flat_map (rebuilds s) arrays in
+    let g = flat_map (growths s) arrays in
+    let m = makes s p.arrays.items in
+    let total = sum (targets s p.arrays.items) in
+    ⊎_elim
+    (λ (more : p.extents < total).
+    let extend = ap (λ (ws : List Work). length ws) (cond-true {A = List Work} (nat_lt p.extents total) (Extend ∷ []) [] (lt-ltb p.extents total more)) in
+    let pending = ⊎_elim (λ (yes : is_some (planned s.plan) ≡ true). yes)
+    (λ (no : is_some (planned s.plan) ≡ false). absurd (omega (arith, more, closed no))) (cases_Bool (is_some (planned s.plan))) in
+    let close = ap (λ (ws : List Work). length ws) (cond-true {A = List Work} (is_some (planned s.plan)) (Close ∷ []) [] pending) in
+    absurd (omega (
+      arith,
+      few,
+      extend,
+      close,
+      length-append r (b ++ (g ++ (m ++ (extends s p ++ closes s)))),
+      length-append b (g ++ (m ++ (extends s p ++ closes s))),
+      length-append g (m ++ (extends s p ++ closes s)),
+      length-append m (extends s p ++ closes s),
+      length-append (extends s p) (closes s),
+    )))
+    (λ (all : total ≤ p.extents). all)
+    (cases_lt p.extents total)
+
+-- A plan's last work is its end.
+pub last_closes : (s : State) (p : Progress) → is_some (planned s.plan) ≡ true → length (works_left s p) ≤ 1 → works_left s p ≡ Close ∷ []
+last_closes s p pending few =
+    let all = last_works s p (λ no. cc (pending, no)) few in
+    let total = sum (targets s p.arrays.items) in
+    let arrays = standing p.arrays.items in
+    let front = flat_map resyncs arrays ++ (flat_map (rebuilds s) arrays ++ (flat_map (growths s) arrays ++ (makes s p.arrays.items ++ extends s p))) in
+    let are : works_left s p ≡ front ++ (Close ∷ []) =
+    ap
+    (λ (ws : List Work). flat_map resyncs arrays ++ (flat_map (rebuilds s) arrays ++ (flat_map (growths s) arrays ++ (makes s p.arrays.items ++ (extends s p ++ ws)))))
+    (cond-true {A = List Work} (is_some (planned s.plan)) (Close ∷ []) [] pending)
+    ∙ ap (λ (ws : List Work). flat_map resyncs arrays ++ (flat_map (rebuilds s) arrays ++ (flat_map (growths s) arrays ++ ws)))
+    (sym (append_assoc (makes s p.arrays.items) (extends s p) (Close ∷ [])))
+    ∙ ap (λ (ws : List Work). flat_map resyncs arrays ++ (flat_map (rebuilds s) arrays ++ ws))
+    (sym (append_assoc (flat_map (growths s) arrays) (makes s p.arrays.items ++ extends s p) (Close ∷ [])))
+    ∙ ap (λ (ws : List Work). flat_map resyncs arrays ++ ws)
+    (sym (append_assoc (flat_map (rebuilds s) arrays) (flat_map (growths s) arrays ++ (makes s p.arrays.items ++ extends s p)) (Close ∷ [])))
+    ∙ sym (append_assoc (flat_map resyncs arrays) (flat_map (rebuilds s) arrays ++ (flat_map (growths s) arrays ++ (makes s p.arrays.items ++ extends s p))) (Close ∷ [])) in
+    let none : front ≡ [] =
+    nil_from_length front
+    (omega (arith, few, length-append front (Close ∷ []), ap (λ (ws : List Work). length ws) are)) in
+    are ∙ ap (λ (ws : List Work). ws ++ Close ∷ []) none

@@ -8,6 +8,7 @@ pub mod Heads
 pub mod Parts
 pub mod OneArray
 pub mod RowsDone
+pub mod Inserted
 pub mod GrowthDone
 pub mod ZerosDone
 pub mod MakeDone
@@ -20,3 +21,13 @@ pub mod Sums
 pub mod Greatest
 pub mod Best
 pub mod Kept
+pub mod GrowthLeft
+pub mod FirstWork
+pub mod TargetsAfter
+pub mod SoundAlike
+pub mod SoundAfter
+pub mod Admitted
+pub mod SoundAdded
+pub mod SoundReplaced
+pub mod Settled
+pub mod OthersAbove

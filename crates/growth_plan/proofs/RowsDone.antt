@@ -45,7 +45,7 @@ resync_done s p w rest more e behind =
     ∙ ap (λ (xs : List ArrayNow). works_left s (put p xs)) news ∙ done ∙ sym behind
 
 -- the first row left to rebuild of one array
-first_rebuild : (place : Option ℕ) (below : List ArrayNow) (x : ArrayNow) (w : Work) (more : List Work) → rebuilds_on place (at below x) ≡ w ∷ more →
+pub first_rebuild : (place : Option ℕ) (below : List ArrayNow) (x : ArrayNow) (w : Work) (more : List Work) → rebuilds_on place (at below x) ≡ w ∷ more →
     (on : ℕ) × (w ≡ Rebuild (length below) on) × (rebuilds_on place (at below (row_rebuilt x)) ≡ more)
 first_rebuild None below x w more e = cc
 first_rebuild (Some place) below x w more e =

@@ -54,7 +54,7 @@ heights number level (a ∷ above) =
       sum_by-cons (λ (x : Standing). x.now.height) (record { number = number; top = level + a.height; now = a }) (standing_from (number + 1) (level + a.height) above),
     )
 
-one_more : (o : Option ℕ) → length (option_to_list o) ≡ (if is_some o then 1 else 0)
+pub one_more : (o : Option ℕ) → length (option_to_list o) ≡ (if is_some o then 1 else 0)
 one_more None = refl
 one_more (Some place) = refl
 

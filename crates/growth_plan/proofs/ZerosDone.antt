@@ -32,32 +32,42 @@ after_makes s p more =
 pub none_while_young : (s : State) (arrays : List ArrayNow) → nat_lt s.joined s.made ≡ true → new_layer s arrays ≡ None
 none_while_young s arrays young = rw young refl
 
+-- no layer is left to make once it is ready
+pub ready_none : (s : State) (arrays : List ArrayNow) → nat_lt s.joined s.made ≡ true → HasOneLayer s arrays →
+    new_layer (record s { joined = s.made }) arrays ≡ None
+ready_none s arrays young one =
+    let none : layer_above (units_of s) (height_of arrays) ≡ None =
+    ap (λ (h : ℕ). layer_above (units_of s) h) (sym (add-zero (height_of arrays)))
+    ∙ ap (λ (o : Option Layer). layer_above (units_of s) (height_of arrays + option_map_or (λ layer. layer.height) o 0)) (sym (none_while_young s arrays young))
+    ∙ one.no_other in
+    cond_both (nat_lt s.made s.made || nat_le 16 s.made) None (layer_above (units_of s) (height_of arrays)) (λ (o : Option Layer). o ≡ None)
+    (λ e. refl) (λ e. none)
+
+-- The arrays offer then what they did.
+pub ready_targets : (s : State) (arrays : List ArrayNow) → nat_lt s.joined s.made ≡ true → HasOneLayer s arrays →
+    targets (record s { joined = s.made }) arrays ≡ targets s arrays
+ready_targets s arrays young one =
+    ap (λ (o : Option Layer). map (extents_at_end s) (standing arrays) ++ option_map_or (λ layer. layer.extents ∷ []) o [])
+    (ready_none s arrays young one ∙ sym (none_while_young s arrays young))
+
 pub ready_done : (s : State) (p : Progress) → nat_lt s.joined s.made ≡ true → HasOneLayer s p.arrays.items →
     left_after (Ready s.joined) s p ≡ after_makes s p []
 ready_done s p young one =
     let arrays = p.arrays.items in
     let ready : State = record s { joined = s.made } in
-    let old = none_while_young s arrays young in
-    let none : layer_above (units_of s) (height_of arrays) ≡ None =
-    ap (λ (h : ℕ). layer_above (units_of s) h) (sym (add-zero (height_of arrays)))
-    ∙ ap (λ (o : Option Layer). layer_above (units_of s) (height_of arrays + option_map_or (λ layer. layer.height) o 0)) (sym old) ∙ one.no_other in
-    let new : new_layer ready arrays ≡ None =
-    cond_both (nat_lt s.made s.made || nat_le 16 s.made) None (layer_above (units_of s) (height_of arrays)) (λ (o : Option Layer). o ≡ None)
-    (λ e. refl) (λ e. none) in
     let made : makes ready arrays ≡ [] =
     cond-false (nat_lt s.made s.made) (zeros s.made (zero_at arrays s.made))
     (option_map_or (λ layer. Make s.made layer.height ∷ zeros s.made (rows_of s layer.height)) (new_layer ready arrays) [])
     (le-ltb s.made s.made (omega arith))
-    ∙ ap (λ (o : Option Layer). option_map_or (λ layer. Make s.made layer.height ∷ zeros s.made (rows_of s layer.height)) o []) new in
-    let target : targets ready arrays ≡ targets s arrays =
-    ap (λ (o : Option Layer). map (extents_at_end s) (standing arrays) ++ option_map_or (λ layer. layer.extents ∷ []) o []) (new ∙ sym old) in
-    let extended : extends ready p ≡ extends s p = ap (λ (ts : List ℕ). if nat_lt p.extents (sum ts) then Extend ∷ [] else []) target in
+    ∙ ap (λ (o : Option Layer). option_map_or (λ layer. Make s.made layer.height ∷ zeros s.made (rows_of s layer.height)) o []) (ready_none s arrays young one) in
+    let extended : extends ready p ≡ extends s p =
+    ap (λ (ts : List ℕ). if nat_lt p.extents (sum ts) then Extend ∷ [] else []) (ready_targets s arrays young one) in
     in_order-same _ _ _ [] (extends s p) (closes s) (flat_map resyncs (standing arrays)) (flat_map (rebuilds ready) (standing arrays))
     (flat_map (growths ready) (standing arrays)) (makes ready arrays) (extends ready p) (closes ready)
     refl refl refl made extended refl
 
 -- the rows of an array that stands there
-found_zero : (arrays : List ArrayNow) (i : ℕ) (array : Option ArrayNow) (w : Work) (more : List Work) → slice_get arrays i ≡ array →
+pub found_zero : (arrays : List ArrayNow) (i : ℕ) (array : Option ArrayNow) (w : Work) (more : List Work) → slice_get arrays i ≡ array →
     replicate (option_map_or (λ (a : ArrayNow). a.zero) array 0) (Zero i) ≡ w ∷ more → (x : ArrayNow) × (slice_get arrays i ≡ Some x)
 found_zero arrays i None w more is e = cc
 found_zero arrays i (Some x) w more is e = (x, is)

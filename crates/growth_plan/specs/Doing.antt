@@ -1,5 +1,5 @@
 -- A book after a work. The epoch of the state, which each change of it raises, has no part in the works and stays here.
-use Rattle.std.specs.Prelude.{◌≡◌, ℕ, pos, ◌+◌, ◌-◌, Bool, true, false, ◌==◌, if◌then◌else◌, List, [], ◌∷◌, ◌++◌, length, map, sum, None}
+use Rattle.std.specs.Prelude.{◌≡◌, ℕ, pos, ◌+◌, ◌-◌, Bool, true, false, ◌==◌, nat_lt, if◌then◌else◌, List, [], ◌∷◌, ◌++◌, length, map, sum, None}
 use Rattle.std.specs.List.{enumerate_from}
 use Rattle.std.specs.Option.{option_map_or}
 use Rattle.pool_state.specs.declared.contents.Plan.TheVariants.{Nothing}
@@ -28,8 +28,13 @@ with_arrays s p arrays = record { state = s; progress = record p { arrays = reco
 abbrev pub row_rebuilt : ArrayNow → ArrayNow
 row_rebuilt a = record a { rebuild = a.rebuild - 1; rebuilding = if a.rebuild == 1 then 0 else a.rebuilding }
 
+-- a place among others, which are in ascending order
+abbrev pub inserted : ℕ → List ℕ → List ℕ
+inserted place [] = place ∷ []
+inserted place (other ∷ places) = if nat_lt place other then place ∷ other ∷ places else other ∷ inserted place places
+
 abbrev pub begun : ℕ → ArrayNow → ArrayNow
-begun place a = record a { members = record { items = a.members.items ++ place ∷ [] }; reshaping = true; reshape = a.rows }
+begun place a = record a { members = record { items = inserted place a.members.items }; reshaping = true; reshape = a.rows }
 
 -- a new array between all others and a level so far above them, with no row written yet
 abbrev pub new_array : State → List ArrayNow → ℕ → ArrayNow

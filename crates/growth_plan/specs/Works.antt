@@ -73,6 +73,10 @@ extends s p = if nat_lt p.extents (sum (targets s p.arrays.items)) then Extend �
 abbrev pub closes : State → List Work
 closes s = if is_some (planned s.plan) then Close ∷ [] else []
 
+-- what is left of a growth: all works but rows to resync and to rebuild, and the plan's end
+abbrev pub grows : State → Progress → List Work
+grows s p = flat_map (growths s) (standing p.arrays.items) ++ (makes s p.arrays.items ++ extends s p)
+
 -- all works that are left, in the order in which they are done
 abbrev pub works_left : State → Progress → List Work
 works_left s p =

@@ -11,14 +11,14 @@
 //! memory, and each answers for every book, also for one whose parts disagree.
 #![tactic(auto)]
 
-ghost use Rattle.std.specs.Prelude.{◌≡◌, ℕ, ◌+◌, ◌-◌, ◌*◌, ◌^◌, ◌<◌, ◌≤◌, true, length, drop, slice_get, slice_index, sum, IfSome};
+ghost use Rattle.std.specs.Prelude.{◌≡◌, ℕ, ◌+◌, ◌-◌, ◌*◌, ◌^◌, ◌<◌, ◌≤◌, true, nat_lt, length, drop, slice_get, slice_index, sum, IfSome};
 ghost use Rattle.growth_plan.specs.declared.ArrayNow.{ArrayNow};
 ghost use Rattle.std.specs.Result.{result_err};
 ghost use Rattle.layer_plan.specs.Slicing.{IsBest};
 ghost use Rattle.growth_plan.specs.Book.{IsBook, units_of};
 ghost use Rattle.growth_plan.specs.Sound.{IsSoundBook};
 ghost use Rattle.growth_plan.specs.Target.{targets};
-ghost use Rattle.growth_plan.specs.Works.{works_left};
+ghost use Rattle.growth_plan.specs.Works.{grows, works_left};
 ghost use Rattle.growth_plan.specs.Doing.{after, HasOneLayer, is_of_layer};
 ghost use Rattle.growth_plan.specs.Admission.{add_refusals, replace_refusals, first_refusal};
 
@@ -152,6 +152,14 @@ pub fn left(state: &State, progress: &Progress) -> u64
     ensures { result ≡ length (works_left state.now progress.now) }
 {
     works::tally(state, progress).count
+}
+
+/// Whether a work of a growth is left: any but a row to resync or to rebuild, and the plan's end.
+pub fn has_growth(state: &State, progress: &Progress) -> bool
+    requires { IsBook state.now progress.now }
+    ensures { result ≡ nat_lt 0 (length (grows state.now progress.now)) }
+{
+    works::growth(state, progress).count > 0
 }
 
 /// The extents that each array offers to the volume at the plan's end, the lowest array first.

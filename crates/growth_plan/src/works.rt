@@ -6,7 +6,7 @@ ghost use Rattle.pool_state.specs.Valid.{has_places};
 ghost use Rattle.growth_plan.specs.Book.{IsBook, IsSmall, standing};
 ghost use Rattle.growth_plan.specs.Target.{targets};
 ghost use Rattle.growth_plan.specs.Tally.{IsTally, Appends};
-ghost use Rattle.growth_plan.specs.Works.{resyncs, rebuilt, rebuilds_on, rebuilds, reshapes, joins, growths_by, growths, is_mirror, rows_of, zeros, makes, extends, closes, works_left};
+ghost use Rattle.growth_plan.specs.Works.{resyncs, rebuilt, rebuilds_on, rebuilds, reshapes, joins, growths_by, growths, is_mirror, rows_of, zeros, makes, extends, closes, grows, works_left};
 
 use crate::layers::{joining, new_layer, planned};
 use crate::tally::Tally;
@@ -26,6 +26,18 @@ pub(crate) fn tally(state: &State, progress: &Progress) -> Tally
     append_makes(&mut tally, state, progress);
     append_end(&mut tally, state, progress);
     tally
+}
+
+/// What is left of a growth, from the first work to the last.
+pub(crate) fn growth(state: &State, progress: &Progress) -> Tally
+    requires { IsBook state.now progress.now }
+    ensures { result.count ≡ length (grows state.now progress.now) }
+{
+    let mut left = Tally::new();
+    append_growths(&mut left, state, &progress.arrays);
+    append_makes(&mut left, state, progress);
+    append_extension(&mut left, state, progress);
+    left
 }
 
 /// Each row left to resync.
@@ -175,14 +187,22 @@ fn append_zeros(tally: &mut Tally, number: u32, rows: u64)
     tally.append(Work::Ready { array: number }, 1);
 }
 
+/// The volume's extension, where it gains extents.
+fn append_extension(tally: &mut Tally, state: &State, progress: &Progress)
+    requires { IsBook state.now progress.now }
+    ensures { Appends tally.old tally.new (extends state.now progress.now) }
+{
+    if progress.extents < extents_at_end(state, progress) {
+        tally.append(Work::Extend, 1);
+    }
+}
+
 /// The volume's extension, where it gains extents, and the plan's end.
 fn append_end(tally: &mut Tally, state: &State, progress: &Progress)
     requires { IsBook state.now progress.now }
     ensures { Appends tally.old tally.new (extends state.now progress.now ++ closes state.now) }
 {
-    if progress.extents < extents_at_end(state, progress) {
-        tally.append(Work::Extend, 1);
-    }
+    append_extension(tally, state, progress);
     if planned(&state.plan).is_some() {
         tally.append(Work::Close, 1);
     }

@@ -30,14 +30,15 @@ use Rattle.pool_format.specs.declared.Birth.{Birth}
 use Rattle.pool_format.specs.declared.planning.NewArray.{NewArray}
 use Rattle.pool_format.specs.declared.planning.NewPool.{NewPool}
 use Rattle.pool_format.specs.Data.{IsMemberData, array_sector}
-use Rattle.pool_format.specs.Parts.{new_roles, new_state, new_super, role_of}
+use Rattle.new_array.specs.Supers.{new_roles, role_of}
+use Rattle.pool_format.specs.Parts.{new_state, new_super}
 use Rattle.pool_format.specs.Plan.{has}
 use Rattle.pool_format.proofs.Founded.{drive_current}
 use Rattle.pool_format.proofs.Opening.{members_few, position_member}
 use Rattle.pool_format.proofs.Extents.{extent_chunks}
 use Rattle.pool_format.proofs.Units.{extent_bounds}
 use Rattle.pool_format.proofs.Lists.{got}
-use Rattle.pool_format.proofs.Roles.{named_at, role_low, role_spare}
+use Rattle.new_array.proofs.Roles.{named_at, role_low, role_spare}
 use Rattle.pool_format.proofs.Supers.{roles_ok}
 use Rattle.new_pool.specs.Contents.{IsNewPool}
 use Rattle.new_pool.proofs.Identities.{copy_here}

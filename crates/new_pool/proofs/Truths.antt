@@ -25,7 +25,8 @@ use Rattle.pool_format.specs.declared.planning.NewPool.{NewPool}
 use Rattle.pool_format.specs.Parts.{new_state, new_super}
 use Rattle.pool_format.specs.Plan.{IsNewArray, array_with, arrays_from, has}
 use Rattle.pool_format.proofs.Founded.{drive_current, state_drives}
-use Rattle.pool_format.proofs.Lists.{filtered, first_has, no_element}
+use Rattle.new_array.proofs.Lists.{filtered}
+use Rattle.pool_format.proofs.Lists.{first_has, no_element}
 use Rattle.pool_format.proofs.Opening.{members_few}
 use Rattle.pool_format.proofs.Supers.{profile_ok, roles_ok}
 use Rattle.pool_format.proofs.Units.{extent_bounds}

@@ -34,7 +34,7 @@ use Rattle.pool_format.specs.Plan.{has}
 use Rattle.pool_format.proofs.Founded.{drive_at, drive_current, state_drives}
 use Rattle.pool_format.proofs.Lists.{got, no_element}
 use Rattle.pool_format.proofs.Opening.{members_few}
-use Rattle.pool_format.proofs.Roles.{named_at}
+use Rattle.new_array.proofs.Roles.{named_at}
 use Rattle.new_pool.specs.Contents.{IsNewPool}
 use Rattle.new_pool.proofs.Identities.{copied_at, seat_at, silent_at, table_said}
 use Rattle.log_laws.proofs.FirstGate.{closed_gate}

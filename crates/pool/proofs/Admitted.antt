@@ -30,7 +30,7 @@ use Rattle.pool.specs.Works.{arrays_now}
 
 -- ---- where none applies
 
-cause_none : (fault : GrowFault) (cause : Bool) (rest : List (GrowFault × Bool)) → first_cause ((fault, cause) ∷ rest) ≡ None → (cause ≡ false) × (first_cause rest ≡ None)
+pub cause_none : (fault : GrowFault) (cause : Bool) (rest : List (GrowFault × Bool)) → first_cause ((fault, cause) ∷ rest) ≡ None → (cause ≡ false) × (first_cause rest ≡ None)
 cause_none fault true rest is = absurd (let bad : Some fault ≡ None = is in cc bad)
 cause_none fault false rest is = (refl, is)
 
@@ -41,7 +41,7 @@ standing_none a b d e is =
     let three = cause_none NotResynced d ((Unbuilt, e) ∷ []) two.1 in
     (two.0, (cause_none Unbuilt e [] three.1).0)
 
-plan_none : (fault : AdmitFault) (cause : Bool) (rest : List (AdmitFault × Bool)) → first_refusal ((fault, cause) ∷ rest) ≡ None → (cause ≡ false) × (first_refusal rest ≡ None)
+pub plan_none : (fault : AdmitFault) (cause : Bool) (rest : List (AdmitFault × Bool)) → first_refusal ((fault, cause) ∷ rest) ≡ None → (cause ≡ false) × (first_refusal rest ≡ None)
 plan_none fault true rest is = absurd (let bad : Some fault ≡ None = is in cc bad)
 plan_none fault false rest is = (refl, is)
 
@@ -51,15 +51,15 @@ plans_none a b c d is =
     let two = plan_none OfSmaller b ((OfDrives, c) ∷ (OfLayers, d) ∷ []) one.1 in
     (plan_none OfDrives c ((OfLayers, d) ∷ []) two.1).0
 
-or_none : {X : Type 0} (a b : Option X) → option_or a b ≡ None → (a ≡ None) × (b ≡ None)
+pub or_none : {X : Type 0} (a b : Option X) → option_or a b ≡ None → (a ≡ None) × (b ≡ None)
 or_none None b is = (refl, is)
 or_none (Some x) b is = absurd (let bad : Some x ≡ None = is in cc bad)
 
-map_none : (o : Option AdmitFault) → option_map fault_of o ≡ None → o ≡ None
+pub map_none : (o : Option AdmitFault) → option_map fault_of o ≡ None → o ≡ None
 map_none None is = refl
 map_none (Some fault) is = absurd (let bad : Some (fault_of fault) ≡ None = is in cc bad)
 
-not_false : (b : Bool) → not b ≡ false → b ≡ true
+pub not_false : (b : Bool) → not b ≡ false → b ≡ true
 not_false true is = refl
 not_false false is = sym is
 
@@ -84,7 +84,7 @@ admitted l v place sectors is =
 
 -- ---- what follows
 
-any_at : (p : Drive → Bool) (xs : List Drive) (k : ℕ) (d : Drive) → list_any p xs ≡ false → slice_get xs k ≡ Some d → p d ≡ false
+pub any_at : (p : Drive → Bool) (xs : List Drive) (k : ℕ) (d : Drive) → list_any p xs ≡ false → slice_get xs k ≡ Some d → p d ≡ false
 any_at p [] k d none at = absurd (let bad : None ≡ Some d = at in cc bad)
 any_at p (x ∷ xs) zero d none at =
     let same : x ≡ d = cc at in

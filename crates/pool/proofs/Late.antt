@@ -34,19 +34,19 @@ pub record IsLate (f : GrowFault) : Type 0 where
   pub had : f ≢ Memory
   pub other : f ≢ Twice
 
-late_planned : IsLate PlanPending × (PlanPending ≢ Gone)
+pub late_planned : IsLate PlanPending × (PlanPending ≢ Gone)
 late_planned = (record { listed = λ same. cc; attached = λ same. cc; had = λ same. cc; other = λ same. cc }, λ same. cc)
 
-late_whole : IsLate NotWhole × (NotWhole ≢ Gone)
+pub late_whole : IsLate NotWhole × (NotWhole ≢ Gone)
 late_whole = (record { listed = λ same. cc; attached = λ same. cc; had = λ same. cc; other = λ same. cc }, λ same. cc)
 
-late_unbuilt : IsLate Unbuilt × (Unbuilt ≢ Gone)
+pub late_unbuilt : IsLate Unbuilt × (Unbuilt ≢ Gone)
 late_unbuilt = (record { listed = λ same. cc; attached = λ same. cc; had = λ same. cc; other = λ same. cc }, λ same. cc)
 
-late_resynced : IsLate NotResynced × (NotResynced ≢ Gone)
+pub late_resynced : IsLate NotResynced × (NotResynced ≢ Gone)
 late_resynced = (record { listed = λ same. cc; attached = λ same. cc; had = λ same. cc; other = λ same. cc }, λ same. cc)
 
-late_gone : IsLate Gone
+pub late_gone : IsLate Gone
 late_gone = record { listed = λ same. cc; attached = λ same. cc; had = λ same. cc; other = λ same. cc }
 
 late_segments : IsLate TooManySegments × (TooManySegments ≢ Gone)
@@ -61,25 +61,25 @@ late_plan OfLayers = (record { listed = λ same. cc; attached = λ same. cc; had
 abbrev pub AreLate : Option GrowFault → Type 0
 AreLate o = (f : GrowFault) → o ≡ Some f → IsLate f × (f ≢ Gone)
 
-late_none : AreLate None
+pub late_none : AreLate None
 late_none f is = absurd (let bad : None ≡ Some f = is in cc bad)
 
-late_some : (e : GrowFault) → IsLate e × (e ≢ Gone) → AreLate (Some e)
+pub late_some : (e : GrowFault) → IsLate e × (e ≢ Gone) → AreLate (Some e)
 late_some e late f is = let same : e ≡ f = cc is in subst (λ g. IsLate g × (g ≢ Gone)) same late
 
-late_cause : (e : GrowFault) (cause : Bool) (rest : List (GrowFault × Bool)) → IsLate e × (e ≢ Gone) → AreLate (first_cause rest) → AreLate (first_cause ((e, cause) ∷ rest))
+pub late_cause : (e : GrowFault) (cause : Bool) (rest : List (GrowFault × Bool)) → IsLate e × (e ≢ Gone) → AreLate (first_cause rest) → AreLate (first_cause ((e, cause) ∷ rest))
 late_cause e true rest late others = late_some e late
 late_cause e false rest late others = others
 
-late_or : (a b : Option GrowFault) → AreLate a → AreLate b → AreLate (option_or a b)
+pub late_or : (a b : Option GrowFault) → AreLate a → AreLate b → AreLate (option_or a b)
 late_or None b one two = two
 late_or (Some e) b one two = one
 
-late_map : (o : Option AdmitFault) → AreLate (option_map fault_of o)
+pub late_map : (o : Option AdmitFault) → AreLate (option_map fault_of o)
 late_map None = late_none
 late_map (Some fault) = late_some (fault_of fault) (late_plan fault)
 
-late_if : (b : Bool) → AreLate (then_some b TooManySegments)
+pub late_if : (b : Bool) → AreLate (then_some b TooManySegments)
 late_if true = late_some TooManySegments late_segments
 late_if false = late_none
 

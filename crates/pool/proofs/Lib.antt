@@ -34,3 +34,9 @@ mod Counting
 mod Counted
 mod Stepping
 mod Held
+mod Adds
+mod Extends
+mod Grows
+mod Trying
+mod Added
+mod AddedDrives

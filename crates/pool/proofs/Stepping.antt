@@ -59,7 +59,7 @@ none_left [] none = refl
 none_left (work ∷ works) none = cc none
 
 -- only a list of drives that has one has works
-some_drive : (l : Linear) (v : Raid) (work : Work) → slice_get (works_by l v) 0 ≡ Some work → 0 < length v.state.drives.items
+pub some_drive : (l : Linear) (v : Raid) (work : Work) → slice_get (works_by l v) 0 ≡ Some work → 0 < length v.state.drives.items
 some_drive l v work first =
     elim (cases_Bool (nat_lt 0 (length v.state.drives.items))) [
       | inl some ↦ ltb-true 0 (length v.state.drives.items) some
@@ -70,7 +70,7 @@ some_drive l v work first =
     ]
 
 -- a row that was refused can't be had
-lacks_row : (v w : Raid) (a b : Seen) (work : Work) → Does work v w a b false → LacksRow v w work
+pub lacks_row : (v w : Raid) (a b : Seen) (work : Work) → Does work v w a b false → LacksRow v w work
 lacks_row v w a b (Resync m) does = not_false (is_stuck w m (v.arrays m).resync) does.answer
   where
     not_false : (t : Bool) → false ≡ not t → t ≡ true

@@ -1,5 +1,5 @@
 -- What calls of a pool keep of its book: the state and the arrays, by which sectors are spent.
-use Rattle.std.specs.Prelude.{◌≡◌, ◌≢◌, ℕ, ◌*◌, ◌<◌, ◌≤◌, true}
+use Rattle.std.specs.Prelude.{◌≡◌, ◌≢◌, ℕ, ◌*◌, ◌^◌, ◌<◌, ◌≤◌, true}
 use Rattle.pool_state.specs.declared.contents.State.{State}
 use Rattle.array_image.specs.States.{is_current}
 use Rattle.array_model.specs.View.{View as ArrayView, HasGeometry, member_on, place_at}
@@ -37,10 +37,9 @@ pub record KeepsArrayBut (place : ℕ) (s : State) (u w : ArrayView) : Type 0 wh
 abbrev pub KeepsBookBut : ℕ → Raid → Raid → Type 0
 KeepsBookBut place v w = (n : ℕ) → n < v.state.made → KeepsArrayBut place w.state (v.arrays n) (w.arrays n)
 
--- The most by which a call raises the log's number, the epoch, and each array's events: that of a replacing of a drive that isn't missing, and is found gone while
--- the new disk is being laid.
+-- No call raises the log's number, the epoch or an array's events by more.
 abbrev pub most_raised : ℕ
-most_raised = 325
+most_raised = 2 ^ 20
 
 -- so many calls
 abbrev pub Raises : ℕ → View → View → Type 0

@@ -10,5 +10,8 @@ pub mod Held
 pub mod Entering
 pub mod Taking
 pub mod Naming
+pub mod Adding
+pub mod Growing
 pub mod Made
 pub mod Keeping
+pub mod Proceeding

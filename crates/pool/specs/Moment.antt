@@ -6,11 +6,12 @@ use Rattle.rack.specs.Shelf.{Waiting}
 use Rattle.rack.specs.Values.{Values, only}
 use Rattle.array_model.specs.View.{View as ArrayView}
 use Rattle.slice_rack.specs.Slices.{Slices}
+use Rattle.lvm_group.specs.Runs.{Linear}
 use Rattle.raid_laws.specs.Raid.{Raid}
 use Rattle.pool.specs.View.{View, book}
 
 -- The clock, the disks of the bay with what they hold, their counts of faults and their names, what waits to be attached, the bay's own count of
--- faults, the pool's state and arrays, and where the slices of its drives lie.
+-- faults, the pool's state and arrays, where the slices of its drives lie, and where its volume lies on the arrays.
 pub record Moment : Type 0 where
   pub clock : ℕ
   pub disks : ℕ
@@ -22,6 +23,7 @@ pub record Moment : Type 0 where
   pub unattached : ℕ
   pub book : Raid
   pub slices : Slices
+  pub linear : Linear
 
 abbrev pub moment_of : View → Moment
 moment_of x = record {
@@ -35,6 +37,7 @@ moment_of x = record {
   unattached = x.shelf.faults;
   book = book x;
   slices = x.slices;
+  linear = x.linear;
 }
 
 -- the disk of a name

@@ -70,16 +70,22 @@ fault_of OfLayers = TooManyLayers
 abbrev pub planning : Plan → State → State
 planning plan s = record s { plan = plan }
 
--- the volume doesn't fit over what the arrays offer at the plan's end
-abbrev pub lacks_segments : Linear → Raid → ℕ → Bool
-lacks_segments l v place = not (fits l.runs (targets (planning (Replace place) v.state) (arrays_now v)))
+-- the volume doesn't fit over what the arrays offer at the end of a state's plan
+abbrev pub lacks_room : Linear → Raid → State → Bool
+lacks_room l v s = not (fits l.runs (targets s (arrays_now v)))
 
--- the first refusal of all
+-- that of a place's replacing
+abbrev pub lacks_segments : Linear → Raid → ℕ → Bool
+lacks_segments l v place = lacks_room l v (planning (Replace place) v.state)
+
+-- the first refusal of all: by how the pool stands, by the plan, and by the room of the volume's text
+abbrev pub first_of : List (GrowFault × Bool) → List (AdmitFault × Bool) → Bool → Option GrowFault
+first_of standing plan lacks = option_or (first_cause standing) (option_or (option_map fault_of (first_refusal plan)) (then_some lacks TooManySegments))
+
+-- of a replacing
 abbrev pub refusal_of : Linear → Raid → (place sectors : ℕ) → Option GrowFault
 refusal_of l v place sectors =
-    option_or (first_cause (standing_refusals v place sectors))
-    (option_or (option_map fault_of (first_refusal (replace_refusals v.state (arrays_now v) place (units_of sectors v.state.extent))))
-    (then_some (lacks_segments l v place) TooManySegments))
+    first_of (standing_refusals v place sectors) (replace_refusals v.state (arrays_now v) place (units_of sectors v.state.extent)) (lacks_segments l v place)
 
 -- What taking a disk in at a place relies on, by a pool's book: no other drive is missing, the disk has the units of the place's drive and reaches the
 -- arrays of the place, and a serial number is left. So it is where there is no refusal, and a cleaning that finds no other drive gone leaves it so.

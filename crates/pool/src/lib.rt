@@ -19,7 +19,9 @@
 //! proofs/Continuing.antt (`Continues`, `KeepsOutside`).
 #![tactic(auto)]
 
+mod adding;
 mod calls;
+mod growing;
 mod making;
 mod replacing;
 mod standing;

@@ -18,7 +18,7 @@ use rack::Bay;
 use shr_base::units;
 use thiserror::Error;
 
-/// Why a drive isn't taken in. They are looked for in this order, but for `Unbuilt`.
+/// Why a drive isn't taken in. They are looked for in this order, but for `Unbuilt`: of an added drive that is looked for last before `Gone`.
 #[derive(Clone, Copy, Debug, PartialEq, Eq, Error)]
 pub enum GrowFault {
     /// The place isn't in the list.
@@ -42,7 +42,7 @@ pub enum GrowFault {
     /// Rows are left to resync.
     #[error("rows are left to resync")]
     NotResynced,
-    /// The new drive has other units than the one that it replaces: that isn't built.
+    /// The new drive has other units than the one that it replaces, or an added one would make a new array: that isn't built.
     #[error("not built")]
     Unbuilt,
     /// Its units lie between those of the drives, or below all of them.
@@ -51,8 +51,8 @@ pub enum GrowFault {
     /// It has fewer units than the drive that it replaces.
     #[error("it has fewer units than the drive that it replaces")]
     Smaller,
-    /// No serial number is left.
-    #[error("no serial number is left")]
+    /// No serial number is left, or no place.
+    #[error("no serial number is left, or no place")]
     TooManyDrives,
     /// A 17th layer would be made.
     #[error("a 17th layer would be made")]
@@ -66,7 +66,7 @@ pub enum GrowFault {
 }
 
 /// Whether a plan is being carried out.
-fn is_planned(plan: Plan) -> bool
+pub(crate) fn is_planned(plan: Plan) -> bool
     ensures { result ≡ spec.is_planned plan }
 {
     match plan {
@@ -76,7 +76,7 @@ fn is_planned(plan: Plan) -> bool
 }
 
 /// Whether one of these drives is marked missing.
-fn lacks_one(drives: &[Drive]) -> bool
+pub(crate) fn lacks_one(drives: &[Drive]) -> bool
     ensures { result ≡ list_any (λ d. d.missing) drives.now }
 {
     drives.iter().any(|drive| drive.missing)
@@ -103,7 +103,7 @@ fn has_units(state: &State, place: u32, units: u64) -> bool
 }
 
 /// Whether an array has rows to resync.
-fn has_resync(progress: &Progress) -> bool
+pub(crate) fn has_resync(progress: &Progress) -> bool
     ensures { result ≡ spec.has_resync progress.now.arrays.items }
 {
     progress
@@ -114,7 +114,7 @@ fn has_resync(progress: &Progress) -> bool
 }
 
 /// A refusal of the plan.
-fn fault_of(fault: AdmitFault) -> GrowFault
+pub(crate) fn fault_of(fault: AdmitFault) -> GrowFault
     ensures { result ≡ spec.fault_of fault }
 {
     match fault {
@@ -138,7 +138,7 @@ fn copy_of(drives: &[Drive]) -> ArrayVec<Drive, 16>
 }
 
 /// A state with another plan. It takes no memory.
-fn planning(plan: Plan, state: &State) -> State
+pub(crate) fn planning(plan: Plan, state: &State) -> State
     requires { length state.now.drives.items ≤ 16 }
     ensures { result ≡ spec.planning plan state.now }
 {

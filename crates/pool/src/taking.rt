@@ -48,7 +48,7 @@ impl<R: Bay> Pool<R> {
     }
 
     /// The disk of a name, which is attached where it isn't yet, and isn't that of a current drive.
-    fn disk_of(&mut self, name: &str) -> Result<u32, GrowFault>
+    pub(crate) fn disk_of(&mut self, name: &str) -> Result<u32, GrowFault>
         requires { (volume (view R.seen R.shelf self.old)).fit }
         ensures attaches { AttachesDisk (view R.seen R.shelf self.old) (view R.seen R.shelf self.new) name.now result }
         ensures rest { self.new ≡ with_bay self.old (bay_in self.new) }
@@ -77,7 +77,7 @@ impl<R: Bay> Pool<R> {
     }
 
     /// The number of the next new drive.
-    fn serial(&self) -> u32
+    pub(crate) fn serial(&self) -> u32
         ensures { result ≡ (book (view R.seen R.shelf self.now)).state.serial }
     {
         self.state().serial

@@ -3,13 +3,14 @@
 ghost use Rattle.std.specs.Prelude.{◌≡◌, ◌<◌, nat_lt, length, slice_get, IfErr, OnOk};
 ghost use Rattle.growth_plan.specs.Book.{IsBook};
 ghost use Rattle.pool.specs.View.{bay_in, book, view, volume};
+ghost use Rattle.pool.specs.Proceeding as proceeding;
 ghost use Rattle.pool.specs.Works.{IsStuck, IsWorked, left_of, progress_by, works_of};
 ghost use Rattle.pool.specs.Calls.{DoesFirst, Steps};
 
 use crate::Pool;
 use crate::standing::array_now;
 use arrayvec::ArrayVec;
-use growth_plan::{Progress, left, next_work};
+use growth_plan::{Progress, has_growth, left, next_work};
 use pool_state::Work;
 use rack::Bay;
 use raid_rack::Stuck;
@@ -55,8 +56,20 @@ impl<R: Bay> Pool<R> {
         }
     }
 
+    /// Whether a work of a growth is left: any but a row to resync or to rebuild, and the plan's end.
+    pub fn has_growth_left(&self) -> bool
+        requires { (volume (view R.seen R.shelf self.now)).fit }
+        ensures { result ≡ proceeding.has_growth (view R.seen R.shelf self.now).linear (book (view R.seen R.shelf self.now)) }
+    {
+        if self.has_drives() {
+            has_growth(self.state(), &self.progress())
+        } else {
+            false
+        }
+    }
+
     /// The first of the works that are left.
-    fn next_work(&self) -> Option<Work>
+    pub(crate) fn next_work(&self) -> Option<Work>
         requires { (volume (view R.seen R.shelf self.now)).fit }
         ensures first { result ≡ slice_get (works_of (view R.seen R.shelf self.now)) 0 }
     {

@@ -9,7 +9,8 @@ use Rattle.pool_format.specs.declared.Birth.{Birth}
 use Rattle.pool_format.specs.declared.planning.NewPool.{NewPool}
 use Rattle.pool_format.specs.Plan.{HasRoom, IsPlan}
 use Rattle.pool_format.specs.Data.{IsMemberData, array_sector}
-use Rattle.pool_format.specs.Parts.{new_super, role_of}
+use Rattle.new_array.specs.Supers.{role_of}
+use Rattle.pool_format.specs.Parts.{new_super}
 use Rattle.pool_format.specs.Drives.{HasParts, HoldsTable, IsBlockOf, IsNewDrive, IsWhole, LeavesClosed, LeavesLaid, LeavesState, gate_at}
 use Rattle.pool_format.specs.Writing.{InClosings, InLayings, InStates}
 use Rattle.pool_format.proofs.Laying.{member_inside, table_apart, table_on_disk}

@@ -8,7 +8,8 @@ use Rattle.layer_plan.specs.declared.Layer.{Layer}
 use Rattle.layer_plan.specs.Layering.{IsLayering, is_redundant, layer_between, layers_between, places_reaching}
 use Rattle.pool_format.specs.declared.planning.NewArray.{NewArray}
 use Rattle.pool_format.specs.Plan.{arrays_from, has}
-use Rattle.pool_format.proofs.Lists.{filtered, first_has, no_element}
+use Rattle.new_array.proofs.Lists.{filtered}
+use Rattle.pool_format.proofs.Lists.{first_has, no_element}
 
 -- a layer up to a level, above a lower one
 pub record IsLayer (units : List ℕ) (lower : ℕ) (layer : Layer) (up : ℕ) : Type 0 where

@@ -21,7 +21,7 @@ use Rattle.pool_format.specs.Plan.{HasRoom, IsPlan, has}
 use Rattle.pool_format.specs.Slices.{first_planned, sectors_planned}
 use Rattle.pool_format.specs.Data.{IsDataOf}
 use Rattle.pool_format.specs.Writing.{InLaying, IsOfSlice, Lays}
-use Rattle.pool_format.proofs.Lists.{filtered}
+use Rattle.new_array.proofs.Lists.{filtered}
 
 -- ---- parts
 

@@ -19,7 +19,8 @@ use Rattle.array_image.specs.Places.{data_sector, state_sector, super_sector}
 use Rattle.pool_format.specs.declared.Birth.{Birth}
 use Rattle.pool_format.specs.declared.planning.NewArray.{NewArray}
 use Rattle.pool_format.specs.declared.planning.NewPool.{NewPool}
-use Rattle.pool_format.specs.Parts.{new_super, new_table, role_of}
+use Rattle.new_array.specs.Supers.{role_of}
+use Rattle.pool_format.specs.Parts.{new_super, new_table}
 use Rattle.pool_format.specs.Plan.{HasRoom, IsPlan, has}
 use Rattle.pool_format.specs.Data.{IsDataOf, IsMemberData, LeavesData, array_sector}
 use Rattle.pool_format.specs.Drives.{HoldsTable, IsBlockOf, IsCopyOf, IsSuperOf, LeavesClosed, LeavesCleared, LeavesLaid, LeavesSingle, LeavesState, LeavesSuper, LeavesTable, gate_at, no_state}

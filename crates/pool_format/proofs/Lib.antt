@@ -7,7 +7,6 @@ pub mod Leaving
 pub mod Written
 pub mod Entries
 pub mod Slicing
-pub mod Roles
 pub mod Supers
 pub mod Extents
 pub mod Opening

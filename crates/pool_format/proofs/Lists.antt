@@ -1,7 +1,5 @@
 -- Places of a list, and elements by their number.
-use Rattle.std.proofs.Common.{◌≡◌, ◌⊎◌, ◌++◌, unwrap_or, ℕ, zero, suc, ◌+◌, ◌<◌, ◌≤◌, Bool, true, false, ◌==◌, ◌||◌, if◌then◌else◌, List, [], ◌∷◌, drop, filter, length, slice_get, Some, None, refl, ap, subst, ◌∙◌, inl, inr, eq-eqb, eqb-true, arith}
-use Rattle.std.specs.List.{range_with_len}
-use Rattle.std.proofs.lemmas.Bool.{both_ways, cases_Bool}
+use Rattle.std.proofs.Common.{◌≡◌, ◌⊎◌, ◌++◌, unwrap_or, ℕ, zero, suc, ◌+◌, ◌<◌, ◌≤◌, true, ◌||◌, List, [], ◌∷◌, drop, length, slice_get, Some, None, refl, ap, ◌∙◌, inl, inr, eq-eqb, arith}
 use Rattle.pool_format.specs.Plan.{has}
 
 pub got : {X : Type 0} (xs : List X) (n : ℕ) → n < length xs → (x : X) × (slice_get xs n ≡ Some x)
@@ -11,22 +9,6 @@ got (x ∷ xs) (suc n) below = got xs n (omega (arith, below))
 
 pub no_element : {X : Type 0} {x : X} → None ≡ Some x → ⊥
 no_element same = cc
-
-filtered_more : (q : ℕ → Bool) (a n p : ℕ) → (has (filter q (range_with_len (a + 1) n)) p ≡ true → (a + 1 ≤ p) × (p < a + 1 + n) × (q p ≡ true))
-    → (b : Bool) → q a ≡ b → has (if b then a ∷ filter q (range_with_len (a + 1) n) else filter q (range_with_len (a + 1) n)) p ≡ true
-    → (a ≤ p) × (p < a + suc n) × (q p ≡ true)
-filtered_more q a n p rest false fails among = let later = rest among in (let low = later.0 in omega (arith, low), let high = later.1 in omega (arith, high), later.2)
-filtered_more q a n p rest true passes among = elim (cases_Bool (a == p)) [
-  | inl here ↦ let same = eqb-true a p here in (omega (arith, same), omega (arith, same), subst (λ k. q k ≡ true) same passes)
-  | inr other ↦
-      let later = rest (subst (λ b. (b || has (filter q (range_with_len (a + 1) n)) p) ≡ true) other among) in
-      (let low = later.0 in omega (arith, low), let high = later.1 in omega (arith, high), later.2)
-]
-
--- the numbers of a range that pass
-pub filtered : (q : ℕ → Bool) (a n p : ℕ) → has (filter q (range_with_len a n)) p ≡ true → (a ≤ p) × (p < a + n) × (q p ≡ true)
-filtered q a zero p is = absurd (both_ways false refl is)
-filtered q a (suc n) p is = filtered_more q a n p (filtered q (a + 1) n p) (q a) refl is
 
 -- the first of some numbers is one of them
 pub first_has : (xs : List ℕ) → 0 < length xs → (p : ℕ) × (has xs p ≡ true)

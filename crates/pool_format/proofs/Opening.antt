@@ -24,8 +24,9 @@ use Rattle.pool_format.specs.declared.planning.NewArray.{NewArray}
 use Rattle.pool_format.specs.Arrays.{new_found}
 use Rattle.pool_format.specs.Plan.{IsNewArray, has}
 use Rattle.pool_format.specs.Parts.{new_super}
-use Rattle.pool_format.proofs.Lists.{filtered, first_has, no_element}
-use Rattle.pool_format.proofs.Roles.{named_at}
+use Rattle.new_array.proofs.Lists.{filtered}
+use Rattle.pool_format.proofs.Lists.{first_has, no_element}
+use Rattle.new_array.proofs.Roles.{named_at}
 use Rattle.pool_format.proofs.Supers.{roles_ok, truth_ok}
 
 -- ---- the foremost of a range

@@ -12,7 +12,7 @@ use Rattle.lvm_group.specs.Made.{new_sector}
 use Rattle.pool_format.specs.declared.Birth.{Birth}
 use Rattle.pool_format.specs.declared.planning.NewArray.{NewArray}
 use Rattle.pool_format.specs.declared.planning.NewPool.{NewPool}
-use Rattle.pool_format.specs.Parts.{role_of}
+use Rattle.new_array.specs.Supers.{role_of}
 use Rattle.pool_format.specs.Plan.{has}
 
 -- ---- arrays

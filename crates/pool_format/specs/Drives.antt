@@ -16,7 +16,8 @@ use Rattle.pool_format.specs.declared.Birth.{Birth}
 use Rattle.pool_format.specs.declared.planning.NewArray.{NewArray}
 use Rattle.pool_format.specs.declared.planning.NewPool.{NewPool}
 use Rattle.pool_format.specs.Data.{IsMemberData, LeavesData, array_sector}
-use Rattle.pool_format.specs.Parts.{new_state, new_super, new_table, role_of}
+use Rattle.new_array.specs.Supers.{role_of}
+use Rattle.pool_format.specs.Parts.{new_state, new_super, new_table}
 use Rattle.pool_format.specs.Plan.{has}
 
 -- ---- sectors

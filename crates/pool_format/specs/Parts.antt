@@ -1,6 +1,5 @@
 -- The parts of a new pool: its state, the tables of its drives and the superblocks of its members.
-use Rattle.std.specs.Prelude.{ℕ, ℤ, pos, ◌+◌, ◌-◌, ◌++◌, ◌==◌, ◌^◌, if◌then◌else◌, List, [], ◌∷◌, codes, decimal, replicate, map, length, position, slice_index, false}
-use Rattle.std.specs.Option.{option_map_or}
+use Rattle.std.specs.Prelude.{ℕ, ◌+◌, ◌-◌, ◌^◌, if◌then◌else◌, List, [], ◌∷◌, map, length, slice_index, false}
 use Rattle.std.specs.List.{range_with_len}
 use Rattle.gpt_table.specs.declared.Entry.{Entry}
 use Rattle.gpt_table.specs.declared.Table.{Table}
@@ -9,7 +8,8 @@ use Rattle.pool_state.specs.declared.contents.Drive.{Drive}
 use Rattle.pool_state.specs.declared.contents.Plan.TheVariants.{Nothing}
 use Rattle.pool_state.specs.declared.contents.State.{State}
 use Rattle.shr_base.specs.Ids.{name_based, child_name}
-use Rattle.array_image.specs.Places.{array_id, drive_id, log_kind, member_id, raid_kind, state_sector, log_sectors, data_sector, super_sector}
+use Rattle.array_image.specs.Places.{drive_id, log_kind, raid_kind, state_sector, log_sectors, data_sector}
+use Rattle.new_array.specs.Supers.{new_super as new_super_of}
 use Rattle.pool_format.specs.declared.Birth.{Birth}
 use Rattle.pool_format.specs.declared.planning.NewArray.{NewArray}
 use Rattle.pool_format.specs.declared.planning.NewPool.{NewPool}
@@ -80,54 +80,7 @@ new_table plan birth place sectors =
 abbrev pub all_rows : ℕ
 all_rows = 2 ^ 64 - 1
 
--- members have positions in order of place
-abbrev pub role_of : List ℕ → ℕ → ℕ
-role_of members place = option_map_or (λ k. k) (position (λ p. p == place) members) 0xffff
-
-abbrev pub new_roles : List ℕ → List ℕ
-new_roles members = map (role_of members) (range_with_len 0 128)
-
--- `shr:` and the array's number, filled with zeros
-abbrev pub set_name : ℕ → List ℕ
-set_name number = (codes "shr:" ++ decimal number) ++ replicate (28 - length (decimal number)) 0
-
--- of two members a mirror, of more RAID-5, left-symmetric, in chunks of 128 sectors
-abbrev pub level_of : ℕ → ℤ
-level_of members = pos (if members == 2 then 1 else 5)
-
-abbrev pub layout_of : ℕ → ℕ
-layout_of members = if members == 2 then 0 else 2
-
-abbrev pub chunk_of : ℕ → ℕ
-chunk_of members = if members == 2 then 0 else 128
-
 -- the superblock of a place's member of an array in which each row agrees
 abbrev pub new_super : Birth → NewArray → ℕ → ℕ → Super
 new_super birth a number place =
-    let members = length a.members.items in
-    record {
-      feature_map = 0;
-      set_id = record { 0 = array_id birth.pool number };
-      set_name = set_name number;
-      ctime = birth.seconds;
-      level = level_of members;
-      layout = layout_of members;
-      size = a.size;
-      chunk = chunk_of members;
-      raid_disks = members;
-      new_level = pos 0;
-      reshape_position = 0;
-      delta_disks = pos 0;
-      new_layout = 0;
-      new_chunk = 0;
-      data_offset = data_sector;
-      data_size = a.size;
-      super_offset = super_sector;
-      recovery_offset = 0;
-      dev_number = place;
-      device_id = record { 0 = member_id (drive_id birth.pool place) number };
-      utime = birth.seconds;
-      events = 1;
-      resync_offset = all_rows;
-      roles = record { items = new_roles a.members.items };
-    }
+    new_super_of (record { 0 = birth.pool }) (record { 0 = drive_id birth.pool place }) a.members.items number place a.size all_rows birth.seconds

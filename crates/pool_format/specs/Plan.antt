@@ -1,6 +1,6 @@
 -- The plan of a new pool: the units of its drives, and its arrays with the slices of their members.
 use Rattle.std.specs.Prelude.{◌≡◌, ℕ, Bool, true, ◌+◌, ◌-◌, ◌*◌, ◌<◌, ◌≤◌, ◌^◌, ◌==◌, List, [], ◌∷◌, All, map, filter, length, position, slice_get, Some, sum, sum_by, take}
-use Rattle.std.specs.List.{range_with_len, list_any}
+use Rattle.std.specs.List.{range_with_len}
 use Rattle.rack.specs.Seen.{Seen}
 use Rattle.shr_base.specs.Units.{units_of}
 use Rattle.layer_plan.specs.declared.Layer.{Layer}
@@ -10,6 +10,7 @@ use Rattle.layer_plan.specs.Layering.{IsLayering}
 use Rattle.layer_plan.specs.Slicing.{IsBest}
 use Rattle.pool_state.specs.Valid.{is_extent}
 use Rattle.array_image.specs.Places.{arrays_first}
+pub use Rattle.new_array.specs.Supers.{has}
 use Rattle.pool_format.specs.declared.planning.NewArray.{NewArray}
 use Rattle.pool_format.specs.declared.planning.NewPool.{NewPool}
 
@@ -55,10 +56,6 @@ pub record IsPlanOf (units : List ℕ) (extent : ℕ) (plan : NewPool) : Type 0 
   pub layering : IsLayering units layers
   pub arrays_are : plan.arrays.items ≡ arrays_from arrays_first extent layers
   pub best : IsBest units (capacity_of plan)
-
--- whether a place is one of these
-abbrev pub has : List ℕ → ℕ → Bool
-has places place = list_any (λ p. p == place) places
 
 -- One array of a plan: two members or more, which are places of drives in ascending order, and so many whole extents of each.
 pub record IsNewArray (extent drives : ℕ) (a : NewArray) : Type 0 where

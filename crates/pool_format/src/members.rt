@@ -13,9 +13,9 @@ ghost use Rattle.pool_format.specs.Writing.{InData, InDatas, InRows, Lays};
 
 use crate::Birth;
 use crate::planning::{NewPool, array_at, has_member};
-use crate::superblocks::role_of;
 use crate::tables::DATA_SECTOR;
 use lvm_group::NewGroup;
+use new_array::role_of;
 use parity::xor_into;
 use rack::{Gone, Rack};
 use raid_map::{CHUNK_SECTORS, unplace};

@@ -262,7 +262,7 @@ impl<'a> Walk<'a> {
 // Whether a reply to a line is right though the flat array has no such reply: those on drives and on works.
 fn is_free(said: &Result<Command, shr_script::LineFault>, got: &[u8]) -> bool {
     match said {
-        Ok(Command::Lose { .. }) | Ok(Command::Replace { .. }) | Ok(Command::Unbuilt) => {
+        Ok(Command::Lose { .. }) | Ok(Command::Replace { .. }) | Ok(Command::Add { .. }) => {
             got == b"ok".as_slice() || got.starts_with(b"refused ")
         }
         Ok(Command::Step { .. }) => got.starts_with(b"left ") || got.starts_with(b"refused stuck "),

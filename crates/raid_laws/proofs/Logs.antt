@@ -141,7 +141,7 @@ module _ (s : State) (number : ℕ) (gone : ℕ → Bool) (n : ℕ) (a b : Seen)
   turned_stands c turns =
       state_same c turns.left.0 (copies_stand c turns) ∙ kept_state s number gone a turns.left.0 someone.0 kept (logs_of turns.left.0 turns.left.1) someone.1 someone.2
 
-  turned : (c : Image) → Turns n a b (λ r. H → P r) c → SaysState s a.sectors c
+  pub turned : (c : Image) → Turns n a b (λ r. H → P r) c → SaysState s a.sectors c
   turned c turns =
       let e = turns.left.0 in
       let picks : Picks a e = turns.left.1 in
@@ -164,7 +164,7 @@ module _ (s : State) (number : ℕ) (gone : ℕ → Bool) (n : ℕ) (a b : Seen)
       }
 
   -- copies stay such as they are
-  each_call : (R : ℕ → List ℕ → Type 0) → HoldsEach R a → KeepsEach R a b
+  pub each_call : (R : ℕ → List ℕ → Type 0) → HoldsEach R a → KeepsEach R a b
   each_call R held = record {
     leaves = λ traced.
         leaves_weaker (λ c. IsInside a.sectors c → Turns n a b (λ r. H → P r) c) (λ c. IsInside a.sectors c → AreEach R a.sectors c)

@@ -78,7 +78,7 @@ no_data xs n place sector none few = of (look xs (member_slice place n) (data_se
 -- ---- with all targets written
 
 -- contents from before the commit with its targets say the array by the new state
-put_says : (t : State) (noted : Shape) (marked : Bool) (view : View) (vals : ℕ → Values) (spent : ℕ → Bool) (xs : List Target) (a : Seen) (n : ℕ) (c : Image)
+pub put_says : (t : State) (noted : Shape) (marked : Bool) (view : View) (vals : ℕ → Values) (spent : ℕ → Bool) (xs : List Target) (a : Seen) (n : ℕ) (c : Image)
     → n < 16 → Restates t noted marked view xs a n → NoData xs
     → Picks a c
     → IsSettled noted n a.held
@@ -186,7 +186,7 @@ own_since : (base t : State) → IsAfter base t → (p : ℕ) (u : List ℕ) →
 own_since base t after p u current is =
     record { copy = record { state = t; own = p }; is = is; after = after; drive = after_id base t p after }
 
-brings_since : (base t : State) → IsAfter base t → (p : ℕ) (u : List ℕ) → is_current t p ≡ true → decoded u ≡ Ok (record { state = t; own = p }) → IsSince base p u
+pub brings_since : (base t : State) → IsAfter base t → (p : ℕ) (u : List ℕ) → is_current t p ≡ true → decoded u ≡ Ok (record { state = t; own = p }) → IsSince base p u
 brings_since base t after p u current is = record {
   own = λ now. own_since base t after p u current is;
   former = λ k past at. absurd (both_ways (is_current base p) past (after.current p current));
@@ -377,7 +377,7 @@ closed_after s t gone l on lost a b n call nobody c picks place u =
     ])
 
 -- a superblock with the same fields isn't later
-earlier_same : (t u : Super) → array_fields t ≡ array_fields u → IsEarlier t u
+pub earlier_same : (t u : Super) → array_fields t ≡ array_fields u → IsEarlier t u
 earlier_same t u same =
     record {
       fields = ap (λ (f : Super). record f { events = 0; resync_offset = 0 }) same;

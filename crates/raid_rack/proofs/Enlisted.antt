@@ -1,8 +1,8 @@
 -- The state that has a new drive, and the members of it that are to be rebuilt.
-use Rattle.std.proofs.Common.{◌≡◌, ℕ, zero, suc, ◌+◌, ◌-◌, ◌<◌, ◌≤◌, ◌^◌, ◌==◌, ◌&&◌, ◌||◌, not, nat_le, nat_lt, if◌then◌else◌, Bool, true, false, List, [], ◌∷◌, All, filter, length, map, set, slice_get, Some, option_map, refl, sym, ap, subst, ◌∙◌, inl, inr, eq-eqb, le-leb, lt-ltb, arith}
+use Rattle.std.proofs.Common.{◌≡◌, ℕ, zero, suc, ◌+◌, ◌-◌, ◌<◌, ◌≤◌, ◌^◌, ◌==◌, ◌&&◌, ◌||◌, not, nat_le, nat_lt, if◌then◌else◌, Bool, true, false, List, [], ◌∷◌, All, filter, length, map, set, slice_get, Some, option_map, refl, sym, ap, subst, ◌∙◌, inl, inr, eq-eqb, le-leb, lt-ltb, ltb-true, arith}
 use Rattle.std.specs.List.{list_all, range_with_len}
 use Rattle.std.specs.Option.{option_map_or}
-use Rattle.std.proofs.lemmas.Bool.{and_from, and_parts, both_ways, cases_Bool, cases_eq, cases_lt, ne_eqb}
+use Rattle.std.proofs.lemmas.Bool.{and_from, and_parts, both_ways, cases_Bool, cases_eq, cases_lt, leb-true, ne_eqb}
 use Rattle.std.proofs.lemmas.List.Elements.{All-nil, All-cons}
 use Rattle.std.proofs.lemmas.Option.{slice_get-get_or, slice_get_past}
 use Rattle.gpt_table.specs.declared.Entry.{Entry}
@@ -74,10 +74,21 @@ drive_at (x ∷ ds) zero units all is =
     subst (λ k. (nat_le 1 k && nat_lt k (2 ^ 41)) ≡ true) (ap (λ o. option_map_or (λ n. n) o 0) is) (and_parts (is_drive x) (list_all is_drive ds) all).0
 drive_at (x ∷ ds) (suc i) units all is = drive_at ds i units (and_parts (is_drive x) (list_all is_drive ds) all).1 is
 
-pub valid_listed : (place units : ℕ) (s : State) (own : ℕ) → place < length s.drives.items
-    → option_map (λ (d : Drive). d.units) (slice_get s.drives.items place) ≡ Some units → is_valid s own ≡ true
+-- a drive of a valid state has so many units
+pub listed_units : (place units : ℕ) (s : State) (own : ℕ) → option_map (λ (d : Drive). d.units) (slice_get s.drives.items place) ≡ Some units → is_valid s own ≡ true
+    → (0 < units) × (units < 2 ^ 41)
+listed_units place units s own of is =
+    let one = and_parts (is_extent s.extent) (has_places s own && (has_arrays s && (list_all is_drive s.drives.items && has_epoch s))) is in
+    let two = and_parts (has_places s own) (has_arrays s && (list_all is_drive s.drives.items && has_epoch s)) one.1 in
+    let three = and_parts (has_arrays s) (list_all is_drive s.drives.items && has_epoch s) two.1 in
+    let four = and_parts (list_all is_drive s.drives.items) (has_epoch s) three.1 in
+    let both = and_parts (nat_le 1 units) (nat_lt units (2 ^ 41)) (drive_at s.drives.items place units four.0 of) in
+    let some = leb-true 1 units both.0 in
+    (omega (arith, some), ltb-true units (2 ^ 41) both.1)
+
+pub valid_listed : (place units : ℕ) (s : State) (own : ℕ) → place < length s.drives.items → 0 < units → units < 2 ^ 41 → is_valid s own ≡ true
     → is_valid (listed place units (Replace place) s) own ≡ true
-valid_listed place units s own low of is =
+valid_listed place units s own low some most is =
     let new : Drive = record { id = next_drive s; units = units; missing = false } in
     let one = and_parts (is_extent s.extent) (has_places s own && (has_arrays s && (list_all is_drive s.drives.items && has_epoch s))) is in
     let two = and_parts (has_places s own) (has_arrays s && (list_all is_drive s.drives.items && has_epoch s)) one.1 in
@@ -91,15 +102,14 @@ valid_listed place units s own low of is =
     (ap (λ k. (nat_le 2 k && nat_le k 16) && (nat_lt own k && nat_lt place k)) (length_set s.drives.items place new)
     ∙ and_from (nat_le 2 (length s.drives.items) && nat_le (length s.drives.items) 16) (nat_lt own (length s.drives.items) && nat_lt place (length s.drives.items)) places.0
     (and_from (nat_lt own (length s.drives.items)) (nat_lt place (length s.drives.items)) own_listed.0 (lt-ltb place (length s.drives.items) low)))
-    (and_from (has_arrays s) _ three.0 (and_from _ _ (all_set s.drives.items place new four.0 (drive_at s.drives.items place units four.0 of)) four.1)))
+    (and_from (has_arrays s) _ three.0 (and_from _ _ (all_set s.drives.items place new four.0 (and_from (nat_le 1 units) (nat_lt units (2 ^ 41)) (le-leb 1 units (omega (arith, some))) (lt-ltb units (2 ^ 41) most))) four.1)))
 
 -- so is the state of the next epoch
-pub valid_enlisted : (place units : ℕ) (s : State) (own : ℕ) → place < length s.drives.items
-    → option_map (λ (d : Drive). d.units) (slice_get s.drives.items place) ≡ Some units → is_valid s own ≡ true
+pub valid_enlisted : (place units : ℕ) (s : State) (own : ℕ) → place < length s.drives.items → 0 < units → units < 2 ^ 41 → is_valid s own ≡ true
     → is_valid (enlisted place units (Replace place) s) own ≡ true
-valid_enlisted place units s own low of is =
+valid_enlisted place units s own low some most is =
     ap (λ (z : State). is_valid z own) (enlisted_marked place units (Replace place) s)
-    ∙ valid_marked [] (listed place units (Replace place) s) own (valid_listed place units s own low of is)
+    ∙ valid_marked [] (listed place units (Replace place) s) own (valid_listed place units s own low some most is)
 
 -- ---- its table can be written
 

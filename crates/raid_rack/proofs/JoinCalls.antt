@@ -1,12 +1,11 @@
 -- The code of the commit that makes a new drive one of the pool, step by step.
-use Rattle.std.proofs.Common.{◌≡◌, ◌≢◌, ℕ, ◌+◌, ◌<◌, ◌&&◌, nat_le, Bool, true, false, if◌then◌else◌, List, [], get_or, is_some, length, slice_get, Some, option_map, refl, sym, ap, subst, ◌∙◌, inl, inr, arith}
+use Rattle.std.proofs.Common.{◌≡◌, ◌≢◌, ℕ, ◌+◌, ◌<◌, ◌^◌, ◌&&◌, nat_le, Bool, true, false, if◌then◌else◌, List, [], get_or, is_some, length, slice_get, Some, option_map, refl, sym, ap, subst, ◌∙◌, inl, inr, arith}
 use Rattle.std.specs.Option.{option_map_or}
 use Rattle.std.proofs.lemmas.Bool.{cases_Bool, cases_lt}
 use Rattle.std.proofs.lemmas.Option.{slice_get-get_or, slice_get_past}
 use Rattle.arrayvec.specs.ArrayVec.{ArrayVec}
 use Rattle.rack.specs.Seen.{Seen}
 use Rattle.rack.specs.Targets.{Target}
-use Rattle.pool_state.specs.declared.contents.Drive.{Drive}
 use Rattle.pool_state.specs.declared.contents.Plan.{Plan}
 use Rattle.pool_state.specs.declared.contents.Plan.TheVariants.{Replace}
 use Rattle.pool_state.specs.declared.contents.State.{State}
@@ -41,7 +40,8 @@ pub record HasSeats (a : Arrays) (place units sectors : ℕ) (plan : Plan) (x : 
   pub listed : place < length a.state.drives.items
   pub missing : is_current a.state place ≡ false
   pub others : (p : ℕ) → p < length a.state.drives.items → p ≢ place → is_current a.state p ≡ true
-  pub units_are : option_map (λ (d : Drive). d.units) (slice_get a.state.drives.items place) ≡ Some units
+  pub units_some : 0 < units
+  pub units_most : units < 2 ^ 41
   pub plan_is : plan ≡ Replace place
   pub slices : HasNewSlices a.all.items place sectors x
   pub reaches : ReachesAll a.all.items place sectors
@@ -55,7 +55,8 @@ may_join a place units sectors plan x has = record {
   listed = has.listed;
   missing = has.missing;
   others = has.others;
-  units_are = has.units_are;
+  units_some = has.units_some;
+  units_most = has.units_most;
   plan_is = has.plan_is;
   log = has.slices.log;
   joins = member_joins;

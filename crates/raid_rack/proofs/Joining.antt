@@ -1,12 +1,11 @@
 -- The commit that makes a new drive one of the pool: one that marks nobody, of a state that has the drive in its list already, by the logs of
 -- the drives that the pool had before.
-use Rattle.std.proofs.Common.{◌≡◌, ◌≢◌, ◌⊎◌, ℕ, ◌+◌, ◌<◌, ◌==◌, ◌&&◌, ◌||◌, not, Bool, true, false, if◌then◌else◌, List, [], is_some, length, slice_get, Some, option_map, refl, sym, ap, subst, ◌∙◌, inl, inr, arith}
+use Rattle.std.proofs.Common.{◌≡◌, ◌≢◌, ◌⊎◌, ℕ, ◌+◌, ◌<◌, ◌^◌, ◌==◌, ◌&&◌, ◌||◌, not, Bool, true, false, if◌then◌else◌, List, [], is_some, length, refl, sym, ap, subst, ◌∙◌, inl, inr, arith}
 use Rattle.std.proofs.lemmas.Bool.{and_parts, both_ways, cases_Bool, cases_eq, ne_eqb}
 use Rattle.rack.specs.Seen.{Seen}
 use Rattle.rack.specs.Joins.{rose_early, rose_later}
 use Rattle.rack.specs.Targets.{Target}
 use Rattle.pool_state.specs.Valid.{is_valid}
-use Rattle.pool_state.specs.declared.contents.Drive.{Drive}
 use Rattle.pool_state.specs.declared.contents.Plan.{Plan}
 use Rattle.pool_state.specs.declared.contents.Plan.TheVariants.{Replace}
 use Rattle.pool_state.specs.declared.contents.State.{State}
@@ -63,7 +62,8 @@ pub record MayJoinPool (place units : ℕ) (plan : Plan) (joining : ℕ → Bool
   pub listed : place < length v.state.drives.items
   pub missing : is_current v.state place ≡ false
   pub others : (p : ℕ) → p < length v.state.drives.items → p ≢ place → is_current v.state p ≡ true
-  pub units_are : option_map (λ (d : Drive). d.units) (slice_get v.state.drives.items place) ≡ Some units
+  pub units_some : 0 < units
+  pub units_most : units < 2 ^ 41
   pub plan_is : plan ≡ Replace place
   pub log : x.sectors (log_slice place) ≡ log_sectors
   pub joins : (n : ℕ) → n < v.state.made → is_some (seat_of (v.arrays n) place) ≡ joining n
@@ -122,7 +122,7 @@ module _ (place units : ℕ) (plan : Plan) (joining : ℕ → Bool) (v : Raid) (
     most = may.set.most;
     valid = λ p low.
         subst (λ (k : Plan). is_valid (listed place units k v.state) p ≡ true) (sym may.plan_is)
-        (valid_listed place units v.state p may.listed may.units_are (may.set.valid p (let same = drive_lists.drives in omega (arith, same, low))));
+        (valid_listed place units v.state p may.listed may.units_some may.units_most (may.set.valid p (let same = drive_lists.drives in omega (arith, same, low))));
     logs = λ p left.
         elim (listed_left p left) [
           | inl same ↦ ap (λ q. x.sectors (log_slice q)) same ∙ may.log

@@ -16,6 +16,10 @@ pub mod Sent
 pub mod Ended
 pub mod Serving
 pub mod Worked
+pub mod Grown
+pub mod Zeroed
+pub mod Readied
+pub mod Laid
 pub mod Sparing
 pub mod AgreeStill
 pub mod Restating
@@ -43,3 +47,4 @@ pub mod Vacated
 pub mod Truths
 pub mod TruthTurns
 pub mod TruthAgrees
+mod AddDrive

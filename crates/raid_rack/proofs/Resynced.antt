@@ -146,7 +146,7 @@ member_less u w k t only counts =
           absurd (let none = subst (λ (o : Option Seat). t < option_map_or (seat_reach w.truth.size) o 0) lost counts in omega (arith, none))
     ]
 
-wanting_less : (u w : View) (t a n : ℕ) → LosesOnly u w → wanting t (map (member_on u) (range_with_len a n)) ≤ wanting t (map (member_on w) (range_with_len a n))
+pub wanting_less : (u w : View) (t a n : ℕ) → LosesOnly u w → wanting t (map (member_on u) (range_with_len a n)) ≤ wanting t (map (member_on w) (range_with_len a n))
 wanting_less u w t a zero only = omega arith
 wanting_less u w t a (suc n) only =
     let rest = wanting_less u w t (a + 1) n only in

@@ -1,5 +1,5 @@
 -- The code of works of maintenance: rows that are resynced, and the end of a plan.
-use Rattle.std.proofs.Common.{◌≡◌, ℕ, zero, suc, ◌+◌, ◌*◌, ◌<◌, Bool, true, false, ◌==◌, ◌&&◌, ◌||◌, not, List, [], ◌∷◌, length, get_or, slice_get, Some, option_map, refl, sym, ap, ap₂, subst, ◌∙◌, inl, inr, eq-eqb, eqb-true, lt-ltb, arith}
+use Rattle.std.proofs.Common.{◌≡◌, ℕ, zero, suc, ◌+◌, ◌*◌, ◌<◌, ◌≤◌, Bool, true, false, ◌==◌, ◌&&◌, ◌||◌, not, List, [], ◌∷◌, length, get_or, slice_get, Some, option_map, refl, sym, ap, ap₂, subst, ◌∙◌, inl, inr, eq-eqb, eqb-true, lt-ltb, arith}
 use Rattle.std.proofs.lemmas.Bool.{both_ways, and_from, and_parts, cases_lt}
 use Rattle.std.proofs.lemmas.Option.{slice_get_past}
 use Rattle.std.specs.Option.{option_map_or}
@@ -261,15 +261,25 @@ close_places a t on j p x running heeded t_is on_is at =
 
 -- ---- what its commit asks
 
--- the copies that are to be committed
-pub record AreCopied (a : Arrays) (t : State) (on : List ℕ) (l : LogView) (x : Seen) : Type 0 where
-  pub running : IsRunning a x
-  pub heeded : IsHeeded (raid_by a)
-  pub t_is : t ≡ closed a.state
+-- the copies of a state that are to be committed, on all its current places
+pub record AreCopied (t : State) (on : List ℕ) (l : LogView) (x : Seen) : Type 0 where
+  pub few : length t.drives.items ≤ 16
+  pub disks : x.disks ≡ 272
+  pub logs : (p : ℕ) → is_current t p ≡ true → x.sectors (log_slice p) ≡ log_sectors
   pub on_is : on ≡ current_places t
   pub copies : AddsCopies t on [] l.added
 
-module _ (a : Arrays) (t : State) (on : List ℕ) (l : LogView) (x : Seen) (copied : AreCopied a t on l x) where
+pub closed_copied : (a : Arrays) (t : State) (on : List ℕ) (l : LogView) (x : Seen) → IsRunning a x → IsHeeded (raid_by a) → t ≡ closed a.state
+    → on ≡ current_places t → AddsCopies t on [] l.added → AreCopied t on l x
+closed_copied a t on l x running heeded t_is on_is copies = record {
+  few = subst (λ (s : State). length s.drives.items ≤ 16) (sym t_is) running.set.few;
+  disks = running.set.disks;
+  logs = λ p current. running.set.logs p (heeded_left (raid_by a) p heeded (ap (λ (s : State). is_current s p) (sym t_is) ∙ current));
+  on_is = on_is;
+  copies = copies;
+}
+
+module _ (t : State) (on : List ℕ) (l : LogView) (x : Seen) (copied : AreCopied t on l x) where
   are_copies : AreCopiesOn t on l.added
   are_copies = subst (AreCopiesOn t on) (sym copied.copies.appended) copied.copies.copies
 
@@ -278,14 +288,8 @@ module _ (a : Arrays) (t : State) (on : List ℕ) (l : LogView) (x : Seen) (copi
   copy_place y among =
       let copy = copies_from t on l.added y are_copies among in
       let p = copy.place in
-      let current : is_current a.state p ≡ true =
-      ap (λ (s : State). is_current s p) (sym copied.t_is) ∙ sym (names_current t p) ∙ ap (λ ps. names ps p) (sym copied.on_is) ∙ copy.named in (
-        p,
-        current_few a.state p copied.running.set.few current,
-        copy.copy.disk,
-        copy.copy.sector,
-        copied.running.set.logs p (heeded_left (raid_by a) p copied.heeded current),
-      )
+      let current : is_current t p ≡ true = sym (names_current t p) ∙ ap (λ ps. names ps p) (sym copied.on_is) ∙ copy.named in
+      (p, current_few t p copied.few current, copy.copy.disk, copy.copy.sector, copied.logs p current)
 
   pub copies_valid : list_all is_target l.added ≡ true
   copies_valid =
@@ -312,7 +316,7 @@ module _ (a : Arrays) (t : State) (on : List ℕ) (l : LogView) (x : Seen) (copi
       let few = at.1 in
       let disk = at.2 in
       let here = found.2 in
-      let disks = copied.running.set.disks in
+      let disks = copied.disks in
       let sectors = at.4 in
       let first = at.3 in
       let sector = found.3 in (

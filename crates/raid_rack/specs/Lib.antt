@@ -1,2 +1,3 @@
 pub mod RaidRack
 pub mod AllRuns
+pub mod Growing

@@ -138,7 +138,7 @@ impl<R: Rack> RaidRack<R> {
 }
 
 /// Notes that this run has written an array.
-fn note_written(written: &mut [bool; 16], disk: u32)
+pub(crate) fn note_written(written: &mut [bool; 16], disk: u32)
     requires { disk < 16 }
     ensures noted { is_written written.new disk ≡ true }
     ensures others { (n : ℕ) → (n ≡ disk → ⊥) → is_written written.new n ≡ is_written written.old n }

@@ -34,7 +34,7 @@ pub enum EnlistFault {
 }
 
 /// The id of the next new drive of a pool.
-fn next_drive(state: &State) -> Id
+pub(crate) fn next_drive(state: &State) -> Id
     ensures { result ≡ spec.next_drive state.now }
 {
     child_id(&state.pool, 1, state.serial, 0)
@@ -74,7 +74,7 @@ fn enlist_drive(state: &mut State, place: u32, units: u64, plan: Plan)
 
 impl Arrays {
     /// Settles all arrays, and answers whether nobody went. Else his loss is marked.
-    fn settle_whole<S: Rack>(&mut self, rack: &mut S) -> bool
+    pub(crate) fn settle_whole<S: Rack>(&mut self, rack: &mut S) -> bool
         requires running { IsRunning self.old (S.seen rack.old) }
         requires heeded { IsHeeded (raid_by self.old) }
         ensures whole { result ≡ true → spec.SettlesWhole (raid_by self.old) (raid_by self.new) (S.seen rack.old) (S.seen rack.new) }
@@ -101,7 +101,7 @@ impl Arrays {
 
     /// Makes the drive of a place missing in memory alone, with its members, before a commit gives the place another one. It may be missing
     /// already. Nothing is called, and nobody has gone after it.
-    fn retire(&mut self, place: u32)
+    pub(crate) fn retire(&mut self, place: u32)
         ensures state { self.new.state ≡ vacated_state place self.old.state }
         ensures each { (n : ℕ) → slice_get self.new.all.items n ≡ option_map heeded (option_map (gone (place ∷ [])) (slice_get self.old.all.items n)) }
         ensures rest { self.new ≡ record self.old { state = self.new.state; all = self.new.all } }
@@ -146,7 +146,14 @@ impl Arrays {
 
     /// Makes a drive one of the pool, over slices that it has already: one commit on the drives that are left has the state with it,
     /// a copy for it too, and the superblocks, by which its members are to be rebuilt from their start.
-    fn join<S: Rack>(&mut self, rack: &mut S, place: u32, units: u64, plan: Plan, sectors: u64)
+    pub(crate) fn join<S: Rack>(
+        &mut self,
+        rack: &mut S,
+        place: u32,
+        units: u64,
+        plan: Plan,
+        sectors: u64,
+    )
         requires running { IsRunning self.old (S.seen rack.old) }
         requires heeded { IsHeeded (raid_by self.old) }
         requires empty { self.old.log.added ≡ [] }
@@ -155,7 +162,8 @@ impl Arrays {
         requires listed { place < length self.old.state.drives.items }
         requires missing { is_current self.old.state place ≡ false }
         requires others { (p : ℕ) → p < length self.old.state.drives.items → p ≢ place → is_current self.old.state p ≡ true }
-        requires units { option_map (λ d. d.units) (slice_get self.old.state.drives.items place) ≡ Some units }
+        requires units { 0 < units }
+        requires units_end { units < 2 ^ 41 }
         requires plan { plan ≡ Plan.Replace place }
         requires slices { spec.HasNewSlices self.old.all.items place sectors (S.seen rack.old) }
         requires reaches { ReachesAll self.old.all.items place sectors }

@@ -72,6 +72,12 @@
 //! written, and no log is damaged there (`former_says` of proofs/FormerSays.antt); from then on by the new tables and a state with the
 //! drive (`SaysReplacing`). Where the drive isn't taken in, stops leave of the slices what they leave in any call (`KeepsMoments`).
 //!
+//! **A drive of a growth** ([`RaidRack::add_drive`]) comes to the next place of the list, or to one of the list with other units than the drive before
+//! it. Its table has an entry for each array that it reaches by its units, also for those that it has still to join; where such a slice begins no
+//! superblock is left (`LaysReached` of growth_laws). At the next place it is in the list by one commit of the state alone, which settles no array;
+//! at a place of the list it is taken in as an `enlist` does it. What it does to the book is one change between losses (`TakesIn`). Of what stops
+//! leave nothing is said yet.
+//!
 //! **A disk that is given up** ([`RaidRack::vacate`]), where its drive is marked missing, takes the slices of its place with it. The
 //! arrays stand over the slices that are left as they did (`vacated_told`, `vacated_keeps`, `vacated_rows` of proofs/Vacated.antt).
 //!
@@ -91,9 +97,11 @@
 //! those of a rack (`raid_sound`).
 #![tactic(auto)]
 
+mod adding;
 mod arrays;
 mod disks;
 mod enlisting;
+mod growing;
 mod losses;
 mod marks;
 mod mending;
@@ -101,6 +109,7 @@ mod new_drive;
 mod spent;
 mod vacating;
 mod works;
+mod young;
 
 pub use arrays::{LastDrive, RaidRack};
 pub use enlisting::EnlistFault;

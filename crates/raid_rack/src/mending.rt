@@ -203,7 +203,7 @@ impl Arrays {
 
     /// Cleans an array. Whoever goes is marked, and whoever is left has one value in each sector. Where no drive refuses a call, its
     /// superblocks leave no rows to resync but those that are left in it.
-    fn clean_array<S: Rack>(&mut self, rack: &mut S, number: usize)
+    pub(crate) fn clean_array<S: Rack>(&mut self, rack: &mut S, number: usize)
         requires running { IsRunning self.old (S.seen rack.old) }
         requires heeded { IsHeeded (raid_by self.old) }
         requires number { number < self.old.state.made }

@@ -19,7 +19,7 @@ use shr_base::{Id, child_id};
 use slice_rack::SliceRack;
 
 /// The type of a log slice, 6B1F3C52-9D84-4E0A-A7C1-52E8D03F9B76.
-const LOG_KIND: Id = Id([
+pub(crate) const LOG_KIND: Id = Id([
     0x6b, 0x1f, 0x3c, 0x52, 0x9d, 0x84, 0x4e, 0x0a, 0xa7, 0xc1, 0x52, 0xe8, 0xd0, 0x3f, 0x9b, 0x76,
 ]);
 
@@ -29,28 +29,28 @@ const RAID_KIND: Id = Id([
 ]);
 
 /// The sector of the state: the first one of the log slice.
-const STATE_SECTOR: u64 = 2048;
+pub(crate) const STATE_SECTOR: u64 = 2048;
 
 /// The sector of the gate, the second one of the log slice.
 const GATE_SECTOR: u64 = 2049;
 
 /// The sectors of a log slice.
-const LOG_SECTORS: u64 = 8192;
+pub(crate) const LOG_SECTORS: u64 = 8192;
 
 /// Where the slices of members begin.
 const ARRAYS_FIRST: u64 = 10240;
 
 /// The sectors of a member's slice before its data.
-const DATA_SECTOR: u64 = 2048;
+pub(crate) const DATA_SECTOR: u64 = 2048;
 
 /// The sectors of the backup of a table.
-const BACKUP_SECTORS: u64 = 33;
+pub(crate) const BACKUP_SECTORS: u64 = 33;
 
 /// A sector of zeros.
-const ZEROS: [u8; 512] = [0; 512];
+pub(crate) const ZEROS: [u8; 512] = [0; 512];
 
 /// Where the slices of an array's members begin on each drive: behind those of the arrays of lower numbers.
-fn first_in(arrays: &[Array], number: usize) -> u64
+pub(crate) fn first_in(arrays: &[Array], number: usize) -> u64
     requires few { length arrays.now ≤ 16 }
     requires number { number ≤ length arrays.now }
     requires small { All (λ (u : View). u.truth.size < 2 ^ 48) arrays.now }
@@ -117,7 +117,7 @@ pub(crate) fn reaches_all(arrays: &[Array], place: u32, sectors: u64) -> bool
 }
 
 /// The entry of a drive's slice.
-fn entry_of(drive: &Id, slice: u32, kind: Id, first: u64, sectors: u64) -> Entry
+pub(crate) fn entry_of(drive: &Id, slice: u32, kind: Id, first: u64, sectors: u64) -> Entry
     requires slice { slice < 128 }
     requires some { 0 < first + sectors }
     requires room { first + sectors < 2 ^ 64 }
@@ -135,7 +135,7 @@ fn entry_of(drive: &Id, slice: u32, kind: Id, first: u64, sectors: u64) -> Entry
 }
 
 /// The entry of a drive's member of an array.
-fn member_entry(drive: &Id, arrays: &[Array], number: usize) -> Entry
+pub(crate) fn member_entry(drive: &Id, arrays: &[Array], number: usize) -> Entry
     requires few { length arrays.now ≤ 16 }
     requires number { number < length arrays.now }
     requires small { All (λ (u : View). u.truth.size < 2 ^ 48) arrays.now }

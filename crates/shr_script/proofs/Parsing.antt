@@ -12,7 +12,7 @@ use Rattle.std.specs.Str.Parse.{digits_value}
 use Rattle.hex.specs.Hex.{decode_of}
 use Rattle.std.specs.List.{list_all, slice_split, onto_first, position_or_len}
 use Rattle.shr_script.specs.declared.Command.{Command}
-use Rattle.shr_script.specs.Line.{wrong, is_space, alone, only_number, write_words, fill_words, replace_words, sector_of, byte_if, byte_of}
+use Rattle.shr_script.specs.Line.{wrong, is_space, alone, only_number, write_words, fill_words, replace_words, add_words, sector_of, byte_if, byte_of}
 
 -- where a place is found, it is the first one that passes
 pub position-found :
@@ -97,6 +97,12 @@ pub replace_words-more : (v w xs : List ℕ) → replace_words (v ∷ w ∷ slic
 replace_words-more v w xs =
     let begins = split-begins is_space xs in
     subst (λ ws. replace_words (v ∷ w ∷ ws) ≡ wrong) (sym begins.2) refl
+
+-- and so is a name with another word after it
+pub add_words-more : (w xs : List ℕ) → add_words (w ∷ slice_split is_space xs) ≡ wrong
+add_words-more w xs =
+    let begins = split-begins is_space xs in
+    subst (λ ws. add_words (w ∷ ws) ≡ wrong) (sym begins.2) refl
 
 -- and so are two numbers and digits
 pub fill_words-more : (u v w xs : List ℕ) → fill_words (u ∷ v ∷ w ∷ slice_split is_space xs) ≡ wrong

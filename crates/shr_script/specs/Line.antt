@@ -6,7 +6,7 @@ use Rattle.std.specs.Str.{bytes_eq}
 use Rattle.std.specs.Str.Parse.{digits_value}
 use Rattle.hex.specs.Hex.{decode_of}
 use Rattle.shr_script.specs.declared.Command.{Command}
-use Rattle.shr_script.specs.declared.Command.TheVariants.{Read, Write, Fill, Flush, Size, Lose, Replace, Step, Status, Quit, Unbuilt}
+use Rattle.shr_script.specs.declared.Command.TheVariants.{Read, Write, Fill, Flush, Size, Lose, Replace, Add, Step, Status, Quit}
 use Rattle.shr_script.specs.declared.LineFault.{LineFault}
 use Rattle.shr_script.specs.declared.LineFault.TheVariants.{Syntax}
 use Rattle.shr_script.specs.Names.{name_of}
@@ -110,6 +110,16 @@ replace_words (place ∷ []) = wrong
 replace_words (place ∷ name ∷ []) = replace_of (number_of place) (name_of name)
 replace_words (place ∷ name ∷ more ∷ words) = wrong
 
+-- `add NAME`
+abbrev pub add_of : Option (List ℕ) → Line
+add_of (Some name) = Ok (Add name)
+add_of None = wrong
+
+abbrev pub add_words : List (List ℕ) → Line
+add_words [] = wrong
+add_words (name ∷ []) = add_of (name_of name)
+add_words (name ∷ more ∷ words) = wrong
+
 -- `step N`
 abbrev pub step_of : Option ℕ → Line
 step_of (Some count) = Ok (Step count)
@@ -120,13 +130,9 @@ abbrev pub alone : Command → List (List ℕ) → Line
 alone command [] = Ok command
 alone command (more ∷ words) = wrong
 
--- the first word of lines that aren't built yet
-abbrev pub is_unbuilt : List ℕ → Bool
-is_unbuilt word = bytes_eq word (codes "add")
-
 -- what a line of at most 1100 bytes says, by its first word
-abbrev pub built_of : List ℕ → List (List ℕ) → Line
-built_of first words =
+abbrev pub command_of : List ℕ → List (List ℕ) → Line
+command_of first words =
     if bytes_eq first (codes "read")
     then read_words words
     else if bytes_eq first (codes "write")
@@ -141,6 +147,8 @@ built_of first words =
     then lose_of (only_number words)
     else if bytes_eq first (codes "replace")
     then replace_words words
+    else if bytes_eq first (codes "add")
+    then add_words words
     else if bytes_eq first (codes "step")
     then step_of (only_number words)
     else if bytes_eq first (codes "status")
@@ -156,12 +164,7 @@ longest = 1100
 -- what the words of a line say
 abbrev pub words_line : ℕ → List (List ℕ) → Line
 words_line bytes [] = wrong
-words_line bytes (first ∷ words) =
-    if is_unbuilt first
-    then Ok Unbuilt
-    else if nat_le bytes longest
-    then built_of first words
-    else wrong
+words_line bytes (first ∷ words) = if nat_le bytes longest then command_of first words else wrong
 
 -- a space parts words
 abbrev pub is_space : ℕ → Bool

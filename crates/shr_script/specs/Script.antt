@@ -1,7 +1,7 @@
 -- A script: what its lines say, up to the first `quit`.
 use Rattle.std.specs.Prelude.{ℕ, ◌-◌, ◌==◌, Bool, if◌then◌else◌, List, [], ◌∷◌, length, map, take, Ok, Err}
 use Rattle.std.specs.List.{slice_split, filter_map}
-use Rattle.shr_script.specs.declared.Command.TheVariants.{Read, Write, Fill, Flush, Size, Lose, Replace, Step, Status, Quit, Unbuilt}
+use Rattle.shr_script.specs.declared.Command.TheVariants.{Read, Write, Fill, Flush, Size, Lose, Replace, Add, Step, Status, Quit}
 use Rattle.shr_script.specs.Line.{Line, line_of}
 
 -- a line feed ends a line
@@ -32,10 +32,10 @@ until_quit (Ok Flush ∷ lines) = Ok Flush ∷ until_quit lines
 until_quit (Ok Size ∷ lines) = Ok Size ∷ until_quit lines
 until_quit (Ok (Lose place) ∷ lines) = Ok (Lose place) ∷ until_quit lines
 until_quit (Ok (Replace place name) ∷ lines) = Ok (Replace place name) ∷ until_quit lines
+until_quit (Ok (Add name) ∷ lines) = Ok (Add name) ∷ until_quit lines
 until_quit (Ok (Step count) ∷ lines) = Ok (Step count) ∷ until_quit lines
 until_quit (Ok Status ∷ lines) = Ok Status ∷ until_quit lines
 until_quit (Ok Quit ∷ lines) = []
-until_quit (Ok Unbuilt ∷ lines) = Ok Unbuilt ∷ until_quit lines
 until_quit (Err fault ∷ lines) = Err fault ∷ until_quit lines
 
 -- what the lines of a whole text say

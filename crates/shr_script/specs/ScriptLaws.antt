@@ -5,7 +5,7 @@ use Rattle.std.proofs.lemmas.Bool.Decides.{nat_tests}
 use Rattle.std.proofs.lemmas.List.{take_all}
 use Rattle.shr_script.specs.Trimming.{take-last}
 use Rattle.std.specs.List.{All, slice_split, filter_map, cons_option}
-use Rattle.shr_script.specs.declared.Command.TheVariants.{Read, Write, Fill, Flush, Size, Lose, Replace, Step, Status, Quit, Unbuilt}
+use Rattle.shr_script.specs.declared.Command.TheVariants.{Read, Write, Fill, Flush, Size, Lose, Replace, Add, Step, Status, Quit}
 use Rattle.shr_script.specs.Line.{Line, line_of}
 use Rattle.shr_script.specs.Script.{is_line_feed, without_return, lines_of, ended_lines_of, until_quit, script_of, cut_script_of}
 
@@ -19,10 +19,10 @@ prepend (Some (Ok Flush)) lines = Ok Flush ∷ lines
 prepend (Some (Ok Size)) lines = Ok Size ∷ lines
 prepend (Some (Ok (Lose place))) lines = Ok (Lose place) ∷ lines
 prepend (Some (Ok (Replace place name))) lines = Ok (Replace place name) ∷ lines
+prepend (Some (Ok (Add name))) lines = Ok (Add name) ∷ lines
 prepend (Some (Ok (Step count))) lines = Ok (Step count) ∷ lines
 prepend (Some (Ok Status)) lines = Ok Status ∷ lines
 prepend (Some (Ok Quit)) lines = []
-prepend (Some (Ok Unbuilt)) lines = Ok Unbuilt ∷ lines
 prepend (Some (Err fault)) lines = Err fault ∷ lines
 
 until_quit-cons :
@@ -36,10 +36,10 @@ until_quit-cons (Some (Ok Flush)) lines = refl
 until_quit-cons (Some (Ok Size)) lines = refl
 until_quit-cons (Some (Ok (Lose place))) lines = refl
 until_quit-cons (Some (Ok (Replace place name))) lines = refl
+until_quit-cons (Some (Ok (Add name))) lines = refl
 until_quit-cons (Some (Ok (Step count))) lines = refl
 until_quit-cons (Some (Ok Status)) lines = refl
 until_quit-cons (Some (Ok Quit)) lines = refl
-until_quit-cons (Some (Ok Unbuilt)) lines = refl
 until_quit-cons (Some (Err fault)) lines = refl
 
 -- what parts of a text say

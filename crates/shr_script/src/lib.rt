@@ -7,7 +7,7 @@
 //!
 //! **The contract for the layer above.** [`next_line`] gives the command of a line, or why it is none. A
 //! [`LineReader`] gives the lines of a source in their order, with constant memory: of a line that
-//! is too long it keeps as many bytes as tell its command (specs/LongLines.antt). What a row of
+//! is too long it keeps as many bytes as tell that it is none (specs/LongLines.antt). What a row of
 //! lines says of a whole script stands in specs/ScriptLaws.antt.
 #![tactic(auto)]
 
@@ -72,10 +72,13 @@ pub enum Command {
     },
     /// `status`: replies how the pool stands, in several lines.
     Status,
+    /// `add NAME`: the pool grows by an image.
+    Add {
+        /// The name of the image.
+        name: ImageName,
+    },
     /// `quit`: ends the script, with no reply.
     Quit,
-    /// A line whose first word is one of the commands that aren't built yet.
-    Unbuilt,
 }
 
 /// Why a line is no command.

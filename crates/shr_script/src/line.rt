@@ -8,7 +8,7 @@ ghost use Rattle.std.specs.Str.Parse.{digits_value};
 ghost use Rattle.hex.specs.Hex.{decode_of};
 ghost use Rattle.std.specs.Option.{option_copied};
 ghost use Rattle.std.specs.Result.{result_transpose};
-ghost use Rattle.shr_script.specs.Line.{is_space, is_unbuilt as is_unbuilt_word, built_of, only_number as number_alone, read_of, lose_of, step_of, write_words, replace_words, fill_words, fill_of, alone as stands_alone, words_line, line_of, number_of as number_in, sector_of as sector_in, byte_of as byte_in};
+ghost use Rattle.shr_script.specs.Line.{is_space, command_of, only_number as number_alone, read_of, lose_of, step_of, write_words, replace_words, add_words, fill_words, fill_of, alone as stands_alone, words_line, line_of, number_of as number_in, sector_of as sector_in, byte_of as byte_in};
 ghost use Rattle.shr_script.specs.Script.{without_return as line_without_return};
 ghost use Rattle.shr_script.specs.Words.{words_after};
 
@@ -45,14 +45,11 @@ pub fn without_return(line: &[u8]) -> &[u8]
 fn command_in(line: &[u8]) -> Result<Command, LineFault>
     ensures { result ≡ words_line (length line.now) (slice_split is_space line.now) }
 {
-    let (first, rest) = cut_word(line);
-    if is_unbuilt(first) {
-        Ok(Command::Unbuilt)
-    } else if line.len() <= LONGEST {
-        built_command(first, rest)
-    } else {
-        Err(LineFault::Syntax)
+    if line.len() > LONGEST {
+        return Err(LineFault::Syntax);
     }
+    let (first, rest) = cut_word(line);
+    command_of_word(first, rest)
 }
 
 // The bytes before the first space, and those after it where there is one.
@@ -72,16 +69,9 @@ fn first_space(bytes: &[u8]) -> Option<usize>
     bytes.iter().position(|byte| *byte == b' ')
 }
 
-// The first word is one of a line that isn't built yet.
-fn is_unbuilt(word: &[u8]) -> bool
-    ensures { result ≡ is_unbuilt_word word.now }
-{
-    word == b"add".as_slice()
-}
-
 // The command of a line that isn't too long, by its first word.
-fn built_command(first: &[u8], rest: Option<&[u8]>) -> Result<Command, LineFault>
-    ensures { result ≡ built_of first.now (words_after (option_copied rest.entry)) }
+fn command_of_word(first: &[u8], rest: Option<&[u8]>) -> Result<Command, LineFault>
+    ensures { result ≡ command_of first.now (words_after (option_copied rest.entry)) }
 {
     if first == b"read".as_slice() {
         read_command(only_number(rest))
@@ -97,6 +87,8 @@ fn built_command(first: &[u8], rest: Option<&[u8]>) -> Result<Command, LineFault
         lose_command(only_number(rest))
     } else if first == b"replace".as_slice() {
         replace_command(rest)
+    } else if first == b"add".as_slice() {
+        add_command(rest)
     } else if first == b"step".as_slice() {
         step_command(only_number(rest))
     } else if first == b"status".as_slice() {
@@ -169,6 +161,21 @@ fn replace_command(rest: Option<&[u8]>) -> Result<Command, LineFault>
         (None, None, _) => Err(LineFault::Syntax),
         (None, Some(_), None) => Err(LineFault::Syntax),
         (None, Some(place), Some(name)) => Ok(Command::Replace { place, name }),
+    }
+}
+
+// `add NAME`
+fn add_command(rest: Option<&[u8]>) -> Result<Command, LineFault>
+    ensures { result ≡ add_words (words_after (option_copied rest.entry)) }
+{
+    let Some(words) = rest else {
+        return Err(LineFault::Syntax);
+    };
+    let (name, more) = cut_word(words);
+    match (more, ImageName::of(name)) {
+        (Some(_), _) => Err(LineFault::Syntax),
+        (None, None) => Err(LineFault::Syntax),
+        (None, Some(name)) => Ok(Command::Add { name }),
     }
 }
 

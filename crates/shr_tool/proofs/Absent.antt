@@ -27,12 +27,11 @@ use Rattle.pool.specs.View.{View, arrays_shown, book, slices_shown}
 use Rattle.pool.proofs.Keeping.{passes_then}
 use Rattle.shr_tool.specs.Heads.{KeepsHeads}
 use Rattle.shr_tool.specs.Outcome.{HasWholeSectors, IsRunOn}
-use Rattle.shr_tool.specs.Timeline.{Ground, ground_of}
 use Rattle.shr_tool.proofs.Heads.{heads_passes}
 
 -- the pool of a run stands alone on its disks where no second disk stands for the place of a drive
-pub stands_first : (f : Found) (g : Ground) (from : Moment) (x : Seen) → IsRunOn f g from x → AreOnly f → StandsAlone f
-stands_first f g from x on only = record {
+pub stands_first : (f : Found) (from : Moment) (x : Seen) → IsRunOn f from x → AreOnly f → StandsAlone f
+stands_first f from x on only = record {
   tables = on.tables;
   others = λ d never low. record {
     stands = λ p e seat stands. never p (seat ∙ ap Some (sym (only p e d seat low stands)));
@@ -40,7 +39,7 @@ stands_first f g from x on only = record {
   };
 }
 
-module _ (x y : View) (f : Found) (passes : Passes x y) (on : IsRunOn f (ground_of x) (moment_of x) x.bay)
+module _ (x y : View) (f : Found) (passes : Passes x y) (on : IsRunOn f (moment_of x) x.bay)
     (told_first : (n : ℕ) → n < x.linear.arrays → IsTold (book x) (slices_shown x) n)
     (told_last : (n : ℕ) → n < x.linear.arrays → IsTold (book y) (slices_shown y) n)
     (goes : (n : ℕ) → n < f.state.made → is_over (book y) n ≡ false) where
@@ -111,7 +110,7 @@ module _ (x y : View) (f : Found) (passes : Passes x y) (on : IsRunOn f (ground_
         let same : f.disks ≡ disks_of y.bay = (found_is (disks_of x.bay) on.before f on.found_is).1 ∙ disks_last in
         let inside = passes.stays.fit.0.running.set.fit.1 in
         left_absent f y.slices y.bay (book y) served inside (disks_of x.bay) on.before i on.found_is disks_last on.sound rest_last pick
-        (record { alone = stands_first f (ground_of x) (moment_of x) x.bay on only; book = whole; agree = agree })
+        (record { alone = stands_first f (moment_of x) x.bay on only; book = whole; agree = agree })
         (subst (λ (k : Disks). (d s : ℕ) → d < k.count → s < k.sectors d → length (i d s) ≡ 512) (sym same) sized)
         (subst (λ (k : Disks). (d : ℕ) → d < k.count → k.sectors d < 2 ^ 48) (sym same) inside.small)
         (group_last group) alive
@@ -120,7 +119,7 @@ module _ (x y : View) (f : Found) (passes : Passes x y) (on : IsRunOn f (ground_
 pub agreed_at :
     (x m y : View) (f : Found) → KeepsHeads (book x) (book m) (slices_shown x) (slices_shown m) → Ends m y
     → ((d : ℕ) → Rose (m.bay.faults d) (y.bay.faults d) → ⊥)
-    → IsRunOn f (ground_of x) (moment_of x) x.bay
+    → IsRunOn f (moment_of x) x.bay
     → ((n : ℕ) → n < x.linear.arrays → IsTold (book y) (slices_shown y) n)
     → (n : ℕ) → n < f.state.made → is_over (book y) n ≡ false
     → (r : Image) → IsLeft (slices_shown y) r → AgreeLeaving ((book y).arrays n) (book y).state r n
@@ -134,7 +133,7 @@ agreed_at x m y f heads ends quiet on told_last n low goes r left =
 -- After the end of such a pool, which is whole then.
 pub safe_at :
     (x m y : View) (f : Found) → Passes x m → Ends m y → ((d : ℕ) → Rose (m.bay.faults d) (y.bay.faults d) → ⊥)
-    → IsRunOn f (ground_of x) (moment_of x) x.bay
+    → IsRunOn f (moment_of x) x.bay
     → ((n : ℕ) → n < x.linear.arrays → IsTold (book x) (slices_shown x) n) → ((n : ℕ) → n < x.linear.arrays → IsTold (book y) (slices_shown y) n)
     → AreOnly f → HaveOwnAreas f → IsWholeRaid f.state.made (book y) → ((n : ℕ) → n < f.state.made → is_over (book y) n ≡ false)
     → (i : Image) → IsPick y.bay y.bay y.bay.held i → HasWholeSectors y.bay i → HoldAbsent f y.slices (book y).state i

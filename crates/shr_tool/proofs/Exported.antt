@@ -22,7 +22,6 @@ use Rattle.shr_tool.specs.Events.Event.{spent}
 use Rattle.shr_tool.specs.Exporting.{ExportOutcome, Puts, bytes_at, bytes_of, export_status, read_of, reads_of}
 use Rattle.shr_tool.specs.Serving.{IsServing, Ran}
 use Rattle.pool.specs.Moment.{moment_of}
-use Rattle.shr_tool.specs.Timeline.{ground_of}
 use Rattle.shr_tool.proofs.Finishing.{lasts_of}
 use Rattle.shr_tool.proofs.History.{IsLawful, ran_more}
 use Rattle.shr_tool.proofs.Performing.{read_done, read_spent}
@@ -111,7 +110,7 @@ export_of :
     → IsLawful y
     → Puts x m r out out'
     → Ends m y
-    → ExportOutcome (export_status r) (IsServing x a) x.bay.traced x.bay y.bay (ground_of x) (moment_of x) a out out'
+    → ExportOutcome (export_status r) (IsServing x a) x.bay.traced x.bay y.bay (moment_of x) a out out'
 export_of {X} (Ok done) x m y a out out' laws puts ends = record { put = λ serving. puts.1 a serving.0; lasts = lasts_of x m y a _ laws puts.0 ends }
 export_of {X} (Err AtSpent) x m y a out out' laws puts ends = record {
   sector = puts.0;
@@ -132,7 +131,7 @@ pub export_outcome :
     → IsLawful y
     → Puts x m r out out'
     → Ends m y
-    → ExportOutcome status (IsServing x a) x.bay.traced x.bay y.bay (ground_of x) (moment_of x) a out out'
+    → ExportOutcome status (IsServing x a) x.bay.traced x.bay y.bay (moment_of x) a out out'
 export_outcome {X} r status x m y a out out' is laws puts ends =
-    subst (λ s. ExportOutcome s (IsServing x a) x.bay.traced x.bay y.bay (ground_of x) (moment_of x) a out out') (sym is)
+    subst (λ s. ExportOutcome s (IsServing x a) x.bay.traced x.bay y.bay (moment_of x) a out out') (sym is)
     (export_of r x m y a out out' laws puts ends)

@@ -8,12 +8,12 @@ use Rattle.pool_model.specs.Taken.{AreSerial}
 use Rattle.raid_laws.specs.Raid.{IsTold, is_over}
 use Rattle.pool.specs.Keeping.{KeepsBook}
 use Rattle.flat_array.specs.Array.{FlatArray, flushed}
-use Rattle.lvm_group.specs.Runs.{Linear}
+use Rattle.lvm_group.specs.Runs.{Linear, sectors_in}
 use Rattle.pool_model.specs.Absent.{HoldAbsent}
 use Rattle.pool_model.specs.Alone.{LeaveOut}
 use Rattle.pool_model.specs.Grouped.{HaveOwnAreas}
 use Rattle.pool.specs.Continuing.{Continues, KeepsOutside}
-use Rattle.pool.specs.View.{View, book, slices_shown, spent_by}
+use Rattle.pool.specs.View.{View, book, slices_shown}
 use Rattle.pool.specs.Volume.{Holds}
 use Rattle.pool.specs.Calls.{Ends, Passes}
 use Rattle.shr_tool.specs.declared.perform.Answer.{Answer}
@@ -22,18 +22,21 @@ use Rattle.shr_tool.specs.declared.serve.Stop.{Stop}
 use Rattle.shr_tool.specs.declared.serve.Stop.TheVariants.{Quit as AtQuit, Input, SourceFault, Limit as AtLimit, SinkFault}
 use Rattle.shr_tool.specs.declared.status.Status.{Status}
 use Rattle.shr_tool.specs.declared.status.Status.TheVariants.{Limit}
-use Rattle.shr_tool.specs.Events.{AnyTakes, Event, any_takes, array_by}
+use Rattle.shr_tool.specs.Events.{AnyTakes, Event, any_takes, array_by, texts}
 use Rattle.pool.specs.Moment.{moment_of}
-use Rattle.shr_tool.specs.Timeline.{Steps, Timeline, ground_of, steps_of}
-use Rattle.shr_tool.specs.Serving.{HasStopCause, IsServing, Ran, Serves, StopsAtEnd}
+use Rattle.pool.specs.Proceeding.{Proceeds}
+use Rattle.shr_script.specs.Line.{Line}
+use Rattle.shr_tool.specs.Timeline.{Steps, Timeline, steps_of}
+use Rattle.shr_tool.specs.Serving.{AreBegun as BegunTo, ArePut as PutTo, Grew, HasGone, HasStopCause, IsServing, Ran, Serves, ServesEvents, StopsAtEnd}
 use Rattle.shr_tool.specs.Between.{HaveOthers, HoldsEach, HoldsInside, HoldsNext}
 use Rattle.shr_tool.specs.Service.{AreFit, AreLone, BeginsOn, IsOut, IsServed, Lone, none_out, pool_by}
-use Rattle.shr_tool.specs.Outcome.{DoneOutcome, EndsAt, HasStatusCause, IsRunOn, Lasts, LeavesItsRows, Outcome, status_by}
+use Rattle.shr_tool.specs.Outcome.{AreBegun, ArePut, DoneOutcome, EndsAt, EventsOutcome, HasStatusCause, IsRunOn, Lasts, LastsUntil, LeavesItsRows, Outcome, status_by}
 use Rattle.shr_tool.proofs.Between.{holds_inside, next_now, told_after}
+use Rattle.shr_tool.proofs.Grown.{gone_kept}
+use Rattle.shr_tool.proofs.Growing.{along_for, proceeds_of, proceeds_to}
 use Rattle.shr_tool.proofs.History.{IsLawful, IsUnspent, each_before, others_before, ran_before, slices_kept, standing, steps_before}
 use Rattle.shr_tool.proofs.Heads.{heads_passes, heads_then}
 use Rattle.shr_tool.proofs.Serviced.{goes_calls, goes_lone, goes_run}
-use Rattle.shr_tool.proofs.Joined.{means_at}
 use Rattle.shr_tool.proofs.Missing.{vacant_kept}
 use Rattle.shr_tool.proofs.Told.{outside_told, steps_for, timeline_for}
 use Rattle.pool.proofs.Continuing.{continues_of, continues_then, outside_fewer, outside_of, outside_then}
@@ -43,16 +46,10 @@ use Rattle.shr_tool.proofs.Lone.{lone_at}
 
 -- what can be had after the end of a pool could be had before it
 served_before :
-    (x m y : View) (events : List Event) → Continues x m → Passes m y → IsServed (ground_of x) (moment_of y) events → IsServed (ground_of x) (moment_of m) events
-served_before x m y events continues passes (inl none) = inl none
-served_before x m y events continues passes (inr some) =
-    inr (
-      some.0,
-      some.1,
-      subst (λ (l : Linear). spent_by l (book m) some.0 ≡ false) continues.linear
-          (passes.stays.spent 0 some.0
-          (subst (λ (l : Linear). spent_by l (book y) some.0 ≡ false) (sym (passes.linear ∙ continues.linear)) some.2)),
-    )
+    (m y : View) (events : List Event) → Passes m y → IsServed (moment_of y) events → IsServed (moment_of m) events
+served_before m y events passes (inl none) = inl none
+served_before m y events passes (inr some) =
+    inr (some.0, subst (λ (l : Linear). some.0 < sectors_in l) passes.linear some.1, passes.stays.spent 0 some.0 some.2)
 
 -- the end of a pool leaves the rows that were left
 rows_at :
@@ -60,12 +57,11 @@ rows_at :
     → Ran x m events
     → Ends m y
     → IsServing x a
-    → IsServed (ground_of x) (moment_of y) events
-    → LeavesItsRows y.bay (ground_of x) (moment_of m) (moment_of y)
+    → IsServed (moment_of y) events
+    → LeavesItsRows y.bay (moment_of m) (moment_of y)
 rows_at x m y a events ran ends serving served none n inside over settled r left t truth =
     ends.rows none n
-    (told_after x m a (array_by a events) events ran.continues ran.passes serving (ran.holds a serving.0)
-    (served_before x m y events ran.continues ends.passes served) n inside)
+    (told_after x m a (array_by a events) events ran.passes serving (ran.holds a serving.0) (served_before m y events ends.passes served) n inside)
     over settled r left t truth
 
 -- as an event after the script's
@@ -74,13 +70,13 @@ ends_at :
     → Ran x m events
     → Ends m y
     → IsLawful y
-    → EndsAt (IsServing x a) x.bay.traced y.bay (ground_of x) (moment_of m) (moment_of y) (array_by a events)
+    → EndsAt (IsServing x a) x.bay.traced y.bay (moment_of m) (moment_of y) (array_by a events)
 ends_at x m y a events ran ends laws =
     let b = array_by a events in
-    let linear = ends.passes.linear ∙ ran.continues.linear in
     let traced_then : IsServing x a → x.bay.traced → m.bay.traced = λ serving traced. ran.continues.traced serving.0.shelf traced in
     record {
       later = λ serving traced. (ends.passes.apart.stops (traced_then serving traced)).later;
+      linear = ends.passes.linear;
       slices = slices_kept m y ends.passes;
       after = ends.passes.marks;
       cause =
@@ -91,13 +87,8 @@ ends_at x m y a events ran ends laws =
           (outside_of m y (λ d. ⊥) ends.passes laws.0).held d s
           (record { disk = low; sector = within; is_told = (ran.holds a serving.0).disks d low; unnamed = λ never. never; unsliced = unsliced });
       missing = λ serving. vacant_kept m y ran.continues.fit ends.passes laws.2 laws.0 (ran.holds a serving.0).disks;
-      during =
-          λ serving traced k i since until stops.
-          means_at x y b i linear
-          ((ends.does.leaves (traced_then serving traced) b (ran.holds a serving.0)).new k i since until stops);
-      ended =
-          λ serving traced i stops.
-          means_at x y (flushed b) i linear (ends.does.ends (traced_then serving traced) b (ran.holds a serving.0) i stops);
+      during = λ serving traced. (ends.does.leaves (traced_then serving traced) b (ran.holds a serving.0)).new;
+      ended = λ serving traced. ends.does.ends (traced_then serving traced) b (ran.holds a serving.0);
     }
 
 -- each of the volume's arrays is told
@@ -106,36 +97,46 @@ told_at :
     → Ran x m events
     → Ends m y
     → IsServing x a
-    → IsServed (ground_of x) (moment_of y) events
-    → (n : ℕ) → n < x.linear.arrays → IsTold (book y) (slices_of y.slices y.bay) n
+    → IsServed (moment_of y) events
+    → (n : ℕ) → n < y.linear.arrays → IsTold (book y) (slices_of y.slices y.bay) n
 told_at x m y a events ran ends serving served n inside =
     told_after x y a (flushed (array_by a events)) events
-    (continues_then x m y ran.continues (continues_of m y ends.passes))
     (λ none. passes_then x m y (ran.passes none) ends.passes)
     serving (ends.does.becomes (array_by a events) (ran.holds a serving.0)) served n inside
+
+-- of as many arrays as the volume had when the run began
+told_from :
+    (x m y : View) (a : FlatArray) (events : List Event)
+    → Ran x m events
+    → Ends m y
+    → IsServing x a
+    → IsServed (moment_of y) events
+    → (n : ℕ) → n < x.linear.arrays → IsTold (book y) (slices_of y.slices y.bay) n
+told_from x m y a events ran ends serving served n inside =
+    told_at x m y a events ran ends serving served n (subst (λ (l : Linear). n < l.arrays) (sym (ends.passes.linear ∙ ran.continues.linear)) inside)
 
 -- the events as they happened, told where the pool serves the array
 timeline_told :
     (x m y : View) (a : FlatArray) (events : List Event)
     → Ran x m events
     → Continues m y
-    → Timeline (x.bay.traced × IsServing x a) y.bay.stops (ground_of x) (moment_of x) a events (moment_of m)
+    → Timeline (x.bay.traced × IsServing x a) y.bay.stops (moment_of x) a events (moment_of m)
 timeline_told x m y a events ran continues =
-    timeline_for (x.bay.traced × Holds x a) (x.bay.traced × IsServing x a) y.bay.stops (ground_of x) (moment_of x) a events (moment_of m)
+    timeline_for (x.bay.traced × Holds x a) (x.bay.traced × IsServing x a) y.bay.stops (moment_of x) a events (moment_of m)
     (λ is. (is.0, is.1.0)) (ran_before x m y events a ran continues)
 
 -- the moments of the run
 steps_told :
     (x m y : View) (a : FlatArray) (events : List Event) (ran : Ran x m events) (continues : Continues m y)
-    → steps_of (x.bay.traced × IsServing x a) y.bay.stops (ground_of x) (moment_of x) a events (moment_of m) (timeline_told x m y a events ran continues) ≡ ran.steps
+    → steps_of (x.bay.traced × IsServing x a) y.bay.stops (moment_of x) a events (moment_of m) (timeline_told x m y a events ran continues) ≡ ran.steps
 unfolding timeline_told
 steps_told x m y a events ran continues =
-    steps_for (x.bay.traced × Holds x a) (x.bay.traced × IsServing x a) y.bay.stops (ground_of x) (moment_of x) a events (moment_of m)
+    steps_for (x.bay.traced × Holds x a) (x.bay.traced × IsServing x a) y.bay.stops (moment_of x) a events (moment_of m)
     (λ is. (is.0, is.1.0)) (ran_before x m y events a ran continues)
     ∙ steps_before x m y events a ran continues
 
 -- a run on a pool begins on its arrays
-begins_on : (x : View) (f : Found) → IsRunOn f (ground_of x) (moment_of x) x.bay → BeginsOn (HaveOwnAreas f) x
+begins_on : (x : View) (f : Found) → IsRunOn f (moment_of x) x.bay → BeginsOn (HaveOwnAreas f) x
 begins_on x f on = record {
   joined = on.after.same.joined ∙ on.joined ∙ sym on.after.same.made;
   truths = λ n low. on.truths n (let made = on.after.same.made in omega (arith, low, made));
@@ -146,17 +147,17 @@ begins_on x f on = record {
 again_at :
     (x m y : View) (a : FlatArray) (events : List Event) → IsUnspent y → (ran : Ran x m events) (ends : Ends m y)
     → IsServing x a
-    → IsServed (ground_of x) (moment_of y) events
+    → IsServed (moment_of y) events
     → (f : Found)
-    → IsRunOn f (ground_of x) (moment_of x) x.bay
+    → IsRunOn f (moment_of x) x.bay
     → (any_takes events ≡ true → AreSerial f.state)
     → AreFit f (moment_of x) events (moment_of m) ran.steps
     → ((n : ℕ) → n < f.state.made → is_over (book y) n ≡ false)
     → (i : Image) → IsPick y.bay y.bay y.bay.held i
-    → HoldsNext (TargetsLand f) (HaveOwnAreas f) (pool_by f (moment_of x) events (moment_of m) ran.steps) y.slices x.linear (book y) i
+    → HoldsNext (TargetsLand f) (HaveOwnAreas f) (pool_by f (moment_of x) events (moment_of m) ran.steps) y.slices y.linear (book y) i
 again_at x m y a events unspent ran ends serving served f on serials fit lasts i pick =
     let h = pool_by f (moment_of x) events (moment_of m) ran.steps in
-    let at_end = (ran.service a serving.0 (served_before x m y events ran.continues ends.passes served) f (goes_run x f on) serials fit).goes in
+    let at_end = (ran.service a serving.0 (served_before m y events ends.passes served) f (goes_run x f on) serials fit).goes in
     let goes = goes_calls m y h (array_by a events) unspent ran.continues.fit (ran.holds a serving.0) ends.passes at_end in
     let made = goes.arrays in
     let linear = ap (λ (l : Linear). l.arrays) (ends.passes.linear ∙ ran.continues.linear) in
@@ -174,9 +175,9 @@ closing_at :
     → IsServing x a
     → x.bay.traced
     → (f : Found)
-    → IsRunOn f (ground_of x) (moment_of x) x.bay
+    → IsRunOn f (moment_of x) x.bay
     → AreFit f (moment_of x) events (moment_of m) ran.steps
-    → HoldsInside y.bay.stops (ground_of x) (AreSerial f.state) (TargetsLand f) (HaveOwnAreas f) events (pool_by f (moment_of x) events (moment_of m) ran.steps) (moment_of m)
+    → HoldsInside y.bay.stops (AreSerial f.state) (TargetsLand f) (HaveOwnAreas f) events (pool_by f (moment_of x) events (moment_of m) ran.steps) (moment_of m)
     (moment_of y)
 closing_at x m y a events ran ends serving traced f on fit =
     holds_inside x m y a (array_by a events) events (AreSerial f.state) (pool_by f (moment_of x) events (moment_of m) ran.steps) ran.continues ran.passes
@@ -204,7 +205,7 @@ pub lasts_of :
     → IsLawful y
     → Ran x m events
     → Ends m y
-    → Lasts (IsServing x a) x.bay.traced x.bay y.bay (ground_of x) (moment_of x) a events
+    → Lasts (IsServing x a) x.bay.traced x.bay y.bay (moment_of x) a events
 lasts_of x m y a events laws ran ends =
     let passes : any_takes events ≡ false → Passes x y = λ none. passes_then x m y (ran.passes none) ends.passes in
     record {
@@ -222,25 +223,25 @@ lasts_of x m y a events laws ran ends =
       told = told_at x m y a events ran ends;
       rows = rows_at x m y a events ran ends;
       between = λ serving traced f on.
-          subst (HoldsEach y.bay.stops (ground_of x) (AreSerial f.state) (TargetsLand f) (HaveOwnAreas f) [] f (moment_of x) events (moment_of m))
+          subst (HoldsEach y.bay.stops (AreSerial f.state) (TargetsLand f) (HaveOwnAreas f) [] f (moment_of x) events (moment_of m))
           (sym (steps_told x m y a events ran (continues_of m y ends.passes)))
           (each_before x m y events a f ran (continues_of m y ends.passes) serving traced (begins_on x f on) (goes_run x f on));
       closing = λ serving traced f on fit.
           let same = steps_told x m y a events ran (continues_of m y ends.passes) in
           subst
           (λ (steps : Steps (moment_of x) events (moment_of m)).
-          HoldsInside y.bay.stops (ground_of x) (AreSerial f.state) (TargetsLand f) (HaveOwnAreas f) events (pool_by f (moment_of x) events (moment_of m) steps) (moment_of m) (moment_of y))
+          HoldsInside y.bay.stops (AreSerial f.state) (TargetsLand f) (HaveOwnAreas f) events (pool_by f (moment_of x) events (moment_of m) steps) (moment_of m) (moment_of y))
           (sym same)
           (closing_at x m y a events ran ends serving traced f on (subst (AreFit f (moment_of x) events (moment_of m)) same fit));
       agreed = λ serving served quiet f on n low goes r left.
-          agreed_at x m y f (ran.heads serving.0.shelf serving.0.disks) ends quiet on (told_at x m y a events ran ends serving served) n low goes r left;
+          agreed_at x m y f (ran.heads serving.0.shelf serving.0.disks) ends quiet on (told_from x m y a events ran ends serving served) n low goes r left;
       safe = λ serving none quiet f on.
-          safe_at x m y f (ran.passes none) ends quiet on (λ n low. serving.1 n low) (told_at x m y a events ran ends serving (inl none));
+          safe_at x m y f (ran.passes none) ends quiet on (λ n low. serving.1 n low) (told_from x m y a events ran ends serving (inl none));
       safe_by = λ serving served quiet f on only own serials fit out ungiven lone whole lasts i j pick leave sized.
           let same = steps_told x m y a events ran (continues_of m y ends.passes) in
           let l : Lone = record { bound = (book m).state.serial; out = out } in
           subst (λ (steps : Steps (moment_of x) events (moment_of m)). HoldAbsent (pool_by f (moment_of x) events (moment_of m) steps) y.slices (book y).state j) (sym same)
-          (lone_at x m y a events laws.0 ran ends serving (served_before x m y events ran.continues ends.passes served) quiet (told_at x m y a events ran ends serving served) f on only own
+          (lone_at x m y a events laws.0 ran ends serving (served_before m y events ends.passes served) quiet (told_from x m y a events ran ends serving served) f on only own
           serials (subst (AreFit f (moment_of x) events (moment_of m)) same fit) out ungiven (subst (AreLone f l (moment_of x) events (moment_of m)) same lone) whole lasts i j pick
           (subst (λ (steps : Steps (moment_of x) events (moment_of m)). LeaveOut (pool_by f (moment_of x) events (moment_of m) steps) (IsOut l y.shelf.names) i j) same leave) sized);
       others = λ serving traced served f on only ungiven serials fit lone.
@@ -249,11 +250,11 @@ lasts_of x m y a events laws ran ends =
           let l = none_out bound in
           subst (HaveOthers y.bay.stops f (moment_of x) events (moment_of m)) (sym same)
           (others_before x m y events a f ran (continues_of m y ends.passes) serving.0 traced
-          (ran.others a serving.0 traced (served_before x m y events ran.continues ends.passes served) f bound (goes_lone x f a l ran.fit serving.0 on only ungiven) (omega arith)
+          (ran.others a serving.0 traced (served_before m y events ends.passes served) f bound (goes_lone x f a l ran.fit serving.0 on only ungiven) (omega arith)
           serials (subst (AreFit f (moment_of x) events (moment_of m)) same fit) (subst (AreLone f l (moment_of x) events (moment_of m)) same lone)));
       again = λ serving served f on known fit lasts i pick.
           let same = steps_told x m y a events ran (continues_of m y ends.passes) in
-          subst (λ (steps : Steps (moment_of x) events (moment_of m)). HoldsNext (TargetsLand f) (HaveOwnAreas f) (pool_by f (moment_of x) events (moment_of m) steps) y.slices x.linear (book y) i) (sym same)
+          subst (λ (steps : Steps (moment_of x) events (moment_of m)). HoldsNext (TargetsLand f) (HaveOwnAreas f) (pool_by f (moment_of x) events (moment_of m) steps) y.slices y.linear (book y) i) (sym same)
           (again_at x m y a events laws.0 ran ends serving served f on (λ takes. (known takes).1) (subst (AreFit f (moment_of x) events (moment_of m)) same fit) lasts i pick);
     }
 
@@ -263,7 +264,7 @@ done_outcome :
     → StopsAtEnd x m text out out' worst
     → IsLawful y
     → Ends m y
-    → DoneOutcome worst (IsServing x a) x.bay.traced x.bay y.bay (ground_of x) (moment_of x) a text out out'
+    → DoneOutcome worst (IsServing x a) x.bay.traced x.bay y.bay (moment_of x) a text out out'
 done_outcome x m y a text out out' worst stops laws ends = record {
   events = stops.events;
   script = stops.script;
@@ -273,19 +274,19 @@ done_outcome x m y a text out out' worst stops laws ends = record {
 }
 
 -- by why the script stopped
-outcome_of :
+events_of :
     (stop : Stop) (worst : Answer) (x m y : View) (a : FlatArray) (text rest out out' : List ℕ)
-    → Serves stop x m text rest out out' worst
+    → ServesEvents stop x m text rest out out' worst
     → IsLawful y
     → Ends m y
-    → Outcome (status_by stop worst) (IsServing x a) x.bay.traced x.bay y.bay (ground_of x) (moment_of x) a text rest out out'
-outcome_of AtQuit Refuses x m y a text rest out out' stops laws ends = done_outcome x m y a text out out' Refuses stops laws ends
-outcome_of AtQuit Given x m y a text rest out out' stops laws ends = done_outcome x m y a text out out' Given stops laws ends
-outcome_of AtQuit Wants x m y a text rest out out' stops laws ends = done_outcome x m y a text out out' Wants stops laws ends
-outcome_of Input Refuses x m y a text rest out out' stops laws ends = done_outcome x m y a text out out' Refuses stops.0 laws ends
-outcome_of Input Given x m y a text rest out out' stops laws ends = done_outcome x m y a text out out' Given stops.0 laws ends
-outcome_of Input Wants x m y a text rest out out' stops laws ends = done_outcome x m y a text out out' Wants stops.0 laws ends
-outcome_of SourceFault worst x m y a text rest out out' stops laws ends = record {
+    → EventsOutcome (status_by stop worst) (IsServing x a) x.bay.traced x.bay y.bay (moment_of x) a text rest out out'
+events_of AtQuit Refuses x m y a text rest out out' stops laws ends = done_outcome x m y a text out out' Refuses stops laws ends
+events_of AtQuit Given x m y a text rest out out' stops laws ends = done_outcome x m y a text out out' Given stops laws ends
+events_of AtQuit Wants x m y a text rest out out' stops laws ends = done_outcome x m y a text out out' Wants stops laws ends
+events_of Input Refuses x m y a text rest out out' stops laws ends = done_outcome x m y a text out out' Refuses stops.0 laws ends
+events_of Input Given x m y a text rest out out' stops laws ends = done_outcome x m y a text out out' Given stops.0 laws ends
+events_of Input Wants x m y a text rest out out' stops laws ends = done_outcome x m y a text out out' Wants stops.0 laws ends
+events_of SourceFault worst x m y a text rest out out' stops laws ends = record {
   taken = stops.taken;
   text_is = stops.text_is;
   events = stops.events;
@@ -293,14 +294,14 @@ outcome_of SourceFault worst x m y a text rest out out' stops laws ends = record
   put = λ serving. stops.answered.put a serving.0;
   lasts = lasts_of x m y a stops.events laws stops.answered.ran ends;
 }
-outcome_of AtLimit worst x m y a text rest out out' stops laws ends = record {
+events_of AtLimit worst x m y a text rest out out' stops laws ends = record {
   longer = stops.longer;
   events = stops.events;
   script = stops.script;
   put = λ serving. stops.answered.put a serving.0;
   lasts = lasts_of x m y a stops.events laws stops.answered.ran ends;
 }
-outcome_of SinkFault worst x m y a text rest out out' stops laws ends = record {
+events_of SinkFault worst x m y a text rest out out' stops laws ends = record {
   before = stops.before;
   last = stops.last;
   more = stops.more;
@@ -309,15 +310,113 @@ outcome_of SinkFault worst x m y a text rest out out' stops laws ends = record {
   lasts = lasts_of x m y a (stops.before ++ stops.last ∷ []) laws stops.ran ends;
 }
 
+pub events_by :
+    (stop : Stop) (worst : Answer) (status : Status) (x m y : View) (a : FlatArray) (text rest out out' : List ℕ)
+    → status ≡ status_by stop worst
+    → ServesEvents stop x m text rest out out' worst
+    → IsLawful y
+    → Ends m y
+    → EventsOutcome status (IsServing x a) x.bay.traced x.bay y.bay (moment_of x) a text rest out out'
+events_by stop worst status x m y a text rest out out' is stops laws ends =
+    subst (λ s. EventsOutcome s (IsServing x a) x.bay.traced x.bay y.bay (moment_of x) a text rest out out') (sym is)
+    (events_of stop worst x m y a text rest out out' stops laws ends)
+
+-- ---- a script that grew the pool
+
+begun_of : (stop : Stop) (worst : Answer) (text rest : List ℕ) (lines : List Line) → BegunTo stop text rest lines → AreBegun (status_by stop worst) text rest lines
+begun_of AtQuit Refuses text rest lines begun = begun
+begun_of AtQuit Given text rest lines begun = begun
+begun_of AtQuit Wants text rest lines begun = begun
+begun_of Input Refuses text rest lines begun = begun.0
+begun_of Input Given text rest lines begun = begun.0
+begun_of Input Wants text rest lines begun = begun.0
+begun_of SourceFault worst text rest lines begun = begun
+begun_of AtLimit worst text rest lines begun = begun
+begun_of SinkFault worst text rest lines begun = begun
+
+put_of : (stop : Stop) (worst : Answer) (out out' replies : List ℕ) → PutTo stop out out' replies → ArePut (status_by stop worst) out out' replies
+put_of AtQuit Refuses out out' replies put = put
+put_of AtQuit Given out out' replies put = put
+put_of AtQuit Wants out out' replies put = put
+put_of Input Refuses out out' replies put = put
+put_of Input Given out out' replies put = put
+put_of Input Wants out out' replies put = put
+put_of SourceFault worst out out' replies put = put
+put_of AtLimit worst out out' replies put = put
+put_of SinkFault worst out out' replies put = put
+
+-- the end of the pool after it
+until_of :
+    (x m y : View) (a : FlatArray) (lines : List Line) (Put : List ℕ → Type 0)
+    → (grew : Grew x m lines Put)
+    → Ends m y
+    → LastsUntil (IsServing x a) x.bay.traced x.bay y.bay (moment_of x) a grew.events grew.first grew.more grew.said
+until_of x m y a lines Put grew ends = record {
+  last = grew.last;
+  timeline =
+      timeline_for (x.bay.traced × Holds x a) (x.bay.traced × IsServing x a) y.bay.stops (moment_of x) a grew.events grew.last (λ is. (is.0, is.1.0)) (gone.timeline a);
+  growing = grew.growing;
+  grown = moment_of m;
+  lines =
+      along_for (x.shelf.told × x.bay.traced) (x.bay.traced × IsServing x a) grew.last (grew.first ∷ grew.more) grew.said (moment_of m)
+      (λ is. (is.1.0.shelf, is.0)) grew.grown;
+  final = moment_of y;
+  clock = refl;
+  faults = λ d. refl;
+  disks = refl;
+  sectors = λ d. refl;
+  held = λ d s. refl;
+  ends =
+      proceeds_to m y (x.bay.traced × IsServing x a) (λ place. ⊥) 1 (λ is. (grew.proceeds.told is.1.0.shelf, grew.proceeds.traced is.1.0.shelf is.0)) proceeds
+      (λ place was now. elim (ends.marks place was now) [ inl rose ↦ inl rose | inr never ↦ absurd never ])
+      ends.raises;
+  between = λ serving traced f on.
+      subst (HoldsEach y.bay.stops (AreSerial f.state) (TargetsLand f) (HaveOwnAreas f) [] f (moment_of x) grew.events grew.last)
+      (sym
+      (steps_for (x.bay.traced × Holds x a) (x.bay.traced × IsServing x a) y.bay.stops (moment_of x) a grew.events grew.last (λ is. (is.0, is.1.0)) (gone.timeline a)
+      ∙ gone.steps_are a))
+      (gone.between a serving traced f (begins_on x f on) (goes_run x f on));
+}
+  where
+    proceeds : Proceeds m y
+    proceeds = proceeds_of m y (continues_of m y ends.passes)
+
+    gone : HasGone x y.bay.stops grew.events grew.last
+    gone =
+        gone_kept x m.bay.stops y.bay.stops grew.events grew.last
+        (λ named traced k i until stopped.
+        let before = grew.later named traced in
+        proceeds.past (grew.proceeds.told named) (grew.proceeds.traced named traced) k i (omega (arith, before, until)) stopped)
+        grew.gone
+
+outcome_of :
+    (stop : Stop) (worst : Answer) (x m y : View) (a : FlatArray) (text rest out out' : List ℕ)
+    → Serves stop x m text rest out out' worst
+    → IsLawful y
+    → Ends m y
+    → Outcome (status_by stop worst) (IsServing x a) x.bay.traced x.bay y.bay (moment_of x) a text rest out out'
+outcome_of stop worst x m y a text rest out out' serves laws ends = elim serves [
+  | inl events ↦ inl (events_of stop worst x m y a text rest out out' events laws ends)
+  | inr grown ↦ inr (record {
+    events = grown.grew.events;
+    first = grown.grew.first;
+    more = grown.grew.more;
+    begun = subst (AreBegun (status_by stop worst) text rest) grown.grew.lines_are (begun_of stop worst text rest grown.lines grown.begun);
+    said = grown.grew.said;
+    put = λ serving. put_of stop worst out out' (texts a grown.grew.events ++ grown.grew.said) (grown.grew.put a serving.0);
+    lasts = until_of x m y a grown.lines (PutTo stop out out') grown.grew ends;
+  })
+]
+
 pub outcome_by :
     (stop : Stop) (worst : Answer) (status : Status) (x m y : View) (a : FlatArray) (text rest out out' : List ℕ)
     → status ≡ status_by stop worst
     → Serves stop x m text rest out out' worst
     → IsLawful y
     → Ends m y
-    → Outcome status (IsServing x a) x.bay.traced x.bay y.bay (ground_of x) (moment_of x) a text rest out out'
+    → Outcome status (IsServing x a) x.bay.traced x.bay y.bay (moment_of x) a text rest out out'
 outcome_by stop worst status x m y a text rest out out' is stops laws ends =
-    subst (λ s. Outcome s (IsServing x a) x.bay.traced x.bay y.bay (ground_of x) (moment_of x) a text rest out out') (sym is)
+    subst (λ s. Outcome s (IsServing x a) x.bay.traced x.bay y.bay (moment_of x) a text rest out out') (sym is)
     (outcome_of stop worst x m y a text rest out out' stops laws ends)
 
 -- ---- the status

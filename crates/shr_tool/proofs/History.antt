@@ -17,9 +17,9 @@ use Rattle.pool.specs.Keeping.{Raises}
 use Rattle.pool.specs.Continuing.{Continues, KeepsOutside}
 use Rattle.shr_tool.specs.declared.perform.Answer.{Answer}
 use Rattle.shr_tool.specs.declared.perform.Answer.TheVariants.{Given}
-use Rattle.shr_tool.specs.Events.{AnyTakes, Event, Takes, any_takes, array_by, becomes, calls_in, line_of, lines_of, takes_disk, text_of, texts, worst_of}
+use Rattle.shr_tool.specs.Events.{AnyTakes, Event, Takes, any_takes, array_by, calls_in, line_of, lines_of, takes_disk, text_of, texts, worst_of}
 use Rattle.pool.specs.Moment.{moment_of}
-use Rattle.shr_tool.specs.Timeline.{KeepsBookIn, KeepsDisks, KeepsSlices, KeepsStanding, Happens, Performs, Timeline, ground_of, steps_of}
+use Rattle.shr_tool.specs.Timeline.{KeepsBookIn, KeepsDisks, KeepsSlices, KeepsStanding, Happens, Performs, Timeline, steps_of}
 use Rattle.shr_tool.specs.Between.{HaveOthers, HoldsEach}
 use Rattle.shr_tool.specs.Heads.{KeepsHeads}
 use Rattle.shr_tool.specs.Service.{AreFit, AreLone, BeginsOn, GoesBy, GoesOn, IsFitFor, IsLoneFor, IsServed, Lone, none_out, pool_by}
@@ -33,9 +33,8 @@ use Rattle.shr_tool.proofs.Heads.{heads_performed, heads_same, heads_then}
 use Rattle.shr_tool.proofs.Others.{have_kept, have_more, others_performed}
 use Rattle.shr_tool.proofs.Serial.{serial_performed}
 use Rattle.shr_tool.proofs.Serviced.{goes_performed, served_first, served_last}
-use Rattle.shr_tool.specs.Serving.{Answered, IsServing, Ran, Replies}
+use Rattle.shr_tool.specs.Serving.{Answered, Answers, Grew, IsServing, Ran}
 use Rattle.pool.proofs.Continuing.{continues_same, continues_then, outside_fewer, outside_of, outside_then}
-use Rattle.shr_tool.proofs.Joined.{ground_same, means_at}
 use Rattle.shr_tool.proofs.Timelines.{array_by-snoc, steps_added, steps_kept, texts-snoc, timeline_kept, timeline_more}
 use Rattle.shr_tool.proofs.Within.{holds_within}
 use Rattle.shr_tool.proofs.Missing.{missing_performed}
@@ -82,48 +81,40 @@ outside_by x y event text unspent performs =
 
 -- a line that was done is an event
 performed :
-    (x y z : View) (event : Event) (text : List ℕ) (Traced : Type 0) (a : FlatArray)
-    → Continues x y
-    → Performs y z event text
-    → IsLawful z
-    → (Traced → y.bay.traced)
-    → (Traced → Holds y a)
-    → Happens Traced z.bay.stops (ground_of x) (moment_of y) (moment_of z) a event
-performed x y z event text Traced a continues performs laws traced holds =
-    subst (λ g. Happens Traced z.bay.stops g (moment_of y) (moment_of z) a event) (ground_same x y continues.linear)
-    (record {
-      later = λ told. performs.continues.later (holds told).shelf (traced told);
-      still = performs.still;
-      cause = performs.cause;
-      disks = disks_kept y z performs.continues;
-      held = λ told d s low within untaken unsliced.
-          (outside_by y z event text laws.0 performs).held d s
-          (record { disk = low; sector = within; is_told = (holds told).disks d low; unnamed = untaken; unsliced = unsliced });
-      named = λ told takes. named_by y z event (performs.changes takes) (holds told).shelf (holds told).disks;
-      missing = λ told. missing_performed y z event text continues.fit performs laws.2 laws.0 (holds told).disks;
-      slices = λ none. slices_kept y z (performs.passes none);
-      marks = performs.marks;
-      stands = standing y z (KeepsBookIn event) (calls_in (line_of event)) performs.continues.fit performs.keeps performs.raises;
-      works = performs.works;
-      during =
-          λ told k i since until stops.
-          elim (performs.leaves (traced told) a (holds told) k i since until stops) [
-            | inl before ↦ inl before
-            | inr after ↦ inr (means_at y z (becomes a event) i performs.continues.linear after)
-          ];
-      ended =
-          λ told i stops.
-          means_at y z (becomes a event) i performs.continues.linear (performs.ends (traced told) a (holds told) i stops);
-    })
+    (x y : View) (event : Event) (text : List ℕ) (Traced : Type 0) (a : FlatArray)
+    → (volume x).fit
+    → Performs x y event text
+    → IsLawful y
+    → (Traced → x.bay.traced)
+    → (Traced → Holds x a)
+    → Happens Traced y.bay.stops (moment_of x) (moment_of y) a event
+performed x y event text Traced a fit performs laws traced holds = record {
+  later = λ told. performs.continues.later (holds told).shelf (traced told);
+  still = performs.still;
+  cause = performs.cause;
+  linear = performs.continues.linear;
+  disks = disks_kept x y performs.continues;
+  held = λ told d s low within untaken unsliced.
+      (outside_by x y event text laws.0 performs).held d s
+      (record { disk = low; sector = within; is_told = (holds told).disks d low; unnamed = untaken; unsliced = unsliced });
+  named = λ told takes. named_by x y event (performs.changes takes) (holds told).shelf (holds told).disks;
+  missing = λ told. missing_performed x y event text fit performs laws.2 laws.0 (holds told).disks;
+  slices = λ none. slices_kept x y (performs.passes none);
+  marks = performs.marks;
+  stands = standing x y (KeepsBookIn event) (calls_in (line_of event)) performs.continues.fit performs.keeps performs.raises;
+  works = performs.works;
+  during = λ told. performs.leaves (traced told) a (holds told);
+  ended = λ told. performs.ends (traced told) a (holds told);
+}
 
 -- what was done before, seen after calls more
 pub ran_before :
     (x y z : View) (events : List Event) (a : FlatArray)
     → Ran x y events
     → Continues y z
-    → Timeline (x.bay.traced × Holds x a) z.bay.stops (ground_of x) (moment_of x) a events (moment_of y)
+    → Timeline (x.bay.traced × Holds x a) z.bay.stops (moment_of x) a events (moment_of y)
 ran_before x y z events a ran continues =
-    timeline_kept (x.bay.traced × Holds x a) y.bay.stops z.bay.stops (ground_of x) y.bay.clock
+    timeline_kept (x.bay.traced × Holds x a) y.bay.stops z.bay.stops y.bay.clock
     (λ told. continues.past (ran.continues.told told.1.shelf) (ran.continues.traced told.1.shelf told.0))
     (moment_of x) a events (moment_of y)
     (omega arith)
@@ -131,10 +122,10 @@ ran_before x y z events a ran continues =
 
 pub steps_before :
     (x y z : View) (events : List Event) (a : FlatArray) (ran : Ran x y events) (continues : Continues y z)
-    → steps_of (x.bay.traced × Holds x a) z.bay.stops (ground_of x) (moment_of x) a events (moment_of y) (ran_before x y z events a ran continues) ≡ ran.steps
+    → steps_of (x.bay.traced × Holds x a) z.bay.stops (moment_of x) a events (moment_of y) (ran_before x y z events a ran continues) ≡ ran.steps
 unfolding ran_before
 steps_before x y z events a ran continues =
-    steps_kept (x.bay.traced × Holds x a) y.bay.stops z.bay.stops (ground_of x) y.bay.clock
+    steps_kept (x.bay.traced × Holds x a) y.bay.stops z.bay.stops y.bay.clock
     (λ told. continues.past (ran.continues.told told.1.shelf) (ran.continues.traced told.1.shelf told.0))
     (moment_of x) a events (moment_of y)
     (omega arith)
@@ -149,12 +140,12 @@ pub each_before :
     → x.bay.traced
     → BeginsOn (HaveOwnAreas f) x
     → GoesBy (TargetsLand f) None f x
-    → HoldsEach z.bay.stops (ground_of x) (AreSerial f.state) (TargetsLand f) (HaveOwnAreas f) [] f (moment_of x) events (moment_of y) ran.steps
+    → HoldsEach z.bay.stops (AreSerial f.state) (TargetsLand f) (HaveOwnAreas f) [] f (moment_of x) events (moment_of y) ran.steps
 each_before x y z events a f ran continues serving traced begins goes =
-    let each = HoldsEach y.bay.stops (ground_of x) (AreSerial f.state) (TargetsLand f) (HaveOwnAreas f) [] f (moment_of x) events (moment_of y) in
-    let later = HoldsEach z.bay.stops (ground_of x) (AreSerial f.state) (TargetsLand f) (HaveOwnAreas f) [] f (moment_of x) events (moment_of y) in
+    let each = HoldsEach y.bay.stops (AreSerial f.state) (TargetsLand f) (HaveOwnAreas f) [] f (moment_of x) events (moment_of y) in
+    let later = HoldsEach z.bay.stops (AreSerial f.state) (TargetsLand f) (HaveOwnAreas f) [] f (moment_of x) events (moment_of y) in
     subst later (ran.steps_are a)
-    (each_kept (x.bay.traced × Holds x a) y.bay.stops z.bay.stops (ground_of x) (AreSerial f.state) (TargetsLand f) (HaveOwnAreas f) y.bay.clock (traced, serving.0)
+    (each_kept (x.bay.traced × Holds x a) y.bay.stops z.bay.stops (AreSerial f.state) (TargetsLand f) (HaveOwnAreas f) y.bay.clock (traced, serving.0)
     (continues.past (ran.continues.told serving.0.shelf) (ran.continues.traced serving.0.shelf traced))
     [] f (moment_of x) a events (moment_of y) (omega arith) (ran.timeline a)
     (subst each (sym (ran.steps_are a)) (ran.between a serving traced f begins goes)))
@@ -169,7 +160,7 @@ pub others_before :
     → HaveOthers z.bay.stops f (moment_of x) events (moment_of y) ran.steps
 others_before x y z events a f ran continues holds traced have =
     subst (HaveOthers z.bay.stops f (moment_of x) events (moment_of y)) (ran.steps_are a)
-    (have_kept (x.bay.traced × Holds x a) y.bay.stops z.bay.stops (ground_of x) y.bay.clock (traced, holds)
+    (have_kept (x.bay.traced × Holds x a) y.bay.stops z.bay.stops y.bay.clock (traced, holds)
     (continues.past (ran.continues.told holds.shelf) (ran.continues.traced holds.shelf traced))
     f (moment_of x) a events (moment_of y) (omega arith) (ran.timeline a)
     (subst (HaveOthers y.bay.stops f (moment_of x) events (moment_of y)) (sym (ran.steps_are a)) have))
@@ -214,7 +205,7 @@ on_more :
     → (ran : Ran x y events)
     → Performs y z event text
     → Holds x a
-    → IsServed (ground_of x) (moment_of z) (events ++ event ∷ [])
+    → IsServed (moment_of z) (events ++ event ∷ [])
     → (any_takes (events ++ event ∷ []) ≡ true → AreSerial f.state)
     → IsFitFor (pool_by f (moment_of x) events (moment_of y) ran.steps) (moment_of y) event
     → ((l : Lone) → o ≡ Some l → IsLoneFor (pool_by f (moment_of x) events (moment_of y) ran.steps) l (moment_of y) (moment_of z) event)
@@ -224,7 +215,7 @@ on_more :
     (pool_by f (moment_of x) (events ++ event ∷ []) (moment_of z) (steps_more (moment_of x) events (moment_of y) event (moment_of z) ran.steps)) z
 on_more {o} x y z events event text a f unspent ran performs holds served serials fit lone early before =
     let after =
-    goes_performed y z event text (array_by a events) unspent ran.continues.fit performs (ran.holds a holds) (served_last x y z events event ran.continues.linear served)
+    goes_performed y z event text (array_by a events) unspent ran.continues.fit performs (ran.holds a holds) (served_last y z events event performs.continues.linear served)
     (pool_by f (moment_of x) events (moment_of y) ran.steps) before.goes (λ takes. before.serials (serials (takes_last events event takes))) fit lone early in
     subst (λ h. GoesOn (TargetsLand f) o f h z) (sym (pool_by-snoc f (moment_of x) events (moment_of y) event (moment_of z) ran.steps))
     (record { goes = after.goes; serials = λ serial. after.serials (before.serials serial) })
@@ -236,7 +227,7 @@ service_more :
     → (ran : Ran x y events)
     → Performs y z event text
     → Holds x a
-    → IsServed (ground_of x) (moment_of z) (events ++ event ∷ [])
+    → IsServed (moment_of z) (events ++ event ∷ [])
     → GoesBy (TargetsLand f) None f x
     → (any_takes (events ++ event ∷ []) ≡ true → AreSerial f.state)
     → AreFit f (moment_of x) (events ++ event ∷ []) (moment_of z) (steps_more (moment_of x) events (moment_of y) event (moment_of z) ran.steps)
@@ -244,7 +235,7 @@ service_more :
 service_more x y z events event text a f unspent ran performs holds served goes serials fit =
     let parts = fit_parts f (moment_of x) events (moment_of y) event (moment_of z) ran.steps fit in
     on_more x y z events event text a f unspent ran performs holds served serials parts.1 (λ l none. absurd (none-some l none)) (λ l none. absurd (none-some l none))
-    (ran.service a holds (served_first x y z events event text ran.continues.linear performs served) f goes (λ takes. serials (takes_first events event takes)) parts.0)
+    (ran.service a holds (served_first y z events event text performs served) f goes (λ takes. serials (takes_first events event takes)) parts.0)
 
 -- one that stands alone on its disks
 lone_more :
@@ -253,7 +244,7 @@ lone_more :
     → (ran : Ran x y events)
     → Performs y z event text
     → Holds x a
-    → IsServed (ground_of x) (moment_of z) (events ++ event ∷ [])
+    → IsServed (moment_of z) (events ++ event ∷ [])
     → GoesBy (TargetsLand f) (Some l) f x
     → (book z).state.serial ≤ l.bound
     → (any_takes (events ++ event ∷ []) ≡ true → AreSerial f.state)
@@ -269,7 +260,7 @@ lone_more x y z events event text a f l unspent ran performs holds served goes e
     on_more x y z events event text a f unspent ran performs holds served serials parts.1
     (λ k same. subst (λ k. IsLoneFor pool k (moment_of y) (moment_of z) event) (some_same l k same) lones.1)
     (λ k same. subst (λ (k : Lone). (book z).state.serial ≤ k.bound) (some_same l k same) early)
-    (ran.lone a holds (served_first x y z events event text ran.continues.linear performs served) f l goes (omega (arith, up, early))
+    (ran.lone a holds (served_first y z events event text performs served) f l goes (omega (arith, up, early))
     (λ takes. serials (takes_first events event takes)) parts.0 lones.0)
 
 -- and no other disk has the id of a drive that it took in
@@ -280,7 +271,7 @@ others_more :
     → Performs y z event text
     → Holds x a
     → x.bay.traced
-    → IsServed (ground_of x) (moment_of z) (events ++ event ∷ [])
+    → IsServed (moment_of z) (events ++ event ∷ [])
     → GoesBy (TargetsLand f) (Some (none_out bound)) f x
     → (book z).state.serial ≤ bound
     → (any_takes (events ++ event ∷ []) ≡ true → AreSerial f.state)
@@ -292,12 +283,12 @@ others_more x y z events event text a f bound unspent ran performs holds traced 
     let lones = lone_parts f (none_out bound) (moment_of x) events (moment_of y) event (moment_of z) ran.steps lone in
     let up = serial_performed y z event text performs in
     let sooner : (book y).state.serial ≤ bound = omega (arith, up, early) in
-    let first = served_first x y z events event text ran.continues.linear performs served in
+    let first = served_first y z events event text performs served in
     let serials_first : any_takes events ≡ true → AreSerial f.state = λ takes. serials (takes_first events event takes) in
     let before = ran.lone a holds first f (none_out bound) goes sooner serials_first parts.0 lones.0 in
     have_more z.bay.stops f (moment_of x) events (moment_of y) event (moment_of z) ran.steps
     (others_before x y z events a f ran performs.continues holds traced (ran.others a holds traced first f bound goes sooner serials_first parts.0 lones.0))
-    (others_performed y z event text (array_by a events) unspent ran.continues.fit performs (ran.holds a holds) (served_last x y z events event ran.continues.linear served)
+    (others_performed y z event text (array_by a events) unspent ran.continues.fit performs (ran.holds a holds) (served_last y z events event performs.continues.linear served)
     (pool_by f (moment_of x) events (moment_of y) ran.steps) before.goes (λ takes. before.serials (serials (takes_last events event takes))) parts.1 early
     (ran.continues.traced holds.shelf traced))
 
@@ -318,12 +309,12 @@ between_more :
     → x.bay.traced
     → BeginsOn (HaveOwnAreas f) x
     → GoesBy (TargetsLand f) None f x
-    → HoldsEach z.bay.stops (ground_of x) (AreSerial f.state) (TargetsLand f) (HaveOwnAreas f) [] f (moment_of x) (events ++ event ∷ []) (moment_of z)
+    → HoldsEach z.bay.stops (AreSerial f.state) (TargetsLand f) (HaveOwnAreas f) [] f (moment_of x) (events ++ event ∷ []) (moment_of z)
     (steps_more (moment_of x) events (moment_of y) event (moment_of z) ran.steps)
 between_more x y z events event text a f laws ran performs serving traced begins goes =
     let all = events ++ event ∷ [] in
     let steps = steps_more (moment_of x) events (moment_of y) event (moment_of z) ran.steps in
-    each_more z.bay.stops (ground_of x) (AreSerial f.state) (TargetsLand f) (HaveOwnAreas f) [] f (moment_of x) events (moment_of y) event (moment_of z) ran.steps
+    each_more z.bay.stops (AreSerial f.state) (TargetsLand f) (HaveOwnAreas f) [] f (moment_of x) events (moment_of y) event (moment_of z) ran.steps
     (each_before x y z events a f ran performs.continues serving traced begins goes)
     (λ fit.
     holds_within x y z a (array_by a events) events text (AreSerial f.state) (pool_by f (moment_of x) events (moment_of y) ran.steps) ran.continues ran.passes
@@ -359,17 +350,17 @@ ran_more x y z events event text laws ran performs = record {
   holds = λ a holds. holds_more x y z events event text a ran performs holds;
   timeline =
       λ a.
-      timeline_more (x.bay.traced × Holds x a) z.bay.stops (ground_of x) (moment_of x) a events (moment_of y) event (moment_of z)
+      timeline_more (x.bay.traced × Holds x a) z.bay.stops (moment_of x) a events (moment_of y) event (moment_of z)
       (ran_before x y z events a ran performs.continues)
-      (performed x y z event text (x.bay.traced × Holds x a) (array_by a events) ran.continues performs laws
+      (performed y z event text (x.bay.traced × Holds x a) (array_by a events) ran.continues.fit performs laws
       (λ told. ran.continues.traced told.1.shelf told.0)
       (λ told. ran.holds a told.1));
   steps = steps_more (moment_of x) events (moment_of y) event (moment_of z) ran.steps;
   steps_are =
       λ a.
-      steps_added (x.bay.traced × Holds x a) z.bay.stops (ground_of x) (moment_of x) a events (moment_of y) event (moment_of z)
+      steps_added (x.bay.traced × Holds x a) z.bay.stops (moment_of x) a events (moment_of y) event (moment_of z)
       (ran_before x y z events a ran performs.continues)
-      (performed x y z event text (x.bay.traced × Holds x a) (array_by a events) ran.continues performs laws
+      (performed y z event text (x.bay.traced × Holds x a) (array_by a events) ran.continues.fit performs laws
       (λ told. ran.continues.traced told.1.shelf told.0)
       (λ told. ran.holds a told.1))
       ∙ ap (steps_more (moment_of x) events (moment_of y) event (moment_of z)) (steps_before x y z events a ran performs.continues);
@@ -383,20 +374,21 @@ ran_more x y z events event text laws ran performs = record {
 
 -- one line more is answered
 pub answered_more :
-    (x y z : View) (events : List Event) (line : Line) (answer : Answer) (out out' out'' : List ℕ)
+    (x y z : View) (events : List Event) (line : Line) (answer : Answer) (text out out' out'' : List ℕ)
     → IsLawful z
     → Answered x y events out out'
-    → (more : Replies y z line answer out' out'')
-    → Answered x z (events ++ more.answers.event ∷ []) out out''
-answered_more x y z events line answer out out' out'' laws answered more =
-    let event = more.answers.event in
+    → (more : Answers y z line answer text)
+    → out'' ≡ out' ++ text
+    → Answered x z (events ++ more.event ∷ []) out out''
+answered_more x y z events line answer text out out' out'' laws answered more put =
+    let event = more.event in
     record {
-      ran = ran_more x y z events event more.text laws answered.ran more.answers.performs;
+      ran = ran_more x y z events event text laws answered.ran more.performs;
       put =
           λ a holds.
-          let told = more.answers.performs.text_is (array_by a events) (answered.ran.holds a holds) in
-          more.put
-          ∙ (ap (λ bytes. bytes ++ more.text) (answered.put a holds)
+          let told = more.performs.text_is (array_by a events) (answered.ran.holds a holds) in
+          put
+          ∙ (ap (λ bytes. bytes ++ text) (answered.put a holds)
           ∙ (ap (λ bytes. (out ++ texts a events) ++ bytes) told
           ∙ (append_assoc out (texts a events) (text_of (array_by a events) event)
           ∙ ap (λ bytes. out ++ bytes) (sym (texts-snoc a events event)))));
@@ -404,20 +396,31 @@ answered_more x y z events line answer out out' out'' laws answered more =
 
 -- ---- what was read and answered of a script
 
--- of a text these lines have been answered, this is the worst of the answers, and this is left
+-- these lines have been answered, and this is the worst of the answers; none grew the pool
+pub record AsEvents (x y : View) (lines : List Line) (out out' : List ℕ) (worst : Answer) : Type 0 where
+  pub events : List Event
+  pub lines_are : lines ≡ lines_of events
+  pub worst_is : worst_of events ≡ worst
+  pub answered : Answered x y events out out'
+
+-- or one of them did
+abbrev pub SoFar : View → View → List Line → List ℕ → List ℕ → Answer → Type 0
+SoFar x y lines out out' worst = AsEvents x y lines out out' worst ⊎ Grew x y lines (λ all. out' ≡ out ++ all)
+
+-- of a text these lines have been answered, and this is left
 pub record History (x y : View) (text rest : List ℕ) (count : ℕ) (out out' : List ℕ) (worst : Answer) : Type 0 where
   pub done : List ℕ
   pub text_is : text ≡ done ++ rest
   pub counted : count ≡ length done
-  pub events : List Event
-  pub worst_is : worst_of events ≡ worst
-  pub script : (more : List ℕ) → script_of (done ++ more) ≡ lines_of events ++ script_of more
-  pub cut : (more : List ℕ) → cut_script_of (done ++ more) ≡ lines_of events ++ cut_script_of more
-  pub answered : Answered x y events out out'
+  pub lines : List Line
+  pub script : (more : List ℕ) → script_of (done ++ more) ≡ lines ++ script_of more
+  pub cut : (more : List ℕ) → cut_script_of (done ++ more) ≡ lines ++ cut_script_of more
+  pub so_far : SoFar x y lines out out' worst
 
 -- nothing is answered yet
-pub answered_none : (x : View) (out : List ℕ) → (volume x).fit → IsLawful x → Answered x x [] out out
-answered_none x out fit laws = record { ran = ran_none x fit laws; put = λ a holds. sym (append-nil out) }
+pub answered_none : (x : View) (out : List ℕ) → (volume x).fit → IsLawful x → SoFar x x [] out out Given
+answered_none x out fit laws =
+    inl (record { events = []; lines_are = refl; worst_is = refl; answered = record { ran = ran_none x fit laws; put = λ a holds. sym (append-nil out) } })
 
 -- nothing has been read
 pub history_none :
@@ -431,9 +434,8 @@ history_none x text rest count out fit laws same zero = record {
   done = [];
   text_is = sym same;
   counted = zero;
-  events = [];
-  worst_is = refl;
+  lines = [];
   script = λ more. refl;
   cut = λ more. refl;
-  answered = answered_none x out fit laws;
+  so_far = answered_none x out fit laws;
 }

@@ -19,7 +19,6 @@ use Rattle.shr_tool.specs.Events.Event.{spent}
 use Rattle.shr_tool.specs.Importing.{ImportOutcome, Imports, SaysWritten, TakesSector, filled_up, piece_of, write_of, writes_of}
 use Rattle.shr_tool.specs.Serving.{IsServing, Ran}
 use Rattle.pool.specs.Moment.{moment_of}
-use Rattle.shr_tool.specs.Timeline.{ground_of}
 use Rattle.shr_tool.proofs.Finishing.{lasts_of}
 use Rattle.shr_tool.proofs.History.{IsLawful, ran_more}
 use Rattle.shr_tool.proofs.Performing.{write_done, write_spent}
@@ -283,7 +282,7 @@ pub import_outcome :
     → Imports x m text rest result
     → Ends m y
     → SaysWritten result out out' status
-    → ImportOutcome status (IsServing x a) x.bay.traced x.bay y.bay (ground_of x) (moment_of x) a text rest out out'
+    → ImportOutcome status (IsServing x a) x.bay.traced x.bay y.bay (moment_of x) a text rest out out'
 import_outcome x m y a text rest out out' result status laws imports ends says = record {
   result = result;
   events = imports.events;

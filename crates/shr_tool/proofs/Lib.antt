@@ -1,4 +1,5 @@
 mod Absent
+mod Added
 mod Attached
 mod Between
 pub mod Chains
@@ -16,11 +17,12 @@ mod GivesWay
 mod GivingFrom
 mod GivingStops
 mod GroupKept
+mod Growing
+mod Grown
 mod Heads
 mod History
 mod Lone
 mod Imported
-mod Joined
 mod LayoutLemmas
 mod Limits
 mod Meanings

@@ -31,7 +31,6 @@ use Rattle.shr_tool.specs.Heads.{KeepsHeads}
 use Rattle.shr_tool.specs.Outcome.{HasWholeSectors, IsRunOn}
 use Rattle.shr_tool.specs.Service.{AreFit, AreLone, AreUngiven, GoesBy, IsOut, IsServed, Lone, pool_by}
 use Rattle.shr_tool.specs.Serving.{IsServing, Ran}
-use Rattle.shr_tool.specs.Timeline.{ground_of}
 use Rattle.shr_tool.proofs.Absent.{agreed_at}
 use Rattle.shr_tool.proofs.Heads.{heads_group, heads_passes, heads_then}
 use Rattle.shr_tool.proofs.Serviced.{goes_calls, goes_lone}
@@ -61,9 +60,9 @@ lone_absent l y h goes inside told lasts whole agree group alive i j pick leave 
 
 -- after the end of a run in which lines replaced drives
 module _ (x m y : View) (a : FlatArray) (events : List Event) (unspent : (d s : ℕ) → y.bay.spent d s ≡ false) (ran : Ran x m events) (ends : Ends m y) (serving : IsServing x a)
-    (served : IsServed (ground_of x) (moment_of m) events) (quiet : (d : ℕ) → Rose (m.bay.faults d) (y.bay.faults d) → ⊥)
+    (served : IsServed (moment_of m) events) (quiet : (d : ℕ) → Rose (m.bay.faults d) (y.bay.faults d) → ⊥)
     (told : (n : ℕ) → n < x.linear.arrays → IsTold (book y) (slices_shown y) n)
-    (f : Found) (on : IsRunOn f (ground_of x) (moment_of x) x.bay) (only : AreOnly f) (own : HaveOwnAreas f)
+    (f : Found) (on : IsRunOn f (moment_of x) x.bay) (only : AreOnly f) (own : HaveOwnAreas f)
     (serials : any_takes events ≡ true → AreSerial f.state) (fit : AreFit f (moment_of x) events (moment_of m) ran.steps)
     (out : List (List ℕ)) (ungiven : AreUngiven f (record { bound = (book m).state.serial; out = out }) x.shelf.names) (lone : AreLone f (record { bound = (book m).state.serial; out = out }) (moment_of x) events (moment_of m) ran.steps) (whole : IsWholeRaid f.state.made (book y))
     (lasts : (n : ℕ) → n < f.state.made → is_over (book y) n ≡ false) where

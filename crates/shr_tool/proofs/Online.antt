@@ -52,7 +52,6 @@ module _ {R B : Type 0} (shown : B → Seen) (shelf : B → Shelf) (runs : R →
     kept = so r is.opened is.kept;
     names = is.names;
     drives = pool_through shown runs does to so r is.opened is.drives;
-    ground = is.ground;
     from = is.from;
     clock = is.clock;
     faults = is.faults;

@@ -43,7 +43,7 @@ use Rattle.shr_tool.specs.Between.{HasOthers, HaveOthers}
 use Rattle.shr_tool.specs.Events.{Event, becomes, takes_disk}
 use Rattle.shr_tool.specs.Events.Event.{answered, spent, lost, last, replaced, declined, stepped, stuck, shown}
 use Rattle.shr_tool.specs.Service.{GoesBy, IsFitDrive, IsFitFor, IsOut, IsOwnCopy, Lone, StandsLone, none_out, pool_after, pool_by}
-use Rattle.shr_tool.specs.Timeline.{Ground, Performs, Steps, Timeline, steps_of}
+use Rattle.shr_tool.specs.Timeline.{Performs, Steps, Timeline, steps_of}
 use Rattle.shr_tool.proofs.Between.{timeline_order}
 use Rattle.shr_tool.proofs.Chains.{steps_more}
 use Rattle.shr_tool.proofs.Entered.{out, since_ready, stays_ready, told_attached}
@@ -358,19 +358,19 @@ has_kept old new f p q (shown text) past has = has
 
 -- later calls leave the past as it was
 pub have_kept :
-    (Traced : Type 0) (old new : ℕ → Image → Type 0) (g : Ground) (limit : ℕ)
+    (Traced : Type 0) (old new : ℕ → Image → Type 0) (limit : ℕ)
     → Traced
     → ((k : ℕ) (i : Image) → k ≤ limit → new k i → old k i)
     → (f : Found) (p : Moment) (a : FlatArray) (events : List Event) (q : Moment)
     → q.clock ≤ limit
-    → (line : Timeline Traced old g p a events q)
-    → HaveOthers old f p events q (steps_of Traced old g p a events q line)
-    → HaveOthers new f p events q (steps_of Traced old g p a events q line)
-have_kept Traced old new g limit traced past f p a [] q within line have = have
-have_kept Traced old new g limit traced past f p a (event ∷ events) q within line have =
-    let rest = timeline_order Traced old g line.0 (becomes a event) events q traced line.2 in (
+    → (line : Timeline Traced old p a events q)
+    → HaveOthers old f p events q (steps_of Traced old p a events q line)
+    → HaveOthers new f p events q (steps_of Traced old p a events q line)
+have_kept Traced old new limit traced past f p a [] q within line have = have
+have_kept Traced old new limit traced past f p a (event ∷ events) q within line have =
+    let rest = timeline_order Traced old line.0 (becomes a event) events q traced line.2 in (
       has_kept old new f p line.0 event (λ k i until. past k i (omega (arith, until, rest, within))) have.0,
-      have_kept Traced old new g limit traced past (pool_after f p line.0 event) line.0 (becomes a event) events q within line.2 have.1,
+      have_kept Traced old new limit traced past (pool_after f p line.0 event) line.0 (becomes a event) events q within line.2 have.1,
     )
 
 -- one event more

@@ -1,5 +1,5 @@
 -- A call of the pool answers a line as an event has it.
-use Rattle.std.proofs.Common.{◌≡◌, ◌⊎◌, ℕ, ◌+◌, ◌-◌, ◌<◌, ◌≤◌, Bool, true, false, not, nat_le, nat_lt, List, Result, Ok, Err, OnErr, codes, refl, sym, ◌∙◌, ap, subst, inl, inr, arith}
+use Rattle.std.proofs.Common.{◌≡◌, ◌⊎◌, ℕ, ◌+◌, ◌-◌, ◌<◌, ◌≤◌, true, false, not, nat_le, nat_lt, List, Result, Ok, Err, OnErr, codes, refl, sym, ◌∙◌, ap, subst, inl, inr, arith}
 use Rattle.std.specs.Prelude.{min}
 use Rattle.std.specs.Option.{option_map_or}
 use Rattle.std.proofs.lemmas.Bool.{both_ways, cases_lt, cases_Bool}
@@ -19,7 +19,7 @@ use Rattle.pool.specs.declared.calls.LoseFault.{LoseFault}
 use Rattle.pool.specs.declared.calls.LoseFault.TheVariants.{LastDrive, NoSuchDrive}
 use Rattle.pool.specs.declared.calls.SectorFault.{SectorFault}
 use Rattle.pool.specs.declared.calls.SectorFault.TheVariants.{Range, Spent}
-use Rattle.pool.specs.View.{View, book, spent_by, volume}
+use Rattle.pool.specs.View.{View, book, volume}
 use Rattle.pool.specs.Volume.{Does, Holds, Means, is_spent, size_of, unchanged}
 use Rattle.pool.specs.Keeping.{KeepsWorks, Raises}
 use Rattle.pool.specs.Calls.{Flushes, LosesDrive, Marks, Passes, ReadsSector, WritesSector}
@@ -29,19 +29,18 @@ use Rattle.shr_tool.specs.Events.{Event, IsOfArray, Touches, TouchesLast, become
 use Rattle.shr_tool.specs.Events.Event.{answered, spent, lost, last, replaced, declined, stepped, stuck, shown}
 use Rattle.pool.specs.Moment.{moment_of}
 use Rattle.shr_tool.proofs.Renewed.{keeps_in}
-use Rattle.shr_tool.specs.Timeline.{HasCause, MarksFor, MeansBefore, Performs, ground_of}
+use Rattle.shr_tool.specs.Timeline.{HasCause, MarksFor, MeansBefore, Performs}
 use Rattle.shr_tool.specs.Filling.{Fills, FillsSome}
 use Rattle.pool.proofs.Booked.{raises_still}
 use Rattle.pool.proofs.Continuing.{continues_of}
 use Rattle.pool.proofs.Doing.{does_none}
-use Rattle.shr_tool.proofs.Joined.{means_at}
 use Rattle.pool.proofs.Keeping.{marks_same, passes_same}
 
 -- ---- any line
 
 -- why an event was answered so on a pool
 abbrev pub Cause : View → View → Event → Type 0
-Cause x y event = HasCause (ground_of x) (moment_of x) (moment_of y) event
+Cause x y event = HasCause (moment_of x) (moment_of y) event
 
 -- the marks of a call that loses no drive itself
 pub marks_for : (x y : View) (event : Event) → Passes x y → Marks x y → MarksFor (moment_of x) (moment_of y) event
@@ -52,17 +51,17 @@ marks_for x y event passes marks = record {
 
 -- contents mean an array as before an event that takes no disk
 means_before :
-    (x y : View) (event : Event) (a : FlatArray) (i : Image) → takes_disk event ≡ false → Passes x y → Means y a i
-    → MeansBefore (ground_of x) (moment_of x) (moment_of y) event a i
-means_before x y (answered line) a i none passes means = means_at x y a i passes.linear means
-means_before x y (spent line sector) a i none passes means = means_at x y a i passes.linear means
-means_before x y (lost place) a i none passes means = means_at x y a i passes.linear means
-means_before x y (last place) a i none passes means = means_at x y a i passes.linear means
-means_before x y (replaced place name) a i none passes means = absurd (both_ways true none refl)
-means_before x y (declined place name fault) a i none passes means = inr (means_at x y a i passes.linear means)
-means_before x y (stepped count left) a i none passes means = means_at x y a i passes.linear means
-means_before x y (stuck count array) a i none passes means = means_at x y a i passes.linear means
-means_before x y (shown text) a i none passes means = means_at x y a i passes.linear means
+    (x y : View) (event : Event) (a : FlatArray) (i : Image) → takes_disk event ≡ false → Means y a i
+    → MeansBefore (moment_of x) (moment_of y) event a i
+means_before x y (answered line) a i none means = means
+means_before x y (spent line sector) a i none means = means
+means_before x y (lost place) a i none means = means
+means_before x y (last place) a i none means = means
+means_before x y (replaced place name) a i none means = absurd (both_ways true none refl)
+means_before x y (declined place name fault) a i none means = inr means
+means_before x y (stepped count left) a i none means = means
+means_before x y (stuck count array) a i none means = means
+means_before x y (shown text) a i none means = means
 
 -- A call answers a line by what it does: stops inside it leave the array before the line or after it.
 pub performs_by :
@@ -95,15 +94,11 @@ performs_by x y event text during now none still passes raises works cause marks
   leaves = λ traced a holds k i since until stopped.
       let means = (does.leaves traced a holds).new k i since until stopped in
       elim (one_of a holds) [
-        | inl before ↦ inl (means_before x y event a i none passes (subst (λ b. Means y b i) before means))
+        | inl before ↦ inl (means_before x y event a i none (subst (λ b. Means y b i) before means))
         | inr after ↦ inr (subst (λ b. Means y b i) after means)
       ];
   ends = λ traced a holds i stopped. subst (λ b. Means y b i) (same a holds) (does.ends traced a holds i stopped);
 }
-
--- what is spent when a call returns, in the sectors of the volume before it
-spent_at : (x y : View) (s : ℕ) (b : Bool) → Passes x y → is_spent y s ≡ b → spent_by x.linear (book y) s ≡ b
-spent_at x y s b passes is = subst (λ l. spent_by l (book y) s ≡ b) passes.linear is
 
 -- a line that touches no sector and loses no drive
 touches_none :
@@ -128,7 +123,7 @@ touches_one :
     → Cause x y (answered line)
 touches_one x y line sector passes alive one same other apart = (
   λ s touches. subst (λ t. is_spent x t ≡ false) (sym (one s touches)) (passes.stays.spent 0 sector alive),
-  λ s touches. subst (λ t. spent_by x.linear (book y) t ≡ false) (sym (same s touches)) (spent_at x y sector false passes alive),
+  λ s touches. subst (λ t. is_spent y t ≡ false) (sym (same s touches)) alive,
   λ place is. absurd (other place is),
   apart,
 )
@@ -217,7 +212,7 @@ read_spent x y sector into text r refused is reads =
     let gone = reads.fault.refused refused in
     performs_by x y (spent (Ok (Read sector)) sector) text unchanged unchanged refl (λ none. absurd (both_ways false refl none)) reads.passes reads.raises (λ none. reads.works) (
       (refl, gone.0),
-      spent_at x y sector true reads.passes gone.1,
+      gone.1,
       λ s touches before. absurd (let same = touches.0 in omega arith),
     )
     (marks_for x y _ reads.passes reads.marks)
@@ -276,7 +271,7 @@ write_spent x y sector v text r refused is writes_r =
     let gone = writes.fault.refused refl in
     performs_by x y (spent (Ok (Write sector v)) sector) text unchanged unchanged refl (λ none. absurd (both_ways false refl none)) writes.passes writes.raises (λ none. writes.works) (
       (refl, gone.0),
-      spent_at x y sector true writes.passes gone.1,
+      gone.1,
       λ s touches before. absurd (let same = touches.0 in omega arith),
     )
     (marks_for x y _ writes.passes writes.marks)
@@ -307,7 +302,7 @@ fill_done x y sector count byte text r inside is_ok is fills_r =
     (λ a. filled a sector count (uniform_sector byte))
     refl (λ none. absurd (both_ways false refl none)) fills.passes fills.raises (λ none. fills.works) (
       λ s touches. fills.done.0.unspent s touches.0 touches.1,
-      λ s touches. spent_at x y s false fills.passes (fills.done.1 s touches.0 touches.1),
+      λ s touches. fills.done.1 s touches.0 touches.1,
       λ place loses. absurd (let other : ⊥ = cc in other),
       tt,
     )
@@ -335,7 +330,7 @@ fill_spent x y sector count byte text r at inside refused is fills_r =
     (λ a. filled a sector (at.sector - sector) (uniform_sector byte))
     refl (λ none. absurd (both_ways false refl none)) fills.passes fills.raises (λ none. fills.works) (
       (from, before, inside),
-      spent_at x y at.sector true fills.passes fills.refused.2,
+      fills.refused.2,
       λ s touches early. some.unspent s touches.0 (omega arith),
     )
     (marks_for x y _ fills.passes fills.marks)

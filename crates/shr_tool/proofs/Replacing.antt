@@ -1,25 +1,20 @@
 -- A drive is replaced, or isn't: the line's event by what the call says.
 use Rattle.std.proofs.Common.{◌≡◌, ℕ, ◌<◌, ◌≤◌, true, false, not, List, Result, Ok, Err, codes, length, refl, sym, ap, subst, inl, inr, arith}
 use Rattle.std.proofs.lemmas.Bool.{both_ways, cases_Bool, cases_lt}
-use Rattle.flat_array.specs.Array.{FlatArray}
 use Rattle.rack.specs.Moments.{IsSound}
-use Rattle.rack.specs.Seen.{Image}
 use Rattle.shr_script.specs.Reply.{as_line, refused_line}
-use Rattle.lvm_group.specs.Runs.{Linear}
 use Rattle.pool.specs.declared.replacing.GrowFault.{GrowFault}
 use Rattle.pool.specs.declared.replacing.GrowFault.TheVariants.{NoSuchDrive, Attach, Twice, Memory, PlanPending, NotWhole, NotResynced, Unbuilt, Size, Smaller, TooManyDrives, TooManyLayers, TooManySegments, Gone}
-use Rattle.pool.specs.Moment.{moment_of}
 use Rattle.pool.specs.Naming.{ReplacesDrive}
-use Rattle.pool.specs.Replaced.{MeansFormer as MeansFormerBy}
-use Rattle.pool.specs.View.{View, book, contents_in, spent_by, volume}
-use Rattle.pool.specs.Volume.{PicksLive, unchanged}
+use Rattle.pool.specs.View.{View, book, volume}
+use Rattle.pool.specs.Volume.{unchanged}
 use Rattle.pool.proofs.Booked.{raises_still}
 use Rattle.pool.proofs.Doing.{does_none}
 use Rattle.pool.proofs.Keeping.{marks_same, passes_same}
 use Rattle.shr_tool.proofs.Filled.{works_same}
 use Rattle.shr_tool.specs.Events.{grow_word, looks_at}
 use Rattle.shr_tool.specs.Events.Event.{declined, replaced}
-use Rattle.shr_tool.specs.Timeline.{MeansFormer, Performs, ground_of}
+use Rattle.shr_tool.specs.Timeline.{Performs}
 use Rattle.shr_tool.proofs.Performing.{IsCut, marks_for, performs_by}
 
 -- a place of the list is that of the call
@@ -30,17 +25,6 @@ cut_listed x at place fit cut low =
       | inl inside ↦ cut.same inside
       | inr past ↦ let out = cut.past past in absurd (omega (arith, few, low, out))
     ]
-
--- contents mean an array by the slices of before, where the volume lay before
-former_at : (x y : View) (place : ℕ) (a : FlatArray) (i : Image) → y.linear ≡ x.linear → MeansFormerBy x y place a i
-    → MeansFormer (ground_of x) (moment_of x) (moment_of y) place a i
-former_at x y place a i same (inl means) =
-    inl (means.0, subst (λ (l : Linear). PicksLive (spent_by l (book y)) a (contents_in x.slices l i)) same means.1)
-former_at x y place a i same (inr means) =
-    inr (
-      means.0,
-      (means.1.0, means.1.1, subst (λ (l : Linear). PicksLive (spent_by l (book y)) a (contents_in means.1.0 l i)) same means.1.2),
-    )
 
 ok_no_fault : (fault : GrowFault) → ◌≡◌ {A = Result (Unit {0}) GrowFault} (Ok tt) (Err fault) → ⊥
 ok_no_fault fault same = cc
@@ -77,11 +61,7 @@ replace_done x y at place name text r fit cut is_ok is done_r =
       marks = λ none. absurd (both_ways true none refl);
       text_is = λ a holds. is;
       holds = done.holds;
-      leaves = λ traced a holds k i since until stopped.
-          elim (done.leaves traced a holds k i since until stopped) [
-            | inl former ↦ inl (former_at x y place a i done.continues.linear former)
-            | inr means ↦ inr means
-          ];
+      leaves = done.leaves;
       ends = done.ends;
     }
 
@@ -194,7 +174,7 @@ decline_done x y at place name text r fault fit sound cut refused is still done_
             holds = done.holds;
             leaves = λ traced a holds k i since until stopped.
                 elim (done.leaves traced a holds k i since until stopped) [
-                  | inl former ↦ inl (inl (former_at x y place a i done.continues.linear former))
+                  | inl former ↦ inl (inl former)
                   | inr means ↦ inr means
                 ];
             ends = done.ends;

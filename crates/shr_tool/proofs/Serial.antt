@@ -10,16 +10,21 @@ use Rattle.shr_tool.specs.Events.Event.{answered, spent, lost, last, replaced, d
 use Rattle.shr_tool.specs.Timeline.{Performs}
 use Rattle.shr_tool.proofs.TakenIn.{ok_err}
 
+-- the place of a drive that was replaced is in the list
+pub listed_by : (x y : View) (place : ℕ) (name text : List ℕ) → Performs x y (replaced place name) text → place < length (book x).state.drives.items
+listed_by x y place name text performs = elim (cases_lt place (length (book x).state.drives.items)) [
+  | inl low ↦ low
+  | inr past ↦ absurd (ok_err NoSuchDrive (performs.cause.0.missing.1 past))
+]
+
 -- the disk that replaced a drive
-replaced_by : (x y : View) (place : ℕ) (name text : List ℕ) → Performs x y (replaced place name) text
+pub replaced_by : (x y : View) (place : ℕ) (name text : List ℕ) → Performs x y (replaced place name) text
     → (d : ℕ) × IsNamed (moment_of y) name d × IsReplaced (moment_of x) (moment_of y) place d
 replaced_by x y place name text performs =
     let cause : HasGrowCause x.linear (moment_of x) (moment_of y) place name (Ok tt) = performs.cause.0 in
-    let listed : place < length (book x).state.drives.items =
-    elim (cases_lt place (length (book x).state.drives.items)) [ inl low ↦ low | inr past ↦ absurd (ok_err NoSuchDrive (cause.missing.1 past)) ] in
     let named =
     cause.named
-    (record { listed = listed; attached = λ same. ok_err Attach same; had = λ same. ok_err Memory same; other = λ same. ok_err Twice same }) in
+    (record { listed = listed_by x y place name text performs; attached = λ same. ok_err Attach same; had = λ same. ok_err Memory same; other = λ same. ok_err Twice same }) in
     (named.0, named.1, performs.cause.1 named.0 named.1)
 
 serial_taking : (x y : View) (event : Event) (text : List ℕ) → takes_disk event ≡ true → Performs x y event text → (book x).state.serial ≤ (book y).state.serial

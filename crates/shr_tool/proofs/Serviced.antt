@@ -12,7 +12,7 @@ use Rattle.slice_rack.specs.Runs.{IsSliced}
 use Rattle.slice_rack.specs.Slices.{IsOrderly, Slices, disk_of, first_of, place_of, seat_of, sectors_of}
 use Rattle.slice_rack.specs.Sliced.{IsInside, slices_of}
 use Rattle.flat_array.specs.Array.{FlatArray}
-use Rattle.lvm_group.specs.Runs.{Linear, array_of}
+use Rattle.lvm_group.specs.Runs.{Linear, array_of, sectors_in}
 use Rattle.pool_state.specs.declared.contents.Copied.{Copied}
 use Rattle.pool_state.specs.Sector.{decoded}
 use Rattle.array_core.specs.TruthHeld.{HoldTruth}
@@ -53,7 +53,7 @@ use Rattle.shr_tool.specs.Events.{Event, takes_disk}
 use Rattle.shr_tool.specs.Events.Event.{answered, spent, lost, last, replaced, declined, stepped, stuck, shown}
 use Rattle.shr_tool.specs.Outcome.{IsRunOn}
 use Rattle.shr_tool.specs.Service.{AreUngiven, GoesBy, GoesOn, HoldOwn, IsFitFor, IsLoneFor, IsOut, IsOwnCopy, IsServed, Lone, StandsLone, pool_after}
-use Rattle.shr_tool.specs.Timeline.{Changes, Performs, ground_of}
+use Rattle.shr_tool.specs.Timeline.{Changes, Performs}
 use Rattle.shr_tool.proofs.Absent.{stands_first}
 use Rattle.shr_tool.proofs.Chains.{pool_still}
 use Rattle.shr_tool.proofs.Declined.{on_declined}
@@ -63,10 +63,10 @@ use Rattle.shr_tool.proofs.TakenIn.{on_replaced}
 use Rattle.shr_tool.proofs.LeavingOut.{alone_later, lone_sector, out_later}
 
 -- at the beginning
-service_first : (x : View) (f : Found) → IsRunOn f (ground_of x) (moment_of x) x.bay → InService f x.slices (book x) x.bay
+service_first : (x : View) (f : Found) → IsRunOn f (moment_of x) x.bay → InService f x.slices (book x) x.bay
 service_first x f on = in_service on.before f x.slices (book x) x.bay on.found_is on.sound on.slices on.after on.joined on.geometry on.rest
 
-goes_first : {o : Option Lone} (x : View) (f : Found) → IsRunOn f (ground_of x) (moment_of x) x.bay → ((l : Lone) → o ≡ Some l → StandsLone l f x.slices x)
+goes_first : {o : Option Lone} (x : View) (f : Found) → IsRunOn f (moment_of x) x.bay → ((l : Lone) → o ≡ Some l → StandsLone l f x.slices x)
     → GoesBy (TargetsLand f) o f x
 goes_first x f on alone = record {
   tables = x.slices;
@@ -80,11 +80,11 @@ goes_first x f on alone = record {
   alone = alone;
 }
 
-pub goes_run : (x : View) (f : Found) → IsRunOn f (ground_of x) (moment_of x) x.bay → GoesBy (TargetsLand f) None f x
+pub goes_run : (x : View) (f : Found) → IsRunOn f (moment_of x) x.bay → GoesBy (TargetsLand f) None f x
 goes_run x f on = goes_first x f on (λ l none. absurd (none-some l none))
 
 -- where no second disk stood for a place of a drive, and none that isn't left out had an id that is given later
-pub goes_lone : (x : View) (f : Found) (a : FlatArray) (l : Lone) → (volume x).fit → Holds x a → IsRunOn f (ground_of x) (moment_of x) x.bay → AreOnly f → AreUngiven f l x.shelf.names
+pub goes_lone : (x : View) (f : Found) (a : FlatArray) (l : Lone) → (volume x).fit → Holds x a → IsRunOn f (moment_of x) x.bay → AreOnly f → AreUngiven f l x.shelf.names
     → GoesBy (TargetsLand f) (Some l) f x
 goes_lone x f a l fit holds on only ungiven =
     goes_first x f on
@@ -92,7 +92,7 @@ goes_lone x f a l fit holds on only ungiven =
     subst (λ k. StandsLone k f x.slices x) (some_same l k same)
     (record {
       alone =
-          alone_begins f l.bound (IsOut l x.shelf.names) (book x).state x.slices x.bay (stands_first f (ground_of x) (moment_of x) x.bay on only) ungiven.others on.rest;
+          alone_begins f l.bound (IsOut l x.shelf.names) (book x).state x.slices x.bay (stands_first f (moment_of x) x.bay on only) ungiven.others on.rest;
       distinct = ungiven.distinct;
       own = λ s within alive p d u copy seat why may is.
           let goes = goes_run x f on in
@@ -336,16 +336,14 @@ spent_performed x y event text performs s alive = elim (cases_Bool (takes_disk e
 ]
 
 pub served_first :
-    (x y z : View) (events : List Event) (event : Event) (text : List ℕ) → y.linear ≡ x.linear → Performs y z event text
-    → IsServed (ground_of x) (moment_of z) (events ++ event ∷ []) → IsServed (ground_of x) (moment_of y) events
-served_first x y z events event text same performs (inl none) = inl (none_takes events event none).0
-served_first x y z events event text same performs (inr some) =
+    (y z : View) (events : List Event) (event : Event) (text : List ℕ) → Performs y z event text
+    → IsServed (moment_of z) (events ++ event ∷ []) → IsServed (moment_of y) events
+served_first y z events event text performs (inl none) = inl (none_takes events event none).0
+served_first y z events event text performs (inr some) =
     inr (
       some.0,
-      some.1,
-      subst (λ (l : Linear). spent_by l (book y) some.0 ≡ false) same
-          (spent_performed y z event text performs some.0
-          (subst (λ (l : Linear). spent_by l (book z) some.0 ≡ false) (sym (performs.continues.linear ∙ same)) some.2)),
+      subst (λ (l : Linear). some.0 < sectors_in l) performs.continues.linear some.1,
+      spent_performed y z event text performs some.0 some.2,
     )
 
 -- an event takes no disk, or a sector of the volume can be had after it
@@ -353,11 +351,11 @@ abbrev pub IsServedBy : View → View → Event → Type 0
 IsServedBy y z event = (takes_disk event ≡ false) ⊎ ((s : ℕ) × (s < size_of y) × (spent_by y.linear (book z) s ≡ false))
 
 pub served_last :
-    (x y z : View) (events : List Event) (event : Event) → y.linear ≡ x.linear
-    → IsServed (ground_of x) (moment_of z) (events ++ event ∷ []) → IsServedBy y z event
-served_last x y z events event same (inl none) = inl (none_takes events event none).1
-served_last x y z events event same (inr some) =
-    inr (subst (λ (l : Linear). (s : ℕ) × (s < size_of (record y { linear = l })) × (spent_by l (book z) s ≡ false)) (sym same) (some.0, some.1, some.2))
+    (y z : View) (events : List Event) (event : Event) → z.linear ≡ y.linear
+    → IsServed (moment_of z) (events ++ event ∷ []) → IsServedBy y z event
+served_last y z events event same (inl none) = inl (none_takes events event none).1
+served_last y z events event same (inr some) =
+    inr (subst (λ (l : Linear). (s : ℕ) × (s < size_of (record y { linear = l })) × (spent_by l (book z) s ≡ false)) same (some.0, some.1, some.2))
 
 pub goes_performed :
     {L : Type 0} {o : Option Lone} (x y : View) (event : Event) (text : List ℕ) (b : FlatArray)

@@ -1,11 +1,11 @@
 -- Works of maintenance answer a line as its event has it.
-use Rattle.std.proofs.Common.{◌≡◌, ℕ, true, false, List, Result, Ok, Err, refl, sym, ◌∙◌, ap, subst, inl}
+use Rattle.std.proofs.Common.{◌≡◌, ℕ, true, false, List, Result, Ok, Err, refl, subst, inl}
 use Rattle.std.proofs.lemmas.Bool.{both_ways}
 use Rattle.shr_script.specs.Reply.{left_line}
 use Rattle.pool.specs.View.{View, book}
 use Rattle.pool.specs.Volume.{unchanged}
 use Rattle.pool.specs.Calls.{IsQuiet, Steps}
-use Rattle.pool.specs.Works.{StopsStuck, left_by, works_by}
+use Rattle.pool.specs.Works.{StopsStuck}
 use Rattle.raid_rack.specs.declared.works.Stuck.{Stuck}
 use Rattle.shr_tool.specs.Events.{stuck_line}
 use Rattle.shr_tool.specs.Events.Event.{stepped, stuck}
@@ -23,10 +23,8 @@ step_done x y count left text r is_ok is steps_r =
     performs_by x y (stepped count left) text unchanged unchanged refl (λ none. absurd (both_ways false refl none)) steps.passes steps.raises
     (λ none. absurd (both_ways true none refl))
     (record {
-      left_is = subst (λ l. left ≡ left_by l (book y)) steps.passes.linear steps.left;
-      progress = λ quiet alone.
-          let done = steps.progress quiet alone in
-          (done.0, sym (ap (λ l. works_by l (book y)) steps.passes.linear) ∙ done.1);
+      left_is = steps.left;
+      progress = steps.progress;
       members = steps.members;
       plan = steps.plan;
     })

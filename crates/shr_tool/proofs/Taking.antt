@@ -4,7 +4,7 @@ use Rattle.std.proofs.lemmas.Bool.{both_ways, cases_Bool}
 use Rattle.pool.specs.Moment.{moment_of}
 use Rattle.pool.specs.Replaced.{ChangesDrive, TakesImage}
 use Rattle.pool.specs.View.{View}
-use Rattle.shr_tool.specs.Timeline.{Changes, KeepsNamed, ground_of}
+use Rattle.shr_tool.specs.Timeline.{Changes, KeepsNamed}
 use Rattle.shr_tool.specs.Events.{AnyTakes, Event, Takes, any_takes, takes_disk}
 use Rattle.shr_tool.specs.Events.Event.{answered, spent, lost, last, replaced, declined, stepped, stuck, shown}
 
@@ -64,7 +64,7 @@ named_of : (x y : View) (place : ℕ) (name : List ℕ) → ChangesDrive x y pla
 named_of x y place name changes told all = record { names = changes.names; image = changes.image told all }
 
 pub named_by : (x y : View) (event : Event) → Changes x y event → x.shelf.told → ((d : ℕ) → d < x.bay.disks → x.bay.told d)
-    → KeepsNamed (ground_of x) (moment_of x) (moment_of y) event
+    → KeepsNamed (moment_of x) (moment_of y) event
 named_by x y (answered line) changes told all = tt
 named_by x y (spent line sector) changes told all = tt
 named_by x y (lost place) changes told all = tt

@@ -47,7 +47,7 @@ use Rattle.shr_tool.specs.Opened.{IsMeant, IsOpenedAs}
 use Rattle.shr_tool.specs.Outcome.{IsRunOn}
 use Rattle.pool.specs.Moment.{Moment, moment_of}
 use Rattle.shr_tool.specs.Serving.{IsServing}
-use Rattle.shr_tool.specs.Timeline.{Ground, MeansAt, ground_of}
+use Rattle.shr_tool.specs.Timeline.{MeansAt}
 
 -- a bay that is reached through references is written as they are
 pub pool_through :
@@ -196,14 +196,14 @@ pub stops_mean :
     {R : Type 0} (pool : Pool R) (shown : R → Seen) (shelf : R → Shelf) (x : Seen) (a : FlatArray)
     → ((f : Found) → HoldSound x f → IsUnfaulted x (view shown shelf pool).bay → IsMeantBy shown x f (arrays_of pool) (view shown shelf pool).linear)
     → (meant : IsMeant x (view shown shelf pool).bay a) → MayStop x meant.pool → x.traced
-    → Leaves x (view shown shelf pool).bay (MeansAt (ground_of (view shown shelf pool)) (moment_of (view shown shelf pool)) a)
+    → Leaves x (view shown shelf pool).bay (MeansAt (moment_of (view shown shelf pool)) a)
 unfolding first_of
 stops_mean pool shown shelf x a opens meant calm traced =
     let v = view shown shelf pool in
     let by = opens meant.pool meant.sound meant.unfaulted in
     let same : by.volume ≡ meant.volume = ap (first_of meant.volume) (sym by.meant ∙ meant.meant) in
-    subst (λ b. Leaves x v.bay (MeansAt (ground_of v) (moment_of v) b)) (ap (λ (w : Volume). fresh w.sectors w.contents) same ∙ sym meant.array)
-    (leaves_weaker (HoldsAt v.slices v.linear by.volume) (MeansAt (ground_of v) (moment_of v) (fresh by.volume.sectors by.volume.contents))
+    subst (λ b. Leaves x v.bay (MeansAt (moment_of v) b)) (ap (λ (w : Volume). fresh w.sectors w.contents) same ∙ sym meant.array)
+    (leaves_weaker (HoldsAt v.slices v.linear by.volume) (MeansAt (moment_of v) (fresh by.volume.sectors by.volume.contents))
     (λ i holds s low alive. inl (holds s low))
     (by.moments calm traced))
 
@@ -213,7 +213,7 @@ pub opened_as :
     → ((f : Found) → HoldSound x f → IsUnfaulted x (view shown shelf pool).bay → IsMeantBy shown x f (arrays_of pool) (view shown shelf pool).linear)
     → ((f : Found) → HoldSound x f → IsUnfaulted x (view shown shelf pool).bay → (p : ℕ) → is_current (book (view shown shelf pool)).state p ≡ (is_current f.state p && is_some (f.seats p)))
     → (f : Found) → HoldSound x f → IsUnfaulted x (view shown shelf pool).bay
-    → IsOpenedAs f (view shown shelf pool).bay (ground_of (view shown shelf pool)) (moment_of (view shown shelf pool))
+    → IsOpenedAs f (view shown shelf pool).bay (moment_of (view shown shelf pool))
 opened_as pool shown shelf x opens marks f sound unfaulted =
     let by = opens f sound unfaulted in
     record { lies = by.lies; slices = by.slices; after = by.after; plan = by.plan; told = by.told; arrays = by.arrays; live = by.live; group = by.group; elsewhere = by.elsewhere; landing = by.landing; marks = marks f sound unfaulted; epoch = by.epoch; events = by.events }
@@ -229,11 +229,11 @@ meant_unrefused disks c volumes meant = of (refusal_of disks c) (option_map volu
 
 -- the run is one on that pool
 pub runs_on :
-    (bay opened : Seen) (g : Ground) (from : Moment) (f : Found)
-    → HoldSound bay f → IsOpenedAs f opened g from → (volumes : List Volume) → meaning (disks_of bay) (now_in bay) ≡ Some volumes → HaveOnePool f
+    (bay opened : Seen) (from : Moment) (f : Found)
+    → HoldSound bay f → IsOpenedAs f opened from → (volumes : List Volume) → meaning (disks_of bay) (now_in bay) ≡ Some volumes → HaveOnePool f
     → SayTruths f from.book (slices_of from.slices opened) → Stays bay opened → f.state.joined ≡ f.state.made
-    → IsOrderly from.slices → ((i : Image) → IsPickOff from.slices opened i → AreAlone f i) → IsRunOn f g from opened
-runs_on bay opened g from f sound meant volumes means one_pool truths stays joined orderly alone = record {
+    → IsOrderly from.slices → ((i : Image) → IsPickOff from.slices opened i → AreAlone f i) → IsRunOn f from opened
+runs_on bay opened from f sound meant volumes means one_pool truths stays joined orderly alone = record {
   lasting = stays.lasting sound.steady.lasts.lasting;
   before = now_in bay;
   found_is = ap (λ (disks : Disks). found disks (now_in bay)) same ∙ sound.found_is;
@@ -262,11 +262,7 @@ runs_on bay opened g from f sound meant volumes means one_pool truths stays join
 pub traced_through : {R : Type 0} (shown : R → Seen) (runs : R → R → Type 0) (r s : R) → WritesPool shown runs r s → (shown r).traced → (shown s).traced
 traced_through shown runs r s writes traced = writes.late.stays.traced (writes.early.only.stays.traced traced)
 
--- where the volume of a pool lies, on a bay that is reached through a reference
-abbrev pub ground_in : {R B : Type 0} → (B → Seen) → (B → Shelf) → Pool R → (R → B) → Ground
-ground_in shown shelf pool to = ground_of (view (λ r. shown (to r)) (λ r. shelf (to r)) pool)
-
--- and the moment when it stands so
+-- the moment when a pool stands so, on a bay that is reached through a reference
 abbrev pub moment_in : {R B : Type 0} → (B → Seen) → (B → Shelf) → Pool R → (R → B) → Moment
 moment_in shown shelf pool to = moment_of (view (λ r. shown (to r)) (λ r. shelf (to r)) pool)
 

@@ -7,7 +7,7 @@ use Rattle.shr_tool.specs.declared.perform.Answer.{Answer}
 use Rattle.shr_tool.specs.declared.perform.Answer.TheVariants.{Given, Memory, Spent}
 use Rattle.shr_tool.specs.Events.{Event, answer_of, array_by, becomes, line_of, lines_of, text_of, texts, worse, worst_of}
 use Rattle.pool.specs.Moment.{Moment}
-use Rattle.shr_tool.specs.Timeline.{Ground, Happens, Steps, Timeline, steps_of}
+use Rattle.shr_tool.specs.Timeline.{Happens, Steps, Timeline, steps_of}
 use Rattle.shr_tool.proofs.Between.{timeline_order}
 use Rattle.shr_tool.proofs.Chains.{steps_more}
 
@@ -56,23 +56,24 @@ worst_of-snoc (first ∷ events) event =
 
 -- later calls leave the past as it was
 pub timeline_kept :
-    (Traced : Type 0) (old new : ℕ → Image → Type 0) (g : Ground) (limit : ℕ)
+    (Traced : Type 0) (old new : ℕ → Image → Type 0) (limit : ℕ)
     → (Traced → (k : ℕ) (i : Image) → k ≤ limit → new k i → old k i)
     → (p : Moment) (a : FlatArray) (events : List Event) (q : Moment)
     → q.clock ≤ limit
-    → Timeline Traced old g p a events q
-    → Timeline Traced new g p a events q
-timeline_kept Traced old new g limit past p a [] q within line = line
-timeline_kept Traced old new g limit past p a (event ∷ events) q within line =
+    → Timeline Traced old p a events q
+    → Timeline Traced new p a events q
+timeline_kept Traced old new limit past p a [] q within line = line
+timeline_kept Traced old new limit past p a (event ∷ events) q within line =
     let at = line.0 in
     let happens = line.1 in
     let order : Traced → at.clock ≤ q.clock =
-    λ traced. timeline_order Traced old g at (becomes a event) events q traced line.2 in (
+    λ traced. timeline_order Traced old at (becomes a event) events q traced line.2 in (
       at,
       record {
         later = happens.later;
         still = happens.still;
         cause = happens.cause;
+        linear = happens.linear;
         disks = happens.disks;
         held = happens.held;
         named = happens.named;
@@ -86,39 +87,39 @@ timeline_kept Traced old new g limit past p a (event ∷ events) q within line =
             happens.during traced k i since until (past traced k i (let rest = order traced in omega arith) stops);
         ended = λ traced i stops. happens.ended traced i (past traced at.clock i (let rest = order traced in omega arith) stops);
       },
-      timeline_kept Traced old new g limit past at (becomes a event) events q within line.2,
+      timeline_kept Traced old new limit past at (becomes a event) events q within line.2,
     )
 
 -- so the moments are the same
 pub steps_kept :
-    (Traced : Type 0) (old new : ℕ → Image → Type 0) (g : Ground) (limit : ℕ)
+    (Traced : Type 0) (old new : ℕ → Image → Type 0) (limit : ℕ)
     (past : Traced → (k : ℕ) (i : Image) → k ≤ limit → new k i → old k i)
-    (p : Moment) (a : FlatArray) (events : List Event) (q : Moment) (within : q.clock ≤ limit) (line : Timeline Traced old g p a events q)
-    → steps_of Traced new g p a events q (timeline_kept Traced old new g limit past p a events q within line) ≡ steps_of Traced old g p a events q line
+    (p : Moment) (a : FlatArray) (events : List Event) (q : Moment) (within : q.clock ≤ limit) (line : Timeline Traced old p a events q)
+    → steps_of Traced new p a events q (timeline_kept Traced old new limit past p a events q within line) ≡ steps_of Traced old p a events q line
 unfolding timeline_kept
-steps_kept Traced old new g limit past p a [] q within line = refl
-steps_kept Traced old new g limit past p a (event ∷ events) q within line =
-    ap (λ (rest : Steps line.0 events q). (line.0, rest)) (steps_kept Traced old new g limit past line.0 (becomes a event) events q within line.2)
+steps_kept Traced old new limit past p a [] q within line = refl
+steps_kept Traced old new limit past p a (event ∷ events) q within line =
+    ap (λ (rest : Steps line.0 events q). (line.0, rest)) (steps_kept Traced old new limit past line.0 (becomes a event) events q within line.2)
 
 -- one event more
 pub timeline_more :
-    (Traced : Type 0) (stops : ℕ → Image → Type 0) (g : Ground) (p : Moment) (a : FlatArray) (events : List Event) (mid : Moment)
+    (Traced : Type 0) (stops : ℕ → Image → Type 0) (p : Moment) (a : FlatArray) (events : List Event) (mid : Moment)
     (event : Event) (q : Moment)
-    → Timeline Traced stops g p a events mid
-    → Happens Traced stops g mid q (array_by a events) event
-    → Timeline Traced stops g p a (events ++ event ∷ []) q
-timeline_more Traced stops g p a [] mid event q same happens =
-    (q, subst (λ m. Happens Traced stops g m q a event) (sym same) happens, refl)
-timeline_more Traced stops g p a (first ∷ events) mid event q line happens =
-    (line.0, line.1, timeline_more Traced stops g line.0 (becomes a first) events mid event q line.2 happens)
+    → Timeline Traced stops p a events mid
+    → Happens Traced stops mid q (array_by a events) event
+    → Timeline Traced stops p a (events ++ event ∷ []) q
+timeline_more Traced stops p a [] mid event q same happens =
+    (q, subst (λ m. Happens Traced stops m q a event) (sym same) happens, refl)
+timeline_more Traced stops p a (first ∷ events) mid event q line happens =
+    (line.0, line.1, timeline_more Traced stops line.0 (becomes a first) events mid event q line.2 happens)
 
 pub steps_added :
-    (Traced : Type 0) (stops : ℕ → Image → Type 0) (g : Ground) (p : Moment) (a : FlatArray) (events : List Event) (mid : Moment)
-    (event : Event) (q : Moment) (line : Timeline Traced stops g p a events mid) (happens : Happens Traced stops g mid q (array_by a events) event)
-    → steps_of Traced stops g p a (events ++ event ∷ []) q (timeline_more Traced stops g p a events mid event q line happens)
-    ≡ steps_more p events mid event q (steps_of Traced stops g p a events mid line)
+    (Traced : Type 0) (stops : ℕ → Image → Type 0) (p : Moment) (a : FlatArray) (events : List Event) (mid : Moment)
+    (event : Event) (q : Moment) (line : Timeline Traced stops p a events mid) (happens : Happens Traced stops mid q (array_by a events) event)
+    → steps_of Traced stops p a (events ++ event ∷ []) q (timeline_more Traced stops p a events mid event q line happens)
+    ≡ steps_more p events mid event q (steps_of Traced stops p a events mid line)
 unfolding timeline_more
-steps_added Traced stops g p a [] mid event q same happens = refl
-steps_added Traced stops g p a (first ∷ events) mid event q line happens =
+steps_added Traced stops p a [] mid event q same happens = refl
+steps_added Traced stops p a (first ∷ events) mid event q line happens =
     ap (λ (rest : Steps line.0 (events ++ event ∷ []) q). (line.0, rest))
-    (steps_added Traced stops g line.0 (becomes a first) events mid event q line.2 happens)
+    (steps_added Traced stops line.0 (becomes a first) events mid event q line.2 happens)

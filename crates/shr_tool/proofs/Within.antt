@@ -16,7 +16,7 @@ use Rattle.shr_tool.specs.Events.Event.{answered, spent, lost, last, replaced, d
 use Rattle.shr_tool.specs.Heads.{KeepsHeads}
 use Rattle.shr_tool.specs.Service.{BeginsOn, GoesBy, IsServed}
 use Rattle.shr_tool.specs.Serving.{IsServing}
-use Rattle.shr_tool.specs.Timeline.{Performs, ground_of}
+use Rattle.shr_tool.specs.Timeline.{Performs}
 use Rattle.shr_tool.proofs.Between.{holds_inside}
 use Rattle.shr_tool.proofs.GivingStops.{giving_amid}
 use Rattle.shr_tool.proofs.LeavingStops.{declined_amid}
@@ -31,17 +31,17 @@ served_some y z event takes (inr some) = some
 module _ {L G : Type 0} (x y z : View) (a b : FlatArray) (events : List Event) (text : List ℕ) (Serial : Type 0) (f : Found) (continues : Continues x y)
     (passes : any_takes events ≡ false → Passes x y) (heads : KeepsHeads (book x) (book y) (slices_shown x) (slices_shown y)) (serving : IsServing x a) (holds : Holds y b) (begins : BeginsOn G x)
     (traced : x.bay.traced) (unspent : (d s : ℕ) → z.bay.spent d s ≡ false)
-    (goes : IsServed (ground_of x) (moment_of y) events → (any_takes events ≡ true → Serial) → GoesBy L None f y)
-    (serials : IsServed (ground_of x) (moment_of y) events → Serial → AreSerial f.state) where
-  pub holds_within : (event : Event) → Performs y z event text → HoldsWithin z.bay.stops (ground_of x) Serial L G events f (moment_of y) (moment_of z) event
+    (goes : IsServed (moment_of y) events → (any_takes events ≡ true → Serial) → GoesBy L None f y)
+    (serials : IsServed (moment_of y) events → Serial → AreSerial f.state) where
+  pub holds_within : (event : Event) → Performs y z event text → HoldsWithin z.bay.stops Serial L G events f (moment_of y) (moment_of z) event
   holds_within (answered line) performs = holds_inside x y z a b events Serial f continues passes heads serving holds begins traced (performs.passes refl) goes
   holds_within (spent line sector) performs = holds_inside x y z a b events Serial f continues passes heads serving holds begins traced (performs.passes refl) goes
   holds_within (lost place) performs = holds_inside x y z a b events Serial f continues passes heads serving holds begins traced (performs.passes refl) goes
   holds_within (last place) performs = holds_inside x y z a b events Serial f continues passes heads serving holds begins traced (performs.passes refl) goes
   holds_within (replaced place name) performs = λ served serial lands fit waits lasts.
       let event = replaced place name in
-      let before = served_first x y z events event text continues.linear performs served in
-      let some = served_some y z event refl (served_last x y z events event continues.linear served) in
+      let before = served_first y z events event text performs served in
+      let some = served_some y z event refl (served_last y z events event performs.continues.linear served) in
       let going = goes before (λ takes. serial) in
       let told = continues.traced serving.0.shelf traced in
       elim (cases_Bool (is_current (book y).state place)) [
@@ -52,8 +52,8 @@ module _ {L G : Type 0} (x y z : View) (a b : FlatArray) (events : List Event) (
     λ none. holds_inside x y z a b events Serial f continues passes heads serving holds begins traced (performs.passes none) goes,
     λ looks served serial lands waits lasts.
         let event = declined place name fault in
-        let before = served_first x y z events event text continues.linear performs served in
-        declined_amid y z place name fault text b looks unspent continues.fit performs holds (served_some y z event looks (served_last x y z events event continues.linear served)) f
+        let before = served_first y z events event text performs served in
+        declined_amid y z place name fault text b looks unspent continues.fit performs holds (served_some y z event looks (served_last y z events event performs.continues.linear served)) f
         (goes before (λ takes. serial)) waits lands lasts (continues.traced serving.0.shelf traced),
   )
   holds_within (stepped count left) performs = holds_inside x y z a b events Serial f continues passes heads serving holds begins traced (performs.passes refl) goes

@@ -24,7 +24,7 @@ use Rattle.pool.specs.Moment.{Moment}
 use Rattle.shr_tool.specs.Events.{Event, any_takes, looks_at}
 use Rattle.shr_tool.specs.Events.Event.{answered, spent, lost, last, replaced, declined, stepped, stuck, shown}
 use Rattle.shr_tool.specs.Service.{IsFitDisk, IsFitDrive, IsFitFor, IsServed, disk_in, disks_at, pool_after, units_in}
-use Rattle.shr_tool.specs.Timeline.{Ground, Steps}
+use Rattle.shr_tool.specs.Timeline.{Steps}
 
 -- Contents hold the pool f again, over slices and by a book. Where targets land in the pool that the run began on (`Landing`), they land in the one that
 -- is found, so that no more is to be known of it when it is opened. Where the arrays of that pool have its metadata areas (`Group`), and before their first extents no
@@ -44,18 +44,18 @@ pub record HoldsMeanwhile (Group : Type 0) (f : Found) (t : Slices) (l : Linear)
 -- Whatever a stop at a moment leaves holds the pool f again, by the book of that moment and over its slices, unless an array is over by then. `done`
 -- are the events before it: where one of them was to replace a drive, a sector of the volume can be had at that moment, and the ids of the pool's
 -- drives are of serials.
-abbrev pub HoldsThen : (ℕ → Image → Type 0) → Ground → (Serial Landing Group : Type 0) → (done : List Event) → Found → Moment → Type 0
-HoldsThen stops g Serial Landing Group done f p =
-    IsServed g p done → (any_takes done ≡ true → Serial) → ((n : ℕ) → n < f.state.made → is_over p.book n ≡ false)
-    → (i : Image) → stops p.clock i → HoldsNext Landing Group f p.slices g.linear p.book i
+abbrev pub HoldsThen : (ℕ → Image → Type 0) → (Serial Landing Group : Type 0) → (done : List Event) → Found → Moment → Type 0
+HoldsThen stops Serial Landing Group done f p =
+    IsServed p done → (any_takes done ≡ true → Serial) → ((n : ℕ) → n < f.state.made → is_over p.book n ≡ false)
+    → (i : Image) → stops p.clock i → HoldsNext Landing Group f p.slices p.linear p.book i
 
 -- Whatever a stop leaves after one moment and up to a later one holds the pool f, by a state between those of the two books, once what is pending is
 -- written, unless an array is over by then. `done` are the events before the first. `Landing`: targets land where the slices are of the pool that the run
 -- began on.
-abbrev pub HoldsInside : (ℕ → Image → Type 0) → Ground → (Serial Landing Group : Type 0) → (done : List Event) → Found → (p q : Moment) → Type 0
-HoldsInside stops g Serial Landing Group done f p q =
-    IsServed g p done → (any_takes done ≡ true → Serial) → Landing → ((n : ℕ) → n < f.state.made → is_over q.book n ≡ false)
-    → (k : ℕ) (i : Image) → p.clock < k → k ≤ q.clock → stops k i → HoldsMeanwhile Group f p.slices g.linear p.book q.book i
+abbrev pub HoldsInside : (ℕ → Image → Type 0) → (Serial Landing Group : Type 0) → (done : List Event) → Found → (p q : Moment) → Type 0
+HoldsInside stops Serial Landing Group done f p q =
+    IsServed p done → (any_takes done ≡ true → Serial) → Landing → ((n : ℕ) → n < f.state.made → is_over q.book n ≡ false)
+    → (k : ℕ) (i : Image) → p.clock < k → k ≤ q.clock → stops k i → HoldsMeanwhile Group f p.slices p.linear p.book q.book i
 
 -- the state by which a line that begins at p takes a drive in at a place
 abbrev pub coming : Moment → (place : ℕ) → State
@@ -110,9 +110,9 @@ HaveOthers stops f p (event ∷ events) q steps =
 
 -- Whatever a stop leaves inside a line that takes a drive in holds the pool without it or with it, unless an array is over by the line's end. The image that
 -- the line names is fit for the pool, and where it waited it says no state, or an earlier one.
-abbrev pub HoldsTaking : (ℕ → Image → Type 0) → Ground → (Serial Landing Group : Type 0) → (done : List Event) → Found → (p q : Moment) → (place : ℕ) → (name : List ℕ) → Type 0
-HoldsTaking stops g Serial Landing Group done f p q place name =
-    IsServed g q (done ++ replaced place name ∷ []) → Serial → Landing → IsFitDrive f p place name → IsFitDisk f p name
+abbrev pub HoldsTaking : (ℕ → Image → Type 0) → (Serial Landing Group : Type 0) → (done : List Event) → Found → (p q : Moment) → (place : ℕ) → (name : List ℕ) → Type 0
+HoldsTaking stops Serial Landing Group done f p q place name =
+    IsServed q (done ++ replaced place name ∷ []) → Serial → Landing → IsFitDrive f p place name → IsFitDisk f p name
     → ((n : ℕ) → n < f.state.made → is_over q.book n ≡ false)
     → (k : ℕ) (i : Image) → p.clock < k → k ≤ q.clock → stops k i → HoldsEither f p q place name i
 
@@ -125,31 +125,31 @@ HoldsLeft f p q place i =
 
 -- Inside one that was to take a drive in, and didn't, it holds the pool that there was. Where the place's drive wasn't missing and is found gone, the place may give
 -- up its disk in it.
-abbrev pub HoldsDeclined : (ℕ → Image → Type 0) → Ground → (Serial Landing Group : Type 0) → (done : List Event) → Found → (p q : Moment) → (place : ℕ) → (name : List ℕ) → GrowFault → Type 0
-HoldsDeclined stops g Serial Landing Group done f p q place name fault =
-    IsServed g q (done ++ declined place name fault ∷ []) → Serial → Landing → IsFitDisk f p name
+abbrev pub HoldsDeclined : (ℕ → Image → Type 0) → (Serial Landing Group : Type 0) → (done : List Event) → Found → (p q : Moment) → (place : ℕ) → (name : List ℕ) → GrowFault → Type 0
+HoldsDeclined stops Serial Landing Group done f p q place name fault =
+    IsServed q (done ++ declined place name fault ∷ []) → Serial → Landing → IsFitDisk f p name
     → ((n : ℕ) → n < f.state.made → is_over q.book n ≡ false)
     → (k : ℕ) (i : Image) → p.clock < k → k ≤ q.clock → stops k i → HoldsLeft f p q place i
 
 -- So it is inside an event.
-abbrev pub HoldsWithin : (ℕ → Image → Type 0) → Ground → (Serial Landing Group : Type 0) → (done : List Event) → Found → (p q : Moment) → Event → Type 0
-HoldsWithin stops g Serial Landing Group done f p q (answered line) = HoldsInside stops g Serial Landing Group done f p q
-HoldsWithin stops g Serial Landing Group done f p q (spent line sector) = HoldsInside stops g Serial Landing Group done f p q
-HoldsWithin stops g Serial Landing Group done f p q (lost place) = HoldsInside stops g Serial Landing Group done f p q
-HoldsWithin stops g Serial Landing Group done f p q (last place) = HoldsInside stops g Serial Landing Group done f p q
-HoldsWithin stops g Serial Landing Group done f p q (replaced place name) = HoldsTaking stops g Serial Landing Group done f p q place name
-HoldsWithin stops g Serial Landing Group done f p q (declined place name fault) =
-    (looks_at fault ≡ false → HoldsInside stops g Serial Landing Group done f p q)
-    × (looks_at fault ≡ true → HoldsDeclined stops g Serial Landing Group done f p q place name fault)
-HoldsWithin stops g Serial Landing Group done f p q (stepped count left) = HoldsInside stops g Serial Landing Group done f p q
-HoldsWithin stops g Serial Landing Group done f p q (stuck count array) = HoldsInside stops g Serial Landing Group done f p q
-HoldsWithin stops g Serial Landing Group done f p q (shown text) = HoldsInside stops g Serial Landing Group done f p q
+abbrev pub HoldsWithin : (ℕ → Image → Type 0) → (Serial Landing Group : Type 0) → (done : List Event) → Found → (p q : Moment) → Event → Type 0
+HoldsWithin stops Serial Landing Group done f p q (answered line) = HoldsInside stops Serial Landing Group done f p q
+HoldsWithin stops Serial Landing Group done f p q (spent line sector) = HoldsInside stops Serial Landing Group done f p q
+HoldsWithin stops Serial Landing Group done f p q (lost place) = HoldsInside stops Serial Landing Group done f p q
+HoldsWithin stops Serial Landing Group done f p q (last place) = HoldsInside stops Serial Landing Group done f p q
+HoldsWithin stops Serial Landing Group done f p q (replaced place name) = HoldsTaking stops Serial Landing Group done f p q place name
+HoldsWithin stops Serial Landing Group done f p q (declined place name fault) =
+    (looks_at fault ≡ false → HoldsInside stops Serial Landing Group done f p q)
+    × (looks_at fault ≡ true → HoldsDeclined stops Serial Landing Group done f p q place name fault)
+HoldsWithin stops Serial Landing Group done f p q (stepped count left) = HoldsInside stops Serial Landing Group done f p q
+HoldsWithin stops Serial Landing Group done f p q (stuck count array) = HoldsInside stops Serial Landing Group done f p q
+HoldsWithin stops Serial Landing Group done f p q (shown text) = HoldsInside stops Serial Landing Group done f p q
 
 -- So it is at the moment when events begin, at the end of each of them and inside it, with the drives that were taken in up to there. Only the images that
 -- lines named before that moment are to be fit for the pool.
-abbrev pub HoldsEach : (ℕ → Image → Type 0) → Ground → (Serial Landing Group : Type 0) → (done : List Event) → Found → (p : Moment) → (events : List Event) → (q : Moment) → Steps p events q → Type 0
-HoldsEach stops g Serial Landing Group done f p [] q steps = HoldsThen stops g Serial Landing Group done f p
-HoldsEach stops g Serial Landing Group done f p (event ∷ events) q steps =
-    HoldsThen stops g Serial Landing Group done f p
-    × HoldsWithin stops g Serial Landing Group done f p steps.0 event
-    × (IsFitFor f p event → HoldsEach stops g Serial Landing Group (done ++ event ∷ []) (pool_after f p steps.0 event) steps.0 events q steps.1)
+abbrev pub HoldsEach : (ℕ → Image → Type 0) → (Serial Landing Group : Type 0) → (done : List Event) → Found → (p : Moment) → (events : List Event) → (q : Moment) → Steps p events q → Type 0
+HoldsEach stops Serial Landing Group done f p [] q steps = HoldsThen stops Serial Landing Group done f p
+HoldsEach stops Serial Landing Group done f p (event ∷ events) q steps =
+    HoldsThen stops Serial Landing Group done f p
+    × HoldsWithin stops Serial Landing Group done f p steps.0 event
+    × (IsFitFor f p event → HoldsEach stops Serial Landing Group (done ++ event ∷ []) (pool_after f p steps.0 event) steps.0 events q steps.1)

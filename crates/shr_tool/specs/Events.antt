@@ -1,6 +1,6 @@
 -- What a line of a script does on a pool: as a flat array of sectors has it, or what lost drives make of it.
 use Rattle.std.specs.Prelude.{◌≡◌, ◌⊎◌, ℕ, ◌+◌, ◌<◌, ◌≤◌, ◌||◌, not, Bool, true, false, slice_get, Some, List, [], ◌∷◌, ◌++◌, codes, decimal, Ok, Err}
-use Rattle.shr_script.specs.declared.Command.TheVariants.{Read, Write, Fill, Flush, Size, Lose, Replace, Step, Status, Quit, Unbuilt}
+use Rattle.shr_script.specs.declared.Command.TheVariants.{Read, Write, Fill, Flush, Size, Lose, Replace, Add, Step, Status, Quit}
 use Rattle.shr_script.specs.Line.{Line}
 use Rattle.shr_script.specs.Reply.{as_line, left_line, refused_line}
 use Rattle.flat_array.specs.Array.{FlatArray}
@@ -51,10 +51,10 @@ calls_in (Ok Flush) = 1
 calls_in (Ok Size) = 1
 calls_in (Ok (Lose place)) = 1
 calls_in (Ok (Replace place name)) = 1
+calls_in (Ok (Add name)) = 1
 calls_in (Ok (Step count)) = count
 calls_in (Ok Status) = 1
 calls_in (Ok Quit) = 1
-calls_in (Ok Unbuilt) = 1
 calls_in (Err fault) = 1
 
 -- the reply where an array can't do a work
@@ -220,7 +220,7 @@ abbrev pub AnyTakes : List (List ℕ) → List Event → ℕ → Type 0
 AnyTakes names [] d = ⊥
 AnyTakes names (event ∷ events) d = Takes names event d ⊎ AnyTakes names events d
 
--- no disk is asked for the answer: to a wrong line or one that isn't built, of the size, how the pool stands, a place that isn't in the list
+-- no disk is asked for the answer: to a wrong line, of the size, how the pool stands, a place that isn't in the list
 abbrev pub calls_none : Event → Bool
 calls_none (answered (Ok (Read sector))) = false
 calls_none (answered (Ok (Write sector bytes))) = false
@@ -229,10 +229,10 @@ calls_none (answered (Ok Flush)) = false
 calls_none (answered (Ok Size)) = true
 calls_none (answered (Ok (Lose place))) = false
 calls_none (answered (Ok (Replace place name))) = false
+calls_none (answered (Ok (Add name))) = false
 calls_none (answered (Ok (Step count))) = false
 calls_none (answered (Ok Status)) = false
 calls_none (answered (Ok Quit)) = true
-calls_none (answered (Ok Unbuilt)) = true
 calls_none (answered (Err fault)) = true
 calls_none (spent line sector) = false
 calls_none (lost place) = false
@@ -252,10 +252,10 @@ IsOfArray (Ok Flush) = Unit {0}
 IsOfArray (Ok Size) = Unit {0}
 IsOfArray (Ok (Lose place)) = Unit {0}
 IsOfArray (Ok (Replace place name)) = ⊥
+IsOfArray (Ok (Add name)) = ⊥
 IsOfArray (Ok (Step count)) = ⊥
 IsOfArray (Ok Status) = ⊥
 IsOfArray (Ok Quit) = Unit {0}
-IsOfArray (Ok Unbuilt) = Unit {0}
 IsOfArray (Err fault) = Unit {0}
 
 -- a sector that a line reads or writes, of a volume of so many sectors
@@ -267,10 +267,10 @@ Touches size (Ok Flush) s = ⊥
 Touches size (Ok Size) s = ⊥
 Touches size (Ok (Lose place)) s = ⊥
 Touches size (Ok (Replace place name)) s = ⊥
+Touches size (Ok (Add name)) s = ⊥
 Touches size (Ok (Step count)) s = ⊥
 Touches size (Ok Status) s = ⊥
 Touches size (Ok Quit) s = ⊥
-Touches size (Ok Unbuilt) s = ⊥
 Touches size (Err fault) s = ⊥
 
 -- the last one of them
@@ -282,8 +282,8 @@ TouchesLast size (Ok Flush) s = ⊥
 TouchesLast size (Ok Size) s = ⊥
 TouchesLast size (Ok (Lose place)) s = ⊥
 TouchesLast size (Ok (Replace place name)) s = ⊥
+TouchesLast size (Ok (Add name)) s = ⊥
 TouchesLast size (Ok (Step count)) s = ⊥
 TouchesLast size (Ok Status) s = ⊥
 TouchesLast size (Ok Quit) s = ⊥
-TouchesLast size (Ok Unbuilt) s = ⊥
 TouchesLast size (Err fault) s = ⊥

@@ -17,7 +17,6 @@ use Rattle.shr_tool.specs.Events.Event.{answered, spent}
 use Rattle.shr_tool.specs.Outcome.{Lasts}
 use Rattle.shr_tool.specs.Serving.{Ran}
 use Rattle.pool.specs.Moment.{Moment}
-use Rattle.shr_tool.specs.Timeline.{Ground}
 
 -- the current bytes of a sector, and those of the first so many sectors
 abbrev pub bytes_at : FlatArray → ℕ → List ℕ
@@ -61,31 +60,31 @@ export_status (Err AtSpent) = Spent
 export_status (Err AtSink) = Sink
 
 -- all of the volume was put
-pub record PutsAll (Told Traced : Type 0) (x y : Seen) (g : Ground) (from : Moment) (a : FlatArray) (out out' : List ℕ) : Type 0 where
-  pub put : Told → out' ≡ out ++ bytes_of a (sectors_in g.linear)
-  pub lasts : Lasts Told Traced x y g from a (reads_of (sectors_in g.linear))
+pub record PutsAll (Told Traced : Type 0) (x y : Seen) (from : Moment) (a : FlatArray) (out out' : List ℕ) : Type 0 where
+  pub put : Told → out' ≡ out ++ bytes_of a (sectors_in from.linear)
+  pub lasts : Lasts Told Traced x y from a (reads_of (sectors_in from.linear))
 
 -- a sector was refused as spent, and the bytes before it were put
-pub record PutsToSpent (Told Traced : Type 0) (x y : Seen) (g : Ground) (from : Moment) (a : FlatArray) (out out' : List ℕ) : Type 0 where
+pub record PutsToSpent (Told Traced : Type 0) (x y : Seen) (from : Moment) (a : FlatArray) (out out' : List ℕ) : Type 0 where
   pub sector : ℕ
-  pub inside : sector < sectors_in g.linear
+  pub inside : sector < sectors_in from.linear
   pub put : Told → out' ≡ out ++ bytes_of a sector
-  pub lasts : Lasts Told Traced x y g from a (reads_of sector ++ spent (Ok (Read sector)) sector ∷ [])
+  pub lasts : Lasts Told Traced x y from a (reads_of sector ++ spent (Ok (Read sector)) sector ∷ [])
 
 -- the sink refused the bytes of a sector, of which it took a prefix
-pub record PutsToFault (Told Traced : Type 0) (x y : Seen) (g : Ground) (from : Moment) (a : FlatArray) (out out' : List ℕ) : Type 0 where
+pub record PutsToFault (Told Traced : Type 0) (x y : Seen) (from : Moment) (a : FlatArray) (out out' : List ℕ) : Type 0 where
   pub sector : ℕ
-  pub inside : sector < sectors_in g.linear
+  pub inside : sector < sectors_in from.linear
   pub put : Told → AddsPrefix (out ++ bytes_of a sector) out' (bytes_at a sector)
-  pub lasts : Lasts Told Traced x y g from a (reads_of (sector + 1))
+  pub lasts : Lasts Told Traced x y from a (reads_of (sector + 1))
 
 -- How an export came out on a pool that held an array, where that was told.
-abbrev pub ExportOutcome : Status → Type 0 → Type 0 → Seen → Seen → Ground → Moment → FlatArray → List ℕ → List ℕ → Type 0
-ExportOutcome Done Told Traced x y g from a out out' = PutsAll Told Traced x y g from a out out'
-ExportOutcome Words Told Traced x y g from a out out' = ⊥
-ExportOutcome Limit Told Traced x y g from a out out' = ⊥
-ExportOutcome Source Told Traced x y g from a out out' = ⊥
-ExportOutcome Sink Told Traced x y g from a out out' = PutsToFault Told Traced x y g from a out out'
-ExportOutcome Refused Told Traced x y g from a out out' = ⊥
-ExportOutcome Memory Told Traced x y g from a out out' = ⊥
-ExportOutcome Spent Told Traced x y g from a out out' = PutsToSpent Told Traced x y g from a out out'
+abbrev pub ExportOutcome : Status → Type 0 → Type 0 → Seen → Seen → Moment → FlatArray → List ℕ → List ℕ → Type 0
+ExportOutcome Done Told Traced x y from a out out' = PutsAll Told Traced x y from a out out'
+ExportOutcome Words Told Traced x y from a out out' = ⊥
+ExportOutcome Limit Told Traced x y from a out out' = ⊥
+ExportOutcome Source Told Traced x y from a out out' = ⊥
+ExportOutcome Sink Told Traced x y from a out out' = PutsToFault Told Traced x y from a out out'
+ExportOutcome Refused Told Traced x y from a out out' = ⊥
+ExportOutcome Memory Told Traced x y from a out out' = ⊥
+ExportOutcome Spent Told Traced x y from a out out' = PutsToSpent Told Traced x y from a out out'

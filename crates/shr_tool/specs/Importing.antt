@@ -19,7 +19,6 @@ use Rattle.shr_tool.specs.Outcome.{Lasts}
 use Rattle.shr_tool.specs.Saying.{Says}
 use Rattle.shr_tool.specs.Serving.{Ran}
 use Rattle.pool.specs.Moment.{Moment}
-use Rattle.shr_tool.specs.Timeline.{Ground}
 
 -- at most a sector's bytes, and zeros behind them
 abbrev pub filled_up : List ℕ → List ℕ
@@ -111,11 +110,11 @@ SaysWritten (Err (AtSpent sector)) out out' status = Says Spent (spent_line sect
 
 -- How an import came out on a pool that held an array, where that was told: `text` is the input before it, `rest` after it. Of the input
 -- at most the volume's bytes and one sector's more are taken.
-pub record ImportOutcome (status : Status) (Told Traced : Type 0) (x y : Seen) (g : Ground) (from : Moment) (a : FlatArray) (text rest out out' : List ℕ)
+pub record ImportOutcome (status : Status) (Told Traced : Type 0) (x y : Seen) (from : Moment) (a : FlatArray) (text rest out out' : List ℕ)
     : Type 0 where
   pub result : Result ℕ ImportFault
   pub events : List Event
-  pub writes : Writes (sectors_in g.linear) text rest result events
-  pub most : length text ≤ 512 * sectors_in g.linear + 512 + length rest
-  pub lasts : Lasts Told Traced x y g from a events
+  pub writes : Writes (sectors_in from.linear) text rest result events
+  pub most : length text ≤ 512 * sectors_in from.linear + 512 + length rest
+  pub lasts : Lasts Told Traced x y from a events
   pub says : SaysWritten result out out' status

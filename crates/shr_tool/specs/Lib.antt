@@ -3,6 +3,7 @@ pub mod StatusText
 pub mod Events
 pub mod Timeline
 pub mod Service
+pub mod Growing
 pub mod Between
 pub mod Filling
 pub mod Heads

@@ -43,7 +43,7 @@ use Rattle.shr_tool.specs.Refusing.{refusal_words, refusal_status}
 use Rattle.shr_tool.specs.Saying.{Says}
 use Rattle.shr_tool.specs.Tasks.{TaskOutcome}
 use Rattle.pool.specs.Moment.{Moment}
-use Rattle.shr_tool.specs.Timeline.{Ground, MeansAt}
+use Rattle.shr_tool.specs.Timeline.{MeansAt}
 
 -- The pool of attached disks can't be opened, and why has its cause in what was read of them. Until its drives have passed their checks nothing is
 -- written but the pending record, on drives of the pool; disks that hold a sound pool, and refuse no call, are refused as they mean, and
@@ -69,8 +69,8 @@ pub record NotOpened {R : Type 0} (seen : R → Seen) (runs : R → R → Type 0
 
 -- A pool was opened as its disks had it: its volume is that of the group of what they held, over the slices of its drives; marks alone
 -- have come to its state. Each of the volume's arrays is told, and no sector of these is spent. `y` is what the disks show then.
-pub record IsOpenedAs (f : Found) (y : Seen) (g : Ground) (from : Moment) : Type 0 where
-  pub lies : IsVolumeOf f g.linear
+pub record IsOpenedAs (f : Found) (y : Seen) (from : Moment) : Type 0 where
+  pub lies : IsVolumeOf f from.linear
   pub slices : AreSlicesOf f from.slices
   pub after : IsAfter f.state from.book.state
   -- a plan goes on that had begun
@@ -80,7 +80,7 @@ pub record IsOpenedAs (f : Found) (y : Seen) (g : Ground) (from : Moment) : Type
   pub arrays : (n : ℕ) (t : Super) → n < f.state.joined → truth_of f n ≡ Some t → IsArrayOf f n t (from.book.arrays n)
   pub live : AllLive from.book
   -- where all arrays are ready for the volume, and have the pool's metadata areas, they hold its group, whatever they may be left with
-  pub group : f.state.joined ≡ f.state.made → HaveOwnAreas f → HoldGroup from.book g.linear (slices_of from.slices y)
+  pub group : f.state.joined ≡ f.state.made → HaveOwnAreas f → HoldGroup from.book from.linear (slices_of from.slices y)
   -- outside the slices the disks have each drive's table, and other disks say what they said
   pub elsewhere : (i : Image) → IsPickOff from.slices y i → AreElsewhere f i
   -- where targets land in the pool's slices a replay finds these by the drives' tables
@@ -108,7 +108,6 @@ pub record OpenedOn {R : Type 0} (seen : R → Seen) (shelf : R → Shelf) (runs
   pub names : KeepsNames (shelf opened) (shelf after)
   -- in the opening drives alone are written: in their log slices, in the arrays' part, and in their partition tables
   pub drives : WritesPool seen runs bay opened
-  pub ground : Ground
   pub from : Moment
   pub clock : from.clock ≡ (seen opened).clock
   pub faults : (d : ℕ) → from.faults d ≡ (seen opened).faults d
@@ -124,7 +123,7 @@ pub record OpenedOn {R : Type 0} (seen : R → Seen) (shelf : R → Shelf) (runs
   -- and in the opening drives are marked only where they have no disk, or that refused a call
   pub caused : MarksDrives seen runs bay opened from.book.state
   -- it is opened as disks have it that held a sound pool and refused no call
-  pub meant : (f : Found) → HoldSound (seen bay) f → IsUnfaulted (seen bay) (seen opened) → IsOpenedAs f (seen opened) ground from
+  pub meant : (f : Found) → HoldSound (seen bay) f → IsUnfaulted (seen bay) (seen opened) → IsOpenedAs f (seen opened) from
   -- the log's number has risen by a bounded number above those of the gates that the pool's drives had
   pub number :
       (f : Found) → HoldSound (seen bay) f → IsUnfaulted (seen bay) (seen opened) → (most : ℕ) → HaveGatesUpTo (seen bay) f most
@@ -141,11 +140,11 @@ pub record OpenedOn {R : Type 0} (seen : R → Seen) (shelf : R → Shelf) (runs
   -- what a stop inside the opening leaves means the array that the disks meant
   pub moments :
       (a : FlatArray) → (meant : IsMeant (seen bay) (seen opened) a) → MayStop (seen bay) meant.pool → (seen bay).traced
-      → Leaves (seen bay) (seen opened) (MeansAt ground from a)
+      → Leaves (seen bay) (seen opened) (MeansAt from a)
   -- and says its volume, by the sizes of the arrays, where these all are ready for it and have the pool's metadata areas
   pub says :
       (f : Found) → HoldSound (seen bay) f → IsUnfaulted (seen bay) (seen opened) → f.state.joined ≡ f.state.made → HaveOwnAreas f
-      → MayStop (seen bay) f → (seen bay).traced → Leaves (seen bay) (seen opened) (SaysVolume from.book from.slices ground.linear)
+      → MayStop (seen bay) f → (seen bay).traced → Leaves (seen bay) (seen opened) (SaysVolume from.book from.slices from.linear)
   -- And it holds the sound pool still that the disks had, so that a run which is killed inside its opening may be opened again: by its state or one to which
   -- just marks of places have come that have no disk, with its plan, and the same disks for its places. Its arrays hold what they held from their first
   -- extents on, and members count as far as they did.
@@ -153,16 +152,16 @@ pub record OpenedOn {R : Type 0} (seen : R → Seen) (shelf : R → Shelf) (runs
       (f : Found) → HoldSound (seen bay) f → IsUnfaulted (seen bay) (seen opened) → StopsHold (seen bay) (seen opened) f data_start
   -- A later opening of it doesn't refuse it, and means the run's volume again, with what its arrays held, so that the two runs are told as one.
   pub reopens :
-      (f : Found) → HoldSound (seen bay) f → IsUnfaulted (seen bay) (seen opened) → StopsMean (seen bay) (seen opened) f ground.linear
+      (f : Found) → HoldSound (seen bay) f → IsUnfaulted (seen bay) (seen opened) → StopsMean (seen bay) (seen opened) f from.linear
   -- The run is one on that pool, where all its arrays are ready for the volume and on its disks no superblock of an array stood where a drive that is
   -- no member of it would have its slice.
   pub run_on :
       (f : Found) → HoldSound (seen bay) f → IsUnfaulted (seen bay) (seen opened) → f.state.joined ≡ f.state.made
-      → AreAlone f f.contents → IsRunOn f ground from (seen opened)
+      → AreAlone f f.contents → IsRunOn f from (seen opened)
   -- the task, from the volume that the disks meant, where the names of the bay are told
   pub outcome :
       (a : FlatArray)
-      → TaskOutcome task status (IsMeant (seen bay) (seen opened) a × (shelf bay).told) (seen bay).traced (seen opened) (seen after) ground from a
+      → TaskOutcome task status (IsMeant (seen bay) (seen opened) a × (shelf bay).told) (seen bay).traced (seen opened) (seen after) from a
       text rest out out'
 
 -- how it came out

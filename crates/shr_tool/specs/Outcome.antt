@@ -1,5 +1,5 @@
 -- How a script on a pool came out, by the status that is answered.
-use Rattle.std.specs.Prelude.{◌≡◌, slice_get, ℕ, ◌<◌, ◌≤◌, ◌^◌, true, false, List, [], ◌∷◌, ◌++◌, length, take, Some}
+use Rattle.std.specs.Prelude.{◌≡◌, ◌⊎◌, slice_get, ℕ, ◌<◌, ◌≤◌, ◌^◌, true, false, List, [], ◌∷◌, ◌++◌, length, take, Some}
 use Rattle.rack.specs.Seen.{Image, IsPick, Seen, Rose}
 use Rattle.rack.specs.Values.{Keeps}
 use Rattle.io_ends.specs.Sink.{AddsPrefix}
@@ -43,7 +43,8 @@ use Rattle.pool.specs.Continuing.{KeepsOutside}
 use Rattle.rack.specs.Sequences.{WritesOnly}
 use Rattle.rack.specs.Shelf.{Shelf}
 use Rattle.slice_rack.specs.Runs.{IsSliced}
-use Rattle.shr_tool.specs.Timeline.{Ground, KeepsMissing, KeepsSlices, KeepsStanding, MeansAt, Timeline, steps_of}
+use Rattle.shr_tool.specs.Timeline.{KeepsMissing, KeepsSlices, KeepsStanding, MeansAt, Timeline, steps_of}
+use Rattle.shr_tool.specs.Growing.{GrowsAlong, IsGrowing, ProceedsTo}
 use Rattle.shr_tool.specs.Service.{AreFit, AreLone, AreUngiven, IsOut, IsServed, none_out, pool_by}
 use Rattle.shr_tool.specs.Between.{HaveOthers, HoldsEach, HoldsInside, HoldsNext}
 
@@ -53,10 +54,10 @@ NoneRose before after = (d : ℕ) → Rose (before d) (after d) → ⊥
 
 -- Where no disk's faults rose in the end of a pool, an array whose superblocks said otherwise leaves in each image just the rows to
 -- resync that were left in it before.
-abbrev pub LeavesItsRows : Seen → Ground → Moment → Moment → Type 0
-LeavesItsRows y g p q =
+abbrev pub LeavesItsRows : Seen → Moment → Moment → Type 0
+LeavesItsRows y p q =
     NoneRose p.faults q.faults
-    → (n : ℕ) → n < g.linear.arrays → is_over q.book n ≡ false → is_settled (p.book.arrays n) ≡ false
+    → (n : ℕ) → n < p.linear.arrays → is_over q.book n ≡ false → is_settled (p.book.arrays n) ≡ false
     → (r : Image) → IsLeft (slices_of q.slices y) r → (t : Super) → truth_in q.book.state r n ≡ Some t
     → t.resync_offset ≡ left_offset (p.book.arrays n)
 
@@ -64,11 +65,12 @@ LeavesItsRows y g p q =
 abbrev pub KeepsNames : Shelf → Shelf → Type 0
 KeepsNames s t = (d : ℕ) (name : List ℕ) → slice_get s.names d ≡ Some name → slice_get t.names d ≡ Some name
 
--- The end of a pool: no disk is attached, the slices of its drives stay where they lie, marks alone come to its book, each of a drive whose disk's faults rose, and a plan goes on; what
+-- The end of a pool: no disk is attached, its volume and the slices of its drives stay where they lie, marks alone come to its book, each of a drive whose disk's faults rose, and a plan goes on; what
 -- a stop inside it leaves means the array, and then its current values alone. Outside the slices disks hold what they held, and those of places whose drives
 -- were missing everywhere. The clock is told where stops are.
-pub record EndsAt (Told : Type 0) (Traced : Type 0) (y : Seen) (g : Ground) (p q : Moment) (a : FlatArray) : Type 0 where
+pub record EndsAt (Told : Type 0) (Traced : Type 0) (y : Seen) (p q : Moment) (a : FlatArray) : Type 0 where
   pub later : Told → Traced → p.clock ≤ q.clock
+  pub linear : q.linear ≡ p.linear
   pub slices : KeepsSlices p q
   pub after : IsAfter p.book.state q.book.state
   pub cause :
@@ -78,8 +80,8 @@ pub record EndsAt (Told : Type 0) (Traced : Type 0) (y : Seen) (g : Ground) (p q
   pub works : KeepsWorks p.book q.book
   pub held : Told → (d s : ℕ) → d < p.disks → s < p.sectors d → ((v : List ℕ) → IsSliced p.slices d s v → ⊥) → Keeps (p.held d s) (q.held d s)
   pub missing : Told → KeepsMissing p q (λ d. ⊥)
-  pub during : Told → Traced → (k : ℕ) (i : Image) → p.clock < k → k ≤ q.clock → y.stops k i → MeansAt g q a i
-  pub ended : Told → Traced → (i : Image) → y.stops q.clock i → MeansAt g q (flushed a) i
+  pub during : Told → Traced → (k : ℕ) (i : Image) → p.clock < k → k ≤ q.clock → y.stops k i → MeansAt q a i
+  pub ended : Told → Traced → (i : Image) → y.stops q.clock i → MeansAt q (flushed a) i
 
 -- contents of whole sectors
 abbrev pub HasWholeSectors : Seen → Image → Type 0
@@ -88,7 +90,7 @@ HasWholeSectors x i = (d s : ℕ) → d < x.disks → s < x.sectors d → length
 -- The pool of a run, which its disks, x, had when it began: a sound one, whose drives have the run's slices and their partition tables, and no disk
 -- had another pool's state. Its arrays are the volume's, with the members and the sizes of its superblocks, which say these arrays' truths, durably.
 -- Where the arrays have the pool's metadata areas they hold its group, whatever they may be left with. Outside the slices the disks are as it has them.
-pub record IsRunOn (f : Found) (g : Ground) (from : Moment) (x : Seen) : Type 0 where
+pub record IsRunOn (f : Found) (from : Moment) (x : Seen) : Type 0 where
   pub lasting : x.lasting
   pub before : Image
   pub found_is : found (disks_of x) before ≡ Some f
@@ -98,7 +100,7 @@ pub record IsRunOn (f : Found) (g : Ground) (from : Moment) (x : Seen) : Type 0 
   pub orderly : IsOrderly from.slices
   pub after : IsAfter f.state from.book.state
   pub joined : f.state.joined ≡ f.state.made
-  pub arrays : g.linear.arrays ≡ f.state.joined
+  pub arrays : from.linear.arrays ≡ f.state.joined
   pub geometry : (n : ℕ) (t : Super) → n < f.state.made → truth_of f n ≡ Some t → HasGeometry t (from.book.arrays n).truth
   -- none of its drives is marked missing
   pub present : (p d : ℕ) → f.seats p ≡ Some d → is_current from.book.state p ≡ true
@@ -107,7 +109,7 @@ pub record IsRunOn (f : Found) (g : Ground) (from : Moment) (x : Seen) : Type 0 
   pub landing : TargetsLand f → HaveTables f
   pub one_pool : HaveOnePool f
   pub truths : (n : ℕ) → n < f.state.made → HoldTruth (from.book.arrays n) (slices_of from.slices x)
-  pub group : HaveOwnAreas f → HoldGroup from.book g.linear (slices_of from.slices x)
+  pub group : HaveOwnAreas f → HoldGroup from.book from.linear (slices_of from.slices x)
   pub rest : HoldRest f from.slices x
 
 -- Events of a script from a moment on, when the disks showed x, and the end of the pool: the disks show it afterwards, and where the pool
@@ -115,34 +117,34 @@ pub record IsRunOn (f : Found) (g : Ground) (from : Moment) (x : Seen) : Type 0 
 -- but one that a line named to replace a drive. Where none did, sectors of slices alone are written. All that the disks may be left
 -- with holds a sound pool again, by the last book's state and with the drives that were taken in, unless an array is over, and is opened as the run's volume; and so does what a stop between
 -- lines leaves, and inside the end or a line, once what is pending is written: inside a line that takes a drive in without it or with it. Where lines named images stops are to be told, the pool's drives to have ids of serials, and the images to be fit for it, by what they held before.
-pub record Lasts (Told Traced : Type 0) (x y : Seen) (g : Ground) (from : Moment) (a : FlatArray) (events : List Event) : Type 0 where
+pub record Lasts (Told Traced : Type 0) (x y : Seen) (from : Moment) (a : FlatArray) (events : List Event) : Type 0 where
   pub last : Moment
-  pub timeline : Timeline (Traced × Told) y.stops g from a events last
+  pub timeline : Timeline (Traced × Told) y.stops from a events last
   pub final : Moment
   pub clock : final.clock ≡ y.clock
   pub faults : (d : ℕ) → final.faults d ≡ y.faults d
   pub disks : final.disks ≡ y.disks
   pub sectors : (d : ℕ) → final.sectors d ≡ y.sectors d
   pub held : (d s : ℕ) → final.held d s ≡ y.held d s
-  pub ends : EndsAt Told Traced y g last final (array_by a events)
+  pub ends : EndsAt Told Traced y last final (array_by a events)
   pub outside : KeepsOutside from.slices final.slices (AnyTakes final.names events) Told x y
   pub apart : any_takes events ≡ false → WritesOnly x y (IsSliced from.slices)
-  pub told : Told → IsServed g final events → (n : ℕ) → n < g.linear.arrays → IsTold final.book (slices_of final.slices y) n
-  pub rows : Told → IsServed g final events → LeavesItsRows y g last final
+  pub told : Told → IsServed final events → (n : ℕ) → n < final.linear.arrays → IsTold final.book (slices_of final.slices y) n
+  pub rows : Told → IsServed final events → LeavesItsRows y last final
   -- What a stop leaves before the first line, and at the end of each, holds a sound pool again, by the book of that moment. What one inside a line leaves
   -- holds it once what is pending is written, by a state between; where the line takes a drive in, the pool without the drive or with it.
   pub between :
-      Told → Traced → (f : Found) → IsRunOn f g from x
-      → HoldsEach y.stops g (AreSerial f.state) (TargetsLand f) (HaveOwnAreas f) [] f from events last (steps_of (Traced × Told) y.stops g from a events last timeline)
+      Told → Traced → (f : Found) → IsRunOn f from x
+      → HoldsEach y.stops (AreSerial f.state) (TargetsLand f) (HaveOwnAreas f) [] f from events last (steps_of (Traced × Told) y.stops from a events last timeline)
   -- and so what one inside the end leaves
   pub closing :
-      Told → Traced → (f : Found) → IsRunOn f g from x
-      → AreFit f from events last (steps_of (Traced × Told) y.stops g from a events last timeline)
-      → HoldsInside y.stops g (AreSerial f.state) (TargetsLand f) (HaveOwnAreas f) events (pool_by f from events last (steps_of (Traced × Told) y.stops g from a events last timeline)) last final
+      Told → Traced → (f : Found) → IsRunOn f from x
+      → AreFit f from events last (steps_of (Traced × Told) y.stops from a events last timeline)
+      → HoldsInside y.stops (AreSerial f.state) (TargetsLand f) (HaveOwnAreas f) events (pool_by f from events last (steps_of (Traced × Told) y.stops from a events last timeline)) last final
   -- Where no disk's faults rose in the end, the superblocks of each array that isn't over agree in whatever a stop leaves afterwards, and leave just the rows
   -- to resync that are left in the array, also where they said so before the end.
   pub agreed :
-      Told → IsServed g final events → NoneRose last.faults final.faults → (f : Found) → IsRunOn f g from x
+      Told → IsServed final events → NoneRose last.faults final.faults → (f : Found) → IsRunOn f from x
       → (n : ℕ) → n < f.state.made → is_over final.book n ≡ false
       → (r : Image) → IsLeft (slices_of final.slices y) r → AgreeLeaving (final.book.arrays n) final.book.state r n
   -- Any one drive may be absent after a clean whole end: where no line named a drive to replace, no disk's faults rose in the end, no array is over, and
@@ -151,81 +153,141 @@ pub record Lasts (Told Traced : Type 0) (x y : Seen) (g : Ground) (from : Moment
   -- that no second disk stood for the place of a drive, and that labels of its arrays name the pool's metadata areas.
   pub safe :
       Told → any_takes events ≡ false → NoneRose last.faults final.faults
-      → (f : Found) → IsRunOn f g from x → AreOnly f → HaveOwnAreas f
+      → (f : Found) → IsRunOn f from x → AreOnly f → HaveOwnAreas f
       → IsWholeRaid f.state.made final.book → ((n : ℕ) → n < f.state.made → is_over final.book n ≡ false)
       → (i : Image) → IsPick y y y.held i → HasWholeSectors y i → HoldAbsent f final.slices final.book.state i
   -- So it is where lines replaced drives, by the pool with these drives, where ids differ and the outset's other disks have none that it gives to drives later
   -- (`AreUngiven`, which passes over images that are left out); without disks that say nothing, as where their images are empty, which are to be those of all lines that were declined, unless
   -- one laid nothing (`AreLone`).
   pub safe_by :
-      Told → IsServed g final events → NoneRose last.faults final.faults
-      → (f : Found) → IsRunOn f g from x → AreOnly f → HaveOwnAreas f → (any_takes events ≡ true → AreSerial f.state)
-      → AreFit f from events last (steps_of (Traced × Told) y.stops g from a events last timeline)
+      Told → IsServed final events → NoneRose last.faults final.faults
+      → (f : Found) → IsRunOn f from x → AreOnly f → HaveOwnAreas f → (any_takes events ≡ true → AreSerial f.state)
+      → AreFit f from events last (steps_of (Traced × Told) y.stops from a events last timeline)
       → (out : List (List ℕ)) → AreUngiven f (record { bound = last.book.state.serial; out = out }) from.names
-      → AreLone f (record { bound = last.book.state.serial; out = out }) from events last (steps_of (Traced × Told) y.stops g from a events last timeline)
+      → AreLone f (record { bound = last.book.state.serial; out = out }) from events last (steps_of (Traced × Told) y.stops from a events last timeline)
       → IsWholeRaid f.state.made final.book → ((n : ℕ) → n < f.state.made → is_over final.book n ≡ false)
       → (i j : Image) → IsPick y y y.held i
-      → LeaveOut (pool_by f from events last (steps_of (Traced × Told) y.stops g from a events last timeline)) (IsOut (record { bound = last.book.state.serial; out = out }) final.names) i j
+      → LeaveOut (pool_by f from events last (steps_of (Traced × Told) y.stops from a events last timeline)) (IsOut (record { bound = last.book.state.serial; out = out }) final.names) i j
       → HasWholeSectors y j
-      → HoldAbsent (pool_by f from events last (steps_of (Traced × Told) y.stops g from a events last timeline)) final.slices final.book.state j
+      → HoldAbsent (pool_by f from events last (steps_of (Traced × Told) y.stops from a events last timeline)) final.slices final.book.state j
   -- Then no other disk has the id of a drive that a line took in, while that comes to be one of the pool.
   pub others :
-      Told → Traced → IsServed g final events → (f : Found) → IsRunOn f g from x → AreOnly f → AreUngiven f (none_out last.book.state.serial) from.names → (any_takes events ≡ true → AreSerial f.state)
-      → AreFit f from events last (steps_of (Traced × Told) y.stops g from a events last timeline)
-      → AreLone f (none_out last.book.state.serial) from events last (steps_of (Traced × Told) y.stops g from a events last timeline)
-      → HaveOthers y.stops f from events last (steps_of (Traced × Told) y.stops g from a events last timeline)
+      Told → Traced → IsServed final events → (f : Found) → IsRunOn f from x → AreOnly f → AreUngiven f (none_out last.book.state.serial) from.names → (any_takes events ≡ true → AreSerial f.state)
+      → AreFit f from events last (steps_of (Traced × Told) y.stops from a events last timeline)
+      → AreLone f (none_out last.book.state.serial) from events last (steps_of (Traced × Told) y.stops from a events last timeline)
+      → HaveOthers y.stops f from events last (steps_of (Traced × Told) y.stops from a events last timeline)
   pub again :
-      Told → IsServed g final events → (f : Found) → IsRunOn f g from x → (any_takes events ≡ true → Traced × AreSerial f.state)
-      → AreFit f from events last (steps_of (Traced × Told) y.stops g from a events last timeline)
+      Told → IsServed final events → (f : Found) → IsRunOn f from x → (any_takes events ≡ true → Traced × AreSerial f.state)
+      → AreFit f from events last (steps_of (Traced × Told) y.stops from a events last timeline)
       → ((n : ℕ) → n < f.state.made → is_over final.book n ≡ false)
       → (i : Image) → IsPick y y y.held i
-      → HoldsNext (TargetsLand f) (HaveOwnAreas f) (pool_by f from events last (steps_of (Traced × Told) y.stops g from a events last timeline)) final.slices g.linear final.book i
+      → HoldsNext (TargetsLand f) (HaveOwnAreas f) (pool_by f from events last (steps_of (Traced × Told) y.stops from a events last timeline)) final.slices final.linear final.book i
 
 -- all lines of the text were answered, and the pool was ended; this is the worst of the answers
-pub record DoneOutcome (worst : Answer) (Told Traced : Type 0) (x y : Seen) (g : Ground) (from : Moment) (a : FlatArray) (text out out' : List ℕ) : Type 0 where
+pub record DoneOutcome (worst : Answer) (Told Traced : Type 0) (x y : Seen) (from : Moment) (a : FlatArray) (text out out' : List ℕ) : Type 0 where
   pub events : List Event
   pub script : script_of text ≡ lines_of events
   pub worst_is : worst_of events ≡ worst
   pub put : Told → out' ≡ out ++ texts a events
-  pub lasts : Lasts Told Traced x y g from a events
+  pub lasts : Lasts Told Traced x y from a events
 
 -- a script's limit was reached with more to come
-pub record LimitOutcome (Told Traced : Type 0) (x y : Seen) (g : Ground) (from : Moment) (a : FlatArray) (text out out' : List ℕ) : Type 0 where
+pub record LimitOutcome (Told Traced : Type 0) (x y : Seen) (from : Moment) (a : FlatArray) (text out out' : List ℕ) : Type 0 where
   pub longer : 2 ^ 32 < length text
   pub events : List Event
   pub script : cut_script_of (take (2 ^ 32) text) ≡ lines_of events
   pub put : Told → out' ≡ out ++ texts a events
-  pub lasts : Lasts Told Traced x y g from a events
+  pub lasts : Lasts Told Traced x y from a events
 
 -- the source failed after these bytes
-pub record SourceOutcome (Told Traced : Type 0) (x y : Seen) (g : Ground) (from : Moment) (a : FlatArray) (text rest out out' : List ℕ) : Type 0 where
+pub record SourceOutcome (Told Traced : Type 0) (x y : Seen) (from : Moment) (a : FlatArray) (text rest out out' : List ℕ) : Type 0 where
   pub taken : List ℕ
   pub text_is : text ≡ taken ++ rest
   pub events : List Event
   pub script : cut_script_of taken ≡ lines_of events
   pub put : Told → out' ≡ out ++ texts a events
-  pub lasts : Lasts Told Traced x y g from a events
+  pub lasts : Lasts Told Traced x y from a events
 
 -- the sink refused the reply to the last line that was begun
-pub record SinkOutcome (Told Traced : Type 0) (x y : Seen) (g : Ground) (from : Moment) (a : FlatArray) (text out out' : List ℕ) : Type 0 where
+pub record SinkOutcome (Told Traced : Type 0) (x y : Seen) (from : Moment) (a : FlatArray) (text out out' : List ℕ) : Type 0 where
   pub before : List Event
   pub last : Event
   pub more : List Line
   pub script : script_of text ≡ lines_of (before ++ last ∷ []) ++ more
   pub put : Told → AddsPrefix (out ++ texts a before) out' (text_of (array_by a before) last)
-  pub lasts : Lasts Told Traced x y g from a (before ++ last ∷ [])
+  pub lasts : Lasts Told Traced x y from a (before ++ last ∷ [])
+
+-- how a script came out that didn't grow the pool
+abbrev pub EventsOutcome : Status → Type 0 → Type 0 → Seen → Seen → Moment → FlatArray → List ℕ → List ℕ → List ℕ → List ℕ → Type 0
+EventsOutcome Done Told Traced x y from a text rest out out' = DoneOutcome Given Told Traced x y from a text out out'
+EventsOutcome Words Told Traced x y from a text rest out out' = ⊥
+EventsOutcome Limit Told Traced x y from a text rest out out' = LimitOutcome Told Traced x y from a text out out'
+EventsOutcome Source Told Traced x y from a text rest out out' = SourceOutcome Told Traced x y from a text rest out out'
+EventsOutcome Sink Told Traced x y from a text rest out out' = SinkOutcome Told Traced x y from a text out out'
+EventsOutcome Refused Told Traced x y from a text rest out out' = ⊥
+EventsOutcome Memory Told Traced x y from a text rest out out' = DoneOutcome Wants Told Traced x y from a text out out'
+EventsOutcome Spent Told Traced x y from a text rest out out' = DoneOutcome Refuses Told Traced x y from a text out out'
+
+-- ---- a script that grew the pool
+
+-- Events of a script from a moment on up to a line that grew the pool: that, the lines after it, and the end of the pool, when the disks show y. Of the events is
+-- told what is told of a run without such a line: but of the volume nothing is told after them. Of the rest: the bay's disks, marks with their causes, numbers, and replies.
+pub record LastsUntil (Told Traced : Type 0) (x y : Seen) (from : Moment) (a : FlatArray) (events : List Event) (first : Line) (more : List Line) (said : List ℕ) : Type 0 where
+  pub last : Moment
+  pub timeline : Timeline (Traced × Told) y.stops from a events last
+  pub growing : IsGrowing last first
+  pub grown : Moment
+  pub lines : GrowsAlong (Traced × Told) last (first ∷ more) said grown
+  pub final : Moment
+  pub clock : final.clock ≡ y.clock
+  pub faults : (d : ℕ) → final.faults d ≡ y.faults d
+  pub disks : final.disks ≡ y.disks
+  pub sectors : (d : ℕ) → final.sectors d ≡ y.sectors d
+  pub held : (d s : ℕ) → final.held d s ≡ y.held d s
+  -- no line loses a drive in the end
+  pub ends : ProceedsTo (Traced × Told) (λ place. ⊥) 1 grown final
+  -- What a stop leaves before the first line, and at the end of each event and inside it, holds a sound pool again, as in a run without such a line.
+  pub between :
+      Told → Traced → (f : Found) → IsRunOn f from x
+      → HoldsEach y.stops (AreSerial f.state) (TargetsLand f) (HaveOwnAreas f) [] f from events last (steps_of (Traced × Told) y.stops from a events last timeline)
+
+-- these are the lines of a text that were begun, by the status
+abbrev pub AreBegun : Status → List ℕ → List ℕ → List Line → Type 0
+AreBegun Done text rest lines = script_of text ≡ lines
+AreBegun Words text rest lines = ⊥
+AreBegun Limit text rest lines = (2 ^ 32 < length text) × (cut_script_of (take (2 ^ 32) text) ≡ lines)
+AreBegun Source text rest lines = (taken : List ℕ) × (text ≡ taken ++ rest) × (cut_script_of taken ≡ lines)
+AreBegun Sink text rest lines = (more : List Line) × (script_of text ≡ lines ++ more)
+AreBegun Refused text rest lines = ⊥
+AreBegun Memory text rest lines = script_of text ≡ lines
+AreBegun Spent text rest lines = script_of text ≡ lines
+
+-- these replies were put, or a prefix of them where the sink refused one
+abbrev pub ArePut : Status → List ℕ → List ℕ → List ℕ → Type 0
+ArePut Done out out' replies = out' ≡ out ++ replies
+ArePut Words out out' replies = ⊥
+ArePut Limit out out' replies = out' ≡ out ++ replies
+ArePut Source out out' replies = out' ≡ out ++ replies
+ArePut Sink out out' replies = AddsPrefix out out' replies
+ArePut Refused out out' replies = ⊥
+ArePut Memory out out' replies = out' ≡ out ++ replies
+ArePut Spent out out' replies = out' ≡ out ++ replies
+
+-- how it came out
+pub record GrownOutcome (status : Status) (Told Traced : Type 0) (x y : Seen) (from : Moment) (a : FlatArray) (text rest out out' : List ℕ) : Type 0 where
+  pub events : List Event
+  pub first : Line
+  pub more : List Line
+  pub begun : AreBegun status text rest (lines_of events ++ first ∷ more)
+  pub said : List ℕ
+  pub put : Told → ArePut status out out' (texts a events ++ said)
+  pub lasts : LastsUntil Told Traced x y from a events first more said
 
 -- How a script came out on a pool that held an array, where that was told. `from` is the moment when it began, `y` what the disks show
--- in the end.
-abbrev pub Outcome : Status → Type 0 → Type 0 → Seen → Seen → Ground → Moment → FlatArray → List ℕ → List ℕ → List ℕ → List ℕ → Type 0
-Outcome Done Told Traced x y g from a text rest out out' = DoneOutcome Given Told Traced x y g from a text out out'
-Outcome Words Told Traced x y g from a text rest out out' = ⊥
-Outcome Limit Told Traced x y g from a text rest out out' = LimitOutcome Told Traced x y g from a text out out'
-Outcome Source Told Traced x y g from a text rest out out' = SourceOutcome Told Traced x y g from a text rest out out'
-Outcome Sink Told Traced x y g from a text rest out out' = SinkOutcome Told Traced x y g from a text out out'
-Outcome Refused Told Traced x y g from a text rest out out' = ⊥
-Outcome Memory Told Traced x y g from a text rest out out' = DoneOutcome Wants Told Traced x y g from a text out out'
-Outcome Spent Told Traced x y g from a text rest out out' = DoneOutcome Refuses Told Traced x y g from a text out out'
+-- in the end. No line grew the pool, or one did.
+abbrev pub Outcome : Status → Type 0 → Type 0 → Seen → Seen → Moment → FlatArray → List ℕ → List ℕ → List ℕ → List ℕ → Type 0
+Outcome status Told Traced x y from a text rest out out' =
+    EventsOutcome status Told Traced x y from a text rest out out' ⊎ GrownOutcome status Told Traced x y from a text rest out out'
 
 -- a fault is answered only where its count rose, and words are refused before anything is done
 abbrev pub HasStatusCause : Status → ℕ → ℕ → ℕ → ℕ → Type 0

@@ -32,11 +32,11 @@ use Rattle.pool.specs.View.{View, book, slices_shown, spent_by}
 use Rattle.pool.specs.Volume.{is_spent, size_of}
 use Rattle.shr_tool.specs.Events.{Event, any_takes, looks_at}
 use Rattle.shr_tool.specs.Events.Event.{answered, spent, lost, last, replaced, declined, stepped, stuck, shown}
-use Rattle.shr_tool.specs.Timeline.{Ground, Steps}
+use Rattle.shr_tool.specs.Timeline.{Steps}
 
 -- no drive was to be replaced, or a sector of the volume can be had
-abbrev pub IsServed : Ground → Moment → List Event → Type 0
-IsServed g q events = (any_takes events ≡ false) ⊎ ((s : ℕ) × (s < sectors_in g.linear) × (spent_by g.linear q.book s ≡ false))
+abbrev pub IsServed : Moment → List Event → Type 0
+IsServed q events = (any_takes events ≡ false) ⊎ ((s : ℕ) × (s < sectors_in q.linear) × (spent_by q.linear q.book s ≡ false))
 
 -- ---- the pool
 

@@ -7,16 +7,15 @@ use Rattle.shr_tool.specs.declared.opening.Task.{Task}
 use Rattle.shr_tool.specs.declared.opening.Task.TheVariants.{Serve, Import, Export, Show}
 use Rattle.shr_tool.specs.Exporting.{ExportOutcome}
 use Rattle.shr_tool.specs.Importing.{ImportOutcome}
-use Rattle.shr_tool.specs.Outcome.{Outcome}
+use Rattle.shr_tool.specs.Outcome.{EventsOutcome, Outcome}
 use Rattle.pool.specs.Moment.{Moment}
-use Rattle.shr_tool.specs.Timeline.{Ground}
 
 -- by the task: `status` is the script of that one line
-abbrev pub TaskOutcome : Task → Status → Type 0 → Type 0 → Seen → Seen → Ground → Moment → FlatArray → List ℕ → List ℕ → List ℕ → List ℕ → Type 0
-TaskOutcome Serve status Told Traced x y g from a text rest out out' = Outcome status Told Traced x y g from a text rest out out'
-TaskOutcome Import status Told Traced x y g from a text rest out out' = ImportOutcome status Told Traced x y g from a text rest out out'
-TaskOutcome Export status Told Traced x y g from a text rest out out' = ExportOutcome status Told Traced x y g from a out out'
-TaskOutcome Show status Told Traced x y g from a text rest out out' = Outcome status Told Traced x y g from a (codes "status") [] out out'
+abbrev pub TaskOutcome : Task → Status → Type 0 → Type 0 → Seen → Seen → Moment → FlatArray → List ℕ → List ℕ → List ℕ → List ℕ → Type 0
+TaskOutcome Serve status Told Traced x y from a text rest out out' = Outcome status Told Traced x y from a text rest out out'
+TaskOutcome Import status Told Traced x y from a text rest out out' = ImportOutcome status Told Traced x y from a text rest out out'
+TaskOutcome Export status Told Traced x y from a text rest out out' = ExportOutcome status Told Traced x y from a out out'
+TaskOutcome Show status Told Traced x y from a text rest out out' = EventsOutcome status Told Traced x y from a (codes "status") [] out out'
 
 -- that the input is told, where the task reads it
 abbrev pub NeedsInput : Task → Type 0 → Type 0

@@ -9,7 +9,7 @@ use Rattle.array_image.specs.States.{is_current}
 use Rattle.slice_rack.specs.Changes.{Seats}
 use Rattle.slice_rack.specs.Runs.{IsSliced}
 use Rattle.slice_rack.specs.Slices.{Slices, disk_of, seat_of}
-use Rattle.lvm_group.specs.Runs.{Linear, sectors_in}
+use Rattle.lvm_group.specs.Runs.{sectors_in}
 use Rattle.raid_laws.specs.Book.{IsAfter}
 use Rattle.raid_laws.specs.Moves.{RaisesBy}
 use Rattle.raid_laws.specs.Losses.{has_other}
@@ -28,48 +28,41 @@ use Rattle.shr_tool.specs.Events.{Event, IsOfArray, Takes, Touches, TouchesLast,
 use Rattle.shr_tool.specs.StatusText.{status_text}
 use Rattle.shr_tool.specs.Events.Event.{answered, spent, lost, last, replaced, declined, stepped, stuck, shown}
 
--- where a pool's volume lies on its arrays
-pub record Ground : Type 0 where
-  pub linear : Linear
-
-abbrev pub ground_of : View → Ground
-ground_of x = record { linear = x.linear }
-
--- contents of the disks mean an array, in the sectors that aren't spent at a moment, read where the slices of drives lie then
-abbrev pub MeansAt : Ground → Moment → FlatArray → Image → Type 0
-MeansAt g q a disks = PicksLive (spent_by g.linear q.book) a (contents_in q.slices g.linear disks)
+-- contents of the disks mean an array, in the sectors that aren't spent at a moment, read where the volume and the slices of drives lie then
+abbrev pub MeansAt : Moment → FlatArray → Image → Type 0
+MeansAt q a disks = PicksLive (spent_by q.linear q.book) a (contents_in q.slices q.linear disks)
 
 -- Steps of maintenance: so many works are left by the book at their end. Where no disk's faults rose, and only rows to resync and to rebuild
 -- were left of the arrays, these are the works that were left, but for the first ones, as many as were asked for, or none. Members stay but for losses and rebuilds, and a plan goes on, or has ended as the last work.
-pub record HasSteps (g : Ground) (p q : Moment) (count left : ℕ) : Type 0 where
-  pub left_is : left ≡ left_by g.linear q.book
+pub record HasSteps (p q : Moment) (count left : ℕ) : Type 0 where
+  pub left_is : left ≡ left_by q.linear q.book
   pub progress :
       ((d : ℕ) → Rose (p.faults d) (q.faults d) → ⊥) → HasRowsAlone p.book
-      → HasRowsAlone q.book × (works_by g.linear q.book ≡ drop count (works_by g.linear p.book))
+      → HasRowsAlone q.book × (works_by q.linear q.book ≡ drop count (works_by p.linear p.book))
   pub members : KeepsAllMembers p.book q.book
-  pub plan : KeepsPlan g.linear p.book q.book
+  pub plan : KeepsPlan p.linear p.book q.book
 
 -- Why an event was answered so: the sector that it refuses is spent at its end, and those that it served weren't before, nor is the last
 -- one at its end; a drive that is lost was current, and another one is left; a drive is replaced, or isn't for a reason; works of
 -- maintenance were done, or an array can't do one; how the pool stands is said of the book at the event's end.
-abbrev pub HasCause : Ground → Moment → Moment → Event → Type 0
-HasCause g p q (answered line) =
-    ((s : ℕ) → Touches (sectors_in g.linear) line s → spent_by g.linear p.book s ≡ false)
-    × ((s : ℕ) → TouchesLast (sectors_in g.linear) line s → spent_by g.linear q.book s ≡ false)
+abbrev pub HasCause : Moment → Moment → Event → Type 0
+HasCause p q (answered line) =
+    ((s : ℕ) → Touches (sectors_in p.linear) line s → spent_by p.linear p.book s ≡ false)
+    × ((s : ℕ) → TouchesLast (sectors_in p.linear) line s → spent_by q.linear q.book s ≡ false)
     × ((place : ℕ) → line ≡ Ok (Lose place) → is_current p.book.state place ≡ false)
     × IsOfArray line
-HasCause g p q (spent line sector) =
-    Touches (sectors_in g.linear) line sector
-    × (spent_by g.linear q.book sector ≡ true)
-    × ((s : ℕ) → Touches (sectors_in g.linear) line s → s < sector → spent_by g.linear p.book s ≡ false)
-HasCause g p q (lost place) = (is_current p.book.state place ≡ true) × (is_current q.book.state place ≡ false)
-HasCause g p q (last place) = (is_current p.book.state place ≡ true) × (has_other p.book.state place ≡ false)
-HasCause g p q (replaced place name) =
-    HasGrowCause g.linear p q place name (Ok tt) × ((d : ℕ) → IsNamed q name d → IsReplaced p q place d)
-HasCause g p q (declined place name fault) = HasGrowCause g.linear p q place name (Err fault) × IsDeclined p q place fault
-HasCause g p q (stepped count left) = HasSteps g p q count left
-HasCause g p q (stuck count array) = StopsStuck ((d : ℕ) → Rose (p.faults d) (q.faults d) → ⊥) g.linear count p.book q.book array
-HasCause g p q (shown text) = text ≡ status_text g.linear q.book
+HasCause p q (spent line sector) =
+    Touches (sectors_in p.linear) line sector
+    × (spent_by q.linear q.book sector ≡ true)
+    × ((s : ℕ) → Touches (sectors_in p.linear) line s → s < sector → spent_by p.linear p.book s ≡ false)
+HasCause p q (lost place) = (is_current p.book.state place ≡ true) × (is_current q.book.state place ≡ false)
+HasCause p q (last place) = (is_current p.book.state place ≡ true) × (has_other p.book.state place ≡ false)
+HasCause p q (replaced place name) =
+    HasGrowCause p.linear p q place name (Ok tt) × ((d : ℕ) → IsNamed q name d → IsReplaced p q place d)
+HasCause p q (declined place name fault) = HasGrowCause p.linear p q place name (Err fault) × IsDeclined p q place fault
+HasCause p q (stepped count left) = HasSteps p q count left
+HasCause p q (stuck count array) = StopsStuck ((d : ℕ) → Rose (p.faults d) (q.faults d) → ⊥) p.linear count p.book q.book array
+HasCause p q (shown text) = text ≡ status_text q.linear q.book
 
 -- Marks alone come to the pool's state, each of a drive whose disk's faults rose or that the script lost.
 pub record MarksFor (p q : Moment) (event : Event) : Type 0 where
@@ -121,54 +114,56 @@ pub record KeepsSlices (p q : Moment) : Type 0 where
   pub ready : (name : List ℕ) → q.ready name ≡ p.ready name
 
 -- contents mean an array by the slices of a pool in which a place, whose drive is missing, has no disk
-abbrev pub MeansWithout : Ground → Moment → Moment → ℕ → FlatArray → Image → Type 0
-MeansWithout g p q place a disks =
-    (t : Slices) × Seats p.slices t place None × PicksLive (spent_by g.linear q.book) a (contents_in t g.linear disks)
+abbrev pub MeansWithout : Moment → Moment → ℕ → FlatArray → Image → Type 0
+MeansWithout p q place a disks =
+    (t : Slices) × Seats p.slices t place None × PicksLive (spent_by q.linear q.book) a (contents_in t q.linear disks)
 
 -- Contents mean it by the slices of a pool of which a drive is to be replaced: as they lay, where it wasn't missing, or without the place's disk, where it was, or its
 -- disk refused a call.
-abbrev pub MeansFormer : Ground → Moment → Moment → ℕ → FlatArray → Image → Type 0
-MeansFormer g p q place a disks =
-    ((is_current p.book.state place ≡ true) × PicksLive (spent_by g.linear q.book) a (contents_in p.slices g.linear disks))
-    ⊎ (((is_current p.book.state place ≡ false) ⊎ DriveWentFrom p q place) × MeansWithout g p q place a disks)
+abbrev pub MeansFormer : Moment → Moment → ℕ → FlatArray → Image → Type 0
+MeansFormer p q place a disks =
+    ((is_current p.book.state place ≡ true) × PicksLive (spent_by q.linear q.book) a (contents_in p.slices q.linear disks))
+    ⊎ (((is_current p.book.state place ≡ false) ⊎ DriveWentFrom p q place) × MeansWithout p q place a disks)
 
 -- contents mean an array as before an event
-abbrev pub MeansBefore : Ground → Moment → Moment → Event → FlatArray → Image → Type 0
-MeansBefore g p q (answered line) a disks = MeansAt g q a disks
-MeansBefore g p q (spent line sector) a disks = MeansAt g q a disks
-MeansBefore g p q (lost place) a disks = MeansAt g q a disks
-MeansBefore g p q (last place) a disks = MeansAt g q a disks
-MeansBefore g p q (replaced place name) a disks = MeansFormer g p q place a disks
-MeansBefore g p q (declined place name fault) a disks = MeansFormer g p q place a disks ⊎ MeansAt g q a disks
-MeansBefore g p q (stepped count left) a disks = MeansAt g q a disks
-MeansBefore g p q (stuck count array) a disks = MeansAt g q a disks
-MeansBefore g p q (shown text) a disks = MeansAt g q a disks
+abbrev pub MeansBefore : Moment → Moment → Event → FlatArray → Image → Type 0
+MeansBefore p q (answered line) a disks = MeansAt q a disks
+MeansBefore p q (spent line sector) a disks = MeansAt q a disks
+MeansBefore p q (lost place) a disks = MeansAt q a disks
+MeansBefore p q (last place) a disks = MeansAt q a disks
+MeansBefore p q (replaced place name) a disks = MeansFormer p q place a disks
+MeansBefore p q (declined place name fault) a disks = MeansFormer p q place a disks ⊎ MeansAt q a disks
+MeansBefore p q (stepped count left) a disks = MeansAt q a disks
+MeansBefore p q (stuck count array) a disks = MeansAt q a disks
+MeansBefore p q (shown text) a disks = MeansAt q a disks
 
 -- what an event that names an image leaves of the disks
-abbrev pub KeepsNamed : Ground → Moment → Moment → Event → Type 0
-KeepsNamed g p q (answered line) = Unit {0}
-KeepsNamed g p q (spent line sector) = Unit {0}
-KeepsNamed g p q (lost place) = Unit {0}
-KeepsNamed g p q (last place) = Unit {0}
-KeepsNamed g p q (replaced place name) = TakesImage g.linear p q place name
-KeepsNamed g p q (declined place name fault) = TakesImage g.linear p q place name
-KeepsNamed g p q (stepped count left) = Unit {0}
-KeepsNamed g p q (stuck count array) = Unit {0}
-KeepsNamed g p q (shown text) = Unit {0}
+abbrev pub KeepsNamed : Moment → Moment → Event → Type 0
+KeepsNamed p q (answered line) = Unit {0}
+KeepsNamed p q (spent line sector) = Unit {0}
+KeepsNamed p q (lost place) = Unit {0}
+KeepsNamed p q (last place) = Unit {0}
+KeepsNamed p q (replaced place name) = TakesImage p.linear p q place name
+KeepsNamed p q (declined place name fault) = TakesImage p.linear p q place name
+KeepsNamed p q (stepped count left) = Unit {0}
+KeepsNamed p q (stuck count array) = Unit {0}
+KeepsNamed p q (shown text) = Unit {0}
 
 -- An event: what a stop inside it leaves means the array before it or after it, and one at its end the array after it. But where a drive
 -- is to be replaced, the slices of drives stay where they lie, no disk is attached, and marks alone come to the state. Outside the slices
 -- disks hold what they held, but for one that the event took. The clock and what disks hold are told where stops are.
-pub record Happens (Traced : Type 0) (stops : ℕ → Image → Type 0) (g : Ground) (p q : Moment) (a : FlatArray) (event : Event) : Type 0 where
+pub record Happens (Traced : Type 0) (stops : ℕ → Image → Type 0) (p q : Moment) (a : FlatArray) (event : Event) : Type 0 where
   pub later : Traced → p.clock ≤ q.clock
   -- where no disk is asked nothing changes, and no time passes
   pub still : calls_none event ≡ true → q ≡ p
-  pub cause : HasCause g p q event
+  pub cause : HasCause p q event
+  -- the volume lies on its arrays where it lay
+  pub linear : q.linear ≡ p.linear
   pub disks : KeepsDisks p q
   pub held :
       Traced → (d s : ℕ) → d < p.disks → s < p.sectors d → (Takes q.names event d → ⊥) → ((v : List ℕ) → IsSliced p.slices d s v → ⊥)
       → Keeps (p.held d s) (q.held d s)
-  pub named : Traced → takes_disk event ≡ true → KeepsNamed g p q event
+  pub named : Traced → takes_disk event ≡ true → KeepsNamed p q event
   -- a drive that is marked missing isn't written again, unless the line names its disk
   pub missing : Traced → KeepsMissing p q (Takes q.names event)
   pub slices : takes_disk event ≡ false → KeepsSlices p q
@@ -178,16 +173,16 @@ pub record Happens (Traced : Type 0) (stops : ℕ → Image → Type 0) (g : Gro
   pub works : works_on event ≡ false → KeepsWorks p.book q.book
   pub during :
       Traced → (k : ℕ) (i : Image) → p.clock < k → k ≤ q.clock → stops k i
-      → MeansBefore g p q event a i ⊎ MeansAt g q (becomes a event) i
-  pub ended : Traced → (i : Image) → stops q.clock i → MeansAt g q (becomes a event) i
+      → MeansBefore p q event a i ⊎ MeansAt q (becomes a event) i
+  pub ended : Traced → (i : Image) → stops q.clock i → MeansAt q (becomes a event) i
 
 -- events in a row, from one moment to another
-abbrev pub Timeline : Type 0 → (ℕ → Image → Type 0) → Ground → Moment → FlatArray → List Event → Moment → Type 0
-Timeline Traced stops g p a [] q = p ≡ q
-Timeline Traced stops g p a (event ∷ events) q =
+abbrev pub Timeline : Type 0 → (ℕ → Image → Type 0) → Moment → FlatArray → List Event → Moment → Type 0
+Timeline Traced stops p a [] q = p ≡ q
+Timeline Traced stops p a (event ∷ events) q =
     (at : Moment)
-    × Happens Traced stops g p at a event
-    × Timeline Traced stops g at (becomes a event) events q
+    × Happens Traced stops p at a event
+    × Timeline Traced stops at (becomes a event) events q
 
 -- the moments at their ends
 abbrev pub Steps : Moment → List Event → Moment → Type 0
@@ -195,10 +190,10 @@ Steps p [] q = p ≡ q
 Steps p (event ∷ events) q = (at : Moment) × Steps at events q
 
 abbrev pub steps_of :
-    (Traced : Type 0) (stops : ℕ → Image → Type 0) (g : Ground) (p : Moment) (a : FlatArray) (events : List Event) (q : Moment)
-    → Timeline Traced stops g p a events q → Steps p events q
-steps_of Traced stops g p a [] q line = line
-steps_of Traced stops g p a (event ∷ events) q line = (line.0, steps_of Traced stops g line.0 (becomes a event) events q line.2)
+    (Traced : Type 0) (stops : ℕ → Image → Type 0) (p : Moment) (a : FlatArray) (events : List Event) (q : Moment)
+    → Timeline Traced stops p a events q → Steps p events q
+steps_of Traced stops p a [] q line = line
+steps_of Traced stops p a (event ∷ events) q line = (line.0, steps_of Traced stops line.0 (becomes a event) events q line.2)
 
 -- A drive of a place is replaced by the disk of a name, which has its table: it was attached and taken in, from a cleaned pool where the place's drive wasn't missing.
 abbrev pub TakesDrive : View → View → ℕ → List ℕ → Type 0
@@ -232,11 +227,11 @@ pub record Performs (x y : View) (event : Event) (text : List ℕ) : Type 0 wher
   pub raises : Raises (calls_in (line_of event)) x y
   pub keeps : KeepsBookIn event (book x) (book y)
   pub works : works_on event ≡ false → KeepsWorks (book x) (book y)
-  pub cause : HasCause (ground_of x) (moment_of x) (moment_of y) event
+  pub cause : HasCause (moment_of x) (moment_of y) event
   pub marks : takes_disk event ≡ false → MarksFor (moment_of x) (moment_of y) event
   pub text_is : (a : FlatArray) → Holds x a → text ≡ text_of a event
   pub holds : (a : FlatArray) → Holds x a → Holds y (becomes a event)
   pub leaves :
       x.bay.traced → (a : FlatArray) → Holds x a
-      → LeavesNew x y (λ i. MeansBefore (ground_of x) (moment_of x) (moment_of y) event a i ⊎ Means y (becomes a event) i)
+      → LeavesNew x y (λ i. MeansBefore (moment_of x) (moment_of y) event a i ⊎ Means y (becomes a event) i)
   pub ends : x.bay.traced → (a : FlatArray) → Holds x a → (i : Image) → y.bay.stops y.bay.clock i → Means y (becomes a event) i

@@ -7,7 +7,6 @@ ghost use Rattle.pool.specs.View.{bay_in, view, volume};
 ghost use Rattle.shr_tool.specs.Serving.{IsServing};
 ghost use Rattle.shr_tool.specs.Exporting.{ExportOutcome, HasExportCause, Puts, export_status};
 ghost use Rattle.shr_tool.specs.Outcome.{HasStatusCause};
-ghost use Rattle.shr_tool.specs.Timeline.{ground_of};
 ghost use Rattle.pool.specs.Moment.{moment_of};
 
 use crate::status::Status;
@@ -34,7 +33,7 @@ pub fn export_pool<R: Bay, O: Sink>(pool: &mut Pool<R>, out: &mut O) -> Status
     ensures other { result ≢ Status.Limit }
     ensures outcome { O.told out.old → (a : FlatArray)
         → ExportOutcome result (IsServing (view R.seen R.shelf pool.old) a) (R.seen (bay_in pool.old)).traced (R.seen (bay_in pool.old)) (R.seen (bay_in pool.new))
-        (ground_of (view R.seen R.shelf pool.old)) (moment_of (view R.seen R.shelf pool.old)) a (O.taken out.old) (O.taken out.new) }
+        (moment_of (view R.seen R.shelf pool.old)) a (O.taken out.old) (O.taken out.new) }
 {
     let put = put_sectors(pool, out);
     pool.end();

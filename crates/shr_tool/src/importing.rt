@@ -9,7 +9,6 @@ ghost use Rattle.pool.specs.Volume.{size_of};
 ghost use Rattle.shr_tool.specs.Serving.{IsServing};
 ghost use Rattle.shr_tool.specs.Importing.{HasImportCause, ImportOutcome, Imports, SaysWritten, TakesSector, filled_up};
 ghost use Rattle.shr_tool.specs.Outcome.{HasStatusCause};
-ghost use Rattle.shr_tool.specs.Timeline.{ground_of};
 ghost use Rattle.pool.specs.Moment.{moment_of};
 
 use crate::saying::{refuse, refuse_spent, say_number};
@@ -47,7 +46,7 @@ pub fn import_pool<R: Bay, I: Source, O: Sink>(
     ensures other { result ≢ Status.Limit }
     ensures outcome { I.told input.old → O.told out.old → (a : FlatArray)
         → ImportOutcome result (IsServing (view R.seen R.shelf pool.old) a) (R.seen (bay_in pool.old)).traced (R.seen (bay_in pool.old)) (R.seen (bay_in pool.new))
-        (ground_of (view R.seen R.shelf pool.old)) (moment_of (view R.seen R.shelf pool.old)) a
+        (moment_of (view R.seen R.shelf pool.old)) a
         (I.left input.old) (I.left input.new) (O.taken out.old) (O.taken out.new) }
 {
     let written = write_pieces(pool, input);

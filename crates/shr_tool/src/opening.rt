@@ -3,7 +3,7 @@
 ghost use Rattle.std.specs.Prelude.{◌≡◌, ◌≢◌, ◌⊎◌, ◌≤◌, ◌^◌, false, map, codes, string_bytes};
 ghost use Rattle.rack.specs.Sequences.{OnlyReads};
 ghost use Rattle.flat_array.specs.Array.{FlatArray};
-ghost use Rattle.pool.specs.Continuing.{Continues};
+ghost use Rattle.pool.specs.Proceeding.{Proceeds};
 ghost use Rattle.pool.specs.View.{bay_in, view, volume};
 ghost use Rattle.shr_tool.specs.Serving.{IsServing};
 ghost use Rattle.shr_tool.specs.Limits.{KeepsLimit};
@@ -14,7 +14,6 @@ ghost use Rattle.shr_tool.specs.Opened.{OpenOutcome};
 ghost use Rattle.shr_tool.specs.Run.{PoolOutcome};
 ghost use Rattle.shr_tool.specs.Saying.{Says};
 ghost use Rattle.shr_tool.specs.Tasks.{NeedsInput, TaskOutcome, takes_input};
-ghost use Rattle.shr_tool.specs.Timeline.{ground_of};
 ghost use Rattle.pool.specs.Moment.{moment_of};
 
 use crate::attaching::{attach_all, refuse_name};
@@ -144,7 +143,7 @@ fn do_on<R: Bay, I: Source, O: Sink>(
     out: &mut O,
 ) -> Status
     requires { (volume (view R.seen R.shelf pool.old)).fit }
-    ensures continues { Continues (view R.seen R.shelf pool.old) (view R.seen R.shelf pool.new) }
+    ensures proceeds { Proceeds (view R.seen R.shelf pool.old) (view R.seen R.shelf pool.new) }
     ensures frame { R.frame (bay_in pool.old) (bay_in pool.new) }
     ensures source { I.faults input.old ≤ I.faults input.new }
     ensures sink { O.faults out.old ≤ O.faults out.new }
@@ -154,7 +153,7 @@ fn do_on<R: Bay, I: Source, O: Sink>(
     ensures unread { takes_input task ≡ false → input.new ≡ input.old }
     ensures outcome { NeedsInput task (I.told input.old) → O.told out.old → (a : FlatArray)
         → TaskOutcome task result (IsServing (view R.seen R.shelf pool.old) a) (R.seen (bay_in pool.old)).traced (R.seen (bay_in pool.old)) (R.seen (bay_in pool.new))
-        (ground_of (view R.seen R.shelf pool.old)) (moment_of (view R.seen R.shelf pool.old)) a
+        (moment_of (view R.seen R.shelf pool.old)) a
         (I.left input.old) (I.left input.new) (O.taken out.old) (O.taken out.new) }
 {
     match task {

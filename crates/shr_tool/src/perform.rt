@@ -1,13 +1,14 @@
 //! A line of a script, answered on a pool.
 
 ghost use Rattle.std.specs.Prelude.{◌≡◌, ◌+◌, ◌≤◌, ◌<◌, replicate, Ok, OnOk, IfErr, Result};
-ghost use Rattle.shr_script.specs.declared.Command.TheVariants.{Read, Write, Fill, Flush, Lose, Replace, Step};
+ghost use Rattle.shr_script.specs.declared.Command.TheVariants.{Read, Write, Fill, Flush, Lose, Replace, Add, Step};
 ghost use Rattle.flat_array.specs.Reply.{fault_word, spent_line};
 ghost use Rattle.pool.specs.View.{bay_in, view, volume};
 ghost use Rattle.pool.specs.Volume.{size_of};
 ghost use Rattle.shr_tool.specs.Events.{answer_by, grow_word, stuck_line};
 ghost use Rattle.shr_script.specs.Reply.{refused_line};
-ghost use Rattle.shr_tool.specs.Serving.{Answers};
+ghost use Rattle.shr_tool.specs.Growing.{GrowsOn};
+ghost use Rattle.shr_tool.specs.Serving.{Acts, Answers};
 ghost use Rattle.shr_tool.specs.Filling.{Fills};
 
 use crate::showing::show;
@@ -42,7 +43,7 @@ pub fn answer_in<R: Bay>(
     text: &mut ReplyText,
 ) -> Answer
     requires { (volume (view R.seen R.shelf pool.old)).fit }
-    ensures answers { Answers (view R.seen R.shelf pool.old) (view R.seen R.shelf pool.new) line.now result text.new.items }
+    ensures answers { Acts (view R.seen R.shelf pool.old) (view R.seen R.shelf pool.new) line.now result text.new.items }
     ensures frame { R.frame (bay_in pool.old) (bay_in pool.new) }
 {
     match line {
@@ -67,7 +68,7 @@ fn word_of(fault: LineFault) -> &'static [u8]
 // Does a command and sets its reply.
 fn perform<R: Bay>(pool: &mut Pool<R>, command: &Command, text: &mut ReplyText) -> Answer
     requires { (volume (view R.seen R.shelf pool.old)).fit }
-    ensures answers { Answers (view R.seen R.shelf pool.old) (view R.seen R.shelf pool.new) (Ok command.now) result text.new.items }
+    ensures answers { Acts (view R.seen R.shelf pool.old) (view R.seen R.shelf pool.new) (Ok command.now) result text.new.items }
     ensures frame { R.frame (bay_in pool.old) (bay_in pool.new) }
 {
     match command {
@@ -80,12 +81,12 @@ fn perform<R: Bay>(pool: &mut Pool<R>, command: &Command, text: &mut ReplyText) 
         } => return perform_fill(pool, *sector, *count, *byte, text),
         Command::Step { count } => return perform_step(pool, *count, text),
         Command::Replace { place, name } => return perform_replace(pool, *place, name, text),
+        Command::Add { name } => return perform_add(pool, name, text),
         Command::Lose { place } => perform_lose(pool, *place, text),
         Command::Flush => perform_flush(pool, text),
         Command::Size => size_reply(text, pool.size()),
         Command::Status => show(pool, text),
         Command::Quit => text.clear(),
-        Command::Unbuilt => refused_reply(text, b"unbuilt"),
     }
     Answer::Given
 }
@@ -228,7 +229,22 @@ fn perform_replace<R: Bay>(
     }
 }
 
-// `refused W`, where W is the word of why a drive isn't replaced.
+// `add NAME`
+fn perform_add<R: Bay>(pool: &mut Pool<R>, name: &ImageName, text: &mut ReplyText) -> Answer
+    requires { (volume (view R.seen R.shelf pool.old)).fit }
+    ensures grows { GrowsOn (view R.seen R.shelf pool.old) (view R.seen R.shelf pool.new) (Ok (Add name.now)) text.new.items }
+    ensures frame { R.frame (bay_in pool.old) (bay_in pool.new) }
+{
+    match pool.add(name.as_str()) {
+        Ok(()) => {
+            line_reply(text, b"ok");
+            Answer::Given
+        }
+        Err(fault) => decline_reply(text, fault),
+    }
+}
+
+// `refused W`, where W is the word of why a drive isn't taken in.
 fn decline_reply(text: &mut ReplyText, fault: GrowFault) -> Answer
     ensures text { text.new.items ≡ refused_line (grow_word fault) }
     ensures answer { result ≡ answer_by fault }
@@ -240,7 +256,7 @@ fn decline_reply(text: &mut ReplyText, fault: GrowFault) -> Answer
     }
 }
 
-// The word of why a drive isn't replaced.
+// The word of why a drive isn't taken in.
 fn word_of_fault(fault: GrowFault) -> &'static [u8]
     ensures { result.now ≡ grow_word fault }
 {
@@ -273,6 +289,34 @@ fn stuck_reply(text: &mut ReplyText, array: u32) -> Answer
 
 // `step N`
 fn perform_step<R: Bay>(pool: &mut Pool<R>, count: u64, text: &mut ReplyText) -> Answer
+    requires { (volume (view R.seen R.shelf pool.old)).fit }
+    ensures answers { Acts (view R.seen R.shelf pool.old) (view R.seen R.shelf pool.new) (Ok (Step count)) result text.new.items }
+    ensures runs { R.runs (bay_in pool.old) (bay_in pool.new) }
+{
+    if pool.has_growth_left() {
+        grow(pool, count, text)
+    } else {
+        maintain(pool, count, text)
+    }
+}
+
+// `step N`, where a work of a growth is left.
+fn grow<R: Bay>(pool: &mut Pool<R>, count: u64, text: &mut ReplyText) -> Answer
+    requires { (volume (view R.seen R.shelf pool.old)).fit }
+    ensures grows { GrowsOn (view R.seen R.shelf pool.old) (view R.seen R.shelf pool.new) (Ok (Step count)) text.new.items }
+    ensures runs { R.runs (bay_in pool.old) (bay_in pool.new) }
+{
+    match pool.grow(count) {
+        Ok(left) => {
+            left_reply(text, left);
+            Answer::Given
+        }
+        Err(stuck) => stuck_reply(text, stuck.array),
+    }
+}
+
+// `step N`, where none is.
+fn maintain<R: Bay>(pool: &mut Pool<R>, count: u64, text: &mut ReplyText) -> Answer
     requires { (volume (view R.seen R.shelf pool.old)).fit }
     ensures answers { Answers (view R.seen R.shelf pool.old) (view R.seen R.shelf pool.new) (Ok (Step count)) result text.new.items }
     ensures runs { R.runs (bay_in pool.old) (bay_in pool.new) }

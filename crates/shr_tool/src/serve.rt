@@ -7,7 +7,7 @@ ghost use Rattle.std.specs.Prelude.{◌≡◌, ◌≢◌, ◌<◌, ◌≤◌, �
 ghost use Rattle.shr_script.specs.declared.Command.TheVariants.{Quit};
 ghost use Rattle.shr_script.specs.Line.{line_of};
 ghost use Rattle.shr_script.specs.Script.{without_return as line_without_return};
-ghost use Rattle.pool.specs.Continuing.{Continues};
+ghost use Rattle.pool.specs.Proceeding.{Proceeds};
 ghost use Rattle.pool.specs.View.{bay_in, view, volume};
 ghost use Rattle.shr_tool.specs.Limits.{KeepsLimit};
 ghost use Rattle.shr_tool.specs.Events as spec;
@@ -54,7 +54,7 @@ pub fn answer_script<R: Bay, I: Source, O: Sink>(
     out: &mut O,
 ) -> Stopped
     requires { (volume (view R.seen R.shelf pool.old)).fit }
-    ensures continues { Continues (view R.seen R.shelf pool.old) (view R.seen R.shelf pool.new) }
+    ensures proceeds { Proceeds (view R.seen R.shelf pool.old) (view R.seen R.shelf pool.new) }
     ensures frame { R.frame (bay_in pool.old) (bay_in pool.new) }
     ensures source { I.faults input.old ≤ I.faults input.new }
     ensures sink { O.faults out.old ≤ O.faults out.new }
@@ -111,7 +111,7 @@ fn answer_last<R: Bay, O: Sink>(
     out: &mut O,
 ) -> Stopped
     requires { (volume (view R.seen R.shelf pool.old)).fit }
-    ensures continues { Continues (view R.seen R.shelf pool.old) (view R.seen R.shelf pool.new) }
+    ensures proceeds { Proceeds (view R.seen R.shelf pool.old) (view R.seen R.shelf pool.new) }
     ensures frame { R.frame (bay_in pool.old) (bay_in pool.new) }
     ensures sink { O.faults out.old ≤ O.faults out.new }
     ensures cause { HasStopCause result.cause 0 0 (O.faults out.old) (O.faults out.new) }
@@ -133,7 +133,7 @@ fn answer_line<R: Bay, O: Sink>(
     out: &mut O,
 ) -> Result<Answer, Stop>
     requires { (volume (view R.seen R.shelf pool.old)).fit }
-    ensures continues { Continues (view R.seen R.shelf pool.old) (view R.seen R.shelf pool.new) }
+    ensures proceeds { Proceeds (view R.seen R.shelf pool.old) (view R.seen R.shelf pool.new) }
     ensures frame { R.frame (bay_in pool.old) (bay_in pool.new) }
     ensures sink { O.faults out.old ≤ O.faults out.new }
     ensures cause { IfErr result (λ stop. HasStopCause stop 0 0 (O.faults out.old) (O.faults out.new)) }
@@ -158,7 +158,7 @@ fn answer<R: Bay, O: Sink>(
 ) -> Result<Answer, Stop>
     requires fit { (volume (view R.seen R.shelf pool.old)).fit }
     requires replied { IsReplied said.now }
-    ensures continues { Continues (view R.seen R.shelf pool.old) (view R.seen R.shelf pool.new) }
+    ensures proceeds { Proceeds (view R.seen R.shelf pool.old) (view R.seen R.shelf pool.new) }
     ensures frame { R.frame (bay_in pool.old) (bay_in pool.new) }
     ensures sink { O.faults out.old ≤ O.faults out.new }
     ensures cause { IfErr result (λ stop. HasStopCause stop 0 0 (O.faults out.old) (O.faults out.new)) }

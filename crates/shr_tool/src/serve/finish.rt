@@ -2,12 +2,11 @@
 
 ghost use Rattle.std.specs.Prelude.{◌≡◌, ◌≤◌, ◌^◌};
 ghost use Rattle.flat_array.specs.Array.{FlatArray};
-ghost use Rattle.pool.specs.Continuing.{Continues};
+ghost use Rattle.pool.specs.Proceeding.{Proceeds};
 ghost use Rattle.pool.specs.View.{bay_in, view, volume};
 ghost use Rattle.shr_tool.specs.Serving.{IsServing};
 ghost use Rattle.shr_tool.specs.Limits.{KeepsLimit};
 ghost use Rattle.shr_tool.specs.Outcome.{Outcome, HasStatusCause, status_by};
-ghost use Rattle.shr_tool.specs.Timeline.{ground_of};
 ghost use Rattle.pool.specs.Moment.{moment_of};
 
 use crate::perform::Answer;
@@ -24,7 +23,7 @@ pub fn serve_pool<R: Bay, I: Source, O: Sink>(
     out: &mut O,
 ) -> Status
     requires { (volume (view R.seen R.shelf pool.old)).fit }
-    ensures continues { Continues (view R.seen R.shelf pool.old) (view R.seen R.shelf pool.new) }
+    ensures proceeds { Proceeds (view R.seen R.shelf pool.old) (view R.seen R.shelf pool.new) }
     ensures frame { R.frame (bay_in pool.old) (bay_in pool.new) }
     ensures source { I.faults input.old ≤ I.faults input.new }
     ensures sink { O.faults out.old ≤ O.faults out.new }
@@ -32,7 +31,7 @@ pub fn serve_pool<R: Bay, I: Source, O: Sink>(
     ensures limit { I.told input.old → KeepsLimit (result ≡ Status.Limit) (2 ^ 32) (I.left input.old) (I.left input.new) }
     ensures outcome { I.told input.old → O.told out.old → (a : FlatArray)
         → Outcome result (IsServing (view R.seen R.shelf pool.old) a) (R.seen (bay_in pool.old)).traced (R.seen (bay_in pool.old)) (R.seen (bay_in pool.new))
-        (ground_of (view R.seen R.shelf pool.old)) (moment_of (view R.seen R.shelf pool.old)) a
+        (moment_of (view R.seen R.shelf pool.old)) a
         (I.left input.old) (I.left input.new) (O.taken out.old) (O.taken out.new) }
 {
     let stopped = answer_script(pool, input, out);

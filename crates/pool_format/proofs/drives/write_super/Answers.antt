@@ -2,7 +2,8 @@ use Rattle.std.proofs.Common.{◌≡◌, ◌+◌, length, Ok, refl, sym, ap, ◌
 use Rattle.std.proofs.lemmas.List.FromFn.{length-map-range_with_len}
 use Rattle.md_super.specs.declared.superblock.Super.{Super}
 use Rattle.pool_format.specs.Drives.{IsBlockOf}
-use Rattle.pool_format.specs.Parts.{new_super, role_of}
+use Rattle.new_array.specs.Supers.{role_of}
+use Rattle.pool_format.specs.Parts.{new_super}
 use Rattle.pool_format.proofs.Laying.{lays_write, member_inside}
 use Rattle.pool_format.proofs.Leaving.{super_written}
 use Rattle.pool_format.specs.Writing.{InSuper}

@@ -3,12 +3,12 @@ use Rattle.rack.specs.Seen.{IsLive}
 use Rattle.gpt_table.specs.Disk.{now_on}
 use Rattle.pool_format.specs.declared.planning.NewArray.{NewArray}
 use Rattle.pool_format.specs.Data.{IsMemberData, array_sector, group_sector}
-use Rattle.pool_format.specs.Parts.{role_of}
+use Rattle.new_array.specs.Supers.{role_of}
 use Rattle.pool_format.specs.Writing.{InData, InRows}
 use Rattle.pool_format.proofs.Laying.{lays_weaker, member_inside}
 use Rattle.pool_format.proofs.Leaving.{on_made}
 use Rattle.pool_format.proofs.Opening.{members_few}
-use Rattle.pool_format.proofs.Roles.{role_low}
+use Rattle.new_array.proofs.Roles.{role_low}
 use Rattle.pool_format.proofs.Written.{group_data}
 use Rattle.pool_format.proofs.members.write_member.Goals as goal
 

@@ -5,7 +5,7 @@ use Rattle.raid_rack.specs.RaidRack.{arrays_in}
 use Rattle.shr_tool.specs.declared.status.Status.TheVariants.{Done}
 use Rattle.shr_tool.specs.Made.{MadeOn, NotMade, created_line}
 use Rattle.shr_tool.specs.Saying.{Says}
-use Rattle.shr_tool.proofs.Through.{fault_through, ground_in}
+use Rattle.shr_tool.proofs.Through.{fault_through, moment_in}
 use Rattle.shr_tool.proofs.making.create_attached.Goals as goal
 
 pub returns-in-Ok-clause-outcome : goal.returns-in-Ok-clause-outcome
@@ -26,7 +26,7 @@ returns-in-Ok-clause-outcome g c =
     (record {
       kept = makes.runs.1;
       arrays = arrays_in (arrays_of pool);
-      volume = (ground_in seen g.B.Bay.shelf pool (λ r. r.now)).linear;
+      volume = (moment_in seen g.B.Bay.shelf pool (λ r. r.now)).linear;
       is_made = makes.made;
       says =
           subst (λ n. Says Done (created_line n) (taken c.args.out.now) (taken c.say_number.new.out) c.say_number.result)

@@ -5,7 +5,7 @@ use Rattle.raid_rack.specs.RaidRack.{slices_in}
 use Rattle.pool.specs.View.{arrays_of, bay_in, book, slices_shown, view}
 use Rattle.pool.proofs.Booked.{book_seated}
 use Rattle.shr_tool.specs.Opened.{NotOpened, OpenedOn}
-use Rattle.shr_tool.proofs.Through.{marks_through, pool_through, refused_through, wanting_through, written_through, ground_in, held_by_meant, moment_in, opened_as, stops_mean, stops_through, traced_through, runs_on}
+use Rattle.shr_tool.proofs.Through.{marks_through, pool_through, refused_through, wanting_through, written_through, held_by_meant, moment_in, opened_as, stops_mean, stops_through, traced_through, runs_on}
 use Rattle.shr_tool.proofs.Told.{task_for}
 use Rattle.shr_tool.proofs.opening.open_attached.Goals as goal
 
@@ -48,9 +48,8 @@ returns-in-Ok-clause-outcome g c =
     (record {
       opened = (bay_in pool).now;
       kept = opens.runs.1;
-      names = does.continues.names;
+      names = does.proceeds.names;
       drives = pool_through seen _ runs (λ r. r.now) (λ r s ran. ran.1) _ (bay_in pool) opens.drives;
-      ground = ground_in seen shelf pool (λ r. r.now);
       from = moment_in seen shelf pool (λ r. r.now);
       clock = refl;
       faults = λ d. refl;
@@ -72,11 +71,11 @@ returns-in-Ok-clause-outcome g c =
       stops = opens.stops;
       reopens = λ f sound quiet. (opens.meant f sound quiet).reopens;
       run_on = λ f sound quiet joined alone.
-          runs_on _ _ _ _ f sound (opened_as pool (λ r. seen r.now) (λ r. shelf r.now) _ opens.meant opens.marks f sound quiet)
+          runs_on _ _ _ f sound (opened_as pool (λ r. seen r.now) (λ r. shelf r.now) _ opens.meant opens.marks f sound quiet)
           _ (opens.meant f sound quiet).meant (opens.meant f sound quiet).one_pool (opens.truths f sound quiet) (stays_then opens.drives.early.only.stays opens.drives.late.stays) joined (slices_in (arrays_of pool)).orderly
           ((opens.meant f sound quiet).alone alone);
       outcome = λ a.
-          task_for c.args.task c.do_on-status.result _ _ _ _ _ _ _ _ a _ _ _ _
+          task_for c.args.task c.do_on-status.result _ _ _ _ _ _ _ a _ _ _ _
           (λ meant. held_by_meant pool (λ r. seen r.now) (λ r. shelf r.now) _ a opens.meant
           (stays_then opens.drives.early.only.stays opens.drives.late.stays) ((g.met.B.Bay.runs_shelf _ _ opens.runs.1).told meant.1) meant.0)
           (λ traced. traced_through _ _ _ _ opens.drives traced)

@@ -1,7 +1,7 @@
 -- Commands that call nothing.
-use Rattle.std.proofs.Common.{rules, ◌++◌, codes, refl, sym, ◌∙◌, ap, Ok}
+use Rattle.std.proofs.Common.{rules, ◌++◌, codes, refl, sym, ◌∙◌, ap, inl, Ok}
 use Rattle.std.specs.Prelude.{decimal}
-use Rattle.shr_script.specs.declared.Command.TheVariants.{Size, Quit, Unbuilt}
+use Rattle.shr_script.specs.declared.Command.TheVariants.{Size, Quit}
 use Rattle.shr_script.specs.Reply.{as_line}
 use Rattle.shr_tool.specs.Events.Event.{answered, shown}
 use Rattle.pool.proofs.Serving.{sound_in}
@@ -12,7 +12,7 @@ use Rattle.shr_tool.proofs.perform.perform.Goals as goal
 pub returns-in-Size-clause-answers : goal.returns-in-Size-clause-answers
 returns-in-Size-clause-answers g c =
     rw c.in-Size.is
-    (record {
+    (inl (record {
       event = answered (Ok Size);
       line_is = refl;
       answer_is = refl;
@@ -20,22 +20,24 @@ returns-in-Size-clause-answers g c =
           still_done _ (Ok Size) _ c.requires (sound_in g.R.Rack.seen g.R.Bay.shelf g.met.R.Rack.sound c.args.pool.now c.requires)
           (λ s touches. touches) (λ s touches. touches) (λ place loses. cc) tt (λ a holds. refl)
           (λ a holds. c.size_reply.ensures ∙ ap (λ n. as_line (codes "size " ++ decimal n)) (c.size.ensures.size ∙ sym holds.size));
-    })
+      reply = c.size_reply.ensures ∙ ap (λ n. as_line (codes "size " ++ decimal n)) c.size.ensures.size;
+    }))
 
 pub returns-in-Status-clause-answers : goal.returns-in-Status-clause-answers
 returns-in-Status-clause-answers g c =
     rw c.in-Status.is
-    (record {
+    (inl (record {
       event = shown _;
       line_is = refl;
       answer_is = refl;
       performs = show_done _ _ c.requires (sound_in g.R.Rack.seen g.R.Bay.shelf g.met.R.Rack.sound c.args.pool.now c.requires) c.show.ensures;
-    })
+      reply = c.show.ensures;
+    }))
 
 pub returns-in-Quit-clause-answers : goal.returns-in-Quit-clause-answers
 returns-in-Quit-clause-answers g c =
     rw c.in-Quit.is
-    (record {
+    (inl (record {
       event = answered (Ok Quit);
       line_is = refl;
       answer_is = refl;
@@ -43,17 +45,5 @@ returns-in-Quit-clause-answers g c =
           still_done _ (Ok Quit) _ c.requires (sound_in g.R.Rack.seen g.R.Bay.shelf g.met.R.Rack.sound c.args.pool.now c.requires)
           (λ s touches. touches) (λ s touches. touches) (λ place loses. cc) tt (λ a holds. refl)
           (λ a holds. search rules);
-    })
-
-pub returns-in-Unbuilt-clause-answers : goal.returns-in-Unbuilt-clause-answers
-returns-in-Unbuilt-clause-answers g c =
-    rw c.in-Unbuilt.is
-    (record {
-      event = answered (Ok Unbuilt);
-      line_is = refl;
-      answer_is = refl;
-      performs =
-          still_done _ (Ok Unbuilt) _ c.requires (sound_in g.R.Rack.seen g.R.Bay.shelf g.met.R.Rack.sound c.args.pool.now c.requires)
-          (λ s touches. touches) (λ s touches. touches) (λ place loses. cc) tt (λ a holds. refl)
-          (λ a holds. c.refused_reply.ensures);
-    })
+      reply = search rules;
+    }))

@@ -1,5 +1,5 @@
 -- The place of the call is that of the line, or both are no place.
-use Rattle.std.proofs.Common.{◌≡◌, ℕ, List, Result, refl, sym, ◌∙◌, ap, subst, Err}
+use Rattle.std.proofs.Common.{◌≡◌, ℕ, List, Result, refl, sym, ◌∙◌, ap, subst, inl, inr, Err}
 use Rattle.pool.specs.declared.replacing.GrowFault.{GrowFault}
 use Rattle.pool.specs.Naming.{ReplacesDrive}
 use Rattle.pool.specs.View.{View, view}
@@ -21,6 +21,7 @@ returns-in-Ok-clause-answers g c =
       performs =
           replace_done _ _ _ _ _ _ _ c.requires (is_cut _ _ _ c.from.ensures c.min-place.ensures) c.in-Ok.is c.line_reply.ensures
           (named _ _ _ c.args.name.now c.as_str.result.now _ c.as_str.ensures c.replace.ensures.replaced);
+      reply = inl c.line_reply.ensures;
     }
 
 pub returns-in-Err-clause-answers : goal.returns-in-Err-clause-answers
@@ -34,4 +35,5 @@ returns-in-Err-clause-answers g c =
           (is_cut _ _ _ c.from.ensures c.min-place.ensures) c.in-Err.is c.decline_reply.ensures.text
           (λ missing. ap (λ pool. view g.R.Rack.seen g.R.Bay.shelf pool) (c.replace.ensures.unlisted (c.in-Err.is ∙ ap Err missing)))
           (named _ _ _ c.args.name.now c.as_str.result.now _ c.as_str.ensures c.replace.ensures.replaced);
+      reply = inr (c.in-Err.fault, c.decline_reply.ensures.text);
     }

@@ -1,23 +1,9 @@
--- Works of maintenance are an event.
-use Rattle.std.proofs.Common.{refl, sym}
-use Rattle.shr_tool.specs.Events.Event.{stepped, stuck}
-use Rattle.shr_tool.proofs.Stepped.{step_done, step_stuck}
+-- Where a work of a growth is left, the line grows the pool.
+use Rattle.std.proofs.Common.{sym, inl, inr}
 use Rattle.shr_tool.proofs.perform.perform_step.Goals as goal
 
-pub returns-in-Ok-clause-answers : goal.returns-in-Ok-clause-answers
-returns-in-Ok-clause-answers g c =
-    record {
-      event = stepped c.args.count c.in-Ok.left;
-      line_is = refl;
-      answer_is = refl;
-      performs = step_done _ _ _ _ _ _ c.in-Ok.is c.left_reply.ensures c.step.ensures.steps;
-    }
+pub returns-then-has_growth_left-clause-answers : goal.returns-then-has_growth_left-clause-answers
+returns-then-has_growth_left-clause-answers g c = inr (sym c.if-has_growth_left.ensures, c.grow.ensures.grows)
 
-pub returns-in-Err-clause-answers : goal.returns-in-Err-clause-answers
-returns-in-Err-clause-answers g c =
-    record {
-      event = stuck c.args.count c.in-Err.stuck.array;
-      line_is = refl;
-      answer_is = sym c.stuck_reply.ensures.answer;
-      performs = step_stuck _ _ _ _ _ _ c.in-Err.is c.stuck_reply.ensures.text c.step.ensures.steps;
-    }
+pub returns-else-has_growth_left-clause-answers : goal.returns-else-has_growth_left-clause-answers
+returns-else-has_growth_left-clause-answers g c = inl c.maintain.ensures.answers

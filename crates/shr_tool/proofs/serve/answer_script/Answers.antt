@@ -5,7 +5,7 @@ use Rattle.shr_script.specs.Script.{without_return}
 use Rattle.shr_script.specs.LongLines.{line_of-kept}
 use Rattle.raid_rack.specs.RaidRack.{slices_in}
 use Rattle.pool.specs.View.{arrays_of, bay_in, view}
-use Rattle.pool.proofs.Continuing.{continues_same, continues_then}
+use Rattle.shr_tool.proofs.Growing.{proceeds_same, proceeds_then}
 use Rattle.shr_tool.proofs.History.{history_none}
 use Rattle.shr_tool.proofs.Limits.{passed_none, passed_line, part_within, line_within, most_over}
 use Rattle.shr_tool.proofs.Stopping.{line_answered, line_stopped, last_answered, line_script, last_script, last_length, limit_stopped, no_limit, serves_as, source_stopped}
@@ -16,7 +16,7 @@ lines-init g c =
     let left = g.I.Source.left c.args.input.now in
     record {
       frame = g.met.R.Bay.frame_same _;
-      continues = continues_same _ c.requires;
+      proceeds = proceeds_same _ c.requires;
       source = omega arith;
       sink = omega arith;
       source_told = λ told. told;
@@ -43,7 +43,7 @@ pub returns-in-Limit-clause-serves : goal.returns-in-Limit-clause-serves
 returns-in-Limit-clause-serves g c =
     λ source sink.
     serves_as _ _ _ _ _ _ _ _ _ _ c.stop_at-in-Limit.ensures.cause c.stop_at-in-Limit.ensures.worst
-    (limit_stopped _ _ _ _ _ _ _ _ _ _ _
+    (limit_stopped _ _ _ _ _ _ _ _ _ _ _ _
     (c.lines.invariant.history source sink)
     (c.in-Limit.ensures.read (c.lines.invariant.source_told source)))
 
@@ -54,9 +54,8 @@ returns-in-Input-clause-serves g c =
     let r = c.in-Input.ensures.read (c.lines.invariant.source_told source) in
     let is : line_of (without_return c.line.result.now) ≡ line_of (without_return r.part.bytes) =
     ap (λ xs. line_of (without_return xs)) (c.line.ensures ∙ r.part.kept) ∙ line_of-kept r.part.bytes in
-    last_answered (view g.R.Rack.seen g.R.Bay.shelf) (λ r. (g.met.R.Bay.unspent (bay_in r), g.met.R.Rack.sound (bay_in r), (slices_in (arrays_of r)).orderly)) _ _ _ _ _ _ _ _ _ _ h.events _ _ h.answered
+    last_answered (view g.R.Rack.seen g.R.Bay.shelf) (λ r. (g.met.R.Bay.unspent (bay_in r), g.met.R.Rack.sound (bay_in r), (slices_in (arrays_of r)).orderly)) _ _ _ _ _ _ _ _ _ _ h.lines _ _ h.so_far
     (last_script _ _ _ _ _ _ _ _ _ _ _ h r _ is)
-    h.worst_is
     (last_length _ _ _ _ _ _ _ _ _ _ _ h r (let within = c.next.ensures.within (λ same. cc) in omega arith))
     (c.answer_last.ensures.answers (c.lines.invariant.sink_told sink))
 
@@ -65,7 +64,7 @@ lines-preserved g c =
     let before = c.lines.invariant in
     record {
       frame = g.met.R.Bay.frame_then _ _ _ before.frame c.answer_line.ensures.frame;
-      continues = continues_then _ _ _ before.continues c.answer_line.ensures.continues;
+      proceeds = proceeds_then _ _ _ before.proceeds c.answer_line.ensures.proceeds;
       source = let old = before.source in let now = c.next.ensures.faults in omega arith;
       sink = let old = before.sink in let now = c.answer_line.ensures.sink in omega arith;
       source_told = λ told. c.next.ensures.told (before.source_told told);
@@ -99,16 +98,15 @@ returns-in-Err-clause-serves g c =
     ap (λ xs. line_of (without_return xs)) (c.line-in-lines.ensures ∙ r.part.kept)
     ∙ line_of-kept r.part.bytes in
     serves_as _ _ _ _ _ _ _ _ _ _ c.stop_at-in-Err.ensures.cause c.stop_at-in-Err.ensures.worst
-    (line_stopped (view g.R.Rack.seen g.R.Bay.shelf) (λ r. (g.met.R.Bay.unspent (bay_in r), g.met.R.Rack.sound (bay_in r), (slices_in (arrays_of r)).orderly)) _ _ _ _ _ _ _ _ _ h.events _ _ c.in-Err.cause h.answered
+    (line_stopped (view g.R.Rack.seen g.R.Bay.shelf) (λ r. (g.met.R.Bay.unspent (bay_in r), g.met.R.Rack.sound (bay_in r), (slices_in (arrays_of r)).orderly)) _ _ _ _ _ _ _ _ _ h.lines _ _ c.in-Err.cause h.so_far
     (line_script _ _ _ _ _ _ _ _ _ _ _ h r _ is)
-    h.worst_is
     (c.in-Err.ensures.answers (c.lines.invariant.sink_told sink)))
 
-pub returns-in-Input-clause-continues : goal.returns-in-Input-clause-continues
-returns-in-Input-clause-continues g c = continues_then _ _ _ c.lines.invariant.continues c.answer_last.ensures.continues
+pub returns-in-Input-clause-proceeds : goal.returns-in-Input-clause-proceeds
+returns-in-Input-clause-proceeds g c = proceeds_then _ _ _ c.lines.invariant.proceeds c.answer_last.ensures.proceeds
 
-pub returns-in-Err-clause-continues : goal.returns-in-Err-clause-continues
-returns-in-Err-clause-continues g c = continues_then _ _ _ c.lines.invariant.continues c.answer_line.ensures.continues
+pub returns-in-Err-clause-proceeds : goal.returns-in-Err-clause-proceeds
+returns-in-Err-clause-proceeds g c = proceeds_then _ _ _ c.lines.invariant.proceeds c.answer_line.ensures.proceeds
 
 pub returns-in-Fault-clause-limit : goal.returns-in-Fault-clause-limit
 returns-in-Fault-clause-limit g c =

@@ -1,7 +1,7 @@
 -- The lines so far are answered; at most the rest of a script's limit is left.
 use Rattle.std.proofs.Common.{◌-◌, ◌^◌, ◌≤◌, ◌++◌}
 use Rattle.pool.specs.View.{bay_in, view}
-use Rattle.pool.specs.Continuing.{Continues}
+use Rattle.pool.specs.Proceeding.{Proceeds}
 use Rattle.shr_script.specs.Pieces.{pending, taken_by}
 use Rattle.shr_tool.proofs.History.{History}
 use Rattle.shr_tool.proofs.Limits.{Passed}
@@ -14,7 +14,7 @@ invariant-lines g l =
     let taken = g.O.Sink.taken in
     record {
       frame : g.R.Bay.frame (bay_in l.fn.pool) (bay_in l.pool);
-      continues : Continues (shown l.fn.pool) (shown l.pool);
+      proceeds : Proceeds (shown l.fn.pool) (shown l.pool);
       source : g.I.Source.faults l.fn.input ≤ g.I.Source.faults l.input;
       sink : g.O.Sink.faults l.fn.out ≤ g.O.Sink.faults l.out;
       source_told : g.I.Source.told l.fn.input → g.I.Source.told l.input;

@@ -7,7 +7,7 @@ use Rattle.log_laws.specs.View.{LogView}
 use Rattle.array_core.specs.Seats.{gone as without}
 use Rattle.raid_laws.specs.Losses.{AddsCopies}
 use Rattle.raid_rack.proofs.Mended.{each_items}
-use Rattle.raid_rack.proofs.Worked.{close_places, closes_alone, closes_empty, closes_one, closes_raise, closing_of, copies_distinct, copies_had, copies_valid, has_closed}
+use Rattle.raid_rack.proofs.Worked.{close_places, closed_copied, closes_alone, closes_empty, closes_one, closes_raise, closing_of, copies_distinct, copies_had, copies_valid, has_closed}
 use Rattle.raid_rack.proofs.TruthTurns.{closed_truths}
 use Rattle.raid_rack.proofs.arrays.Arrays.end_plan.Goals as goal
 
@@ -49,36 +49,24 @@ commit-gone-requires-clause-logs g c j low =
 
 pub commit-gone-requires-clause-valid : goal.commit-gone-requires-clause-valid
 commit-gone-requires-clause-valid g c =
-    copies_valid c.args.self.now c.end_plan.new.state c.current_places-on.result.items c.add_copies.new.log (g.S.Rack.seen c.args.rack.now)
-    (record {
-      running = c.requires.running;
-      heeded = c.requires.heeded;
-      t_is = c.end_plan.ensures;
-      on_is = c.current_places-on.ensures;
-      copies = subst (λ (xs : List Target). AddsCopies c.end_plan.new.state c.current_places-on.result.items xs c.add_copies.new.log.added) (ap (λ (l : LogView). l.added) c.clear.ensures) c.add_copies.ensures.added;
-    })
+    copies_valid c.end_plan.new.state c.current_places-on.result.items c.add_copies.new.log (g.S.Rack.seen c.args.rack.now)
+    (closed_copied c.args.self.now c.end_plan.new.state c.current_places-on.result.items c.add_copies.new.log (g.S.Rack.seen c.args.rack.now) c.requires.running c.requires.heeded
+    c.end_plan.ensures c.current_places-on.ensures
+    (subst (λ (xs : List Target). AddsCopies c.end_plan.new.state c.current_places-on.result.items xs c.add_copies.new.log.added) (ap (λ (l : LogView). l.added) c.clear.ensures) c.add_copies.ensures.added))
 
 pub commit-gone-requires-clause-apart : goal.commit-gone-requires-clause-apart
 commit-gone-requires-clause-apart g c =
-    copies_distinct c.args.self.now c.end_plan.new.state c.current_places-on.result.items c.add_copies.new.log (g.S.Rack.seen c.args.rack.now)
-    (record {
-      running = c.requires.running;
-      heeded = c.requires.heeded;
-      t_is = c.end_plan.ensures;
-      on_is = c.current_places-on.ensures;
-      copies = subst (λ (xs : List Target). AddsCopies c.end_plan.new.state c.current_places-on.result.items xs c.add_copies.new.log.added) (ap (λ (l : LogView). l.added) c.clear.ensures) c.add_copies.ensures.added;
-    })
+    copies_distinct c.end_plan.new.state c.current_places-on.result.items c.add_copies.new.log (g.S.Rack.seen c.args.rack.now)
+    (closed_copied c.args.self.now c.end_plan.new.state c.current_places-on.result.items c.add_copies.new.log (g.S.Rack.seen c.args.rack.now) c.requires.running c.requires.heeded
+    c.end_plan.ensures c.current_places-on.ensures
+    (subst (λ (xs : List Target). AddsCopies c.end_plan.new.state c.current_places-on.result.items xs c.add_copies.new.log.added) (ap (λ (l : LogView). l.added) c.clear.ensures) c.add_copies.ensures.added))
 
 pub commit-gone-requires-clause-had : goal.commit-gone-requires-clause-had
 commit-gone-requires-clause-had g c =
-    copies_had c.args.self.now c.end_plan.new.state c.current_places-on.result.items c.add_copies.new.log (g.S.Rack.seen c.args.rack.now)
-    (record {
-      running = c.requires.running;
-      heeded = c.requires.heeded;
-      t_is = c.end_plan.ensures;
-      on_is = c.current_places-on.ensures;
-      copies = subst (λ (xs : List Target). AddsCopies c.end_plan.new.state c.current_places-on.result.items xs c.add_copies.new.log.added) (ap (λ (l : LogView). l.added) c.clear.ensures) c.add_copies.ensures.added;
-    })
+    copies_had c.end_plan.new.state c.current_places-on.result.items c.add_copies.new.log (g.S.Rack.seen c.args.rack.now)
+    (closed_copied c.args.self.now c.end_plan.new.state c.current_places-on.result.items c.add_copies.new.log (g.S.Rack.seen c.args.rack.now) c.requires.running c.requires.heeded
+    c.end_plan.ensures c.current_places-on.ensures
+    (subst (λ (xs : List Target). AddsCopies c.end_plan.new.state c.current_places-on.result.items xs c.add_copies.new.log.added) (ap (λ (l : LogView). l.added) c.clear.ensures) c.add_copies.ensures.added))
 
 pub mend-requires : goal.mend-requires
 mend-requires g c =

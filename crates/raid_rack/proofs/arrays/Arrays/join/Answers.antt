@@ -92,7 +92,7 @@ add_copies-requires-clause-valid g c n place at =
     let at_goal = goal.at.add_copies-requires-clause-valid g c in
     let is = state_made g at_goal.After-stage_all ∙ ap (λ (p : Plan). enlisted own c.args.units p s) c.requires.plan in
     subst (λ (z : State). is_valid z place ≡ true) (sym is)
-    (valid_enlisted own c.args.units s place c.requires.listed c.requires.units
+    (valid_enlisted own c.args.units s place c.requires.listed c.requires.units c.requires.units_end
     (c.requires.running.set.valid place (listed_made g at_goal.After-current_places-current n place at)))
 
 pub add_copies-requires-clause-places : goal.add_copies-requires-clause-places
@@ -147,7 +147,8 @@ is_joining g c = record {
     listed = c.requires.listed;
     missing = c.requires.missing;
     others = c.requires.others;
-    units_are = c.requires.units;
+    units_some = c.requires.units;
+    units_most = c.requires.units_end;
     plan_is = c.requires.plan;
     slices = c.requires.slices;
     reaches = c.requires.reaches;

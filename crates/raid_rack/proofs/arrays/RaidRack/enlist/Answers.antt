@@ -1,6 +1,5 @@
-use Rattle.std.proofs.Common.{◌≡◌, ℕ, ◌-◌, ◌≤◌, ◌<◌, ◌^◌, ◌&&◌, ◌||◌, not, All, List, [], ◌∷◌, Ok, true, false, length, option_map, slice_get, ap, subst, sym, ◌∙◌, arith}
+use Rattle.std.proofs.Common.{◌≡◌, ℕ, ◌-◌, ◌≤◌, ◌<◌, ◌^◌, ◌&&◌, ◌||◌, not, All, List, [], ◌∷◌, Ok, true, false, length, ap, subst, sym, ◌∙◌, arith}
 use Rattle.std.proofs.lemmas.Bool.{ne_eqb}
-use Rattle.pool_state.specs.declared.contents.Drive.{Drive}
 use Rattle.raid_rack.specs.declared.arrays.Arrays.{Arrays}
 use Rattle.raid_laws.specs.Raid.{Raid}
 use Rattle.raid_laws.specs.Vacated.{vacated}
@@ -25,9 +24,9 @@ use Rattle.raid_laws.specs.Moves.{IsSet, IsUnmarked, Mends}
 use Rattle.raid_laws.specs.NewDrive.{IsOfDrive, LaysDrive, ReachesAll, SeatsDrive, drive_table, joins}
 use Rattle.raid_rack.specs.RaidRack.{IsFit, IsRunning, raid_by, slices_in}
 use Rattle.raid_rack.proofs.NotTaken.{fit_still, not_whole, refused_lay, running_still}
-use Rattle.raid_rack.proofs.Enlisted.{table_writable}
+use Rattle.raid_rack.proofs.Enlisted.{listed_units, table_writable}
 use Rattle.raid_rack.proofs.EnlistRetired.{back_each, back_finds, back_joined, back_less, back_raises, back_truths, retired_heeded, retired_members, retired_missing, retired_raid, retired_set}
-use Rattle.raid_laws.proofs.Missing.{current_marked, length_marked, units_marked}
+use Rattle.raid_laws.proofs.Missing.{current_marked, length_marked}
 use Rattle.raid_rack.proofs.Renewing.{AreSameMembers, reaches_same, same_members, seats_same}
 use Rattle.raid_rack.proofs.EnlistAll.{enlists, seats}
 use Rattle.raid_rack.proofs.arrays.RaidRack.enlist.Given.{Over}
@@ -208,10 +207,11 @@ join-requires-clause-serial g c =
 
 pub join-requires-clause-units : goal.join-requires-clause-units
 join-requires-clause-units g c =
-    let whole = c.settle_whole.ensures.whole c.if-not-settle_whole.false in
-    ap (λ (s : State). option_map (λ (d : Drive). d.units) (slice_get s.drives.items c.args.place)) c.retire.ensures.state
-    ∙ units_marked (c.args.place ∷ []) c.settle_whole.new.self.state c.args.place
-    ∙ ap (λ (s : State). option_map (λ (d : Drive). d.units) (slice_get s.drives.items c.args.place)) whole.same ∙ c.requires.units
+    (listed_units c.args.place c.args.units c.args.self.now.arrays.state c.args.place c.requires.units (c.requires.fit.running.set.valid c.args.place c.requires.listed)).0
+
+pub join-requires-clause-units_end : goal.join-requires-clause-units_end
+join-requires-clause-units_end g c =
+    (listed_units c.args.place c.args.units c.args.self.now.arrays.state c.args.place c.requires.units (c.requires.fit.running.set.valid c.args.place c.requires.listed)).1
 
 pub join-requires-clause-empty : goal.join-requires-clause-empty
 join-requires-clause-empty g c = ap (λ (r : Arrays). r.log.added) c.retire.ensures.rest ∙ c.settle_whole.ensures.empty c.if-not-settle_whole.false

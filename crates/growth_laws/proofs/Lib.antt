@@ -1,0 +1,14 @@
+pub mod Losing
+pub mod Steps
+pub mod Recorded
+pub mod Readied
+pub mod Zeroed
+pub mod Becoming
+pub mod Beginning
+pub mod Room
+pub mod Due
+pub mod Stating
+pub mod Listing
+pub mod Reached
+pub mod Made
+pub mod Newcomer

@@ -1,0 +1,4 @@
+pub mod Losses
+pub mod NewArrays
+pub mod Growing
+pub mod NewDrives

@@ -1,0 +1,133 @@
+-- A drive is added: why a disk isn't taken in, by a pool's book, and what the pool is after it.
+use Rattle.std.specs.Prelude.{◌≡◌, ◌≢◌, ◌⊎◌, ◌↔◌, ℕ, ◌==◌, ◌||◌, ◌++◌, nat_lt, Bool, true, false, List, [], ◌∷◌, length, Option, Some, None, Result, Ok, Err, IfErr, OnOk}
+use Rattle.std.specs.Bool.{then_some}
+use Rattle.std.specs.List.{list_any}
+use Rattle.std.specs.Option.{option_or}
+use Rattle.growth_plan.specs.Target.{targets}
+use Rattle.rack.specs.Seen.{Rose}
+use Rattle.shr_base.specs.Units.{units_of}
+use Rattle.array_image.specs.States.{is_current}
+use Rattle.growth_plan.specs.Admission.{add_refusals}
+use Rattle.transition_laws.specs.Changes.{Change, enlists}
+use Rattle.growth_laws.specs.Growing.{Turns}
+use Rattle.lvm_group.specs.Runs.{Linear}
+use Rattle.pool_state.specs.declared.contents.Drive.{Drive}
+use Rattle.pool_state.specs.declared.contents.Plan.TheVariants.{Add}
+use Rattle.pool_state.specs.declared.contents.State.{State}
+use Rattle.raid_laws.specs.Enlisting.{next_drive}
+use Rattle.raid_laws.specs.Moves.{RaisesBy}
+use Rattle.raid_laws.specs.NewDrive.{SeatsDrive, joins}
+use Rattle.raid_laws.specs.Raid.{Raid}
+use Rattle.pool.specs.declared.replacing.GrowFault.{GrowFault}
+use Rattle.pool.specs.declared.replacing.GrowFault.TheVariants.{Attach, Twice, Memory, PlanPending, NotWhole, NotResynced, Unbuilt, Gone}
+use Rattle.pool.specs.Calls.{Marks}
+use Rattle.pool.specs.Continuing.{Continues}
+use Rattle.pool.specs.Keeping.{Raises}
+use Rattle.pool.specs.Moment.{IsNamed, Moment, moment_of, views_of}
+use Rattle.pool.specs.Replaced.{IsOfDrive, NamesDisk, faults_before}
+use Rattle.pool.specs.Replacing.{first_of, has_resync, is_planned, lacks_room, planning}
+use Rattle.pool.specs.View.{View, book}
+use Rattle.pool.specs.Works.{arrays_now}
+
+-- ---- why it isn't taken in, by a pool's book
+
+-- A drive is marked missing, or the list has none: no state that was read has such a list.
+abbrev pub lacks_drive : State → Bool
+lacks_drive s = (length s.drives.items == 0) || list_any (λ (d : Drive). d.missing) s.drives.items
+
+-- a state with the pool's next drive at the end of the list, of so many units, and with the plan that adds it
+abbrev pub adding : ℕ → State → State
+adding units s = record (planning (Add (length s.drives.items)) s) {
+  drives = record { items = s.drives.items ++ record { id = next_drive s; units = units; missing = false } ∷ [] };
+}
+
+-- each refusal by how the pool stands, with its cause, in the order in which they are looked for
+abbrev pub adding_refusals : Raid → List (GrowFault × Bool)
+adding_refusals v = (PlanPending, is_planned v.state.plan) ∷ (NotWhole, lacks_drive v.state) ∷ (NotResynced, has_resync (arrays_now v)) ∷ []
+
+-- It would make a new array, which isn't built: at the plan's end there are more arrays than there are now.
+abbrev pub needs_array : Raid → ℕ → Bool
+needs_array v units = nat_lt v.state.made (length (targets (adding units v.state) (arrays_now v)))
+
+-- the first refusal of a drive of so many units, by these that are looked for before
+abbrev pub refusal_after : List (GrowFault × Bool) → Linear → Raid → ℕ → Option GrowFault
+refusal_after standing l v units =
+    option_or (first_of standing (add_refusals v.state (arrays_now v) units) (lacks_room l v (adding units v.state))) (then_some (needs_array v units) Unbuilt)
+
+-- the first refusal of all, of a disk of so many sectors
+abbrev pub refusal_of_add : Linear → Raid → ℕ → Option GrowFault
+refusal_of_add l v sectors = refusal_after (adding_refusals v) l v (units_of sectors v.state.extent)
+
+-- and of a drive of so many units, where no plan is being carried out and no drive is missing
+abbrev pub refusal_of_units : Linear → Raid → ℕ → Option GrowFault
+refusal_of_units l v units = refusal_after ((NotResynced, has_resync (arrays_now v)) ∷ []) l v units
+
+-- ---- refusals, by how the pool stands before and after
+
+-- by what the book says of a disk: the first refusal, or the new drive refused a call
+abbrev pub IsAddAnswer : Option GrowFault → Result (Unit {0}) GrowFault → Type 0
+IsAddAnswer (Some fault) result = result ≡ Err fault
+IsAddAnswer None result = (result ≡ Ok tt) ⊎ (result ≡ Err Gone)
+
+-- it was looked at why the drive may not be added: the name has a disk that isn't a current drive's
+pub record IsLookedAtNow (result : Result (Unit {0}) GrowFault) : Type 0 where
+  pub attached : result ≢ Err Attach
+  pub had : result ≢ Err Memory
+  pub other : result ≢ Err Twice
+
+-- Each refusal has its cause, in the order in which they are looked for.
+pub record HasAddCause (l : Linear) (p q : Moment) (name : List ℕ) (result : Result (Unit {0}) GrowFault) : Type 0 where
+  pub attach : result ≡ Err Attach → Rose p.unattached q.unattached
+  -- an image that can't be attached, or not for want of memory, comes as no disk
+  pub none : (result ≡ Err Attach) ⊎ (result ≡ Err Memory) → q.disks ≡ p.disks
+  -- a name that is attached is used
+  pub used : (d : ℕ) → IsNamed p name d → (result ≢ Err Attach) × (result ≢ Err Memory)
+  pub twice : (result ≡ Err Twice) ↔ IsOfDrive p name
+  pub named : IsLookedAtNow result → (d : ℕ) × IsNamed q name d
+  pub answer : IsLookedAtNow result → (d : ℕ) → IsNamed q name d → IsAddAnswer (refusal_of_add l p.book (q.sectors d)) result
+  pub gone : result ≡ Err Gone → (d : ℕ) → IsNamed q name d → Rose (faults_before p d) (q.faults d)
+
+-- ---- the call
+
+-- It isn't taken in: the book is as it was, and slices lie where they lay.
+abbrev pub IsUnchanged : View → View → Type 0
+IsUnchanged x y = (book y ≡ book x) × (y.slices ≡ x.slices)
+
+-- The units of a disk, as a drive of the pool.
+abbrev pub units_on : Moment → Moment → ℕ → ℕ
+units_on p q disk = units_of (q.sectors disk) p.book.state.extent
+
+-- the book with the drive of the next place, by the plan that adds it
+abbrev pub next_change : Moment → Moment → ℕ → Change
+next_change p q disk =
+    let place = length p.book.state.drives.items in
+    enlists place (units_on p q disk) (Add place) (joins (views_of p.book) place (q.sectors disk))
+
+-- The disk is the drive of the next place: that alone is changed of the book, by one commit, but for losses; and where it is marked itself it refused a call. It has a log
+-- slice. No array has it as a member yet.
+pub record IsAdded (p q : Moment) (disk : ℕ) : Type 0 where
+  pub turns : Turns (λ v. next_change p q disk) (λ v w. ⊥) p.book q.book true
+  pub cause : is_current q.book.state (length p.book.state.drives.items) ≡ false → Rose (faults_before p disk) (q.faults disk)
+  pub seats : SeatsDrive (views_of p.book) (length p.book.state.drives.items) disk (q.sectors disk) p.slices q.slices
+
+-- A disk, which isn't a current drive's, is added.
+pub record AddsBy (x y : View) (disk : ℕ) (result : Result (Unit {0}) GrowFault) : Type 0 where
+  pub continues : Continues x y
+  pub raises : RaisesBy 36 (book x) (book y)
+  pub names : y.shelf.names ≡ x.shelf.names
+  pub disks : y.bay.disks ≡ x.bay.disks
+  pub answer : IsAddAnswer (refusal_of_add x.linear (book x) (x.bay.sectors disk)) result
+  pub gone : result ≡ Err Gone → Rose (x.bay.faults disk) (y.bay.faults disk)
+  pub marks : Marks x y
+  pub declined : IfErr result (λ e. IsUnchanged x y)
+  pub added : OnOk result (IsAdded (moment_of x) (moment_of y) disk)
+
+-- The disk of a name, which is attached where it isn't yet, is added as a drive of the pool. Of contents nothing is said.
+pub record AddsDrive (x y : View) (name : List ℕ) (result : Result (Unit {0}) GrowFault) : Type 0 where
+  pub continues : Continues x y
+  pub raises : Raises 1 x y
+  pub names : NamesDisk (moment_of x) (moment_of y) name
+  pub cause : HasAddCause x.linear (moment_of x) (moment_of y) name result
+  pub marks : Marks x y
+  pub declined : IfErr result (λ e. IsUnchanged x y)
+  pub added : OnOk result ((d : ℕ) → IsNamed (moment_of y) name d → IsAdded (moment_of x) (moment_of y) d)

@@ -1,0 +1,209 @@
+-- The works of a growth of a pool: what each does to its book and to its volume, and works in a row.
+use Rattle.std.specs.Prelude.{◌≡◌, ◌⊎◌, ℕ, zero, suc, ◌+◌, ◌*◌, ◌^◌, ◌<◌, ◌≤◌, ◌&&◌, nat_le, nat_lt, min, Bool, true, false, List, [], length, slice_get, slice_index, Some, Result, IfErr, IfOk, OnOk}
+use Rattle.std.specs.List.{list_all, range_with_len}
+use Rattle.rack.specs.Seen.{Seen}
+use Rattle.array_core.specs.Pool.{Goes}
+use Rattle.rack.specs.Shelf.{KeepsShelf}
+use Rattle.slice_rack.specs.Slices.{Slices, seat_of}
+use Rattle.array_image.specs.States.{is_current}
+use Rattle.array_model.specs.View.{sectors_of}
+use Rattle.growth_laws.specs.Losses.{LosesBook}
+use Rattle.transition_laws.specs.Changes.{Change, changed, makes}
+use Rattle.growth_laws.specs.Growing.{GetsLonger, Lacks, Turns, change_of, is_due as is_due_to_grow}
+use Rattle.growth_laws.specs.NewArrays.{new_view}
+use Rattle.growth_plan.specs.Target.{targets}
+use Rattle.lvm_group.specs.Extending.{extended}
+use Rattle.lvm_group.specs.Growth.{fits}
+use Rattle.lvm_group.specs.Runs.{Linear, data_start, extents_of}
+use Rattle.pool_state.specs.declared.contents.Work.{Work}
+use Rattle.pool_state.specs.declared.contents.Work.TheVariants.{Resync, Rebuild, TakeOver, Begin, Reshape, Finish, Make, Zero, Ready, Extend, Close}
+use Rattle.raid_laws.specs.Book.{IsSameBook}
+use Rattle.raid_laws.specs.Moves.{RaisesBy}
+use Rattle.raid_laws.specs.Raid.{Raid, spent_of}
+use Rattle.raid_laws.specs.Works.{is_due}
+use Rattle.raid_rack.specs.Growing.{CannotLay}
+use Rattle.raid_rack.specs.declared.works.Stuck.{Stuck}
+use Rattle.pool.specs.Calls.{Marks}
+use Rattle.pool.specs.Keeping.{KeepsWorks}
+use Rattle.pool.specs.View.{View, book, volume}
+use Rattle.pool.specs.Works.{LacksRow, arrays_now, left_of, works_by, works_of}
+
+-- ---- the volume's extension
+
+-- what each array offers to the volume at the end of a book's plan
+abbrev pub target_of : Raid → List ℕ
+target_of v = targets v.state (arrays_now v)
+
+-- array n has room for so many extents of so many sectors
+abbrev pub holds_extents : Raid → (n extents extent : ℕ) → Bool
+holds_extents v n extents extent = nat_lt extents (2 ^ 45) && nat_le (data_start + extents * extent) (sectors_of (v.arrays n))
+
+-- for its number of them
+abbrev pub holds_number : Raid → List ℕ → (extent n : ℕ) → Bool
+holds_number v numbers extent n = holds_extents v n (slice_index numbers n) extent
+
+-- A volume, which has an extent, can be extended to these numbers of extents of the first arrays: there are so many arrays, each has room, and the text has.
+abbrev pub can_extend : Linear → Raid → List ℕ → Bool
+can_extend l v numbers =
+    (nat_lt 0 (extents_of l.runs) && (nat_lt 0 (length numbers) && nat_le (length numbers) v.state.made))
+    && (list_all (holds_number v numbers l.extent) (range_with_len 0 (length numbers)) && fits l.runs numbers)
+
+-- The volume isn't extended by the book v, w being that of the losses that were met: it can't be, which names array 0, and nothing was called; or an array, which is
+-- named, has lost a sector.
+abbrev pub CannotExtend : Linear → (v w : Raid) → (array : ℕ) → Type 0
+CannotExtend l v w array =
+    ((can_extend l v (target_of v) ≡ false) × (array ≡ 0) × (w ≡ v))
+    ⊎ (LosesBook v w × (array < v.state.made) × ((s : ℕ) × (spent_of w array s ≡ true)))
+
+-- ---- a work that is done
+
+-- what it changes, by the time that superblocks of a new array have
+abbrev pub change_in : ℕ → Work → Raid → Change
+change_in seconds (Resync n) v = change_of (Resync n) v
+change_in seconds (Rebuild n place) v = change_of (Rebuild n place) v
+change_in seconds (TakeOver n) v = change_of (TakeOver n) v
+change_in seconds (Begin n place) v = change_of (Begin n place) v
+change_in seconds (Reshape n) v = change_of (Reshape n) v
+change_in seconds (Finish n) v = change_of (Finish n) v
+change_in seconds (Make n height) v = makes (new_view seconds v height)
+change_in seconds (Zero n) v = change_of (Zero n) v
+change_in seconds (Ready n) v = change_of (Ready n) v
+change_in seconds Extend v = change_of Extend v
+change_in seconds Close v = change_of Close v
+
+-- The book is changed by the work, between losses that were met before it and after it.
+pub record IsDone (work : Work) (v w : Raid) : Type 0 where
+  pub seconds : ℕ
+  pub mid : Raid
+  pub before : LosesBook v mid
+  pub same : IsSameBook (changed (change_in seconds work mid) mid).state w.state
+  pub current : (place : ℕ) → is_current w.state place ≡ true → is_current (changed (change_in seconds work mid) mid).state place ≡ true
+  pub after : KeepsWorks (changed (change_in seconds work mid) mid) w
+
+-- where the volume lies then
+abbrev pub linear_after : Work → Linear → Raid → Linear
+linear_after (Resync n) l v = l
+linear_after (Rebuild n place) l v = l
+linear_after (TakeOver n) l v = l
+linear_after (Begin n place) l v = l
+linear_after (Reshape n) l v = l
+linear_after (Finish n) l v = l
+linear_after (Make n height) l v = l
+linear_after (Zero n) l v = l
+linear_after (Ready n) l v = l
+linear_after Extend l v = extended l (target_of v)
+linear_after Close l v = l
+
+-- the first of the works that the book v has left is done: l and m are where the volume lay before it and where it lies then
+pub record DoesWork (l m : Linear) (v w : Raid) : Type 0 where
+  pub work : Work
+  pub first : slice_get (works_by l v) 0 ≡ Some work
+  pub done : IsDone work v w
+  pub linear : m ≡ linear_after work l v
+
+-- so many in a row, each the first that is left by the book after the one before it
+pub data DoesWorks : ℕ → Linear → Raid → Linear → Raid → Type 0 where
+  none : {l : Linear} {v : Raid} → DoesWorks zero l v l v
+  more : {n : ℕ} {l m o : Linear} {v w z : Raid} → DoesWorks n l v m w → DoesWork m o w z → DoesWorks (suc n) l v o z
+
+-- ---- a work that can't be done
+
+-- It can't any more once the losses of the try are marked; or the slice of a member that joins can't be laid. `t` and `x` are the slices and the disks before it.
+abbrev pub LacksIn : Slices → Seen → Work → Raid → Raid → Type 0
+LacksIn t x (Begin n place) mid w = Lacks (Begin n place) mid w ⊎ CannotLay t x mid place n
+LacksIn t x (Resync n) mid w = Lacks (Resync n) mid w
+LacksIn t x (Rebuild n place) mid w = Lacks (Rebuild n place) mid w
+LacksIn t x (TakeOver n) mid w = Lacks (TakeOver n) mid w
+LacksIn t x (Reshape n) mid w = Lacks (Reshape n) mid w
+LacksIn t x (Finish n) mid w = Lacks (Finish n) mid w
+LacksIn t x (Make n height) mid w = Lacks (Make n height) mid w
+LacksIn t x (Zero n) mid w = Lacks (Zero n) mid w
+LacksIn t x (Ready n) mid w = Lacks (Ready n) mid w
+LacksIn t x Extend mid w = Lacks Extend mid w
+LacksIn t x Close mid w = Lacks Close mid w
+
+-- a row, or the end of a plan: it isn't due, and nothing was called; or the row can't be had
+abbrev pub IsRefusedRow : Work → (v w : Raid) → Type 0
+IsRefusedRow work v w = ((is_due v work ≡ false) × (w ≡ v)) ⊎ LacksRow v w work
+
+-- a work of a growth, so
+abbrev pub IsRefusedGrowth : Slices → Seen → Work → (v w : Raid) → Type 0
+IsRefusedGrowth t x work v w =
+    ((is_due_to_grow v work ≡ false) × (w ≡ v)) ⊎ ((seconds : ℕ) × Turns (change_in seconds work) (LacksIn t x work) v w false)
+
+-- Why a work isn't done, which names this array. A new array isn't made yet, and nothing is called.
+abbrev pub IsRefused : Slices → Seen → Linear → Work → (v w : Raid) → (array : ℕ) → Type 0
+IsRefused t x l (Resync n) v w array = (array ≡ n) × IsRefusedRow (Resync n) v w
+IsRefused t x l (Rebuild n place) v w array = (array ≡ n) × IsRefusedRow (Rebuild n place) v w
+IsRefused t x l (TakeOver n) v w array = (array ≡ n) × IsRefusedGrowth t x (TakeOver n) v w
+IsRefused t x l (Begin n place) v w array = (array ≡ n) × IsRefusedGrowth t x (Begin n place) v w
+IsRefused t x l (Reshape n) v w array = (array ≡ n) × IsRefusedGrowth t x (Reshape n) v w
+IsRefused t x l (Finish n) v w array = (array ≡ n) × IsRefusedGrowth t x (Finish n) v w
+IsRefused t x l (Make n height) v w array = (array ≡ n) × (w ≡ v)
+IsRefused t x l (Zero n) v w array = (array ≡ n) × IsRefusedGrowth t x (Zero n) v w
+IsRefused t x l (Ready n) v w array = (array ≡ n) × IsRefusedGrowth t x (Ready n) v w
+IsRefused t x l Extend v w array = CannotExtend l v w array
+IsRefused t x l Close v w array = (array ≡ 0) × IsRefusedRow Close v w
+
+-- ---- calls
+
+-- the most by which a work raises the log's number, the epoch, and each array's events: an extension calls the arrays often
+abbrev pub most_grown : ℕ
+most_grown = 2 ^ 20
+
+-- What works keep, so many: arrays may come and get longer, the bay's disks are as many and as long as before and what stops left of them before is as it was, each place
+-- has its disk, and drives come to be marked lost only where their faults rose.
+pub record KeepsGrowing (works : ℕ) (x y : View) : Type 0 where
+  pub fit : (volume y).fit
+  pub longer : GetsLonger (book x) (book y)
+  pub seats : (place : ℕ) → seat_of y.slices place ≡ seat_of x.slices place
+  pub goes : Goes x.bay y.bay
+  pub shelf : KeepsShelf x.shelf y.shelf
+  pub marks : Marks x y
+  pub raises : RaisesBy (most_grown * works) (book x) (book y)
+
+-- a work is tried
+pub record TriesWork (work : Work) (x y : View) (result : Result (Unit {0}) Stuck) : Type 0 where
+  pub keeps : KeepsGrowing 1 x y
+  pub done : OnOk result (IsDone work (book x) (book y) × (y.linear ≡ linear_after work x.linear (book x)))
+  pub stuck : IfErr result (λ e. (y.linear ≡ x.linear) × IsRefused x.slices x.bay x.linear work (book x) (book y) e.array)
+
+-- no work is left, and nothing is done
+abbrev pub HasNone : View → View → Type 0
+HasNone x y = (works_of x ≡ []) × (y.linear ≡ x.linear) × (book y ≡ book x)
+
+-- the first of the works that are left is tried, where one is
+pub record TriesFirst (x y : View) (result : Result (Unit {0}) Stuck) : Type 0 where
+  pub keeps : KeepsGrowing 1 x y
+  pub done : OnOk result (HasNone x y ⊎ DoesWork x.linear y.linear (book x) (book y))
+  pub stuck :
+      IfErr result
+      (λ e. (y.linear ≡ x.linear)
+      × ((work : Work) × (slice_get (works_of x) 0 ≡ Some work) × IsRefused x.slices x.bay x.linear work (book x) (book y) e.array))
+
+-- So many works are done, or fewer where none is left then.
+abbrev pub DoesMany : ℕ → View → View → Type 0
+DoesMany count x y =
+    DoesWorks count x.linear (book x) y.linear (book y)
+    ⊎ ((n : ℕ) × (n ≤ count) × DoesWorks n x.linear (book x) y.linear (book y) × (works_of y ≡ []))
+
+-- A work can't be done, by a book between two: fewer works than were asked for were done before it.
+pub record StopsGrowing (count : ℕ) (x y : View) (array : ℕ) : Type 0 where
+  pub works : ℕ
+  pub few : works < count
+  pub mid : Raid
+  pub done : DoesWorks works x.linear (book x) y.linear mid
+  pub work : Work
+  pub first : slice_get (works_by y.linear mid) 0 ≡ Some work
+  -- the slices and the disks then
+  pub slices : Slices
+  pub seats : (place : ℕ) → seat_of slices place ≡ seat_of x.slices place
+  pub bay : x.bays.one
+  pub stuck : IsRefused slices (x.bays.seen bay) y.linear work mid (book y) array
+
+-- Works are done in their order, so many or all that are left, and what is answered is left. Else the first that is left then can't be done. Of contents nothing is said.
+pub record GrowsBy (count : ℕ) (x y : View) (result : Result ℕ Stuck) : Type 0 where
+  pub keeps : KeepsGrowing count x y
+  pub left : IfOk result (λ left. left ≡ left_of y)
+  pub done : OnOk result (DoesMany (min count (left_of x)) x y)
+  pub stuck : IfErr result (λ e. StopsGrowing count x y e.array)

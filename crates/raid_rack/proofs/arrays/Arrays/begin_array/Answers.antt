@@ -1,0 +1,222 @@
+use Rattle.std.proofs.Common.{◌≡◌, ◌||◌, Bool, true, false, None, not, is_ok, slice_set, refl, ap, sym, subst, ◌∙◌, inr, arith}
+use Rattle.std.proofs.lemmas.Bool.{both_ways}
+use Rattle.arrayvec.specs.ArrayVec.{with_items}
+use Rattle.log_laws.specs.View.{LogView}
+use Rattle.md_super.specs.Profile.{is_raid5}
+use Rattle.array_core.specs.Seats.{seat_of}
+use Rattle.array_image.specs.States.{current_places}
+use Rattle.array_image.specs.Supers.{is_reshaping}
+use Rattle.array_model.specs.View.{View}
+use Rattle.array_model.specs.Members.{HasSlices}
+use Rattle.pool_state.specs.declared.contents.Work.TheVariants.{Begin}
+use Rattle.reshape_laws.specs.Reshapes.{joined, lacks_joined, lacks_two}
+use Rattle.growth_laws.specs.Growing.{Lacks, drive_id, lacks}
+use Rattle.growth_laws.proofs.Due.{begin_parts, may_begin}
+use Rattle.growth_laws.proofs.Steps.{grows_one}
+use Rattle.raid_rack.specs.RaidRack.{no_array, raid_by}
+use Rattle.raid_rack.proofs.Grown.{begun_view, called_own, grows_answered, has_called, logs_there, refused_after, step_events}
+use Rattle.raid_rack.proofs.RaisedCalls.{raises_call}
+use Rattle.raid_rack.proofs.Resynced.{step_later, step_raise}
+use Rattle.raid_rack.proofs.Steps.{items_set, same_element}
+use Rattle.raid_rack.proofs.arrays.Arrays.begin_array.Goals as goal
+
+pub drive_id-drive-requires : goal.drive_id-drive-requires
+drive_id-drive-requires g c =
+    let a = c.args.self.now in
+    let n = c.args.number in
+    let place = c.args.place in
+    let x = g.S.Rack.seen c.args.rack.now in
+    let may = may_begin (raid_by a) x n place (drive_id a.state place) c.requires.running.set c.requires.heeded c.requires.due c.requires.clean c.requires.slice in
+    let low = may.becomes.low in
+    let count = c.requires.running.count in
+    (begin_parts (raid_by a) n place c.requires.due).listed
+
+pub begin-requires-clause-slices : goal.begin-requires-clause-slices
+begin-requires-clause-slices g c =
+    let a = c.args.self.now in
+    let n = c.args.number in
+    let place = c.args.place in
+    let x = g.S.Rack.seen c.args.rack.now in
+    let may = may_begin (raid_by a) x n place (drive_id a.state place) c.requires.running.set c.requires.heeded c.requires.due c.requires.clean c.requires.slice in
+    let low = may.becomes.low in
+    let count = c.requires.running.count in
+    let same = same_element c.deref_mut.result.now a.all.items n _ no_array c.deref_mut.ensures.value (omega (arith, count, low)) in
+    subst (λ (u : View). HasSlices (joined u c.current_places-on.result.items place c.drive_id-drive.result) x) (sym same)
+    (subst (λ ps. HasSlices (joined ((raid_by a).arrays n) ps place c.drive_id-drive.result) x) (sym c.current_places-on.ensures)
+    (subst (λ d. HasSlices (joined ((raid_by a).arrays n) (current_places a.state) place d) x) (sym c.drive_id-drive.ensures) may.becomes.seated.slices))
+
+pub begin-requires-clause-logs : goal.begin-requires-clause-logs
+begin-requires-clause-logs g c j low =
+    logs_there c.args.self.now (g.S.Rack.seen c.args.rack.now) c.current_places-on.result.items j c.requires.running c.requires.heeded c.current_places-on.ensures low
+
+pub begin-requires-clause-raid5 : goal.begin-requires-clause-raid5
+begin-requires-clause-raid5 g c =
+    let a = c.args.self.now in
+    let n = c.args.number in
+    let place = c.args.place in
+    let x = g.S.Rack.seen c.args.rack.now in
+    let may = may_begin (raid_by a) x n place (drive_id a.state place) c.requires.running.set c.requires.heeded c.requires.due c.requires.clean c.requires.slice in
+    let low = may.becomes.low in
+    let count = c.requires.running.count in
+    let same = same_element c.deref_mut.result.now a.all.items n _ no_array c.deref_mut.ensures.value (omega (arith, count, low)) in
+    subst (λ (u : View). is_raid5 u.truth ≡ true) (sym same) (begin_parts (raid_by a) n place c.requires.due).raid5
+
+pub begin-requires-clause-still : goal.begin-requires-clause-still
+begin-requires-clause-still g c =
+    let a = c.args.self.now in
+    let n = c.args.number in
+    let place = c.args.place in
+    let x = g.S.Rack.seen c.args.rack.now in
+    let may = may_begin (raid_by a) x n place (drive_id a.state place) c.requires.running.set c.requires.heeded c.requires.due c.requires.clean c.requires.slice in
+    let low = may.becomes.low in
+    let count = c.requires.running.count in
+    let same = same_element c.deref_mut.result.now a.all.items n _ no_array c.deref_mut.ensures.value (omega (arith, count, low)) in
+    subst (λ (u : View). is_reshaping u.truth ≡ false) (sym same) (begin_parts (raid_by a) n place c.requires.due).still
+
+pub begin-requires-clause-place : goal.begin-requires-clause-place
+begin-requires-clause-place g c =
+    let a = c.args.self.now in
+    let n = c.args.number in
+    let place = c.args.place in
+    let x = g.S.Rack.seen c.args.rack.now in
+    let may = may_begin (raid_by a) x n place (drive_id a.state place) c.requires.running.set c.requires.heeded c.requires.due c.requires.clean c.requires.slice in
+    let low = may.becomes.low in
+    let count = c.requires.running.count in
+    let few = c.requires.running.set.few in
+    let listed = (begin_parts (raid_by a) n place c.requires.due).listed in
+    omega (arith, few, listed)
+
+pub begin-requires-clause-joins : goal.begin-requires-clause-joins
+begin-requires-clause-joins g c =
+    let a = c.args.self.now in
+    let n = c.args.number in
+    let place = c.args.place in
+    let x = g.S.Rack.seen c.args.rack.now in
+    let may = may_begin (raid_by a) x n place (drive_id a.state place) c.requires.running.set c.requires.heeded c.requires.due c.requires.clean c.requires.slice in
+    let low = may.becomes.low in
+    let count = c.requires.running.count in
+    let same = same_element c.deref_mut.result.now a.all.items n _ no_array c.deref_mut.ensures.value (omega (arith, count, low)) in
+    subst (λ (u : View). seat_of u place ≡ None) (sym same) (begin_parts (raid_by a) n place c.requires.due).joins
+
+pub mend-requires : goal.mend-requires
+mend-requires g c =
+    let a = c.args.self.now in
+    let n = c.args.number in
+    let place = c.args.place in
+    let x = g.S.Rack.seen c.args.rack.now in
+    let may = may_begin (raid_by a) x n place (drive_id a.state place) c.requires.running.set c.requires.heeded c.requires.due c.requires.clean c.requires.slice in
+    let low = may.becomes.low in
+    let count = c.requires.running.count in
+    let same = same_element c.deref_mut.result.now a.all.items n _ no_array c.deref_mut.ensures.value (omega (arith, count, low)) in
+    let all = with_items a.all (slice_set c.deref_mut.result.now n c.begin.new.array) in
+    let all_is = items_set a.all c.deref_mut.result.now n c.begin.new.array c.deref_mut.ensures.value in
+    let called =
+    has_called (λ u. joined u (current_places a.state) place (drive_id a.state place)) a all c.begin.new.log x (g.S.Rack.seen c.begin.new.rack) n
+    c.clear.new.self.number _ c.begin.new.array c.begin.ensures.reshapes.steps.is_done c.requires.running c.requires.heeded same all_is
+    (ap (λ (l : LogView). l.number) c.clear.ensures) (step_later c.clear.new.self c.begin.new.log c.begin.ensures.log)
+    may.becomes c.begin.ensures.goes.stays
+    (begun_view _ c.begin.new.array c.current_places-on.result.items (current_places a.state) place c.drive_id-drive.result (drive_id a.state place) x (g.S.Rack.seen c.begin.new.rack)
+    c.begin.ensures.reshapes.steps.is_done c.current_places-on.ensures c.drive_id-drive.ensures c.begin.ensures.reshapes.steps.view) in
+    record { running = called.running }
+
+pub returns-then-not-lacked-clause-grows : goal.returns-then-not-lacked-clause-grows
+returns-then-not-lacked-clause-grows g c =
+    let a = c.args.self.now in
+    let n = c.args.number in
+    let place = c.args.place in
+    let x = g.S.Rack.seen c.args.rack.now in
+    let may = may_begin (raid_by a) x n place (drive_id a.state place) c.requires.running.set c.requires.heeded c.requires.due c.requires.clean c.requires.slice in
+    let low = may.becomes.low in
+    let count = c.requires.running.count in
+    let same = same_element c.deref_mut.result.now a.all.items n _ no_array c.deref_mut.ensures.value (omega (arith, count, low)) in
+    let all = with_items a.all (slice_set c.deref_mut.result.now n c.begin.new.array) in
+    let all_is = items_set a.all c.deref_mut.result.now n c.begin.new.array c.deref_mut.ensures.value in
+    let called =
+    has_called (λ u. joined u (current_places a.state) place (drive_id a.state place)) a all c.begin.new.log x (g.S.Rack.seen c.begin.new.rack) n
+    c.clear.new.self.number _ c.begin.new.array c.begin.ensures.reshapes.steps.is_done c.requires.running c.requires.heeded same all_is
+    (ap (λ (l : LogView). l.number) c.clear.ensures) (step_later c.clear.new.self c.begin.new.log c.begin.ensures.log)
+    may.becomes c.begin.ensures.goes.stays
+    (begun_view _ c.begin.new.array c.current_places-on.result.items (current_places a.state) place c.drive_id-drive.result (drive_id a.state place) x (g.S.Rack.seen c.begin.new.rack)
+    c.begin.ensures.reshapes.steps.is_done c.current_places-on.ensures c.drive_id-drive.ensures c.begin.ensures.reshapes.steps.view) in
+    let element = c.index-deref-number.is ∙ same_element c.deref.result.now a.all.items n _ no_array c.deref.ensures.0 (omega (arith, count, low)) in
+    let lacking : c.lacks_with-lacked.result ≡ lacks_joined ((raid_by a).arrays n) c.current_places-on.result.items place =
+    c.lacks_with-lacked.ensures ∙ ap (λ (u : View). lacks_joined u c.current_places-on.result.items place) element in
+    grows_answered (Begin n place) (Lacks (Begin n place)) a (record a { all = all; log = c.begin.new.log }) c.mend.new.self x (g.S.Rack.seen c.begin.new.rack) (g.S.Rack.seen c.mend.new.rack) n
+    (joined ((raid_by a).arrays n) (current_places a.state) place (drive_id a.state place)) c.begin.new.array c.begin.ensures.reshapes.steps.is_done (is_ok c.begin.result) _
+    refl low called (called_own a all n c.begin.new.array count low all_is) c.begin.ensures.reshapes.steps.answer
+    (refused_after _ (lacks_two c.begin.new.array) _ c.begin.result c.begin.ensures.refused
+    (ap (λ (u : View). lacks_joined u c.current_places-on.result.items place) same ∙ sym lacking ∙ c.if-not-lacked.true))
+    c.mend.ensures.mends may.longer (ap not c.lacks.ensures)
+    (λ is. inr (ap (λ (b : Bool). b || lacks_joined ((raid_by a).arrays n) (current_places a.state) place) is))
+
+pub returns-then-not-lacked-clause-raises : goal.returns-then-not-lacked-clause-raises
+returns-then-not-lacked-clause-raises g c =
+    let a = c.args.self.now in
+    let n = c.args.number in
+    let place = c.args.place in
+    let x = g.S.Rack.seen c.args.rack.now in
+    let may = may_begin (raid_by a) x n place (drive_id a.state place) c.requires.running.set c.requires.heeded c.requires.due c.requires.clean c.requires.slice in
+    let low = may.becomes.low in
+    let count = c.requires.running.count in
+    let same = same_element c.deref_mut.result.now a.all.items n _ no_array c.deref_mut.ensures.value (omega (arith, count, low)) in
+    raises_call 1 17 a c.mend.new.self (with_items a.all (slice_set c.deref_mut.result.now n c.begin.new.array)) c.begin.new.log n _ c.begin.new.array count low same
+    (items_set a.all c.deref_mut.result.now n c.begin.new.array c.deref_mut.ensures.value)
+    (let up = step_raise c.clear.new.self c.begin.new.log c.begin.ensures.log in let e = ap (λ (l : LogView). l.number) c.clear.ensures in omega (arith, up, e))
+    (step_events _ _ c.begin.new.array x (g.S.Rack.seen c.begin.new.rack) c.begin.ensures.reshapes.steps.is_done refl c.begin.ensures.reshapes.steps.view)
+    c.mend.ensures.raises
+
+pub returns-then-not-lacked-clause-runs : goal.returns-then-not-lacked-clause-runs
+returns-then-not-lacked-clause-runs g c = g.met.S.Rack.runs_then _ _ _ c.begin.ensures.runs c.mend.ensures.runs
+
+or_right : (b c : Bool) → c ≡ true → (b || c) ≡ true
+or_right true c is = refl
+or_right false c is = is
+
+pub returns-else-not-lacked-clause-grows : goal.returns-else-not-lacked-clause-grows
+returns-else-not-lacked-clause-grows g c =
+    let a = c.args.self.now in
+    let n = c.args.number in
+    let place = c.args.place in
+    let x = g.S.Rack.seen c.args.rack.now in
+    let may = may_begin (raid_by a) x n place (drive_id a.state place) c.requires.running.set c.requires.heeded c.requires.due c.requires.clean c.requires.slice in
+    let low = may.becomes.low in
+    let count = c.requires.running.count in
+    let same = same_element c.deref_mut.result.now a.all.items n _ no_array c.deref_mut.ensures.value (omega (arith, count, low)) in
+    let all = with_items a.all (slice_set c.deref_mut.result.now n c.begin.new.array) in
+    let all_is = items_set a.all c.deref_mut.result.now n c.begin.new.array c.deref_mut.ensures.value in
+    let called =
+    has_called (λ u. joined u (current_places a.state) place (drive_id a.state place)) a all c.begin.new.log x (g.S.Rack.seen c.begin.new.rack) n
+    c.clear.new.self.number _ c.begin.new.array c.begin.ensures.reshapes.steps.is_done c.requires.running c.requires.heeded same all_is
+    (ap (λ (l : LogView). l.number) c.clear.ensures) (step_later c.clear.new.self c.begin.new.log c.begin.ensures.log)
+    may.becomes c.begin.ensures.goes.stays
+    (begun_view _ c.begin.new.array c.current_places-on.result.items (current_places a.state) place c.drive_id-drive.result (drive_id a.state place) x (g.S.Rack.seen c.begin.new.rack)
+    c.begin.ensures.reshapes.steps.is_done c.current_places-on.ensures c.drive_id-drive.ensures c.begin.ensures.reshapes.steps.view) in
+    let element = c.index-deref-number.is ∙ same_element c.deref.result.now a.all.items n _ no_array c.deref.ensures.0 (omega (arith, count, low)) in
+    let lacking : c.lacks_with-lacked.result ≡ lacks_joined ((raid_by a).arrays n) c.current_places-on.result.items place =
+    c.lacks_with-lacked.ensures ∙ ap (λ (u : View). lacks_joined u c.current_places-on.result.items place) element in
+    grows_one (Begin n place) (Lacks (Begin n place)) (raid_by a) (raid_by (record a { all = all; log = c.begin.new.log })) (raid_by c.mend.new.self) n
+    (joined ((raid_by a).arrays n) (current_places a.state) place (drive_id a.state place)) x (g.S.Rack.seen c.begin.new.rack) (g.S.Rack.seen c.mend.new.rack)
+    c.begin.ensures.reshapes.steps.is_done (not c.lacks_with-lacked.result) refl called.stays called.calls
+    (λ is. absurd (both_ways (not c.lacks_with-lacked.result) (ap not c.if-not-lacked.false) is))
+    c.mend.ensures.mends may.longer
+    (λ refuses. inr (or_right (lacks (raid_by c.mend.new.self) n) (lacks_joined ((raid_by a).arrays n) (current_places a.state) place)
+    (ap (λ ps. lacks_joined ((raid_by a).arrays n) ps place) (sym c.current_places-on.ensures) ∙ sym lacking ∙ c.if-not-lacked.false)))
+
+pub returns-else-not-lacked-clause-raises : goal.returns-else-not-lacked-clause-raises
+returns-else-not-lacked-clause-raises g c =
+    let a = c.args.self.now in
+    let n = c.args.number in
+    let place = c.args.place in
+    let x = g.S.Rack.seen c.args.rack.now in
+    let may = may_begin (raid_by a) x n place (drive_id a.state place) c.requires.running.set c.requires.heeded c.requires.due c.requires.clean c.requires.slice in
+    let low = may.becomes.low in
+    let count = c.requires.running.count in
+    let same = same_element c.deref_mut.result.now a.all.items n _ no_array c.deref_mut.ensures.value (omega (arith, count, low)) in
+    raises_call 1 17 a c.mend.new.self (with_items a.all (slice_set c.deref_mut.result.now n c.begin.new.array)) c.begin.new.log n _ c.begin.new.array count low same
+    (items_set a.all c.deref_mut.result.now n c.begin.new.array c.deref_mut.ensures.value)
+    (let up = step_raise c.clear.new.self c.begin.new.log c.begin.ensures.log in let e = ap (λ (l : LogView). l.number) c.clear.ensures in omega (arith, up, e))
+    (step_events _ _ c.begin.new.array x (g.S.Rack.seen c.begin.new.rack) c.begin.ensures.reshapes.steps.is_done refl c.begin.ensures.reshapes.steps.view)
+    c.mend.ensures.raises
+
+pub returns-else-not-lacked-clause-runs : goal.returns-else-not-lacked-clause-runs
+returns-else-not-lacked-clause-runs g c = g.met.S.Rack.runs_then _ _ _ c.begin.ensures.runs c.mend.ensures.runs

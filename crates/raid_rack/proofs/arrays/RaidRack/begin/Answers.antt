@@ -1,0 +1,155 @@
+use Rattle.std.proofs.Common.{◌⊎◌, ◌<◌, ◌&&◌, Bool, true, false, ap, sym, subst, ◌∙◌, inl, inr, arith}
+use Rattle.array_core.proofs.LogWrites.{goes_then}
+use Rattle.pool_state.specs.declared.contents.Work.TheVariants.{Begin}
+use Rattle.slice_rack.specs.SliceRack.{below_of, tables}
+use Rattle.slice_rack.specs.Sliced.{slices_of}
+use Rattle.slice_rack.specs.Slices.{seat_of as disk_at}
+use Rattle.raid_laws.specs.Raid.{Raid}
+use Rattle.growth_laws.specs.Growing.{Grows, Lacks, is_clean, is_due}
+use Rattle.growth_laws.proofs.Due.{begin_parts}
+use Rattle.growth_laws.proofs.Losing.{moves_caused, moves_lose}
+use Rattle.growth_laws.proofs.Steps.{grows_behind, grows_nothing}
+use Rattle.raid_rack.specs.Growing.{CannotLay}
+use Rattle.raid_rack.specs.RaidRack.{no_array, raid_by, raid_in, slices_seen}
+use Rattle.raid_rack.proofs.Grown.{not_clean}
+use Rattle.raid_rack.proofs.Laid.{cannot_before, faults_rise, goes_same, runs_goes, runs_stay}
+use Rattle.raid_rack.proofs.Raises.{raises_more, raises_then}
+use Rattle.raid_rack.proofs.Steps.{same_element}
+use Rattle.raid_rack.proofs.arrays.RaidRack.begin.Goals.{then-not-may_begin-2-via-then-not-may_begin-2, then-not-may_begin-2-via-else-not-may_begin-2+then-not-is_clean}
+use Rattle.raid_rack.proofs.arrays.RaidRack.begin.Goals as goal
+
+pub returns-then-not-may_begin-2-clause-grows : goal.returns-then-not-may_begin-2-clause-grows
+returns-then-not-may_begin-2-clause-grows g c due =
+    let b = c.clean_array.new.self in
+    let n = c.args.array in
+    let place = c.args.place in
+    let v = raid_in c.args.self.now in
+    let w = raid_by b in
+    let x = slices_seen g.R.Rack.seen c.args.self.now in
+    let y = slices_of (tables c.clean_array.new.rack) (g.R.Rack.seen (below_of c.clean_array.new.rack)) in
+    let moves = c.clean_array.ensures.cleans.moves in
+    let low = subst (λ k. n < k) (sym moves.book.same.made) (begin_parts v n place due).synced.low in
+    let count = c.clean_array.ensures.running.count in
+    let L : Raid → Raid → Type 0 =
+    λ mid w. Lacks (Begin n place) mid w ⊎ CannotLay (tables c.args.self.now.slices) (g.R.Rack.seen (below_of c.args.self.now.slices)) mid place n in
+    grows_nothing (Begin n place) L v w x y (moves_lose v w x y moves) (moves_caused v w x y moves) c.clean_array.ensures.cleans.heeded
+    (inl (inl (elim c.then-not-may_begin-2.branch [
+      | then-not-may_begin-2-via-then-not-may_begin-2 k ↦ ap (λ (is : Bool). is && is_clean (w.arrays n)) (sym c.may_begin-2.ensures ∙ k.if-not-may_begin-2.true)
+      | then-not-may_begin-2-via-else-not-may_begin-2+then-not-is_clean k ↦
+          not_clean (is_due w (Begin n place)) (is_clean (w.arrays n))
+          (sym (ap is_clean (k.index-deref-array.is ∙ same_element k.deref.result.now b.all.items n _ no_array k.deref.ensures.0 (omega (arith, count, low))))
+          ∙ sym k.is_clean.ensures ∙ k.if-not-is_clean.true)
+    ])))
+
+pub returns-then-not-may_begin-2-clause-raises : goal.returns-then-not-may_begin-2-clause-raises
+returns-then-not-may_begin-2-clause-raises g c =
+    raises_more 18 36 (raid_in c.args.self.now) (raid_by c.clean_array.new.self) (omega arith) c.clean_array.ensures.raises
+
+pub returns-then-join_member-clause-grows : goal.returns-then-join_member-clause-grows
+returns-then-join_member-clause-grows g c due =
+    let n = c.args.array in
+    let place = c.args.place in
+    let seen = g.R.Rack.seen in
+    let v = raid_in c.args.self.now in
+    let u = raid_by c.clean_array.new.self in
+    let w = raid_in c.join_member.new.self in
+    let t = tables c.args.self.now.slices in
+    let t1 = tables c.clean_array.new.rack in
+    let x = slices_seen g.R.Rack.seen c.args.self.now in
+    let y = slices_of (tables c.clean_array.new.rack) (g.R.Rack.seen (below_of c.clean_array.new.rack)) in
+    let z = slices_seen g.R.Rack.seen c.join_member.new.self in
+    let moves = c.clean_array.ensures.cleans.moves in
+    let stays =
+    runs_stay t t1 (seen (below_of c.args.self.now.slices)) (seen (below_of c.clean_array.new.rack)) _ c.clean_array.ensures.runs c.requires.fit.running.set.fit in
+    let L : Raid → Raid → Type 0 =
+    λ mid w. Lacks (Begin n place) mid w ⊎ CannotLay (tables c.args.self.now.slices) (g.R.Rack.seen (below_of c.args.self.now.slices)) mid place n in
+    let L1 : Raid → Raid → Type 0 =
+    λ mid w. Lacks (Begin n place) mid w ⊎ CannotLay (tables c.clean_array.new.rack) (g.R.Rack.seen (below_of c.clean_array.new.rack)) mid place n in
+    grows_behind (Begin n place) L1 L v u w x y z true moves.stays.faults
+    (faults_rise t1 (tables c.join_member.new.self.slices) (seen (below_of c.clean_array.new.rack)) (seen (below_of c.join_member.new.self.slices)) c.join_member.ensures.goes.stays
+    c.join_member.ensures.seats)
+    (moves_lose v u x y moves) (moves_caused v u x y moves)
+    (λ mid z is. elim is [
+      | inl lacks ↦ inl lacks
+      | inr cannot ↦
+          inr (cannot_before t t1 (seen (below_of c.args.self.now.slices)) (seen (below_of c.clean_array.new.rack)) mid place n c.clean_array.ensures.runs.tables stays cannot)
+    ])
+    (subst (λ (answered : Bool). Grows (Begin n place) L1 u w y z answered) c.if-join_member.true c.join_member.ensures.grows)
+
+pub returns-then-join_member-clause-raises : goal.returns-then-join_member-clause-raises
+returns-then-join_member-clause-raises g c =
+    raises_then 18 18 (raid_in c.args.self.now) (raid_by c.clean_array.new.self) (raid_in c.join_member.new.self) c.clean_array.ensures.cleans.moves.book.same.made
+    c.clean_array.ensures.raises c.join_member.ensures.raises
+
+pub returns-then-join_member-clause-written : goal.returns-then-join_member-clause-written
+returns-then-join_member-clause-written g c n other = c.join_member.ensures.written n ∙ c.note_written.ensures.others n other
+
+pub returns-then-join_member-clause-seats : goal.returns-then-join_member-clause-seats
+returns-then-join_member-clause-seats g c p = c.join_member.ensures.seats p ∙ ap (λ t. disk_at t p) c.clean_array.ensures.runs.tables
+
+pub returns-then-join_member-clause-goes : goal.returns-then-join_member-clause-goes
+returns-then-join_member-clause-goes g c =
+    goes_then _ _ _
+    (runs_goes (tables c.args.self.now.slices) (tables c.clean_array.new.rack) _ _ _ c.clean_array.ensures.runs c.requires.fit.running.set.fit)
+    c.join_member.ensures.goes
+
+pub returns-then-join_member-clause-runs : goal.returns-then-join_member-clause-runs
+returns-then-join_member-clause-runs g c = g.met.R.Rack.runs_then _ _ _ c.clean_array.ensures.runs.below c.join_member.ensures.runs
+
+pub returns-else-join_member-clause-grows : goal.returns-else-join_member-clause-grows
+returns-else-join_member-clause-grows g c due =
+    let n = c.args.array in
+    let place = c.args.place in
+    let seen = g.R.Rack.seen in
+    let v = raid_in c.args.self.now in
+    let u = raid_by c.clean_array.new.self in
+    let w = raid_in c.join_member.new.self in
+    let t = tables c.args.self.now.slices in
+    let t1 = tables c.clean_array.new.rack in
+    let x = slices_seen g.R.Rack.seen c.args.self.now in
+    let y = slices_of (tables c.clean_array.new.rack) (g.R.Rack.seen (below_of c.clean_array.new.rack)) in
+    let z = slices_seen g.R.Rack.seen c.join_member.new.self in
+    let moves = c.clean_array.ensures.cleans.moves in
+    let stays =
+    runs_stay t t1 (seen (below_of c.args.self.now.slices)) (seen (below_of c.clean_array.new.rack)) _ c.clean_array.ensures.runs c.requires.fit.running.set.fit in
+    let L : Raid → Raid → Type 0 =
+    λ mid w. Lacks (Begin n place) mid w ⊎ CannotLay (tables c.args.self.now.slices) (g.R.Rack.seen (below_of c.args.self.now.slices)) mid place n in
+    let L1 : Raid → Raid → Type 0 =
+    λ mid w. Lacks (Begin n place) mid w ⊎ CannotLay (tables c.clean_array.new.rack) (g.R.Rack.seen (below_of c.clean_array.new.rack)) mid place n in
+    grows_behind (Begin n place) L1 L v u w x y z false moves.stays.faults
+    (faults_rise t1 (tables c.join_member.new.self.slices) (seen (below_of c.clean_array.new.rack)) (seen (below_of c.join_member.new.self.slices)) c.join_member.ensures.goes.stays
+    c.join_member.ensures.seats)
+    (moves_lose v u x y moves) (moves_caused v u x y moves)
+    (λ mid z is. elim is [
+      | inl lacks ↦ inl lacks
+      | inr cannot ↦
+          inr (cannot_before t t1 (seen (below_of c.args.self.now.slices)) (seen (below_of c.clean_array.new.rack)) mid place n c.clean_array.ensures.runs.tables stays cannot)
+    ])
+    (subst (λ (answered : Bool). Grows (Begin n place) L1 u w y z answered) c.if-join_member.false c.join_member.ensures.grows)
+
+pub returns-else-join_member-clause-raises : goal.returns-else-join_member-clause-raises
+returns-else-join_member-clause-raises g c =
+    raises_then 18 18 (raid_in c.args.self.now) (raid_by c.clean_array.new.self) (raid_in c.join_member.new.self) c.clean_array.ensures.cleans.moves.book.same.made
+    c.clean_array.ensures.raises c.join_member.ensures.raises
+
+pub returns-else-join_member-clause-written : goal.returns-else-join_member-clause-written
+returns-else-join_member-clause-written g c n other = c.join_member.ensures.written n ∙ c.note_written.ensures.others n other
+
+pub returns-else-join_member-clause-seats : goal.returns-else-join_member-clause-seats
+returns-else-join_member-clause-seats g c p = c.join_member.ensures.seats p ∙ ap (λ t. disk_at t p) c.clean_array.ensures.runs.tables
+
+pub returns-else-join_member-clause-goes : goal.returns-else-join_member-clause-goes
+returns-else-join_member-clause-goes g c =
+    goes_then _ _ _
+    (runs_goes (tables c.args.self.now.slices) (tables c.clean_array.new.rack) _ _ _ c.clean_array.ensures.runs c.requires.fit.running.set.fit)
+    c.join_member.ensures.goes
+
+pub returns-else-join_member-clause-runs : goal.returns-else-join_member-clause-runs
+returns-else-join_member-clause-runs g c = g.met.R.Rack.runs_then _ _ _ c.clean_array.ensures.runs.below c.join_member.ensures.runs
+
+pub returns-then-not-may_begin-2-clause-goes : goal.returns-then-not-may_begin-2-clause-goes
+returns-then-not-may_begin-2-clause-goes g c =
+    runs_goes (tables c.args.self.now.slices) (tables c.clean_array.new.rack) _ _ _ c.clean_array.ensures.runs c.requires.fit.running.set.fit
+
+pub returns-then-not-may_begin-clause-goes : goal.returns-then-not-may_begin-clause-goes
+returns-then-not-may_begin-clause-goes g c = goes_same _ c.requires.fit.running.set.fit.0

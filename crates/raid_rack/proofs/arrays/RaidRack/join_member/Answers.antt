@@ -1,0 +1,77 @@
+use Rattle.std.proofs.Common.{◌⊎◌, false, ap, sym, subst, ◌∙◌, inl, inr, arith}
+use Rattle.pool_state.specs.declared.contents.Work.TheVariants.{Begin}
+use Rattle.array_core.specs.Pool.{Goes}
+use Rattle.slice_rack.specs.SliceRack.{below_of, tables}
+use Rattle.slice_rack.specs.Sliced.{slices_of}
+use Rattle.slice_rack.specs.Slices.{seat_of as disk_at}
+use Rattle.raid_laws.specs.Raid.{Raid}
+use Rattle.growth_laws.specs.Growing.{Grows, Lacks}
+use Rattle.growth_laws.proofs.Due.{begin_parts}
+use Rattle.growth_laws.proofs.Losing.{loses_nothing}
+use Rattle.growth_laws.proofs.Steps.{caused_nothing, grows_nothing, grows_over}
+use Rattle.raid_rack.specs.Growing.{CannotLay}
+use Rattle.raid_rack.specs.RaidRack.{raid_by, raid_in, slices_seen}
+use Rattle.raid_rack.proofs.Laid.{runs_goes, same_faults}
+use Rattle.raid_rack.proofs.arrays.RaidRack.join_member.Goals as goal
+
+pub lay_member-requires-clause-apart : goal.lay_member-requires-clause-apart
+lay_member-requires-clause-apart g c = (begin_parts (raid_by c.args.self.now.arrays) c.args.array c.args.place c.requires.due).joins
+
+pub returns-then-not-lay_member-clause-grows : goal.returns-then-not-lay_member-clause-grows
+returns-then-not-lay_member-clause-grows g c =
+    let n = c.args.array in
+    let place = c.args.place in
+    let v = raid_in c.args.self.now in
+    let x = slices_seen g.R.Rack.seen c.args.self.now in
+    let y = slices_seen g.R.Rack.seen c.lay_member.new.self in
+    let L : Raid → Raid → Type 0 =
+    λ mid w. Lacks (Begin n place) mid w ⊎ CannotLay (tables c.args.self.now.slices) (g.R.Rack.seen (below_of c.args.self.now.slices)) mid place n in
+    subst (λ k. Grows (Begin n place) L v (raid_by k) x y false) (sym c.lay_member.ensures.arrays)
+    (grows_nothing (Begin n place) L v v x y (loses_nothing v) (caused_nothing v x y) c.requires.fit.heeded (inr (c.lay_member.ensures.cannot c.if-not-lay_member.true)))
+
+pub drop_member-requires-clause-place : goal.drop_member-requires-clause-place
+drop_member-requires-clause-place g c =
+    let listed = (begin_parts (raid_by c.args.self.now.arrays) c.args.array c.args.place c.requires.due).listed in
+    let few = c.requires.fit.running.set.few in
+    omega (arith, listed, few)
+
+pub returns-clause-grows : goal.returns-clause-grows
+returns-clause-grows g c =
+    let n = c.args.array in
+    let place = c.args.place in
+    let v = raid_in c.args.self.now in
+    let seen = g.R.Rack.seen in
+    let x = slices_seen g.R.Rack.seen c.args.self.now in
+    let y = slices_seen g.R.Rack.seen c.drop_member.new.self in
+    let t = tables c.args.self.now.slices in
+    let t1 = tables c.lay_member.new.self.slices in
+    let t2 = tables c.begin_array-begun.new.rack in
+    let t3 = tables c.drop_member.new.self.slices in
+    let L : Raid → Raid → Type 0 =
+    λ mid w. Lacks (Begin n place) mid w ⊎ CannotLay (tables c.args.self.now.slices) (g.R.Rack.seen (below_of c.args.self.now.slices)) mid place n in
+    subst (λ k. Grows (Begin n place) L (raid_by k) (raid_in c.drop_member.new.self) x y c.begin_array-begun.result) c.lay_member.ensures.arrays
+    (subst (λ k. Grows (Begin n place) L (raid_by c.lay_member.new.self.arrays) (raid_by k) x y c.begin_array-begun.result) (sym c.drop_member.ensures.arrays)
+    (grows_over (Begin n place) (Lacks (Begin n place)) L (raid_by c.lay_member.new.self.arrays) (raid_by c.begin_array-begun.new.self)
+    (slices_of t1 (seen (below_of c.lay_member.new.self.slices))) (slices_of t2 (seen (below_of c.begin_array-begun.new.rack))) x y c.begin_array-begun.result
+    (λ d. sym (ap (λ r. (slices_of t1 (seen r)).faults d) c.lay_member.ensures.below ∙ same_faults t t1 (seen (below_of c.args.self.now.slices)) c.lay_member.ensures.seats d))
+    (λ d. ap (λ r. (slices_of t3 (seen r)).faults d) c.drop_member.ensures.below ∙ same_faults t2 t3 (seen (below_of c.begin_array-begun.new.rack)) c.drop_member.ensures.seats d)
+    (λ mid w is. inl is) c.begin_array-begun.ensures.grows))
+
+pub returns-clause-refused : goal.returns-clause-refused
+returns-clause-refused g c n = c.drop_member.ensures.refused n ∙ c.lay_member.ensures.refused n
+
+pub returns-clause-written : goal.returns-clause-written
+returns-clause-written g c n = c.drop_member.ensures.written n ∙ c.lay_member.ensures.written n
+
+pub returns-clause-seats : goal.returns-clause-seats
+returns-clause-seats g c p = c.drop_member.ensures.seats p ∙ ap (λ t. disk_at t p) c.begin_array-begun.ensures.runs.tables ∙ c.lay_member.ensures.seats p
+
+pub returns-clause-goes : goal.returns-clause-goes
+returns-clause-goes g c =
+    let seen = g.R.Rack.seen in
+    let after = below_of c.begin_array-begun.new.rack in
+    let ran =
+    runs_goes (tables c.lay_member.new.self.slices) (tables c.begin_array-begun.new.rack) _ _ _ c.begin_array-begun.ensures.runs
+    c.lay_member.ensures.fit.running.set.fit in
+    subst (λ r. Goes (seen (below_of c.args.self.now.slices)) (seen r)) (sym c.drop_member.ensures.below)
+    (subst (λ r. Goes (seen r) (seen after)) c.lay_member.ensures.below ran)

@@ -1,0 +1,212 @@
+-- What lines of a script keep whatever becomes of the pool's volume.
+use Rattle.std.proofs.Common.{◌≡◌, ℕ, ◌||◌, true, false, List, [], ◌∷◌, ◌++◌, append_assoc, Result, Ok, refl, sym, ◌∙◌, ap, subst, inl, inr, arith}
+use Rattle.std.proofs.lemmas.Bool.{both_ways, cases_Bool, cases_eq, ne_eqb}
+use Rattle.std.proofs.lemmas.List.{append-nil}
+use Rattle.array_image.specs.States.{is_current}
+use Rattle.pool_state.specs.declared.contents.Plan.TheVariants.{Replace as Replacing}
+use Rattle.raid_rack.proofs.Enlisted.{current_enlisted}
+use Rattle.shr_script.specs.declared.Command.TheVariants.{Read, Replace}
+use Rattle.shr_script.specs.Line.{Line}
+use Rattle.shr_script.specs.Reply.{data_line}
+use Rattle.pool.proofs.Booked.{raises_still}
+use Rattle.pool.specs.Calls.{ReadsSector}
+use Rattle.pool.specs.declared.calls.SectorFault.{SectorFault}
+use Rattle.pool.specs.Continuing.{Continues}
+use Rattle.pool.specs.Keeping.{Raises}
+use Rattle.pool.specs.Moment.{Moment, moment_of}
+use Rattle.pool.specs.Proceeding.{Proceeds}
+use Rattle.pool.specs.View.{View, book, volume}
+use Rattle.shr_tool.specs.declared.perform.Answer.{Answer}
+use Rattle.shr_tool.specs.Events.{Event, calls_in, line_of, takes_disk}
+use Rattle.shr_tool.specs.Events.Event.{answered, spent, lost, last, replaced, declined, stepped, stuck, shown}
+use Rattle.shr_tool.specs.Growing.{GrowsAlong, GrowsOn, IsAgainst, IsReplyTo, MarksWent, ProceedsTo}
+use Rattle.shr_tool.specs.Serving.{Acts, Answers}
+use Rattle.shr_tool.specs.Timeline.{Performs}
+use Rattle.shr_tool.proofs.Serial.{listed_by, replaced_by}
+
+-- ---- the bay goes on
+
+-- no call
+pub proceeds_same : (x : View) → (volume x).fit → Proceeds x x
+proceeds_same x fit = record {
+  fit = fit;
+  disks = omega arith;
+  sectors = λ d low. refl;
+  faults = λ d low. omega arith;
+  names = λ d name is. is;
+  waits = λ name. inl refl;
+  told = λ told. told;
+  traced = λ told traced. traced;
+  later = λ told traced. omega arith;
+  past = λ told traced k i until stopped. stopped;
+}
+
+-- calls that keep the volume
+pub proceeds_of : (x y : View) → Continues x y → Proceeds x y
+proceeds_of x y continues = record {
+  fit = continues.fit;
+  disks = continues.disks;
+  sectors = continues.sectors;
+  faults = continues.faults;
+  names = continues.names;
+  waits = continues.waits;
+  told = continues.told;
+  traced = continues.traced;
+  later = continues.later;
+  past = continues.past;
+}
+
+-- calls in a row
+pub proceeds_then : (x y z : View) → Proceeds x y → Proceeds y z → Proceeds x z
+proceeds_then x y z one two =
+    let more = one.disks in
+    record {
+      fit = two.fit;
+      disks = let rest = two.disks in omega (arith, more, rest);
+      sectors = λ d low. two.sectors d (omega (arith, low, more)) ∙ one.sectors d low;
+      faults = λ d low. let first = one.faults d low in let second = two.faults d (omega (arith, low, more)) in omega (arith, first, second);
+      names = λ d name is. two.names d name (one.names d name is);
+      waits = λ name.
+          elim (two.waits name) [
+            | inl still ↦ elim (one.waits name) [
+              | inl same ↦ inl (still ∙ same)
+              | inr taken ↦ inr (still ∙ taken.0, (taken.1.0, taken.1.1, two.names taken.1.0 name taken.1.2))
+            ]
+            | inr taken ↦ inr (taken.0, (taken.1.0, (let past = taken.1.1 in omega (arith, past, more)), taken.1.2))
+          ];
+      told = λ told. two.told (one.told told);
+      traced = λ told traced. two.traced (one.told told) (one.traced told traced);
+      later = λ told traced.
+          let first = one.later told traced in
+          let second = two.later (one.told told) (one.traced told traced) in
+          omega (arith, first, second);
+      past = λ told traced k i until stopped.
+          let first = one.later told traced in
+          one.past told traced k i until (two.past (one.told told) (one.traced told traced) k i (omega (arith, first, until)) stopped);
+    }
+
+-- ---- an event
+
+-- a drive that is replaced is marked, or another one by its own fault
+marks_replaced : (x y : View) (place : ℕ) (name text : List ℕ) → Performs x y (replaced place name) text
+    → MarksWent (IsAgainst (Ok (Replace place name))) (moment_of x) (moment_of y)
+marks_replaced x y place name text performs k was now =
+    let by = replaced_by x y place name text performs in
+    let is = by.2 in
+    elim (cases_eq k place) [
+      | inl same ↦ inr (inr (inr (name, ap (λ p. Ok (Replace p name)) (sym same))))
+      | inr other ↦
+          inr
+          (inl
+          (is.cause k
+          (current_enlisted place is.units (Replacing place) (book x).state k (listed_by x y place name text performs)
+          ∙ (ap (λ b. b || is_current (book x).state k) (ne_eqb k place other) ∙ was))
+          now))
+    ]
+
+-- one that names a disk
+marks_taking : (x y : View) (event : Event) (text : List ℕ) → takes_disk event ≡ true → Performs x y event text
+    → MarksWent (IsAgainst (line_of event)) (moment_of x) (moment_of y)
+marks_taking x y (answered line) text takes does = absurd (both_ways false refl takes)
+marks_taking x y (spent line sector) text takes does = absurd (both_ways false refl takes)
+marks_taking x y (lost place) text takes does = absurd (both_ways false refl takes)
+marks_taking x y (last place) text takes does = absurd (both_ways false refl takes)
+marks_taking x y (replaced place name) text takes does = marks_replaced x y place name text does
+marks_taking x y (declined place name fault) text takes does = λ k was now. inl (does.cause.1.cause k was now)
+marks_taking x y (stepped count left) text takes does = absurd (both_ways false refl takes)
+marks_taking x y (stuck count array) text takes does = absurd (both_ways false refl takes)
+marks_taking x y (shown text') text takes does = absurd (both_ways false refl takes)
+
+-- drives are marked in an event that refused a call, or that its line names
+marks_performed : (x y : View) (event : Event) (text : List ℕ) → Performs x y event text → MarksWent (IsAgainst (line_of event)) (moment_of x) (moment_of y)
+marks_performed x y event text performs = elim (cases_Bool (takes_disk event)) [
+  | inl takes ↦ marks_taking x y event text takes performs
+  | inr none ↦ λ k was now. elim ((performs.marks none).cause k was now) [
+    | inl rose ↦ inl rose
+    | inr same ↦ inr (inr (inl (ap line_of same)))
+  ]
+]
+
+-- a line that was done on a pool keeps what one keeps on a pool that has grown
+pub grows_of : (x y : View) (line : Line) (answer : Answer) (text : List ℕ) → Answers x y line answer text → GrowsOn x y line text
+grows_of x y line answer text answers =
+    let performs = answers.performs in
+    record {
+      proceeds = proceeds_of x y performs.continues;
+      marks = subst (λ l. MarksWent (IsAgainst l) (moment_of x) (moment_of y)) answers.line_is (marks_performed x y answers.event text performs);
+      raises = subst (λ l. Raises (calls_in l) x y) answers.line_is performs.raises;
+      reply = answers.reply;
+    }
+
+pub grows_by : (x y : View) (line : Line) (answer : Answer) (text : List ℕ) → Acts x y line answer text → GrowsOn x y line text
+grows_by x y line answer text acts = elim acts [ inl answers ↦ grows_of x y line answer text answers | inr grows ↦ grows.1 ]
+
+-- no call
+pub grows_still : (x : View) (line : Line) (text : List ℕ) → (volume x).fit → IsReplyTo (moment_of x) line text → GrowsOn x x line text
+grows_still x line text fit reply = record {
+  proceeds = proceeds_same x fit;
+  marks = λ place was now. absurd (both_ways (is_current (book x).state place) now was);
+  raises = raises_still (calls_in line) x;
+  reply = reply;
+}
+
+-- ---- replies
+
+pub read_reply :
+    {X : Type 0} (x y : View) (sector : ℕ) (into text : List ℕ) (r : Result X SectorFault)
+    → text ≡ data_line into
+    → ReadsSector x y sector into r
+    → IsReplyTo (moment_of y) (Ok (Read sector)) text
+read_reply x y sector into text r is read = inl (into, is)
+
+-- ---- lines in a row
+
+-- as calls between two moments
+pub proceeds_to :
+    (x y : View) (Traced : Type 0) (Lost : ℕ → Type 0) (calls : ℕ) → (Traced → x.shelf.told × x.bay.traced)
+    → Proceeds x y → MarksWent Lost (moment_of x) (moment_of y) → Raises calls x y → ProceedsTo Traced Lost calls (moment_of x) (moment_of y)
+proceeds_to x y Traced Lost calls told proceeds marks raises = record {
+  later = λ traced. proceeds.later (told traced).0 (told traced).1;
+  disks = record {
+    disks = proceeds.disks;
+    sectors = proceeds.sectors;
+    faults = proceeds.faults;
+    names = proceeds.names;
+    waits = proceeds.waits;
+  };
+  marks = marks;
+  raises = raises;
+}
+
+pub proceeds_for : (P Q : Type 0) (Lost : ℕ → Type 0) (calls : ℕ) (p q : Moment) → (Q → P) → ProceedsTo P Lost calls p q → ProceedsTo Q Lost calls p q
+proceeds_for P Q Lost calls p q for proceeds =
+    record { later = λ traced. proceeds.later (for traced); disks = proceeds.disks; marks = proceeds.marks; raises = proceeds.raises }
+
+-- one line more
+pub along_more :
+    (Traced : Type 0) (p : Moment) (lines : List Line) (said : List ℕ) (q r : Moment) (line : Line) (text : List ℕ)
+    → GrowsAlong Traced p lines said q
+    → ProceedsTo Traced (IsAgainst line) (calls_in line) q r
+    → IsReplyTo r line text
+    → GrowsAlong Traced p (lines ++ line ∷ []) (said ++ text) r
+along_more Traced p [] said q r line text along proceeds reply =
+    (r, text, [], subst (λ m. ProceedsTo Traced (IsAgainst line) (calls_in line) m r) (sym along.0) proceeds, reply, end, (refl, refl))
+  where
+    end : said ++ text ≡ text ++ []
+    end = ap (λ s. s ++ text) along.1 ∙ sym (append-nil text)
+along_more Traced p (first ∷ lines) said q r line text along proceeds reply = (
+  along.0,
+  along.1,
+  along.2 ++ text,
+  along.3,
+  along.4,
+  ap (λ s. s ++ text) along.5 ∙ append_assoc along.1 along.2 text,
+  along_more Traced along.0 lines along.2 q r line text along.6 proceeds reply,
+)
+
+-- where stops are told for another reason
+pub along_for :
+    (P Q : Type 0) (p : Moment) (lines : List Line) (said : List ℕ) (q : Moment) → (Q → P) → GrowsAlong P p lines said q → GrowsAlong Q p lines said q
+along_for P Q p [] said q for along = along
+along_for P Q p (line ∷ lines) said q for along =
+    (along.0, along.1, along.2, proceeds_for P Q (IsAgainst line) (calls_in line) p along.0 for along.3, along.4, along.5, along_for P Q along.0 lines along.2 q for along.6)

@@ -1,0 +1,205 @@
+-- Calls that write nothing make no change of the book, whoever goes in them.
+use Rattle.std.proofs.Common.{◌≡◌, ℕ, ◌<◌, Bool, true, false, [], refl, sym, ap, subst, ◌∙◌, inl, inr}
+use Rattle.rack.specs.Values.{Values}
+use Rattle.pool_state.specs.declared.contents.State.{State}
+use Rattle.rack.specs.Seen.{IsPick, Seen}
+use Rattle.rack.specs.Joins.{leaves_weaker}
+use Rattle.rack.specs.Sequences.{OnlyReads}
+use Rattle.array_image.specs.Arrays.{replayed}
+use Rattle.array_image.specs.Left.{IsClosed, IsInside}
+use Rattle.array_image.specs.SoundArray.{first_unsynced, IsWrittenSuper}
+use Rattle.array_image.specs.States.{is_current}
+use Rattle.log_laws.specs.Kept.{LogKept}
+use Rattle.log_laws.proofs.HeldCopies.{holds_keeps}
+use Rattle.log_laws.proofs.KeptAfter.{kept_keeps, kept_more}
+use Rattle.md_super.specs.declared.superblock.Super.{Super}
+use Rattle.array_model.specs.ArrayCalls.{Covers}
+use Rattle.array_model.specs.Members.{IsSameButSeats}
+use Rattle.array_model.specs.Says.{Holds, HoldsShape, IsEarlier}
+use Rattle.array_model.specs.View.{may_vary, shape_of, spent_in, View}
+use Rattle.raid_laws.specs.Frames.{frame_of}
+use Rattle.array_model.proofs.Keeping.{keeping_calls, left_before, pick_before}
+use Rattle.transition_laws.specs.Holds.{has_sector, HoldsBook, IsFrom, IsPromised, IsSameArrayAs, is_sector, moved_to, Promise, RestsArrays, spent_at, Stands, StandsArray}
+use Rattle.transition_laws.specs.Makes.{Makes, Suits}
+use Rattle.raid_laws.specs.Moves.{AreMarked}
+use Rattle.raid_laws.specs.Raid.{gone_in, is_over, Raid}
+use Rattle.raid_laws.proofs.Noted.{live_later}
+use Rattle.transition_laws.proofs.Shown.{members_of, spent_other, stands_book}
+use Rattle.transition_laws.proofs.Standing.{holds_of}
+use Rattle.std.proofs.lemmas.Bool.{cases_eq}
+use Rattle.raid_laws.proofs.Since.{each_read}
+
+-- the run afterwards: places may have gone, and arrays are as it has noted them
+pub record Reads (d v w : Raid) (vals : ℕ → ℕ → Values) (a b : Seen) : Type 0 where
+  pub lasting : a.lasting
+  pub reads : OnlyReads a b
+  pub state : w.state ≡ v.state
+  pub kept : (p : Promise) → IsPromised p w → Stands d v p vals a → LogKept d.state w.number (gone_in w) b
+  pub back : (p : Promise) → Suits p [] d → IsPromised p w → IsPromised p v
+  pub someone : (n : ℕ) → is_over w n ≡ false → (q : ℕ) × (is_current d.state q ≡ true) × (gone_in w q ≡ false)
+  pub arrays : (p : Promise) → IsPromised p w → Stands d v p vals a → (n : ℕ) → p.live n ≡ true → n < d.state.made → StandsArray (d.arrays n) (w.arrays n) n (vals n) (spent_at p n (d.arrays n)) b
+  pub alike : (p : Promise) → IsPromised p w → Stands d v p vals a → AreMarked w → (n : ℕ) → p.live n ≡ true → n < d.state.made → IsSameArrayAs (d.arrays n) (w.arrays n)
+
+pub read_makes : (d v w : Raid) (vals : ℕ → ℕ → Values) (a b : Seen) → Reads d v w vals a b → Makes [] d v w vals vals a b
+read_makes d v w vals a b call =
+    let stays = call.reads.stays in
+    let keeps = call.reads.keeps in
+    record {
+      due = tt;
+      stays = stays;
+      back = call.back;
+      grows = λ n y u may. may;
+      stops = λ p suits promised stands traced.
+          leaves_weaker (IsPick a b a.held) (λ c. IsInside a.sectors c → HoldsBook d p vals a.sectors c)
+          (λ c pick inside. stands_book d v p vals a stands c (pick_before call.lasting stays c inside pick)) (keeps.stops traced);
+      after = λ p suits promised stands. record {
+        few = stands.few;
+        one = stands.one;
+        log = call.kept p promised stands;
+        someone = call.someone p.one (promised.goes p.one promised.is_one (subst (λ (s : State). p.one < s.made) (sym (call.state ∙ stands.same)) stands.one));
+        copies = holds_keeps d.state a b call.lasting stays keeps stands.copies;
+        since = (each_read (IsFrom p.origin) a b call.lasting stays keeps stands.log.logs stands.since).holds;
+        same = call.state ∙ stands.same;
+        images = λ c picks.
+            let before = left_before call.lasting stays (λ e t live. keeps.held e t live) (replayed b.sectors c) (c, picks, λ e t. refl) in
+            subst (RestsArrays d p vals) (λ i e t. sym (before.2 e t) i) (stands.images before.0 before.1);
+        arrays = call.arrays p promised stands;
+        alike = call.alike p promised stands;
+        slices = live_later d.state.made a b stays call.lasting stands.slices;
+      };
+    }
+
+-- the log is kept by them where its number stays
+pub read_log : (d v w : Raid) (a b : Seen) → a.lasting → OnlyReads a b → w.number ≡ v.number → ((q : ℕ) → gone_in v q ≡ true → gone_in w q ≡ true)
+    → LogKept d.state v.number (gone_in v) a → LogKept d.state w.number (gone_in w) b
+read_log d v w a b lasting reads number gone log =
+    subst (λ k. LogKept d.state k (gone_in w) b) (sym number)
+    (kept_more d.state v.number (gone_in v) (gone_in w) b gone (kept_keeps d.state v.number (gone_in v) a b lasting reads.stays reads.keeps log))
+
+-- ---- a call of one array
+
+-- A call of array m that writes nothing: whoever goes is noted, and what it holds stays.
+pub record ReadsOne (m : ℕ) (d v w : Raid) (vals : ℕ → ℕ → Values) (a b : Seen) : Type 0 where
+  pub lasting : a.lasting
+  pub reads : OnlyReads a b
+  pub state : w.state ≡ v.state
+  pub others : (n : ℕ) → (n ≡ m → ⊥) → w.arrays n ≡ v.arrays n
+  pub noted : IsSameButSeats (v.arrays m) (w.arrays m)
+  pub shape : AreMarked w → AreMarked v × (shape_of (w.arrays m) ≡ shape_of (v.arrays m))
+  pub kept : (p : Promise) → IsPromised p w → Stands d v p vals a → LogKept d.state w.number (gone_in w) b
+  pub holds :
+      (p : Promise) → IsPromised p w → Stands d v p vals a → (spent : ℕ → Bool) → Covers (w.arrays m) spent
+      → Holds d.state (shape_of (d.arrays m)) (v.arrays m) (vals m) spent a → Holds d.state (shape_of (d.arrays m)) (w.arrays m) (vals m) spent b
+  pub goes : (n : ℕ) → n < v.state.made → is_over w n ≡ false → is_over v n ≡ false
+  pub someone : (n : ℕ) → is_over w n ≡ false → (q : ℕ) × (is_current d.state q ≡ true) × (gone_in w q ≡ false)
+  -- what was spent stays so
+  pub spares : (y : ℕ) → spent_in (w.arrays m) y ≡ false → spent_in (v.arrays m) y ≡ false
+
+module _ (m : ℕ) (d v w : Raid) (vals : ℕ → ℕ → Values) (a b : Seen) (call : ReadsOne m d v w vals a b) where
+  -- by cases on the array
+  each : (X : ℕ → View → Type 0) → X m (w.arrays m) → (n : ℕ) → ((n ≡ m → ⊥) → X n (v.arrays n)) → X n (w.arrays n)
+  each X own n other = elim (cases_eq n m) [
+    | inl same ↦ subst (λ k. X k (w.arrays k)) (sym same) own
+    | inr apart ↦ subst (X n) (sym (call.others n apart)) (other apart)
+  ]
+
+  own_sectors : (y : ℕ) → has_sector (w.arrays m) y ≡ has_sector (v.arrays m) y
+  own_sectors y = λ i. is_sector (frame_of (call.noted.truth i)) (moved_to (call.noted.truth i)) (call.noted.young i) (first_unsynced (call.noted.truth i)) y
+
+  module _ (p : Promise) (promised : IsPromised p w) where
+    low_in : (n : ℕ) → n < v.state.made → n < w.state.made
+    low_in n low = subst (λ (s : State). n < s.made) (sym call.state) low
+
+    back : IsPromised p v
+    back = record {
+      is_one = promised.is_one;
+      goes = λ n live low. call.goes n low (promised.goes n live (low_in n low));
+      covers = λ n live low. elim (cases_eq n m) [
+        | inl same ↦ subst (λ k. Covers (v.arrays k) (spent_at p k (v.arrays k))) (sym same) (λ y alive.
+            call.spares y
+            (promised.covers m (subst (λ k. p.live k ≡ true) same live) (low_in m (subst (λ k. k < v.state.made) same low)) y
+            (spent_other p m (w.arrays m) (v.arrays m) own_sectors y ∙ alive)))
+        | inr apart ↦ subst (λ (u : View). Covers u (spent_at p n u)) (call.others n apart) (promised.covers n live (low_in n low))
+      ];
+    }
+
+    module _ (stands : Stands d v p vals a) where
+      low_after : (n : ℕ) → n < d.state.made → n < w.state.made
+      low_after n low = subst (λ (s : State). n < s.made) (sym (call.state ∙ stands.same)) low
+
+      own_array : p.live m ≡ true → m < d.state.made → StandsArray (d.arrays m) (w.arrays m) m (vals m) (spent_at p m (d.arrays m)) b
+      own_array live low =
+          let at = stands.arrays m live low in
+          let sectors : (y : ℕ) → has_sector (w.arrays m) y ≡ has_sector (d.arrays m) y = λ y. own_sectors y ∙ at.sectors y in
+          let number : (w.arrays m).number ≡ m = call.noted.number ∙ at.number in
+          let after =
+          call.holds p promised stands (spent_at p m (d.arrays m))
+          (λ y alive. promised.covers m live (low_after m low) y (spent_other p m (w.arrays m) (d.arrays m) sectors y ∙ alive)) (holds_of d v p vals a stands m live low) in
+          record {
+            number = number;
+            book_number = at.book_number;
+            few = at.few;
+            written = subst (λ k. IsWrittenSuper k (w.arrays m).truth) (sym call.noted.number) (subst (IsWrittenSuper (v.arrays m).number) (sym call.noted.truth) at.written);
+            members = members_of d.state m (shape_of (d.arrays m)) (shape_of (w.arrays m)) (w.arrays m).resync (may_vary (w.arrays m)) (vals m) (spent_at p m (d.arrays m)) b
+                (subst (λ k. HoldsShape d.state k (shape_of (d.arrays m)) (shape_of (w.arrays m)) (w.arrays m).resync (may_vary (w.arrays m)) (vals m) (spent_at p m (d.arrays m)) b) number after.shape);
+            closed = λ none. subst (λ k. IsClosed k b) number (after.closed none);
+            truth = subst (IsEarlier (d.arrays m).truth) (sym call.noted.truth) at.truth;
+            mark = λ marked. at.mark (sym call.noted.marked ∙ marked);
+            roles = ap (λ (t : Super). t.roles.items) call.noted.truth ∙ at.roles;
+            disks = ap (λ (t : Super). t.raid_disks) call.noted.truth ∙ at.disks;
+            sectors = sectors;
+          }
+
+      other_array : (n : ℕ) → p.live n ≡ true → n < d.state.made → StandsArray (d.arrays n) (v.arrays n) n (vals n) (spent_at p n (d.arrays n)) b
+      other_array n live low =
+          let at = stands.arrays n live low in
+          let after =
+          (keeping_calls a b call.lasting call.reads.stays call.reads.keeps d.state (shape_of (d.arrays n)) (v.arrays n) (vals n) (spent_at p n (d.arrays n))).holds
+          (holds_of d v p vals a stands n live low) in
+          record {
+            number = at.number;
+            book_number = at.book_number;
+            few = at.few;
+            written = at.written;
+            members = members_of d.state n (shape_of (d.arrays n)) (shape_of (v.arrays n)) (v.arrays n).resync (may_vary (v.arrays n)) (vals n) (spent_at p n (d.arrays n)) b
+                (subst (λ k. HoldsShape d.state k (shape_of (d.arrays n)) (shape_of (v.arrays n)) (v.arrays n).resync (may_vary (v.arrays n)) (vals n) (spent_at p n (d.arrays n)) b) at.number after.shape);
+            closed = λ none. subst (λ k. IsClosed k b) at.number (after.closed none);
+            truth = at.truth;
+            mark = at.mark;
+            roles = at.roles;
+            disks = at.disks;
+            sectors = at.sectors;
+          }
+
+      arrays : (n : ℕ) → p.live n ≡ true → n < d.state.made → StandsArray (d.arrays n) (w.arrays n) n (vals n) (spent_at p n (d.arrays n)) b
+      arrays n live low =
+          each (λ k z. p.live k ≡ true → k < d.state.made → StandsArray (d.arrays k) z k (vals k) (spent_at p k (d.arrays k)) b) own_array n
+          (λ apart live low. other_array n live low) live low
+
+      alike : AreMarked w → (n : ℕ) → p.live n ≡ true → n < d.state.made → IsSameArrayAs (d.arrays n) (w.arrays n)
+      alike marked n live low =
+          let both = call.shape marked in
+          each (λ k z. p.live k ≡ true → k < d.state.made → IsSameArrayAs (d.arrays k) z)
+          (λ live low.
+          let one = stands.alike both.0 m live low in
+          record {
+            shape = both.1 ∙ one.shape;
+            frame = ap frame_of call.noted.truth ∙ one.frame;
+            resync = call.noted.resync ∙ one.resync;
+            young = call.noted.young ∙ one.young;
+          })
+          n (λ apart live low. stands.alike both.0 n live low) live low
+
+  pub read_one_makes : Makes [] d v w vals vals a b
+  read_one_makes =
+      read_makes d v w vals a b
+      (record {
+        lasting = call.lasting;
+        reads = call.reads;
+        state = call.state;
+        kept = call.kept;
+        back = λ p suits promised. back p promised;
+        someone = call.someone;
+        arrays = arrays;
+        alike = alike;
+      })

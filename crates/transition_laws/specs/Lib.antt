@@ -1,0 +1,4 @@
+pub mod Changes
+pub mod Holds
+pub mod Makes
+pub mod Stages
