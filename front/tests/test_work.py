@@ -4,12 +4,35 @@ import json
 import os
 import signal
 import subprocess
+import time
 import unittest
 
+from front.engine import find_engine
 from front.tests.pools import ROSKUBEL, TEN, THIRTY, TWENTY, PoolCase
 
 # Sectors of images whose rebuilding takes some seconds.
 LARGE = 77824 + 128 * 600
+# The engine, which is handed its second piece of works only where the test allows it: so an interrupt comes amid them,
+# however fast the machine is.
+WAITING_ENGINE = """#!/usr/bin/env python3
+import os, subprocess, sys, time
+
+engine = os.environ["ENGINE"]
+if sys.argv[1] != "serve":
+    os.execv(engine, [engine, *sys.argv[1:]])
+with subprocess.Popen([engine, *sys.argv[1:]], stdin=subprocess.PIPE) as child:
+    pieces = 0
+    for line in sys.stdin.buffer:
+        pieces += line.startswith(b"step ") and line != b"step 0\\n"
+        if pieces == 2 and not os.path.exists("goes-on"):
+            os.mkdir("waits")
+            while not os.path.exists("goes-on"):
+                time.sleep(0.01)
+        child.stdin.write(line)
+        child.stdin.flush()
+    child.stdin.close()
+sys.exit(child.wait())
+"""
 
 
 class FilledCase(PoolCase):
@@ -24,6 +47,29 @@ class FilledCase(PoolCase):
         self.volume = os.urandom(len(self.raw))
         self.assertEqual(self.engine("import", *images, script=self.volume), 0)
         return images
+
+    def interrupted(self, *words: str) -> str:
+        """Calls the front and interrupts it amid its works, where a waiting engine holds them. Answers what it says."""
+        waiting = self.path("engine")
+        with open(waiting, "w", encoding="ascii") as it:
+            it.write(WAITING_ENGINE)
+        os.chmod(waiting, 0o755)
+        environment = {**os.environ, "ROSKUBEL_ENGINE": waiting, "ENGINE": os.path.abspath(find_engine())}
+        with subprocess.Popen(
+            [ROSKUBEL, *words],
+            stderr=subprocess.PIPE,
+            stdout=subprocess.PIPE,
+            cwd=self.folder,
+            env=environment,
+            text=True,
+        ) as run:
+            while not os.path.exists(self.path("waits")) and run.poll() is None:
+                time.sleep(0.01)
+            run.send_signal(signal.SIGINT)
+            os.mkdir(self.path("goes-on"))
+            _, said = run.communicate(timeout=60)
+        self.assertEqual(run.returncode, 130, said)
+        return said
 
     def holds(self, *images: str) -> None:
         """The volume on these images is the one that was filled."""
@@ -112,21 +158,7 @@ class Replace(FilledCase):
         images = self.filled(LARGE, LARGE, LARGE)
         os.unlink(self.path("b"))
         self.image("new", LARGE)
-        with subprocess.Popen(
-            [ROSKUBEL, "replace", "1", "new", "a", "c"],
-            stderr=subprocess.PIPE,
-            stdout=subprocess.PIPE,
-            cwd=self.folder,
-            text=True,
-        ) as run:
-            # It is amid the rebuilding where the new drive is the pool's.
-            for _ in range(600):
-                if self.call("check", "a", "new", "c") == 2:
-                    break
-            run.send_signal(signal.SIGINT)
-            _, said = run.communicate(timeout=60)
-        self.assertEqual(run.returncode, 130, said)
-        self.assertIn("roskubel resume a c new", said)
+        self.assertIn("roskubel resume a c new", self.interrupted("replace", "1", "new", "a", "c"))
         self.assertEqual(self.call("check", "a", "new", "c"), 2)
         self.image("newer", LARGE)
         self.assertEqual(self.call("replace", "0", "newer", "a", "new", "c"), 9)
@@ -191,21 +223,7 @@ class Grow(FilledCase):
     def test_interrupted(self) -> None:
         images = self.filled(LARGE, LARGE, LARGE)
         self.image("new", LARGE)
-        with subprocess.Popen(
-            [ROSKUBEL, "grow", "new", *images],
-            stderr=subprocess.PIPE,
-            stdout=subprocess.PIPE,
-            cwd=self.folder,
-            text=True,
-        ) as run:
-            # It is amid the growth where the new drive is the pool's.
-            for _ in range(600):
-                if self.call("check", *images, "new") == 2:
-                    break
-            run.send_signal(signal.SIGINT)
-            _, said = run.communicate(timeout=60)
-        self.assertEqual(run.returncode, 130, said)
-        self.assertIn("roskubel resume a b c new", said)
+        self.assertIn("roskubel resume a b c new", self.interrupted("grow", "new", *images))
         self.assertEqual(self.call("check", *images, "new"), 2)
         self.assertIn("plan  add of place 3", self.out)
         self.holds(*images, "new")
