@@ -12,3 +12,5 @@ pub mod Listing
 pub mod Reached
 pub mod Made
 pub mod Newcomer
+pub mod Layers
+pub mod OpenedNew

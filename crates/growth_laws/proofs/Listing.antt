@@ -1,5 +1,5 @@
 -- A drive at the next place of a pool's list: the state with it, and the arrays by it.
-use Rattle.std.proofs.Common.{◌≡◌, ◌≢◌, ◌⊎◌, ℕ, zero, suc, ◌+◌, ◌-◌, ◌<◌, ◌≤◌, ◌^◌, ◌==◌, ◌&&◌, ◌||◌, not, nat_le, nat_lt, if◌then◌else◌, Bool, true, false, List, [], ◌∷◌, ◌++◌, length, slice_get, slice_set, Option, Some, unwrap_or, refl, sym, ap, subst, ◌∙◌, inl, inr, eq-eqb, le-ltb, lt-ltb, ltb-true, arith, length-append}
+use Rattle.std.proofs.Common.{◌≡◌, ◌≢◌, ◌⊎◌, ℕ, zero, suc, ◌+◌, ◌<◌, ◌≤◌, ◌^◌, ◌==◌, ◌&&◌, ◌||◌, not, nat_le, nat_lt, if◌then◌else◌, Bool, true, false, List, [], ◌∷◌, ◌++◌, length, slice_get, slice_set, Option, Some, unwrap_or, refl, sym, ap, subst, ◌∙◌, inl, inr, eq-eqb, lt-ltb, ltb-true, arith, length-append}
 use Rattle.std.specs.List.{list_all}
 use Rattle.std.specs.Option.{option_map_or}
 use Rattle.std.proofs.lemmas.Bool.{and_from, and_parts, both_ways, cases_eq, cases_lt, le-leb as le_leb, leb-true, ne_eqb}
@@ -24,7 +24,7 @@ use Rattle.raid_laws.specs.Raid.{Raid, gone_in, is_left}
 use Rattle.raid_laws.proofs.Committed.{raised_range}
 use Rattle.raid_laws.proofs.Others.{place_listed}
 use Rattle.raid_laws.proofs.Whole.{heeded_left}
-use Rattle.growth_laws.proofs.Stating.{loses_same}
+use Rattle.growth_laws.proofs.Stating.{loses_same, raised_up}
 use Rattle.growth_laws.specs.NewDrives.{TakesIn}
 use Rattle.growth_laws.specs.Losses.{LosesBook}
 use Rattle.transition_laws.specs.Changes.{changed, enlisted, enlists, put_drive}
@@ -258,15 +258,9 @@ module _ (place units : ℕ) (v : Raid) (x : Seen) (may : MayBeNext place units 
   pub next_raises : RaisesBy 1 v (next_raid place units v)
   next_raises = record {
     number = omega arith;
-    epoch = epoch_up v.state.epoch;
+    epoch = raised_up v.state.epoch;
     events = λ n low. omega arith;
   }
-    where
-      epoch_up : (n : ℕ) → raised n ≤ n + 1
-      epoch_up n = elim (cases_lt n (2 ^ 63 - 1)) [
-        | inl room ↦ let e : raised n ≡ n + 1 = ap (λ (z : Bool). if z then n + 1 else n) (lt-ltb n (2 ^ 63 - 1) room) in omega (arith, e)
-        | inr last ↦ let e : raised n ≡ n = ap (λ (z : Bool). if z then n + 1 else n) (le-ltb n (2 ^ 63 - 1) last) in omega (arith, e)
-      ]
 
 -- it is what a drive makes of the book that is a member of no array
 pub changed_next : (place units : ℕ) (joining : ℕ → Bool) (v : Raid) → ((n : ℕ) → joining n ≡ false) → changed (enlists place units (Add place) joining) v ≡ next_raid place units v

@@ -9,12 +9,13 @@ use Rattle.array_image.specs.States.{is_current}
 use Rattle.array_model.specs.View.{View, is_whole_array, sectors_of}
 use Rattle.raid_laws.specs.Raid.{Raid, gone_in}
 use Rattle.raid_laws.specs.Missing.{raised}
-use Rattle.raid_laws.specs.Moves.{IsHeeded, IsSeated, IsSet}
+use Rattle.raid_laws.specs.Moves.{IsHeeded, IsSeated, IsSet, RaisesBy}
 use Rattle.raid_laws.proofs.Committed.{raised_range}
 use Rattle.raid_laws.proofs.Whole.{heeded_left, heeded_whole}
 use Rattle.transition_laws.specs.Changes.{changed, makes}
 use Rattle.growth_laws.specs.Growing.{GetsLonger, has_room}
 use Rattle.growth_laws.proofs.Room.{sectors_few, short_enough}
+use Rattle.growth_laws.proofs.Stating.{raised_up}
 
 -- ---- the state
 
@@ -117,3 +118,11 @@ made_longer v next x may set room =
           short_enough z z room
           (λ n low. by_made (λ k u. sectors_of u ≤ 15 * u.truth.size) v next n low (sectors_few next may.seated.is_array) (λ below. sectors_few (v.arrays n) (set.arrays n below).is_array));
     }
+
+-- one epoch more
+pub made_raises : (v : Raid) (next : View) → RaisesBy 1 v (changed (makes next) v)
+made_raises v next = record {
+  number = omega arith;
+  epoch = raised_up v.state.epoch;
+  events = λ n low. by_made (λ k u. n ≡ k → u.truth.events ≤ (v.arrays n).truth.events + 1) v next n (omega (arith, low)) (λ same. absurd (omega (arith, low, same))) (λ below same. omega arith) refl;
+}

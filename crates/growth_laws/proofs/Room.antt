@@ -35,7 +35,7 @@ sum_most f g c a (suc n) few =
     times : (c x y : ℕ) → c * (x + y) ≡ c * x + c * y
     times c x y = omega arith
 
-sum_mapped : (f : View → ℕ) (g : ℕ → View) (xs : List ℕ) → sum_by f (map g xs) ≡ sum_by (λ k. f (g k)) xs
+pub sum_mapped : (f : View → ℕ) (g : ℕ → View) (xs : List ℕ) → sum_by f (map g xs) ≡ sum_by (λ k. f (g k)) xs
 sum_mapped f g [] = refl
 sum_mapped f g (x ∷ xs) = sum_by-cons f (g x) (map g xs) ∙ ap (λ n. f (g x) + n) (sum_mapped f g xs) ∙ sym (sum_by-cons (λ k. f (g k)) x xs)
 

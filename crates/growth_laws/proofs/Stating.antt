@@ -1,37 +1,46 @@
--- A commit that has copies of the book's state alone, and losses in a row.
-use Rattle.std.proofs.Common.{◌≡◌, ◌⊎◌, ℕ, zero, suc, ◌+◌, ◌-◌, ◌^◌, ◌<◌, ◌≤◌, Bool, true, false, ◌==◌, ◌||◌, not, if◌then◌else◌, List, [], ◌∷◌, length, slice_get, None, Some, unwrap_or, refl, sym, ap, subst, ◌∙◌, inl, inr, eq-eqb, le-ltb, lt-ltb, arith}
+-- A commit that has copies of the book's state, with superblocks of arrays before them or none, and losses in a row.
+use Rattle.std.proofs.Common.{◌≡◌, ◌⊎◌, ℕ, zero, suc, ◌+◌, ◌-◌, ◌^◌, ◌<◌, ◌≤◌, Bool, true, false, ◌==◌, ◌&&◌, ◌||◌, not, if◌then◌else◌, List, [], ◌∷◌, length, slice_get, Option, None, Some, option_map, unwrap_or, refl, sym, ap, subst, ◌∙◌, inl, inr, eq-eqb, eqb-true, le-ltb, lt-ltb, ne_eqb, arith}
 use Rattle.std.proofs.lemmas.Bool.{cases_Bool, cases_lt, both_ways, and_parts, and_from}
 use Rattle.std.proofs.lemmas.Option.{slice_get_past}
-use Rattle.std.specs.List.{list_all}
+use Rattle.std.specs.List.{list_all, list_any}
 use Rattle.std.specs.Option.{option_map_or}
 use Rattle.rack.specs.Seen.{Seen}
 use Rattle.rack.specs.Joins.{stays_same}
 use Rattle.rack.specs.Targets.{Target, look}
 use Rattle.pool_state.specs.Valid.{is_valid}
 use Rattle.pool_state.specs.declared.contents.State.{State}
-use Rattle.array_image.specs.Places.{log_sectors, log_slice, slice_of}
+use Rattle.array_image.specs.Places.{log_sectors, log_slice, member_slice, place_of, slice_of}
 use Rattle.array_image.specs.Record.{are_apart, is_target}
 use Rattle.array_image.specs.States.{is_current, current_places}
 use Rattle.log_laws.specs.View.{LogView, names, next_number}
 use Rattle.log_laws.specs.Commits.{CommitCall}
 use Rattle.log_laws.specs.Phases.{IsHad}
-use Rattle.array_model.specs.View.{View, HasFault, has_gone, is_whole_array}
+use Rattle.array_model.specs.declared.Seat.{Seat}
+use Rattle.array_model.specs.declared.Seat.TheVariants.{Missing}
+use Rattle.array_model.specs.View.{View, IsArray, HasFault, has_gone, is_missing_seat, is_whole_array, place_at}
 use Rattle.array_model.specs.Stages.{AmongTargets}
 use Rattle.array_core.specs.Seats.{gone as without}
+use Rattle.array_core.specs.Slots.{slots_of}
+use Rattle.array_core.specs.Staging.{AddsSupersOf}
+use Rattle.array_core.proofs.StagedTargets.{targets_apart}
+use Rattle.array_model.proofs.Noting.{final_is}
+use Rattle.array_model.proofs.RowWrites.{places_apart}
 use Rattle.raid_laws.specs.Book.{after_same, after_then}
 use Rattle.raid_laws.specs.Losing.{arrays_same, arrays_then}
 use Rattle.raid_laws.specs.Losses.{AddsCopies, AreCopiesOn}
 use Rattle.raid_laws.specs.Moves.{AreCaused, IsHeeded, IsMarkedWhole, IsSeated, IsSet, Mends, RaisesBy}
 use Rattle.raid_laws.specs.Raid.{Raid, gone_in, is_left}
 use Rattle.raid_laws.proofs.Added.{names_current}
-use Rattle.raid_laws.proofs.Adding.{copies_apart, copies_from}
-use Rattle.raid_laws.proofs.Brought.{copies_inside}
+use Rattle.raid_laws.specs.Settling.{IsSuperOf}
+use Rattle.raid_laws.proofs.Adding.{IsCopyFor, copies_apart, copies_from}
+use Rattle.raid_laws.proofs.Agreed.{slots_count}
 use Rattle.raid_laws.proofs.Changed.{seated_still}
 use Rattle.raid_laws.proofs.Committed.{next_later}
-use Rattle.raid_laws.proofs.Elements.{all_among, look_among}
+use Rattle.raid_laws.proofs.Elements.{all_among, among_either, any_among, apart_append, look_among, supers_count, supers_from}
 use Rattle.raid_laws.proofs.Losing.{only_gone}
 use Rattle.raid_laws.proofs.Noted.{bool_same, current_few, gone_from, gone_some}
-use Rattle.raid_laws.proofs.Seated.{gone_seated, listed, listed_loses, names_joined, whole_then}
+use Rattle.raid_laws.proofs.Settling.{slot_facts}
+use Rattle.raid_laws.proofs.Seated.{gone_seated, listed, listed_loses, missing_of, names_joined, place_few, whole_then}
 use Rattle.raid_laws.proofs.Whole.{heeded_left, heeded_whole}
 use Rattle.growth_laws.specs.Losses.{LosesBook}
 
@@ -59,14 +68,26 @@ loses_mended v w a b mends = record {
   events = mends.moves.events;
 }
 
+-- ---- numbers
+
+-- one more, or the last one
+pub raised_up : (n : ℕ) → next_number n ≤ n + 1
+raised_up n = elim (cases_lt n (2 ^ 63 - 1)) [
+  | inl room ↦ let e : next_number n ≡ n + 1 = ap (λ (z : Bool). if z then n + 1 else n) (lt-ltb n (2 ^ 63 - 1) room) in omega (arith, e)
+  | inr last ↦ let e : next_number n ≡ n = ap (λ (z : Bool). if z then n + 1 else n) (le-ltb n (2 ^ 63 - 1) last) in omega (arith, e)
+]
+
 -- ---- what such a commit asks
 
--- the copies that are to be committed, on all places that the state has as current
-pub record AreStated (v : Raid) (takes : List ℕ) (added : List Target) (x : Seen) : Type 0 where
+-- What is to be committed: superblocks of members that aren't missing, each sector once, and copies of the state on all places that it has as
+-- current.
+pub record AreStated (v : Raid) (takes : List ℕ) (supers added : List Target) (x : Seen) : Type 0 where
   pub set : IsSet v x
   pub heeded : IsHeeded v
   pub takes_are : takes ≡ current_places v.state
-  pub copies : AddsCopies v.state takes [] added
+  pub only : (y : Target) → AmongTargets y supers → IsSuperOf v v.state.made y
+  pub apart : are_apart supers ≡ true
+  pub copies : AddsCopies v.state takes supers added
 
 -- a current place is one of the list, and the state is valid for it; its log slice is there
 pub current_place : (v : Raid) (x : Seen) (p : ℕ) → IsSet v x → IsHeeded v → is_current v.state p ≡ true
@@ -95,59 +116,145 @@ listed_current s on j p on_is at = sym (names_current s p) ∙ ap (λ ps. names 
     named (q ∷ xs) zero at = ap (λ b. b || names xs p) (eq-eqb q p (ap (λ o. unwrap_or o p) at))
     named (q ∷ xs) (suc j) at = or_last (q == p) (names xs p) (named xs j at)
 
-module _ (v : Raid) (takes : List ℕ) (added : List Target) (x : Seen) (stated : AreStated v takes added x) where
-  are_copies : AreCopiesOn v.state takes added
-  are_copies = subst (AreCopiesOn v.state takes) (sym stated.copies.appended) stated.copies.copies
+-- the superblocks of one array are of members that aren't missing, each sector once
+pub supers_of : (v : Raid) (m : ℕ) (supers : List Target) → m < v.state.made → IsArray (v.arrays m) → AddsSupersOf (v.arrays m) [] supers
+    → ((y : Target) → AmongTargets y supers → IsSuperOf v v.state.made y) × (are_apart supers ≡ true) × (length supers ≤ 16)
+supers_of v m supers low is_array adds =
+    let u = v.arrays m in (
+      λ y among.
+          let from = supers_from u.number u.truth (slots_of u) adds.targets y adds.supers (subst (AmongTargets y) adds.appended among) in
+          let at = slot_facts u from.index from.slot is_array from.at in
+          record {
+            array = m;
+            low = low;
+            position = from.index;
+            inside = at.0;
+            there = λ missing. both_ways true (sym (ap (λ o. is_missing_seat (unwrap_or o Missing)) (sym at.2 ∙ missing)) ∙ from.there) refl;
+            disk = from.on.disk ∙ ap (λ p. member_slice p u.number) at.1;
+            sector = from.on.sector;
+          },
+      ap are_apart adds.appended
+          ∙ targets_apart u.number u.truth is_array.few (slots_of u) adds.targets
+          (λ j k s t one two same.
+          let first = slot_facts u j s is_array one in
+          let second = slot_facts u k t is_array two in
+          places_apart u j k is_array first.0 second.0 (sym first.1 ∙ same ∙ second.1))
+          adds.supers,
+      let few = supers_count u.number u.truth (slots_of u) adds.targets adds.supers in
+          let members = slots_count u is_array.seats is_array.devices in
+          let most = (final_is u is_array).count in
+          let all = ap length adds.appended in
+          omega (arith, few, members, most, all),
+    )
 
-  -- a copy is on a current place, which has its log slice
-  copy_place : (y : Target) → AmongTargets y added → (p : ℕ) × (p < 16) × (y.disk ≡ log_slice p) × (y.sector ≡ 0) × (x.sectors (log_slice p) ≡ log_sectors)
-  copy_place y among =
-      let copy = copies_from v.state takes added y are_copies among in
-      let p = copy.place in
-      let current : is_current v.state p ≡ true = sym (names_current v.state p) ∙ ap (λ ps. names ps p) (sym stated.takes_are) ∙ copy.named in
-      let at = current_place v x p stated.set stated.heeded current in
-      (p, at.1, copy.copy.disk, copy.copy.sector, at.2)
+-- where a target is that is to be committed: on a current place, in a slice that is there
+record IsPlaced (v : Raid) (x : Seen) (y : Target) : Type 0 where
+  place : ℕ
+  few : place < 16
+  current : is_current v.state place ≡ true
+  on : place_of y.disk ≡ place
+  valid : is_target y ≡ true
+  had : IsHad x y.disk y.sector
+
+or_second : (b c : Bool) → c ≡ true → (b || c) ≡ true
+or_second true c is = refl
+or_second false c is = is
+
+-- a superblock is
+super_placed : (v : Raid) (x : Seen) (y : Target) → IsSet v x → IsHeeded v → IsSuperOf v v.state.made y → IsPlaced v x y
+super_placed v x y set heeded super =
+    let u = v.arrays super.array in
+    let p = place_at u super.position in
+    let seated = set.arrays super.array super.low in
+    let few = place_few u super.position seated.is_array super.inside in
+    let low = super.low in
+    let most = set.most in
+    let number = seated.number in
+    let disk = super.disk in
+    let sector = super.sector in
+    let room = seated.slices.sectors super.position super.inside super.there in
+    record {
+      place = p;
+      few = few;
+      current = (and_parts (is_current v.state p) (not (has_gone u p)) (seat_there (slice_get u.seats super.position) (is_current v.state p && not (has_gone u p)) super.there (seated.marks super.position super.inside))).0;
+      on = omega (arith, disk, number, low, most);
+      valid =
+          and_from _ _ (lt-ltb y.disk 272 (omega (arith, disk, number, low, most, few)))
+          (ap (λ b. not b || (y.sector == 0)) (ne_eqb (slice_of y.disk) 0 (λ none. omega (arith, none, disk, number, low, most))));
+      had = (
+        subst (λ e. e < x.disks) (sym disk) (seated.slices.disks super.position super.inside super.there),
+        subst (λ e. y.sector < x.sectors e) (sym disk) (omega (arith, room, sector)),
+      );
+    }
+  where
+    seat_there : (o : Option Seat) (b : Bool) → (o ≡ Some Missing → ⊥) → option_map is_missing_seat o ≡ Some (not b) → b ≡ true
+    seat_there None b there is = absurd (let bad : None ≡ Some (not b) = is in cc)
+    seat_there (Some seat) true there is = refl
+    seat_there (Some seat) false there is = absurd (there (missing_of (Some seat) false false refl is))
+
+-- and a copy
+copy_placed : (v : Raid) (x : Seen) (takes : List ℕ) (y : Target) → IsSet v x → IsHeeded v → takes ≡ current_places v.state → IsCopyFor v.state takes y → IsPlaced v x y
+copy_placed v x takes y set heeded takes_are copy =
+    let p = copy.place in
+    let current : is_current v.state p ≡ true = sym (names_current v.state p) ∙ ap (λ ps. names ps p) (sym takes_are) ∙ copy.named in
+    let at = current_place v x p set heeded current in
+    let few = at.1 in
+    let disk = copy.copy.disk in
+    let sector = copy.copy.sector in
+    let disks = set.disks in
+    let sectors = at.2 in
+    record {
+      place = p;
+      few = few;
+      current = current;
+      on = omega (arith, disk);
+      valid = and_from _ _ (lt-ltb y.disk 272 (omega (arith, disk, few))) (or_second (not (slice_of y.disk == 0)) (y.sector == 0) (eq-eqb y.sector 0 sector));
+      had = (omega (arith, disk, few, disks), subst (λ e. y.sector < x.sectors e) (sym disk) (omega (arith, sectors, sector)));
+    }
+
+module _ (v : Raid) (takes : List ℕ) (supers added : List Target) (x : Seen) (stated : AreStated v takes supers added x) where
+  -- so each target is
+  stated_placed : (y : Target) → AmongTargets y added → IsPlaced v x y
+  stated_placed y among =
+      elim (among_either y supers stated.copies.targets (subst (AmongTargets y) stated.copies.appended among)) [
+        | inl super ↦ super_placed v x y stated.set stated.heeded (stated.only y super)
+        | inr copy ↦ copy_placed v x takes y stated.set stated.heeded stated.takes_are (copies_from v.state takes stated.copies.targets y stated.copies.copies copy)
+      ]
 
   pub stated_valid : list_all is_target added ≡ true
-  stated_valid =
-      all_among is_target added
-      (λ y among.
-      let at = copy_place y among in
-      let few = at.1 in
-      let disk = at.2 in
-      and_from _ _ (lt-ltb y.disk 272 (omega (arith, disk, few))) (or_second (not (slice_of y.disk == 0)) (y.sector == 0) (eq-eqb y.sector 0 at.3)))
-    where
-      or_second : (b c : Bool) → c ≡ true → (b || c) ≡ true
-      or_second true c is = refl
-      or_second false c is = is
+  stated_valid = all_among is_target added (λ y among. (stated_placed y among).valid)
 
   pub stated_apart : are_apart added ≡ true
   unfolding current_places
   stated_apart =
-      copies_apart v.state (is_current v.state) 0 (length v.state.drives.items) added (subst (λ ps. AreCopiesOn v.state ps added) stated.takes_are are_copies)
+      ap are_apart stated.copies.appended
+      ∙ apart_append supers stated.copies.targets stated.apart
+      (copies_apart v.state (is_current v.state) 0 (length v.state.drives.items) stated.copies.targets
+      (subst (λ ps. AreCopiesOn v.state ps stated.copies.targets) stated.takes_are stated.copies.copies))
+      (λ y z one two disk sector.
+      let high = (stated.only y one).sector in
+      let low = (copies_from v.state takes stated.copies.targets z stated.copies.copies two).copy.sector in
+      omega (arith, high, low, sector))
 
   pub stated_had : (d s : ℕ) (w : List ℕ) → look added d s ≡ Some w → IsHad x d s
   stated_had d s w is =
       let found = look_among added d s w is in
-      let at = copy_place found.0 found.1 in
-      let few = at.1 in
-      let disk = at.2 in
-      let here = found.2 in
-      let disks = stated.set.disks in
-      let sectors = at.4 in
-      let first = at.3 in
-      let sector = found.3 in (
-        omega (arith, disk, here, few, disks),
-        subst (λ e. s < x.sectors e) (sym disk ∙ here) (omega (arith, sectors, first, sector)),
-      )
+      let had = (stated_placed found.0 found.1).had in
+      (subst (λ e. e < x.disks) found.2 had.0, subst (λ e. s < x.sectors e) found.2 (subst (λ t. t < x.sectors found.0.disk) found.3 had.1))
+
+  -- a place that has one is current
+  stated_current : (p : ℕ) → list_any (λ y. place_of y.disk == p) added ≡ true → is_current v.state p ≡ true
+  stated_current p any =
+      let at = any_among (λ y. place_of y.disk == p) added any in
+      let placed = stated_placed at.0 at.1 in
+      subst (λ q. is_current v.state q ≡ true) (sym placed.on ∙ eqb-true (place_of at.0.disk) p at.2) placed.current
 
 -- ---- the commit
 
 -- A commit of a state, of which the book has made already what it is to be, by the logs of some of its current places; and who went in it is
 -- noted in all arrays.
-pub record IsStating (v : Raid) (on takes gone : List ℕ) (added : List Target) (l : LogView) (f : ℕ → View) (b c : Seen) : Type 0 where
-  pub stated : AreStated v takes added b
-  pub added_are : l.added ≡ added
+pub record IsStating (v : Raid) (on takes gone : List ℕ) (supers : List Target) (l : LogView) (f : ℕ → View) (b c : Seen) : Type 0 where
+  pub stated : AreStated v takes supers l.added b
   pub number : l.number ≡ v.number
   pub fewer : (p : ℕ) → names on p ≡ true → is_current v.state p ≡ true
   pub call : CommitCall l on gone b c
@@ -166,16 +273,13 @@ whole_without s n u gone x seated all =
     (record { number = refl; truth = refl; devices = refl; resync = refl; young = refl; marked = refl })
     (listed_loses u gone seated.is_array).seats all
 
-module _ (v : Raid) (on takes gone : List ℕ) (added : List Target) (l : LogView) (f : ℕ → View) (b c : Seen) (commit : IsStating v on takes gone added l f b c) where
+module _ (v : Raid) (on takes gone : List ℕ) (supers : List Target) (l : LogView) (f : ℕ → View) (b c : Seen) (commit : IsStating v on takes gone supers l f b c) where
   -- who goes in it is one of those it writes to
   stating_current : (p : ℕ) → names gone p ≡ true → is_current v.state p ≡ true
   stating_current p is =
       elim (commit.call.gone.called p is) [
         | inl named ↦ commit.fewer p named
-        | inr any ↦
-            sym (names_current v.state p) ∙ ap (λ ps. names ps p) (sym commit.stated.takes_are)
-            ∙ copies_inside v.state takes l.added p
-            (subst (AreCopiesOn v.state takes) (sym (commit.added_are ∙ commit.stated.copies.appended)) commit.stated.copies.copies) any
+        | inr any ↦ stated_current v takes supers l.added b commit.stated p any
       ]
 
   stating_few : (p : ℕ) → names gone p ≡ true → p < 16
@@ -255,13 +359,7 @@ module _ (v : Raid) (on takes gone : List ℕ) (added : List Target) (l : LogVie
 
   pub stating_raises : RaisesBy 1 v (after_stating v (next_number l.number) f)
   stating_raises = record {
-    number = let up = next_up l.number in let same = commit.number in omega (arith, up, same);
+    number = let up = raised_up l.number in let same = commit.number in omega (arith, up, same);
     epoch = omega arith;
     events = λ n low. let e = ap (λ (u : View). u.truth.events) (commit.arrays n low) in omega (arith, e);
   }
-    where
-      next_up : (n : ℕ) → next_number n ≤ n + 1
-      next_up n = elim (cases_lt n (2 ^ 63 - 1)) [
-        | inl room ↦ let e : next_number n ≡ n + 1 = ap (λ (z : Bool). if z then n + 1 else n) (lt-ltb n (2 ^ 63 - 1) room) in omega (arith, e)
-        | inr last ↦ let e : next_number n ≡ n = ap (λ (z : Bool). if z then n + 1 else n) (le-ltb n (2 ^ 63 - 1) last) in omega (arith, e)
-      ]

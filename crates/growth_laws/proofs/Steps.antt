@@ -16,7 +16,7 @@ use Rattle.raid_laws.proofs.Views.{MayRestate, views_notes}
 use Rattle.raid_laws.proofs.Whole.{heeded_left, heeded_whole}
 use Rattle.growth_laws.specs.Losses.{LosesBook}
 use Rattle.transition_laws.specs.Changes.{Change, changed, steps}
-use Rattle.growth_laws.specs.Growing.{GetsLonger, Grows, change_of}
+use Rattle.growth_laws.specs.Growing.{GetsLonger, Grows, GrowsBy, change_of}
 use Rattle.growth_laws.proofs.Losing.{as_long, loses_as_long, loses_book_then, loses_nothing, longer_then, mends_lose, moves_caused}
 
 -- ---- the book once a step is done
@@ -193,9 +193,9 @@ grows_one work Lacks v u w m next a b c is_done answered change stays call answe
     }
 
 -- losses before it, with whatever it is refused for by the book after them
-pub grows_behind : (work : Work) (Lacks More : Raid → Raid → Type 0) (v u w : Raid) (a b c : Seen) (answered : Bool) → FaultsRise a b → FaultsRise b c → LosesBook v u → AreCaused v u a b
-    → ((mid z : Raid) → Lacks mid z → More mid z) → Grows work Lacks u w b c answered → Grows work More v w a c answered
-grows_behind work Lacks More v u w a b c answered first second loses caused more grows = record {
+pub grows_behind : (change : Raid → Change) (Lacks More : Raid → Raid → Type 0) (v u w : Raid) (a b c : Seen) (answered : Bool) → FaultsRise a b → FaultsRise b c → LosesBook v u
+    → AreCaused v u a b → ((mid z : Raid) → Lacks mid z → More mid z) → GrowsBy change Lacks u w b c answered → GrowsBy change More v w a c answered
+grows_behind change Lacks More v u w a b c answered first second loses caused more grows = record {
   turns = record {
     mid = grows.turns.mid;
     before = loses_book_then v u grows.turns.mid loses grows.turns.before;
@@ -210,9 +210,9 @@ grows_behind work Lacks More v u w a b c answered first second loses caused more
 }
 
 -- it isn't begun
-pub grows_nothing : (work : Work) (Lacks : Raid → Raid → Type 0) (v w : Raid) (a b : Seen) → LosesBook v w → AreCaused v w a b → IsHeeded w → Lacks w w
-    → Grows work Lacks v w a b false
-grows_nothing work Lacks v w a b loses caused heeded refused = record {
+pub grows_nothing : (change : Raid → Change) (Lacks : Raid → Raid → Type 0) (v w : Raid) (a b : Seen) → LosesBook v w → AreCaused v w a b → IsHeeded w → Lacks w w
+    → GrowsBy change Lacks v w a b false
+grows_nothing change Lacks v w a b loses caused heeded refused = record {
   turns = record {
     mid = w;
     before = loses;
@@ -231,9 +231,9 @@ pub caused_nothing : (v : Raid) (a b : Seen) → AreCaused v v a b
 caused_nothing v a b = record { left = λ p is. is; cause = λ p was now. absurd (both_ways (is_left v p) now was) }
 
 -- what is said of it goes by the faults of disks alone, whatever slices they have
-pub grows_over : (work : Work) (Lacks More : Raid → Raid → Type 0) (v w : Raid) (a b x y : Seen) (answered : Bool) → ((d : ℕ) → x.faults d ≡ a.faults d) → ((d : ℕ) → y.faults d ≡ b.faults d)
-    → ((mid z : Raid) → Lacks mid z → More mid z) → Grows work Lacks v w a b answered → Grows work More v w x y answered
-grows_over work Lacks More v w a b x y answered before after more grows = record {
+pub grows_over : (change : Raid → Change) (Lacks More : Raid → Raid → Type 0) (v w : Raid) (a b x y : Seen) (answered : Bool) → ((d : ℕ) → x.faults d ≡ a.faults d)
+    → ((d : ℕ) → y.faults d ≡ b.faults d) → ((mid z : Raid) → Lacks mid z → More mid z) → GrowsBy change Lacks v w a b answered → GrowsBy change More v w x y answered
+grows_over change Lacks More v w a b x y answered before after more grows = record {
   turns = record {
     mid = grows.turns.mid;
     before = grows.turns.before;

@@ -6,6 +6,7 @@
 //! (`specs/NewDrives.antt`); which places a new array has, and its superblocks (`specs/NewArrays.antt`).
 //!
 //! **What its lemmas say.** The array that a work makes of one is one of the pool as well, so all calls of the rack may follow
-//! (`proofs/`). A commit of states alone keeps the arrays, whatever its state adds to the one before (`proofs/Stating.antt`), and a drive at the next
-//! place of the list makes a valid state of one (`proofs/Listing.antt`).
+//! (`proofs/`). A commit of a state, with superblocks or without, keeps the arrays, whatever its state adds to the one before (`proofs/Stating.antt`), a
+//! drive at the next place of the list makes a valid state of one (`proofs/Listing.antt`), and the superblocks of a young array's members make an array
+//! that may come to the pool (`proofs/OpenedNew.antt`).
 #![tactic(auto)]

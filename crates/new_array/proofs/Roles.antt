@@ -211,7 +211,7 @@ all_ranged f a (suc n) each =
 
 -- a place has the role of its members
 module _ (t : Super) (members : List ℕ) (roles : t.roles.items ≡ new_roles members) (few : length members ≤ 16) where
-  role_at : (p : ℕ) → p < 128 → slice_get t.roles.items p ≡ Some (role_of members p)
+  pub role_at : (p : ℕ) → p < 128 → slice_get t.roles.items p ≡ Some (role_of members p)
   role_at p low =
       ap (λ rs. slice_get rs p) roles ∙ get_map (role_of members) (range_with_len 0 128) p
       ∙ ap (option_map (role_of members)) (get_range 0 128 p low) ∙ ap (λ (j : ℕ). Some (role_of members j)) (zero_more p)

@@ -5,7 +5,8 @@
 //!
 //! **Its model.** Each superblock is a function of the pool's id, the drive's id, the members, the array's number, the place, the sectors of a
 //! member's data, the offset and the time (`new_super` of specs/Supers.antt). The lemmas of proofs/ say that it is a valid one of the pool:
-//! its roles name the members (`Roles`), and it has the profile of an array of the pool (`Supers`).
+//! its roles name the members (`Roles`), it has the profile of an array of the pool (`Supers`), and those of all members, or of all but a missing
+//! one, make the array (`Opened`).
 #![tactic(auto)]
 
 ghost use Rattle.std.specs.Prelude.{◌≡◌, ◌<◌, ◌==◌, length, position};

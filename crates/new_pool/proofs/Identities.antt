@@ -25,7 +25,7 @@ use Rattle.pool_format.specs.Parts.{new_drive, new_state, new_table}
 use Rattle.array_core.proofs.Opened.{current_below}
 use Rattle.pool_format.proofs.Founded.{drive_at, drive_current, state_drives}
 use Rattle.pool_format.proofs.Lists.{no_element}
-use Rattle.pool_format.proofs.Opening.{foremost_is, foremost_there}
+use Rattle.new_array.proofs.Foremost.{foremost_is, foremost_there}
 use Rattle.new_pool.specs.Contents.{IsNewPool, SaysNone}
 
 -- ---- the first of a range that passes

@@ -35,7 +35,7 @@ use Rattle.pool_format.specs.Parts.{new_state, new_super}
 use Rattle.pool_format.specs.Plan.{has}
 use Rattle.pool_format.proofs.Founded.{drive_current}
 use Rattle.pool_format.proofs.Opening.{members_few, position_member}
-use Rattle.pool_format.proofs.Extents.{extent_chunks}
+use Rattle.new_array.proofs.Extents.{extent_chunks}
 use Rattle.pool_format.proofs.Units.{extent_bounds}
 use Rattle.pool_format.proofs.Lists.{got}
 use Rattle.new_array.proofs.Roles.{named_at, role_low, role_spare}

@@ -23,7 +23,7 @@ use Rattle.pool_format.specs.declared.planning.NewPool.{NewPool}
 use Rattle.pool_format.specs.Data.{array_sector}
 use Rattle.pool_format.specs.Parts.{new_state, new_super}
 use Rattle.pool_format.specs.Plan.{has}
-use Rattle.pool_format.proofs.Extents.{extent_chunks}
+use Rattle.new_array.proofs.Extents.{extent_chunks}
 use Rattle.pool_format.proofs.Founded.{drive_current}
 use Rattle.pool_format.proofs.Opening.{members_few}
 use Rattle.new_pool.specs.Contents.{IsNewPool}

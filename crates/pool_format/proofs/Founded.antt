@@ -36,7 +36,7 @@ use Rattle.pool_format.specs.Parts.{new_drive, new_state, new_super}
 use Rattle.pool_format.specs.Plan.{IsNewArray, IsPlan, has}
 use Rattle.pool_format.specs.Slices.{AreLaid, sectors_planned}
 use Rattle.pool_format.specs.Volume.{IsNewRaid}
-use Rattle.pool_format.proofs.Extents.{extent_chunks}
+use Rattle.new_array.proofs.Extents.{extent_chunks}
 use Rattle.pool_format.proofs.Laying.{member_drive, member_slice_is}
 use Rattle.pool_format.proofs.Lists.{got, no_element}
 use Rattle.pool_format.proofs.Opening.{array_opens, members_few, position_member, seen_at, truth_is}

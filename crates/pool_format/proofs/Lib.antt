@@ -8,7 +8,6 @@ pub mod Written
 pub mod Entries
 pub mod Slicing
 pub mod Supers
-pub mod Extents
 pub mod Opening
 pub mod Founded
 pub mod Making

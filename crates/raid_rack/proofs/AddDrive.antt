@@ -79,11 +79,13 @@ module _ (a : Arrays) (units : ℕ) (t : State) (on takes : List ℕ) (l : LogVi
     log = adding.log;
   }
 
-  pub adding_stated : AreStated (next_raid (length a.state.drives.items) units (raid_by a)) takes l.added x
+  pub adding_stated : AreStated (next_raid (length a.state.drives.items) units (raid_by a)) takes [] l.added x
   adding_stated = record {
     set = next_set (length a.state.drives.items) units (raid_by a) x adding_may;
     heeded = next_heeded (length a.state.drives.items) units (raid_by a) x adding_may;
     takes_are = adding.takes_are ∙ ap current_places adding.t_is;
+    only = λ y among. absurd among;
+    apart = refl;
     copies = subst (λ (s : State). AddsCopies s takes [] l.added) adding.t_is adding.copies;
   }
 
@@ -95,9 +97,8 @@ module _ (a : Arrays) (units : ℕ) (t : State) (on takes : List ℕ) (l : LogVi
       let v = raid_by a in
       let u = next_raid place units v in
       let f : ℕ → View = λ n. get_or all.items n no_array in
-      let commit : IsStating u on takes gone l.added l f x y = record {
+      let commit : IsStating u on takes gone [] l f x y = record {
         stated = adding_stated;
-        added_are = refl;
         number = adding.number;
         fewer = λ p named. before_current a units x adding_may on p adding.on_is named;
         call = call;
@@ -110,13 +111,13 @@ module _ (a : Arrays) (units : ℕ) (t : State) (on takes : List ℕ) (l : LogVi
       record {
         running = record {
           count = count ∙ adding.running.count ∙ sym (ap (λ (s : State). s.made) adding.t_is);
-          set = subst (λ (w : Raid). IsSet w y) whole (stating_set u on takes gone l.added l f x y commit);
+          set = subst (λ (w : Raid). IsSet w y) whole (stating_set u on takes gone [] l f x y commit);
         };
-        loses = subst (λ (w : Raid). LosesBook u w) whole (stating_loses u on takes gone l.added l f x y commit);
-        caused = subst (λ (w : Raid). AreCaused u w x y) whole (stating_caused u on takes gone l.added l f x y commit);
+        loses = subst (λ (w : Raid). LosesBook u w) whole (stating_loses u on takes gone [] l f x y commit);
+        caused = subst (λ (w : Raid). AreCaused u w x y) whole (stating_caused u on takes gone [] l f x y commit);
         raises =
             subst (λ (w : Raid). RaisesBy 2 v w) whole
-            (raises_then 1 1 v u (after_stating u (next_number l.number) f) refl (next_raises place units v x adding_may) (stating_raises u on takes gone l.added l f x y commit));
+            (raises_then 1 1 v u (after_stating u (next_number l.number) f) refl (next_raises place units v x adding_may) (stating_raises u on takes gone [] l f x y commit));
       }
 
   -- and then losses are mended

@@ -23,7 +23,7 @@ use Rattle.raid_laws.specs.Raid.{Raid}
 use Rattle.growth_laws.specs.Growing.{HasJoiningSlice, views_of}
 use Rattle.growth_laws.proofs.Steps.{FaultsRise}
 use Rattle.raid_rack.specs.declared.arrays.Arrays.{Arrays}
-use Rattle.raid_rack.specs.Growing.{CannotLay}
+use Rattle.raid_rack.specs.Growing.{CannotAdd, CannotLay}
 use Rattle.raid_rack.specs.RaidRack.{IsFit, raid_by}
 
 -- another slice than the one that is added
@@ -132,16 +132,11 @@ pub goes_same : (a : Seen) → a.fit → Goes a a
 goes_same a fit = record { stays = stays_same a fit; leaves = λ traced. leaves_same a (λ c. Unit {0}) }
 
 -- what can't be laid after such calls couldn't be before them
-pub cannot_before : (t u : Slices) (x y : Seen) (v : Raid) (place n : ℕ) → u ≡ t → Stays x y → CannotLay u y v place n → CannotLay t x v place n
-cannot_before t u x y v place n same stays (inl none) = inl (subst (λ k. disk_at k place ≡ None) same none)
-cannot_before t u x y v place n same stays (inr (inl past)) =
-    inr (inl (
-      past.0,
-      subst (λ k. disk_at k place ≡ Some past.0) same past.1,
-      subst (λ k. k < first_in (views_of v) n + slice_length (v.arrays n)) (stays.sectors past.0) past.2,
-    ))
-cannot_before t u x y v place n same stays (inr (inr overlaps)) =
-    inr (inr (subst (λ k. Overlaps k (member_slice place n) (first_in (views_of v) n) (slice_length (v.arrays n))) same overlaps))
+pub cannot_before : (t u : Slices) (x y : Seen) (place n first sectors : ℕ) → u ≡ t → Stays x y → CannotAdd u y place n first sectors → CannotAdd t x place n first sectors
+cannot_before t u x y place n first sectors same stays (inl none) = inl (subst (λ k. disk_at k place ≡ None) same none)
+cannot_before t u x y place n first sectors same stays (inr (inl past)) =
+    inr (inl (past.0, subst (λ k. disk_at k place ≡ Some past.0) same past.1, subst (λ k. k < first + sectors) (stays.sectors past.0) past.2))
+cannot_before t u x y place n first sectors same stays (inr (inr overlaps)) = inr (inr (subst (λ k. Overlaps k (member_slice place n) first sectors) same overlaps))
 
 -- no disk's faults fall where none of the rack below falls
 pub faults_rise : (t u : Slices) (x y : Seen) → Stays x y → ((p : ℕ) → disk_at u p ≡ disk_at t p) → FaultsRise (slices_of t x) (slices_of u y)

@@ -20,6 +20,9 @@ pub mod Grown
 pub mod Zeroed
 pub mod Readied
 pub mod Laid
+pub mod Entered
+pub mod LaidMembers
+pub mod Making
 pub mod Sparing
 pub mod AgreeStill
 pub mod Restating
@@ -48,3 +51,5 @@ pub mod Truths
 pub mod TruthTurns
 pub mod TruthAgrees
 mod AddDrive
+mod Committed
+mod MadeArray

@@ -30,7 +30,7 @@ pub struct RaidRack<R> {
     /// The arrays that this run has written, by number. Images leave no rows of others to resync but those that were left before.
     pub(crate) written: [bool; 16],
     /// When the pool was opened, in seconds since 1970: the times in superblocks of new arrays.
-    seconds: u64,
+    pub(crate) seconds: u64,
 }
 
 /// The drive to be lost is the only one that is left.

@@ -13,7 +13,7 @@ ghost use Rattle.raid_rack.specs.RaidRack.{IsRunning, raid_by};
 use crate::arrays::{Arrays, RaidRack};
 use crate::disks::note_written;
 use crate::marks::current_places;
-use crate::new_drive::first_in;
+use crate::new_drive::{BACKUP_SECTORS, DATA_SECTOR, first_in};
 use crate::works::Stuck;
 use array_core::Array;
 use array_reshape::{begin, finish, row, take_over};
@@ -22,16 +22,10 @@ use rack::{Places, Rack};
 use shr_base::Id;
 
 /// Sectors of a drive: fewer than these.
-const MOST_SECTORS: u64 = 1 << 48;
-
-/// The sectors of the backup of a table.
-const BACKUP_SECTORS: u64 = 33;
+pub(crate) const MOST_SECTORS: u64 = 1 << 48;
 
 /// The feature bit of a reshape.
 const RESHAPE: u32 = 4;
-
-/// Sectors of a member's slice before its data.
-const DATA_SECTOR: u64 = 2048;
 
 /// Whether no mark of this run's writes stands on an array, and its superblocks leave no row to resync.
 fn is_clean(array: &Array) -> bool
@@ -77,7 +71,7 @@ fn is_reshaping(array: &Array) -> bool
 }
 
 /// The id of a drive of the list.
-fn drive_id(state: &State, place: u32) -> Id
+pub(crate) fn drive_id(state: &State, place: u32) -> Id
     requires { place < length state.now.drives.items }
     ensures { result ≡ spec.drive_id state.now place }
 {

@@ -78,6 +78,12 @@
 //! at a place of the list it is taken in as an `enlist` does it. What it does to the book is one change between losses (`TakesIn`). Of what stops
 //! leave nothing is said yet.
 //!
+//! **A new array** ([`RaidRack::make`]) has all places as members that reach its layer by their units, missing ones too. The tables of those that
+//! aren't missing get its entry, each durably before the next, and whoever goes meanwhile is marked. Then its slices are laid in memory, and one
+//! commit has its superblocks and the state with it: an entry that a stop leaves before it is no array's. The arrays stand over the laid slices
+//! as they did, since none of them has a slice of that number (`other_slices_set` of proofs/LaidMembers.antt). What is made goes by the book right
+//! before the commit, which losses have left as due as it was (`may_make_still` of growth_laws).
+//!
 //! **A disk that is given up** ([`RaidRack::vacate`]), where its drive is marked missing, takes the slices of its place with it. The
 //! arrays stand over the slices that are left as they did (`vacated_told`, `vacated_keeps`, `vacated_rows` of proofs/Vacated.antt).
 //!

@@ -19,7 +19,7 @@ use pool_state::{Plan, Work};
 use rack::Rack;
 
 /// Sectors of a chunk: a row of a member's data.
-const CHUNK_SECTORS: u64 = 128;
+pub(crate) const CHUNK_SECTORS: u64 = 128;
 
 /// An array can't do a work: too many of its members are missing, or the work isn't one that it has to do.
 #[derive(Clone, Copy, Debug, PartialEq, Eq)]

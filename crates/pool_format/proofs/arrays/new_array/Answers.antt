@@ -5,7 +5,7 @@ use Rattle.array_model.specs.View.{View}
 use Rattle.array_core.specs.Opening.{opened, truth_of}
 use Rattle.pool_format.specs.declared.planning.NewArray.{NewArray}
 use Rattle.pool_format.specs.Arrays.{new_view, view_or_none}
-use Rattle.pool_format.proofs.Extents.{extent_chunks}
+use Rattle.new_array.proofs.Extents.{extent_chunks}
 use Rattle.pool_format.proofs.Units.{extent_bounds}
 use Rattle.pool_format.proofs.Opening.{array_opens, members_few, truth_usable}
 use Rattle.pool_format.proofs.arrays.new_array.Goals as goal

@@ -114,15 +114,15 @@ commit-gone-requires-clause-some g c =
 
 pub commit-gone-requires-clause-valid : goal.commit-gone-requires-clause-valid
 commit-gone-requires-clause-valid g c =
-    stated_valid _ _ _ _ (adding_stated _ _ _ _ _ _ _ (is_adding g (goal.at.commit-gone-requires-clause-valid g c).After-add_copies))
+    stated_valid _ _ _ _ _ (adding_stated _ _ _ _ _ _ _ (is_adding g (goal.at.commit-gone-requires-clause-valid g c).After-add_copies))
 
 pub commit-gone-requires-clause-apart : goal.commit-gone-requires-clause-apart
 commit-gone-requires-clause-apart g c =
-    stated_apart _ _ _ _ (adding_stated _ _ _ _ _ _ _ (is_adding g (goal.at.commit-gone-requires-clause-apart g c).After-add_copies))
+    stated_apart _ _ _ _ _ (adding_stated _ _ _ _ _ _ _ (is_adding g (goal.at.commit-gone-requires-clause-apart g c).After-add_copies))
 
 pub commit-gone-requires-clause-had : goal.commit-gone-requires-clause-had
 commit-gone-requires-clause-had g c =
-    stated_had _ _ _ _ (adding_stated _ _ _ _ _ _ _ (is_adding g (goal.at.commit-gone-requires-clause-had g c).After-add_copies))
+    stated_had _ _ _ _ _ (adding_stated _ _ _ _ _ _ _ (is_adding g (goal.at.commit-gone-requires-clause-had g c).After-add_copies))
 
 -- what the commit makes of the arrays
 added : (g : Over) (c : After-note_gone g)

@@ -9,7 +9,7 @@ use Rattle.array_model.specs.View.{View, rows_of}
 use Rattle.pool_state.specs.declared.contents.Work.TheVariants.{TakeOver}
 use Rattle.reshape_laws.specs.Ahead.{taken_over}
 use Rattle.reshape_laws.specs.Reshapes.{lacks_two}
-use Rattle.growth_laws.specs.Growing.{Lacks, is_clean, is_due, is_synced}
+use Rattle.growth_laws.specs.Growing.{Lacks, change_of, is_clean, is_due, is_synced}
 use Rattle.growth_laws.proofs.Becoming.{synced_parts}
 use Rattle.growth_laws.proofs.Due.{may_take_over, taken}
 use Rattle.growth_laws.proofs.Losing.{moves_caused, moves_lose}
@@ -35,7 +35,7 @@ returns-then-not-may_take_over-clause-grows g c =
     let moves = c.clean_array.ensures.cleans.moves in
     let low = subst (λ k. n < k) (sym moves.book.same.made) (synced_parts v n (and_parts (is_synced v n) (is_mirror (v.arrays n).truth) c.requires.due).0).low in
     let count = c.clean_array.ensures.running.count in
-    grows_nothing (TakeOver n) (Lacks (TakeOver n)) v w x y (moves_lose v w x y moves) (moves_caused v w x y moves) c.clean_array.ensures.cleans.heeded
+    grows_nothing (change_of (TakeOver n)) (Lacks (TakeOver n)) v w x y (moves_lose v w x y moves) (moves_caused v w x y moves) c.clean_array.ensures.cleans.heeded
     (inl (elim c.then-not-may_take_over.branch [
       | then-not-may_take_over-via-then-not-may_take_over k ↦ ap (λ (is : Bool). is && is_clean (w.arrays n)) (sym c.may_take_over.ensures ∙ k.if-not-may_take_over.true)
       | then-not-may_take_over-via-else-not-may_take_over+then-not-is_clean k ↦
@@ -131,7 +131,7 @@ returns-clause-grows g c =
     (same_element c.deref_mut.result.now a.all.items n _ no_array c.deref_mut.ensures.value (omega (arith, count, low))) all_is
     (ap (λ (l : LogView). l.number) c.clear.ensures) (step_later c.clear.new.self c.take_over.new.log c.take_over.ensures.log)
     does.becomes c.take_over.ensures.goes.stays c.take_over.ensures.reshapes.steps.view in
-    grows_behind (TakeOver n) (Lacks (TakeOver n)) (Lacks (TakeOver n)) v (raid_by a) (raid_by c.mend.new.self) x y z _ moves.stays.faults
+    grows_behind (change_of (TakeOver n)) (Lacks (TakeOver n)) (Lacks (TakeOver n)) v (raid_by a) (raid_by c.mend.new.self) x y z _ moves.stays.faults
     (stays_then c.take_over.ensures.goes.stays c.mend.ensures.mends.moves.stays).faults
     (moves_lose v (raid_by a) x y moves) (moves_caused v (raid_by a) x y moves) (λ mid w is. is)
     (grows_answered (TakeOver n) (Lacks (TakeOver n)) a (record a { all = all; log = c.take_over.new.log }) c.mend.new.self y (g.S.Rack.seen c.take_over.new.rack) z n

@@ -4,8 +4,9 @@ use Rattle.pool_state.specs.declared.contents.Work.TheVariants.{Begin}
 use Rattle.slice_rack.specs.SliceRack.{below_of, tables}
 use Rattle.slice_rack.specs.Sliced.{slices_of}
 use Rattle.slice_rack.specs.Slices.{seat_of as disk_at}
+use Rattle.raid_laws.specs.NewDrive.{first_in, slice_length}
 use Rattle.raid_laws.specs.Raid.{Raid}
-use Rattle.growth_laws.specs.Growing.{Grows, Lacks, is_clean, is_due}
+use Rattle.growth_laws.specs.Growing.{Grows, Lacks, change_of, is_clean, is_due, views_of}
 use Rattle.growth_laws.proofs.Due.{begin_parts}
 use Rattle.growth_laws.proofs.Losing.{moves_caused, moves_lose}
 use Rattle.growth_laws.proofs.Steps.{grows_behind, grows_nothing}
@@ -32,7 +33,7 @@ returns-then-not-may_begin-2-clause-grows g c due =
     let count = c.clean_array.ensures.running.count in
     let L : Raid → Raid → Type 0 =
     λ mid w. Lacks (Begin n place) mid w ⊎ CannotLay (tables c.args.self.now.slices) (g.R.Rack.seen (below_of c.args.self.now.slices)) mid place n in
-    grows_nothing (Begin n place) L v w x y (moves_lose v w x y moves) (moves_caused v w x y moves) c.clean_array.ensures.cleans.heeded
+    grows_nothing (change_of (Begin n place)) L v w x y (moves_lose v w x y moves) (moves_caused v w x y moves) c.clean_array.ensures.cleans.heeded
     (inl (inl (elim c.then-not-may_begin-2.branch [
       | then-not-may_begin-2-via-then-not-may_begin-2 k ↦ ap (λ (is : Bool). is && is_clean (w.arrays n)) (sym c.may_begin-2.ensures ∙ k.if-not-may_begin-2.true)
       | then-not-may_begin-2-via-else-not-may_begin-2+then-not-is_clean k ↦
@@ -65,14 +66,15 @@ returns-then-join_member-clause-grows g c due =
     λ mid w. Lacks (Begin n place) mid w ⊎ CannotLay (tables c.args.self.now.slices) (g.R.Rack.seen (below_of c.args.self.now.slices)) mid place n in
     let L1 : Raid → Raid → Type 0 =
     λ mid w. Lacks (Begin n place) mid w ⊎ CannotLay (tables c.clean_array.new.rack) (g.R.Rack.seen (below_of c.clean_array.new.rack)) mid place n in
-    grows_behind (Begin n place) L1 L v u w x y z true moves.stays.faults
+    grows_behind (change_of (Begin n place)) L1 L v u w x y z true moves.stays.faults
     (faults_rise t1 (tables c.join_member.new.self.slices) (seen (below_of c.clean_array.new.rack)) (seen (below_of c.join_member.new.self.slices)) c.join_member.ensures.goes.stays
     c.join_member.ensures.seats)
     (moves_lose v u x y moves) (moves_caused v u x y moves)
     (λ mid z is. elim is [
       | inl lacks ↦ inl lacks
       | inr cannot ↦
-          inr (cannot_before t t1 (seen (below_of c.args.self.now.slices)) (seen (below_of c.clean_array.new.rack)) mid place n c.clean_array.ensures.runs.tables stays cannot)
+          inr (cannot_before t t1 (seen (below_of c.args.self.now.slices)) (seen (below_of c.clean_array.new.rack)) place n (first_in (views_of mid) n) (slice_length (mid.arrays n)) c.clean_array.ensures.runs.tables
+          stays cannot)
     ])
     (subst (λ (answered : Bool). Grows (Begin n place) L1 u w y z answered) c.if-join_member.true c.join_member.ensures.grows)
 
@@ -116,14 +118,15 @@ returns-else-join_member-clause-grows g c due =
     λ mid w. Lacks (Begin n place) mid w ⊎ CannotLay (tables c.args.self.now.slices) (g.R.Rack.seen (below_of c.args.self.now.slices)) mid place n in
     let L1 : Raid → Raid → Type 0 =
     λ mid w. Lacks (Begin n place) mid w ⊎ CannotLay (tables c.clean_array.new.rack) (g.R.Rack.seen (below_of c.clean_array.new.rack)) mid place n in
-    grows_behind (Begin n place) L1 L v u w x y z false moves.stays.faults
+    grows_behind (change_of (Begin n place)) L1 L v u w x y z false moves.stays.faults
     (faults_rise t1 (tables c.join_member.new.self.slices) (seen (below_of c.clean_array.new.rack)) (seen (below_of c.join_member.new.self.slices)) c.join_member.ensures.goes.stays
     c.join_member.ensures.seats)
     (moves_lose v u x y moves) (moves_caused v u x y moves)
     (λ mid z is. elim is [
       | inl lacks ↦ inl lacks
       | inr cannot ↦
-          inr (cannot_before t t1 (seen (below_of c.args.self.now.slices)) (seen (below_of c.clean_array.new.rack)) mid place n c.clean_array.ensures.runs.tables stays cannot)
+          inr (cannot_before t t1 (seen (below_of c.args.self.now.slices)) (seen (below_of c.clean_array.new.rack)) place n (first_in (views_of mid) n) (slice_length (mid.arrays n)) c.clean_array.ensures.runs.tables
+          stays cannot)
     ])
     (subst (λ (answered : Bool). Grows (Begin n place) L1 u w y z answered) c.if-join_member.false c.join_member.ensures.grows)
 

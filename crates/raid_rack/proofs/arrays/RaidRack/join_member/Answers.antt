@@ -5,7 +5,7 @@ use Rattle.slice_rack.specs.SliceRack.{below_of, tables}
 use Rattle.slice_rack.specs.Sliced.{slices_of}
 use Rattle.slice_rack.specs.Slices.{seat_of as disk_at}
 use Rattle.raid_laws.specs.Raid.{Raid}
-use Rattle.growth_laws.specs.Growing.{Grows, Lacks}
+use Rattle.growth_laws.specs.Growing.{Grows, Lacks, change_of}
 use Rattle.growth_laws.proofs.Due.{begin_parts}
 use Rattle.growth_laws.proofs.Losing.{loses_nothing}
 use Rattle.growth_laws.proofs.Steps.{caused_nothing, grows_nothing, grows_over}
@@ -27,7 +27,7 @@ returns-then-not-lay_member-clause-grows g c =
     let L : Raid → Raid → Type 0 =
     λ mid w. Lacks (Begin n place) mid w ⊎ CannotLay (tables c.args.self.now.slices) (g.R.Rack.seen (below_of c.args.self.now.slices)) mid place n in
     subst (λ k. Grows (Begin n place) L v (raid_by k) x y false) (sym c.lay_member.ensures.arrays)
-    (grows_nothing (Begin n place) L v v x y (loses_nothing v) (caused_nothing v x y) c.requires.fit.heeded (inr (c.lay_member.ensures.cannot c.if-not-lay_member.true)))
+    (grows_nothing (change_of (Begin n place)) L v v x y (loses_nothing v) (caused_nothing v x y) c.requires.fit.heeded (inr (c.lay_member.ensures.cannot c.if-not-lay_member.true)))
 
 pub drop_member-requires-clause-place : goal.drop_member-requires-clause-place
 drop_member-requires-clause-place g c =
@@ -51,7 +51,7 @@ returns-clause-grows g c =
     λ mid w. Lacks (Begin n place) mid w ⊎ CannotLay (tables c.args.self.now.slices) (g.R.Rack.seen (below_of c.args.self.now.slices)) mid place n in
     subst (λ k. Grows (Begin n place) L (raid_by k) (raid_in c.drop_member.new.self) x y c.begin_array-begun.result) c.lay_member.ensures.arrays
     (subst (λ k. Grows (Begin n place) L (raid_by c.lay_member.new.self.arrays) (raid_by k) x y c.begin_array-begun.result) (sym c.drop_member.ensures.arrays)
-    (grows_over (Begin n place) (Lacks (Begin n place)) L (raid_by c.lay_member.new.self.arrays) (raid_by c.begin_array-begun.new.self)
+    (grows_over (change_of (Begin n place)) (Lacks (Begin n place)) L (raid_by c.lay_member.new.self.arrays) (raid_by c.begin_array-begun.new.self)
     (slices_of t1 (seen (below_of c.lay_member.new.self.slices))) (slices_of t2 (seen (below_of c.begin_array-begun.new.rack))) x y c.begin_array-begun.result
     (λ d. sym (ap (λ r. (slices_of t1 (seen r)).faults d) c.lay_member.ensures.below ∙ same_faults t t1 (seen (below_of c.args.self.now.slices)) c.lay_member.ensures.seats d))
     (λ d. ap (λ r. (slices_of t3 (seen r)).faults d) c.drop_member.ensures.below ∙ same_faults t2 t3 (seen (below_of c.begin_array-begun.new.rack)) c.drop_member.ensures.seats d)
