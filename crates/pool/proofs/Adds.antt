@@ -13,10 +13,10 @@ use Rattle.pool_state.specs.declared.contents.Drive.{Drive}
 use Rattle.pool_state.specs.declared.contents.State.{State}
 use Rattle.raid_laws.specs.Raid.{Raid}
 use Rattle.shr_base.specs.Units.{units_of}
-use Rattle.pool.specs.Adding.{adding, adding_refusals, lacks_drive, needs_array, refusal_of_add}
+use Rattle.pool.specs.Adding.{adding, adding_refusals, lacks_drive, refusal_of_add}
 use Rattle.pool.specs.Replacing.{fault_of, first_cause, has_resync, is_planned, lacks_room}
 use Rattle.pool.specs.Works.{arrays_now}
-use Rattle.pool.specs.declared.replacing.GrowFault.TheVariants.{PlanPending, NotWhole, NotResynced, TooManySegments, Unbuilt}
+use Rattle.pool.specs.declared.replacing.GrowFault.TheVariants.{PlanPending, NotWhole, NotResynced, TooManySegments}
 use Rattle.pool.proofs.Admitted.{cause_none, map_none, not_false, or_none, plan_none}
 
 -- ---- a drive's units
@@ -97,8 +97,7 @@ may_add l v sectors is =
     let units = units_of sectors v.state.extent in
     let plan = option_map fault_of (first_refusal (add_refusals v.state (arrays_now v) units)) in
     let room = then_some (lacks_room l v (adding units v.state)) TooManySegments in
-    let built = or_none (option_or (first_cause (adding_refusals v)) (option_or plan room)) (then_some (needs_array v units) Unbuilt) is in
-    let first = or_none (first_cause (adding_refusals v)) (option_or plan room) built.0 in
+    let first = or_none (first_cause (adding_refusals v)) (option_or plan room) is in
     let second = or_none plan room first.1 in
     let planned = cause_none PlanPending (is_planned v.state.plan) ((NotWhole, lacks_drive v.state) ∷ (NotResynced, has_resync (arrays_now v)) ∷ []) first.0 in
     let whole = cause_none NotWhole (lacks_drive v.state) ((NotResynced, has_resync (arrays_now v)) ∷ []) planned.1 in

@@ -22,10 +22,10 @@ use Rattle.raid_laws.specs.NewDrive.{ReachesAll, is_reached, joins, reaches_all}
 use Rattle.raid_laws.specs.Raid.{Raid}
 use Rattle.shr_base.specs.Units.{units_of}
 use Rattle.pool.specs.declared.replacing.GrowFault.{GrowFault}
-use Rattle.pool.specs.declared.replacing.GrowFault.TheVariants.{PlanPending, NotWhole, NotResynced, Unbuilt, TooManySegments}
+use Rattle.pool.specs.declared.replacing.GrowFault.TheVariants.{PlanPending, NotWhole, NotResynced, Smaller, TooManySegments}
 use Rattle.pool.specs.Moment.{views_of}
 use Rattle.pool.specs.Replaced.{is_vacant}
-use Rattle.pool.specs.Replacing.{IsAdmitted, fault_of, first_cause, has_other_missing, has_resync, has_same, has_units, is_planned, lacks_segments, refusal_of, standing_refusals}
+use Rattle.pool.specs.Replacing.{IsAdmissible, IsAdmitted, fault_of, first_cause, has_layers, has_other_missing, has_resync, has_units, is_planned, lacks_segments, reaches_own, refusal_of, standing_refusals}
 use Rattle.pool.specs.Works.{arrays_now}
 
 -- ---- where none applies
@@ -34,22 +34,20 @@ pub cause_none : (fault : GrowFault) (cause : Bool) (rest : List (GrowFault × B
 cause_none fault true rest is = absurd (let bad : Some fault ≡ None = is in cc bad)
 cause_none fault false rest is = (refl, is)
 
-standing_none : (a b d e : Bool) → first_cause ((PlanPending, a) ∷ (NotWhole, b) ∷ (NotResynced, d) ∷ (Unbuilt, e) ∷ []) ≡ None → (b ≡ false) × (e ≡ false)
-standing_none a b d e is =
-    let one = cause_none PlanPending a ((NotWhole, b) ∷ (NotResynced, d) ∷ (Unbuilt, e) ∷ []) is in
-    let two = cause_none NotWhole b ((NotResynced, d) ∷ (Unbuilt, e) ∷ []) one.1 in
-    let three = cause_none NotResynced d ((Unbuilt, e) ∷ []) two.1 in
-    (two.0, (cause_none Unbuilt e [] three.1).0)
+standing_none : (a b d : Bool) → first_cause ((PlanPending, a) ∷ (NotWhole, b) ∷ (NotResynced, d) ∷ []) ≡ None → b ≡ false
+standing_none a b d is =
+    let one = cause_none PlanPending a ((NotWhole, b) ∷ (NotResynced, d) ∷ []) is in
+    (cause_none NotWhole b ((NotResynced, d) ∷ []) one.1).0
 
 pub plan_none : (fault : AdmitFault) (cause : Bool) (rest : List (AdmitFault × Bool)) → first_refusal ((fault, cause) ∷ rest) ≡ None → (cause ≡ false) × (first_refusal rest ≡ None)
 plan_none fault true rest is = absurd (let bad : Some fault ≡ None = is in cc bad)
 plan_none fault false rest is = (refl, is)
 
-plans_none : (a b c d : Bool) → first_refusal ((OfSize, a) ∷ (OfSmaller, b) ∷ (OfDrives, c) ∷ (OfLayers, d) ∷ []) ≡ None → c ≡ false
+plans_none : (a b c d : Bool) → first_refusal ((OfSize, a) ∷ (OfSmaller, b) ∷ (OfDrives, c) ∷ (OfLayers, d) ∷ []) ≡ None → (b ≡ false) × (c ≡ false)
 plans_none a b c d is =
     let one = plan_none OfSize a ((OfSmaller, b) ∷ (OfDrives, c) ∷ (OfLayers, d) ∷ []) is in
     let two = plan_none OfSmaller b ((OfDrives, c) ∷ (OfLayers, d) ∷ []) one.1 in
-    (plan_none OfDrives c ((OfLayers, d) ∷ []) two.1).0
+    (two.0, (plan_none OfDrives c ((OfLayers, d) ∷ []) two.1).0)
 
 pub or_none : {X : Type 0} (a b : Option X) → option_or a b ≡ None → (a ≡ None) × (b ≡ None)
 or_none None b is = (refl, is)
@@ -63,23 +61,48 @@ pub not_false : (b : Bool) → not b ≡ false → b ≡ true
 not_false true is = refl
 not_false false is = sym is
 
-pub admitted : (l : Linear) (v : Raid) (place sectors : ℕ) → refusal_of l v place sectors ≡ None → IsAdmitted v place sectors
-admitted l v place sectors is =
+if_none : (b : Bool) (fault : GrowFault) → then_some b fault ≡ None → b ≡ false
+if_none true fault is = absurd (let bad : Some fault ≡ None = is in cc bad)
+if_none false fault is = refl
+
+-- Nothing is against a disk of so many sectors at a place: no other drive is missing, it has at least the units of the place's drive, a serial number is left, and it
+-- reaches the arrays of the place.
+pub record IsUnrefused (v : Raid) (place sectors : ℕ) : Type 0 where
+  pub whole : has_other_missing v.state place ≡ false
+  pub units : nat_lt (units_of sectors v.state.extent) (slice_index (units_in v.state) place) ≡ false
+  pub serial : is_serial_end v.state ≡ false
+  pub reaches : reaches_own v place sectors ≡ true
+
+pub no_smaller : (v : Raid) (place units : ℕ) → first_refusal (replace_refusals v.state (arrays_now v) place units) ≡ None
+    → (nat_lt units (slice_index (units_in v.state) place) ≡ false) × (is_serial_end v.state ≡ false)
+no_smaller v place units is =
+    plans_none (not (is_fitting (units_in v.state) (remove (units_in v.state) place) units)) (nat_lt units (slice_index (units_in v.state) place)) (is_serial_end v.state)
+    (makes_17th v.state (arrays_now v) (slice_set (units_in v.state) place units)) is
+
+pub unrefused : (l : Linear) (v : Raid) (place sectors : ℕ) → refusal_of l v place sectors ≡ None → IsUnrefused v place sectors
+unrefused l v place sectors is =
     let units = units_of sectors v.state.extent in
     let plan = option_map fault_of (first_refusal (replace_refusals v.state (arrays_now v) place units)) in
-    let room = then_some (lacks_segments l v place) TooManySegments in
-    let first = or_none (first_cause (standing_refusals v place sectors)) (option_or plan room) is in
+    let room = then_some (lacks_segments l v place units) TooManySegments in
+    let last = or_none (option_or (first_cause (standing_refusals v place)) (option_or plan room)) (then_some (not (reaches_own v place sectors)) Smaller) is in
+    let first = or_none (first_cause (standing_refusals v place)) (option_or plan room) last.0 in
     let second = or_none plan room first.1 in
-    let standing = standing_none (is_planned v.state.plan) (has_other_missing v.state place) (has_resync (arrays_now v)) (not (has_same v place sectors)) first.0 in
-    let both = and_parts (has_units v.state place units) (reaches_all (views_of v) place sectors) (not_false (has_same v place sectors) standing.1) in
+    let own = no_smaller v place units (map_none (first_refusal (replace_refusals v.state (arrays_now v) place units)) second.0) in
     record {
-      whole = standing.0;
-      units = both.0;
-      reaches = both.1;
-      serial =
-          plans_none (not (is_fitting (units_in v.state) (remove (units_in v.state) place) units)) (nat_lt units (slice_index (units_in v.state) place)) (is_serial_end v.state)
-          (makes_17th v.state (arrays_now v) (slice_set (units_in v.state) place units))
-          (map_none (first_refusal (replace_refusals v.state (arrays_now v) place units)) second.0);
+      whole = standing_none (is_planned v.state.plan) (has_other_missing v.state place) (has_resync (arrays_now v)) first.0;
+      units = own.0;
+      serial = own.1;
+      reaches = not_false (reaches_own v place sectors) (if_none (not (reaches_own v place sectors)) Smaller last.1);
+    }
+
+pub admitted : (l : Linear) (v : Raid) (place sectors : ℕ) → IsAdmissible l v place sectors → IsAdmitted v place sectors
+admitted l v place sectors is =
+    let free = unrefused l v place sectors is.0 in
+    record {
+      whole = free.whole;
+      units = is.1;
+      reaches = (and_parts (reaches_all (views_of v) place sectors) (has_layers v place (units_of sectors v.state.extent)) free.reaches).0;
+      serial = free.serial;
     }
 
 -- ---- what follows
@@ -151,26 +174,26 @@ others_current s place whole p low other = of (slice_get s.drives.items p) refl
             past (x ∷ xs) (suc k) none = let rest = past xs k none in omega (arith, rest)
     of (Some d) at = ap (λ o. option_map_or (λ (e : Drive). not e.missing) o false) at ∙ ap not (there d at)
 
+-- each number below one
+pub all_below : (f : ℕ → Bool) (many n : ℕ) → list_all f (range_with_len 0 many) ≡ true → n < many → f n ≡ true
+all_below f many n all low =
+    elim (cases_Bool (f n)) [
+      | inl so ↦ so
+      | inr not_so ↦
+          let zero : 0 + n ≡ n = omega arith in
+          absurd
+          (both_ways (list_all f (range_with_len 0 many))
+          (list_all_at f (range_with_len 0 many) n 0 (subst (λ m. n < m) (sym (length-range_with_len 0 many)) low)
+          (ap f (get_or-range_with_len 0 many n 0 low ∙ zero) ∙ not_so))
+          all)
+    ]
+
 -- the disk reaches each array of the place
 pub reaches_each : (arrays : List ArrayView) (place sectors : ℕ) → reaches_all arrays place sectors ≡ true → (10273 ≤ sectors) × ReachesAll arrays place sectors
 reaches_each arrays place sectors is = (leb-true 10273 sectors both.0, each)
   where
     both : (nat_le 10273 sectors ≡ true) × (list_all (is_reached arrays place sectors) (range_with_len 0 (length arrays)) ≡ true)
     both = and_parts (nat_le 10273 sectors) _ is
-
-    at : (n : ℕ) → n < length arrays → is_reached arrays place sectors n ≡ true
-    at n low =
-        elim (cases_Bool (is_reached arrays place sectors n)) [
-          | inl so ↦ so
-          | inr not_so ↦
-              let zero : 0 + n ≡ n = omega arith in
-              absurd
-              (both_ways (list_all (is_reached arrays place sectors) (range_with_len 0 (length arrays)))
-              (list_all_at (is_reached arrays place sectors) (range_with_len 0 (length arrays)) n 0
-              (subst (λ m. n < m) (sym (length-range_with_len 0 (length arrays))) low)
-              (ap (is_reached arrays place sectors) (get_or-range_with_len 0 (length arrays) n 0 low ∙ zero) ∙ not_so))
-              both.1)
-        ]
 
     or_right : (b c : Bool) → (b || c) ≡ true → b ≡ false → c ≡ true
     or_right true c is none = absurd (both_ways true none refl)
@@ -179,7 +202,7 @@ reaches_each arrays place sectors is = (leb-true 10273 sectors both.0, each)
     each : ReachesAll arrays place sectors
     each n u is_u member =
         or_right (option_map_or (λ w. not (is_some (seat_of w place))) (slice_get arrays n) true) (joins arrays place sectors n)
-        (at n (slice_get_within arrays n u is_u))
+        (all_below (is_reached arrays place sectors) (length arrays) n both.1 (slice_get_within arrays n u is_u))
         (ap (λ o. option_map_or (λ w. not (is_some (seat_of w place))) o true) is_u ∙ ap not member)
 
 -- the units of the place's drive

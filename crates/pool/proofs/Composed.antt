@@ -18,11 +18,11 @@ use Rattle.raid_laws.specs.Raid.{Raid}
 use Rattle.pool.specs.declared.replacing.GrowFault.{GrowFault}
 use Rattle.pool.specs.declared.replacing.GrowFault.TheVariants.{NoSuchDrive, Attach, Twice, Memory, Gone, NotWhole}
 use Rattle.rack.specs.Untouched.{KeepsDisk}
-use Rattle.pool.specs.Continuing.{NoDisk}
+use Rattle.pool.specs.Continuing.{Continues, NoDisk}
 use Rattle.pool.specs.Moment.{IsImage, IsNamed, moment_of, views_of}
-use Rattle.pool.specs.Replaced.{DriveWentFrom, DriveWentSince, HasMarkedOther, HasTable, IsAnswer, IsDeclined, IsLaidOn, IsLookedAt, IsOfDrive, IsReplaced, LeavesNew, MeansFormer, MeansWith, faults_before}
+use Rattle.pool.specs.Replaced.{DriveWentFrom, DriveWentSince, HasMarkedOther, HasTable, IsAnswer, IsDeclined, IsLaidOn, IsLookedAt, IsOfDrive, IsReplaced, LeavesNew, MeansFormer, MeansWith, NamesDisk, faults_before}
 use Rattle.pool.specs.Naming.{EntersDrive, EntersNamed, ReplacesDrive}
-use Rattle.pool.specs.Replacing.{refusal_of}
+use Rattle.pool.specs.Replacing.{IsAdmissible, refusal_of}
 use Rattle.pool.specs.Entering.{Declines, Enters, StaysStill}
 use Rattle.pool.specs.Taking.{AreTold, AttachesDisk, ReplacesBy}
 use Rattle.array_image.specs.Places.{log_slice}
@@ -212,7 +212,7 @@ module _ (x : View) (bay : x.bays.one) (place : ℕ) (name : List ℕ) (listed :
 
   -- a disk is, and takes the place of the drive
   module _ (disk : ℕ) (at : AttachesDisk x m name (Ok disk)) where
-    before_same : (d : ℕ) → faults_before (moment_of m) d ≡ faults_before (moment_of x) d
+    pub before_same : (d : ℕ) → faults_before (moment_of m) d ≡ faults_before (moment_of x) d
     before_same d =
         elim (cases_lt d b.disks) [
           | inl low ↦ ap (λ t. if t then b.faults d else 0) (lt-ltb d b.disks low) ∙ at.faults d low
@@ -227,7 +227,7 @@ module _ (x : View) (bay : x.bays.one) (place : ℕ) (name : List ℕ) (listed :
         let d = disk_of y.slices (log_slice k) in
         subst (λ n. Rose n (y.bay.faults d)) (before_same d) rose
 
-    rose_from : (y : View) (k : ℕ) → is_current (book x).state k ≡ true → DriveWentFrom (moment_of m) (moment_of y) k → DriveWentFrom (moment_of x) (moment_of y) k
+    pub rose_from : (y : View) (k : ℕ) → is_current (book x).state k ≡ true → DriveWentFrom (moment_of m) (moment_of y) k → DriveWentFrom (moment_of x) (moment_of y) k
     rose_from y k was rose =
         let d = disk_of x.slices (log_slice k) in
         let low = low_disk (book x) x.slices x.bay k ordered fit.0.running.set (heeded_left (book x) k fit.0.heeded was) in
@@ -245,6 +245,39 @@ module _ (x : View) (bay : x.bays.one) (place : ℕ) (name : List ℕ) (listed :
           ]
         ]
 
+    -- the name is no current drive's
+    pub not_drive : IsOfDrive (moment_of x) name → ⊥
+    not_drive of =
+        let same : of.0 ≡ disk = at.names.one of.0 disk (at.continues.names of.0 name of.2) at.ok.0 in
+        at.ok.2 (of.1, subst (λ e. seat_of x.slices of.1 ≡ Some e) same of.3, of.4)
+
+    pub names_since : (y : View) → y.shelf.names ≡ s.names → y.bay.disks ≡ b.disks → Continues m y → NamesDisk (moment_of x) (moment_of y) name
+    names_since y same disks go = record {
+      there = λ d named. let old = at.names.there d (before d named) in let more = go.disks in omega (arith, old, more);
+      one = λ d e first second. at.names.one d e (before d first) (before e second);
+      came = λ d past inside. ap (λ names. slice_get names d) same ∙ at.names.came d past (omega (arith, inside, disks));
+      old = λ d low named. at.names.old d low (before d named);
+      others = λ d n is. at.names.others d n (ap (λ names. slice_get names d) (sym same) ∙ is);
+    }
+      where
+        before : (d : ℕ) → IsNamed (moment_of y) name d → IsNamed (moment_of m) name d
+        before d named = ap (λ names. slice_get names d) (sym same) ∙ named
+
+    pub declined_since : (y : View) (r : Answer) → IfErr r (IsDeclined (moment_of m) (moment_of y) place) → IfErr r (IsDeclined (moment_of x) (moment_of y) place)
+    declined_since y (Ok u) declined = tt
+    declined_since y (Err e) declined = record {
+      marks = declined.marks;
+      plan = declined.plan;
+      arrays = declined.arrays;
+      cause = λ k was now. rose_from y k was (declined.cause k was now);
+      slices = declined.slices;
+      unmarked = declined.unmarked;
+      others = declined.others;
+      quiet = λ other none.
+          let still = declined.quiet other none in
+          (still.0, still.1, still.2 ∙ at.clock, λ d low s. still.3 d (let more = at.continues.disks in omega (arith, low, more)) s ∙ at.held d low s);
+    }
+
     pub replaced_by : (y : View) (r : Answer) → ReplacesBy m y place disk r → (y.bay.traced → IsSound (volume y)) → ReplacesDrive x y place name r
     replaced_by y r by sound =
         let go = continues_then x m y at.continues by.continues in
@@ -259,15 +292,7 @@ module _ (x : View) (bay : x.bays.one) (place : ℕ) (name : List ℕ) (listed :
           outside = outside_fewer x.slices y.slices (λ d. NoDisk d ⊎ (d ≡ disk)) (IsNamed (moment_of y) name) x.shelf.told x.bay y.bay (λ d is. named_at y here d is)
               (outside_then x m y NoDisk (λ d. d ≡ disk) at.continues by.continues at.outside by.outside);
           changes = λ low. record {
-            names = record {
-              there = λ d named. let old = at.names.there d (named_before y by d named) in let more = by.continues.disks in omega (arith, old, more);
-              one = λ d e first second. at.names.one d e (named_before y by d first) (named_before y by e second);
-              came = λ d past inside.
-                  let equal = by.disks in
-                  ap (λ names. slice_get names d) by.names ∙ at.names.came d past (omega (arith, inside, equal));
-              old = λ d low named. at.names.old d low (named_before y by d named);
-              others = λ d n is. at.names.others d n (ap (λ names. slice_get names d) (sym by.names) ∙ is);
-            };
+            names = names_since y by.names by.disks by.continues;
             retired = λ p d inside missing seat unnamed.
                 let keeps = by.retired p d inside missing seat (λ is. unnamed (named_at y here d (inr is))) in
                 let old = fit.0.running.set.fit.1.seats p d seat in
@@ -284,7 +309,7 @@ module _ (x : View) (bay : x.bays.one) (place : ℕ) (name : List ℕ) (listed :
             bare = λ d seat unnamed. by.bare d seat (λ is. unnamed (named_at y here d (inr is)));
             admitted = elim by.admitted [
               | inl same ↦ inl same
-              | inr none ↦ inr (disk, here, ap (refusal_of x.linear (book x) place) size ∙ none)
+              | inr none ↦ inr (disk, here, subst (IsAdmissible x.linear (book x) place) (sym size) none)
             ];
             current = λ of. absurd (not_drive of);
             image = λ told all d named. subst (λ e. IsKept y e) (sym (only y by d named)) (kept y by told all);
@@ -329,19 +354,11 @@ module _ (x : View) (bay : x.bays.one) (place : ℕ) (name : List ℕ) (listed :
         named_at y here d (inl none) = absurd none
         named_at y here d (inr is) = subst (λ e. IsNamed (moment_of y) name e) (sym is) here
 
-        named_before : (y : View) → ReplacesBy m y place disk r → (d : ℕ) → IsNamed (moment_of y) name d → IsNamed (moment_of m) name d
-        named_before y by d named = ap (λ names. slice_get names d) (sym by.names) ∙ named
-
         late : ReplacesBy m y place disk r → (f : GrowFault) → r ≡ Err f → IsLate f
         late by = answer_late x.linear (book x) place (b.sectors disk) r by.answer
 
         only : (y : View) → ReplacesBy m y place disk r → (d : ℕ) → IsNamed (moment_of y) name d → d ≡ disk
         only y by d named = at.names.one d disk (ap (λ names. slice_get names d) (sym by.names) ∙ named) at.ok.0
-
-        not_drive : IsOfDrive (moment_of x) name → ⊥
-        not_drive of =
-            let same : of.0 ≡ disk = at.names.one of.0 disk (at.continues.names of.0 name of.2) at.ok.0 in
-            at.ok.2 (of.1, subst (λ e. seat_of x.slices of.1 ≡ Some e) same of.3, of.4)
 
         -- what the disk may be left with
         IsKept : View → ℕ → Type 0
@@ -362,27 +379,12 @@ module _ (x : View) (bay : x.bays.one) (place : ℕ) (name : List ℕ) (listed :
                   elim (by.laid at.ok.1 (at.continues.known told all) k v inside unsliced left) [
                     | inl before ↦ inl (subst (λ h. MayLeave h v) (one.2 k inside) before)
                     | inr new ↦ inr (record {
-                      admitted = ap (refusal_of x.linear (book x) place) size ∙ new.0;
+                      admitted = subst (IsAdmissible x.linear (book x) place) (sym size) new.0;
                       other = not_drive;
                       value = subst (λ n. IsLaid disk (new_table (book x).state (views_of (book x)) place n) disk k v) (sym size) new.1;
                     })
                   ],
             )
-
-        declined_since : (y : View) (r : Answer) → IfErr r (IsDeclined (moment_of m) (moment_of y) place) → IfErr r (IsDeclined (moment_of x) (moment_of y) place)
-        declined_since y (Ok u) declined = tt
-        declined_since y (Err e) declined = record {
-          marks = declined.marks;
-          plan = declined.plan;
-          arrays = declined.arrays;
-          cause = λ k was now. rose_from y k was (declined.cause k was now);
-          slices = declined.slices;
-          unmarked = declined.unmarked;
-          others = declined.others;
-          quiet = λ other none.
-              let still = declined.quiet other none in
-              (still.0, still.1, still.2 ∙ at.clock, λ d low s. still.3 d (let more = at.continues.disks in omega (arith, low, more)) s ∙ at.held d low s);
-        }
 
         replaced_since : (y : View) (r : Answer) → ((d : ℕ) → IsNamed (moment_of y) name d → d ≡ disk) → OnOk r (IsReplaced (moment_of m) (moment_of y) place disk)
             → OnOk r ((d : ℕ) → IsNamed (moment_of y) name d → IsReplaced (moment_of x) (moment_of y) place d)

@@ -61,6 +61,7 @@ use Rattle.pool.proofs.Keeping.{not_left, went}
 use Rattle.pool.proofs.Later.{inside_later, later}
 use Rattle.pool.proofs.Shown.{views_are}
 use Rattle.pool.proofs.Taken.{goes_on, laid_by, low_disk, mid_carries, mid_fit, mid_goes, outside_of_it, retired_by, vacates}
+use Rattle.pool.proofs.Vacating.{seats_from}
 
 module _ (x : View) (b : Seen) (s : Shelf) (place disk units : ℕ) (t u : Slices) (z : Arrays) (linear : IsOrderlyVolume x.linear) (fit : (volume x).fit)
     (kind : IsVacating x place t) (empty : IsFit x.arrays (slices_of t x.bay))
@@ -81,7 +82,7 @@ module _ (x : View) (b : Seen) (s : Shelf) (place disk units : ℕ) (t u : Slice
   fit_now = (after, inside_later x b s u z fit made enlists.is.sectors)
 
   low_mid : (volume mid).fit
-  low_mid = mid_fit x b s place disk t linear fit kind empty now names ordered orderly admits
+  low_mid = mid_fit x b s place disk t linear fit kind empty now names ordered orderly
 
   opened : AreTold x → (k : ℕ) → k < x.bay.sectors disk → IsLive x.bay x.bay disk k
   opened all k within = record { disk = low; sector = within; is_told = all disk low; unspent = was.unspent disk k }
@@ -323,25 +324,7 @@ module _ (x : View) (b : Seen) (s : Shelf) (place disk units : ℕ) (t u : Slice
 
   -- from the tables before the place gave its disk up
   all_seats : SeatsDrive x.arrays.all.items place disk (x.bay.sectors disk) x.slices u
-  all_seats = elim kind [
-    | inl gave ↦ record {
-      seats = λ p.
-          elim (cases_eq p place) [
-            | inl same ↦
-                seats.seats p ∙ ap (λ (c : Bool). if c then Some disk else seat_of t p) (eq-eqb p place same)
-                ∙ sym (ap (λ (c : Bool). if c then Some disk else seat_of x.slices p) (eq-eqb p place same))
-            | inr other ↦
-                seats.seats p ∙ ap (λ (c : Bool). if c then Some disk else seat_of t p) (ne_eqb p place other)
-                ∙ (gave.1.seats p ∙ ap (λ (c : Bool). if c then None else seat_of x.slices p) (ne_eqb p place other))
-                ∙ sym (ap (λ (c : Bool). if c then Some disk else seat_of x.slices p) (ne_eqb p place other))
-          ];
-      own = seats.own;
-      own_firsts = seats.own_firsts;
-      others = λ d other. seats.others d other ∙ gave.1.sectors d other;
-      firsts = λ d other. seats.firsts d other ∙ gave.1.firsts d other;
-    }
-    | inr stays ↦ subst (λ r. SeatsDrive x.arrays.all.items place disk (x.bay.sectors disk) r u) stays.1 seats
-  ]
+  all_seats = seats_from x place disk t u x.arrays.all.items (x.bay.sectors disk) kind seats
 
   -- the disk that the place had has no slice
   bare_now : (d : ℕ) → seat_of x.slices place ≡ Some d → d ≢ disk → (k : ℕ) (v : List ℕ) → IsSliced u d k v → ⊥
@@ -387,7 +370,7 @@ module _ (x : View) (b : Seen) (s : Shelf) (place disk units : ℕ) (t u : Slice
 
   former_kept : (d : ℕ) → seat_of x.slices place ≡ Some d → d ≢ disk → KeepsDisk x.shelf.told x.bay b d
   former_kept d seat other =
-      retired_by x b s place disk t linear fit kind empty now names ordered orderly admits (IsWrittenBy u disk (new_table x.arrays.state x.arrays.all.items place (x.bay.sectors disk))) enlists.only d seat
+      retired_by x b s place disk t linear fit kind empty now names ordered orderly (IsWrittenBy u disk (new_table x.arrays.state x.arrays.all.items place (x.bay.sectors disk))) enlists.only d seat
       (λ k v at. elim at [ inl own ↦ other own.0 | inr is ↦ bare_now d seat other k v is ])
 
   -- by the arrays of the book
@@ -397,10 +380,10 @@ module _ (x : View) (b : Seen) (s : Shelf) (place disk units : ℕ) (t u : Slice
   pub taken_in : option_map (λ d. d.units) (slice_get x.arrays.state.drives.items place) ≡ Some units → TakesBy x y place disk (Ok tt)
   taken_in units_is =
       let may : ℕ → ℕ → List ℕ → Type 0 = IsWrittenBy u disk (new_table x.arrays.state x.arrays.all.items place (x.bay.sectors disk)) in
-      let go = mid_goes x b s place disk t linear fit kind empty now names ordered orderly admits in
-      let carries = mid_carries x b s place disk t linear fit kind empty now names ordered orderly admits in
+      let go = mid_goes x b s place disk t linear fit kind empty now names ordered orderly in
+      let carries = mid_carries x b s place disk t linear fit kind empty now names ordered orderly in
       record {
-        continues = goes_on x b s place disk t linear fit kind empty now names ordered orderly admits u z may enlists.only fit_now orderly_now;
+        continues = goes_on x b s place disk t linear fit kind empty now names ordered orderly u z may enlists.only fit_now orderly_now;
         carries = carries_then x mid y go carries new_carries;
         raises = enlists.raises;
         kept = tt;
@@ -408,10 +391,10 @@ module _ (x : View) (b : Seen) (s : Shelf) (place disk units : ℕ) (t u : Slice
             book_enlisted place units (Replace place) (joins x.arrays.all.items place (x.bay.sectors disk)) (book x) (raid_by z) (slices_of t x.bay) (slices_of u b) empty.running.set
             after.running.set after.heeded made enlists.is.arrays;
         outside =
-            outside_of_it x b s place disk t linear fit kind empty now names ordered orderly admits u z may enlists.only fit_now orderly_now
+            outside_of_it x b s place disk t linear fit kind empty now names ordered orderly u z may enlists.only fit_now orderly_now
             (λ d k a at. elim at [ inl own ↦ inr own.0 | inr is ↦ new_sliced d k a is ]) new_sliced;
         retired = λ why. former_kept;
-        laid = laid_by x b s place disk t linear fit kind empty now names ordered orderly admits u by_book.only;
+        laid = laid_by x b s place disk t linear fit kind empty now names ordered orderly u by_book.only;
         names = names.names;
         bare = λ d seat other. inr (bare_now d seat other);
         disks = enlists.only.stays.disks;

@@ -34,7 +34,7 @@ use Rattle.pool.specs.Entering.{Cleaned, Declines, Enters, EntersBy, LeavesBy, L
 use Rattle.pool.specs.Keeping.{KeepsBook, most_raised}
 use Rattle.pool.specs.Moment.{moment_of, views_of}
 use Rattle.pool.specs.Replaced.{DriveWentFrom, HasMarked, HasMarkedOther, HasTable, IsAnswer, IsDeclined, IsReplaced, LeavesNew, MeansBy, MeansFormer, MeansWith, faults_before, table_for}
-use Rattle.pool.specs.Replacing.{IsAdmitted, has_other_missing, refusal_of}
+use Rattle.pool.specs.Replacing.{IsAdmissible, IsAdmitted, has_other_missing}
 use Rattle.pool.specs.Taking.{AreTold, Carries, ReplacesBy, TakesBy}
 use Rattle.pool.specs.View.{View, book, slices_shown, volume}
 use Rattle.pool.specs.Volume.{Holds}
@@ -72,7 +72,7 @@ pub record IsReady (x m : View) (place disk many : ℕ) : Type 0 where
   pub leaves : x.bay.traced → (a : FlatArray) → Holds x a → LeavesNew x m (λ i. MeansFormer x m place a i)
 
 -- A disk that is taken in at once, where the place's drive is missing.
-pub at_once : (x y : View) (place disk : ℕ) (r : Result (Unit {0}) GrowFault) → is_current (book x).state place ≡ false → refusal_of x.linear (book x) place (x.bay.sectors disk) ≡ None
+pub at_once : (x y : View) (place disk : ℕ) (r : Result (Unit {0}) GrowFault) → is_current (book x).state place ≡ false → IsAdmissible x.linear (book x) place (x.bay.sectors disk)
     → TakesBy x y place disk r → ReplacesBy x y place disk r
 at_once x y place disk r missing admits by = record {
   continues = by.continues;
@@ -92,7 +92,7 @@ at_once x y place disk r missing admits by = record {
   laid = λ low all s v within unsliced left. elim (by.laid low all s v within unsliced left) [ inl before ↦ inl before | inr new ↦ inr (admits, new) ];
   names = by.names;
   disks = by.disks;
-  answer = subst (λ o. IsAnswer o r) (sym admits) by.answer;
+  answer = subst (λ o. IsAnswer o r) (sym admits.0) by.answer;
   admitted = inr admits;
   gone = by.gone;
   not_whole = λ same.
@@ -149,7 +149,7 @@ ready_clean x m place disk now was cleaned carries =
 
 module _ (x m : View) (place disk many : ℕ) (fit : (volume x).fit) (ordered : IsOrderly x.slices) (was : is_current (book x).state place ≡ true)
     (listed : place < length (book x).state.drives.items) (low : disk < x.bay.disks) (free : (p : ℕ) → seat_of x.slices p ≢ Some disk)
-    (admits : refusal_of x.linear (book x) place (x.bay.sectors disk) ≡ None) (ready : IsReady x m place disk many) where
+    (admits : IsAdmissible x.linear (book x) place (x.bay.sectors disk)) (ready : IsReady x m place disk many) where
   here : IsAdmitted (book x) place (x.bay.sectors disk)
   here = admitted x.linear (book x) place (x.bay.sectors disk) admits
 
@@ -229,7 +229,7 @@ module _ (x m : View) (place disk many : ℕ) (fit : (volume x).fit) (ordered : 
         laid = λ inside all s v within out may. elim (ready.laid inside all s v within (unsliced s) may) [ inl before ↦ inl before | inr new ↦ inr (admits, new) ];
         names = ready.names;
         disks = ready.disks;
-        answer = subst (λ o. IsAnswer o (Err NotWhole)) (sym admits) (inr (inr refl));
+        answer = subst (λ o. IsAnswer o (Err NotWhole)) (sym admits.0) (inr (inr refl));
         admitted = inr admits;
         gone = λ same. absurd (let e : NotWhole ≡ Gone = cc same in cc e);
         not_whole = λ same. inr marked;
@@ -375,7 +375,7 @@ module _ (x m : View) (place disk many : ℕ) (fit : (volume x).fit) (ordered : 
               ];
           names = by.names ∙ ready.names;
           disks = by.disks ∙ ready.disks;
-          answer = subst (λ o. IsAnswer o r) (sym admits) by.answer;
+          answer = subst (λ o. IsAnswer o r) (sym admits.0) by.answer;
           admitted = inr admits;
           gone = λ same. rose_since (ready.continues.faults disk low) (by.gone same);
           not_whole = λ same.

@@ -158,36 +158,38 @@ many_then n x y z (inr over) (inl left) = inr (over.0, (let few = over.1 in omeg
 many_then n x y z (inr over) (inr work) = absurd (none_first (works_of y) work.work over.3 work.first)
 
 -- a work is the first one
-pub first_tried : (x y : View) (work : Work) (r : Result (Unit {0}) Stuck) → slice_get (works_of x) 0 ≡ Some work → TriesWork work x y r → TriesFirst x y r
-first_tried x y work r first tries = record { keeps = tries.keeps; done = done_of r tries; stuck = stuck_of r tries }
+pub first_tried : (x y : View) (runs : x.bays.one → x.bays.one → Type 0) (bay : x.bays.one) (work : Work) (r : Result (Unit {0}) Stuck) → slice_get (works_of x) 0 ≡ Some work
+    → TriesWork work x y runs bay r → TriesFirst x y runs bay r
+first_tried x y runs bay work r first tries = record { keeps = tries.keeps; done = done_of r tries; stuck = stuck_of r tries }
   where
-    done_of : (r : Result (Unit {0}) Stuck) → TriesWork work x y r → OnOk r (HasNone x y ⊎ DoesWork x.linear y.linear (book x) (book y))
+    done_of : (r : Result (Unit {0}) Stuck) → TriesWork work x y runs bay r → OnOk r (HasNone x y ⊎ DoesWork x.linear y.linear (book x) (book y))
     done_of (Err e) tries = tt
     done_of (Ok u) tries = inr (record { work = work; first = first; done = tries.done.0; linear = tries.done.1 })
 
-    stuck_of : (r : Result (Unit {0}) Stuck) → TriesWork work x y r
+    stuck_of : (r : Result (Unit {0}) Stuck) → TriesWork work x y runs bay r
         → IfErr r
-        (λ e. (y.linear ≡ x.linear) × ((work : Work) × (slice_get (works_of x) 0 ≡ Some work) × IsRefused x.slices x.bay x.linear work (book x) (book y) e.array))
+        (λ e. (y.linear ≡ x.linear)
+        × ((work : Work) × (slice_get (works_of x) 0 ≡ Some work) × IsRefused x.bays.seen runs x.slices bay x.linear work (book x) (book y) e.array))
     stuck_of (Ok u) tries = tt
     stuck_of (Err e) tries = (tries.stuck.0, (work, first, tries.stuck.1))
 
 -- none is left
-pub none_tried : (x : View) → (volume x).fit → slice_get (works_of x) 0 ≡ None → TriesFirst x x (Ok tt)
-none_tried x fit none_left = record { keeps = keeps_more 0 1 x x (omega arith) (keeps_none x fit); done = inl (empty (works_of x) none_left, refl, refl); stuck = tt }
+pub none_tried : (x : View) (runs : x.bays.one → x.bays.one → Type 0) (bay : x.bays.one) → (volume x).fit → slice_get (works_of x) 0 ≡ None → TriesFirst x x runs bay (Ok tt)
+none_tried x runs bay fit none_left = record { keeps = keeps_more 0 1 x x (omega arith) (keeps_none x fit); done = inl (empty (works_of x) none_left, refl, refl); stuck = tt }
   where
     empty : (works : List Work) → slice_get works 0 ≡ None → works ≡ []
     empty [] is = refl
     empty (work ∷ works) is = absurd (let bad : Some work ≡ None = is in cc bad)
 
 -- it can't be done
-pub stops_growing : {R : Type 0} (seen : R → Seen) (shelf : R → Shelf) (n count : ℕ) (p q r : Pool R) (array : ℕ) → n < count
-    → ((place : ℕ) → seat_of (view seen shelf q).slices place ≡ seat_of (view seen shelf p).slices place) → DoesMany n (view seen shelf p) (view seen shelf q)
+pub stops_growing : {R : Type 0} (seen : R → Seen) (shelf : R → Shelf) (runs : R → R → Type 0) (n count : ℕ) (p q r : Pool R) (array : ℕ) → n < count
+    → KeepsGrowing n (view seen shelf p) (view seen shelf q) → KeepsGrowing 1 (view seen shelf q) (view seen shelf r) → DoesMany n (view seen shelf p) (view seen shelf q)
     → ((view seen shelf r).linear ≡ (view seen shelf q).linear)
     × ((work : Work) × (slice_get (works_of (view seen shelf q)) 0 ≡ Some work)
-    × IsRefused (view seen shelf q).slices (view seen shelf q).bay (view seen shelf q).linear work (book (view seen shelf q)) (book (view seen shelf r)) array)
-    → StopsGrowing count (view seen shelf p) (view seen shelf r) array
-stops_growing seen shelf n count p q r array few seats (inr over) stuck = absurd (none_first (works_of (view seen shelf q)) stuck.1.0 over.3 stuck.1.1)
-stops_growing seen shelf n count p q r array few seats (inl done) stuck =
+    × IsRefused seen runs (view seen shelf q).slices (bay_in q) (view seen shelf q).linear work (book (view seen shelf q)) (book (view seen shelf r)) array)
+    → StopsGrowing count (view seen shelf p) (view seen shelf r) runs array
+stops_growing seen shelf runs n count p q r array few before after (inr over) stuck = absurd (none_first (works_of (view seen shelf q)) stuck.1.0 over.3 stuck.1.1)
+stops_growing seen shelf runs n count p q r array few before after (inl done) stuck =
     let x = view seen shelf p in
     let y = view seen shelf q in
     let z = view seen shelf r in
@@ -199,9 +201,11 @@ stops_growing seen shelf n count p q r array few seats (inl done) stuck =
       work = stuck.1.0;
       first = subst (λ (l : Linear). slice_get (works_by l (book y)) 0 ≡ Some stuck.1.0) (sym stuck.0) stuck.1.1;
       slices = y.slices;
-      seats = seats;
+      seats = before.seats;
       bay = bay_in q;
-      stuck = subst (λ (l : Linear). IsRefused y.slices y.bay l stuck.1.0 (book y) (book z) array) (sym stuck.0) stuck.1.2;
+      goes = before.goes;
+      goes_on = after.goes;
+      stuck = subst (λ (l : Linear). IsRefused seen runs y.slices (bay_in q) l stuck.1.0 (book y) (book z) array) (sym stuck.0) stuck.1.2;
     }
 
 -- ---- a work that the arrays do
@@ -299,8 +303,8 @@ module _ {R : Type 0} (seen : R → Seen) (shelf : R → Shelf) (runs : R → R 
   pub row_tried : SaysOf seen work r (arrays_of p) new → KeepsRack (raid_seen seen (arrays_of p)) (raid_seen seen new) → SliceRuns seen runs (slices_in (arrays_of p)) (slices_in new)
       → RaidRuns (written_in (arrays_of p)) (written_in new) (raid_in (arrays_of p)) (raid_in new) (slices_seen seen (arrays_of p)) (slices_seen seen new)
       → RaisesBy 18 (raid_in (arrays_of p)) (raid_in new)
-      → ((w : Raid) (array : ℕ) → array ≡ array_of work → IsRefusedRow work (book x) w → IsRefused x.slices x.bay x.linear work (book x) w array)
-      → TriesWork work x y r
+      → ((w : Raid) (array : ℕ) → array ≡ array_of work → IsRefusedRow work (book x) w → IsRefused seen runs x.slices (bay_in p) x.linear work (book x) w array)
+      → TriesWork work x y runs (bay_in p) r
   row_tried says keeps ran runs_on raises refused = record {
     keeps =
         keeps_by x y fit (reached_stays seen shelf p new fit keeps).fit (as_long (book x) (book y) runs_on.book.same.made (λ n low. keeps.stays.sectors n))
@@ -319,7 +323,7 @@ module _ {R : Type 0} (seen : R → Seen) (shelf : R → Shelf) (runs : R → R 
           ]
 
       stuck_of : (r : Result (Unit {0}) Stuck) → SaysOf seen work r (arrays_of p) new
-          → IfErr r (λ e. (y.linear ≡ x.linear) × IsRefused x.slices x.bay x.linear work (book x) (book y) e.array)
+          → IfErr r (λ e. (y.linear ≡ x.linear) × IsRefused seen runs x.slices (bay_in p) x.linear work (book x) (book y) e.array)
       stuck_of (Ok u) says = tt
       stuck_of (Err e) says = (
         refl,
@@ -331,13 +335,13 @@ module _ {R : Type 0} (seen : R → Seen) (shelf : R → Shelf) (runs : R → R 
       )
 
   -- a work of a growth
-  pub growth_tried : (seconds : ℕ) (L : Raid → Raid → Type 0) → ((mid w : Raid) → L mid w → LacksIn x.slices x.bay work mid w)
+  pub growth_tried : (seconds : ℕ) (L : Raid → Raid → Type 0) → ((mid w : Raid) → L mid w → LacksIn seen runs x.slices (bay_in p) work mid w)
       → (is_due_to_grow (book x) work ≡ false → (is_ok r ≡ false) × (new ≡ arrays_of p))
       → (is_due_to_grow (book x) work ≡ true → GrowsBy (change_in seconds work) L (book x) (raid_in new) (slices_shown x) (slices_seen seen new) (is_ok r))
       → IfErr r (λ e. e.array ≡ array_of work) → IsFit (arrays_in new) (slices_seen seen new) → (k : ℕ) → k ≤ 2 ^ 20 → RaisesBy k (book x) (raid_in new)
       → ((place : ℕ) → seat_of (tables (slices_in new)) place ≡ seat_of x.slices place) → Goes x.bay (seen (below_of (slices_in new))) → runs (bay_in p) (below_of (slices_in new))
-      → ((w : Raid) (array : ℕ) → array ≡ array_of work → IsRefusedGrowth x.slices x.bay work (book x) w → IsRefused x.slices x.bay x.linear work (book x) w array)
-      → TriesWork work x y r
+      → ((w : Raid) (array : ℕ) → array ≡ array_of work → IsRefusedGrowth seen runs x.slices (bay_in p) work (book x) w → IsRefused seen runs x.slices (bay_in p) x.linear work (book x) w array)
+      → TriesWork work x y runs (bay_in p) r
   growth_tried seconds L lacking idle grows named after k few raises seats goes ran refused = record {
     keeps = keeps_by x y fit (after, inside_longer x.linear _ _ x.refused y.refused (book x) (book y) (slices_shown x) (slices_shown y) longer fit.1 low) longer seats goes
         (names (bay_in p) (below_of (slices_in new)) ran) caused k few raises;
@@ -374,7 +378,7 @@ module _ {R : Type 0} (seen : R → Seen) (shelf : R → Shelf) (runs : R → R 
       stuck_of : (r : Result (Unit {0}) Stuck) → (is_due_to_grow (book x) work ≡ false → (is_ok r ≡ false) × (new ≡ arrays_of p))
           → (is_due_to_grow (book x) work ≡ true → GrowsBy (change_in seconds work) L (book x) (raid_in new) (slices_shown x) (slices_seen seen new) (is_ok r))
           → IfErr r (λ e. e.array ≡ array_of work)
-          → IfErr r (λ e. (y.linear ≡ x.linear) × IsRefused x.slices x.bay x.linear work (book x) (book y) e.array)
+          → IfErr r (λ e. (y.linear ≡ x.linear) × IsRefused seen runs x.slices (bay_in p) x.linear work (book x) (book y) e.array)
       stuck_of (Ok u) idle grows named = tt
       stuck_of (Err e) idle grows named = (
         refl,
@@ -423,9 +427,6 @@ numbers_are l v s p numbers state progress is =
     is ∙ ap (λ (k : State). targets k p.arrays.items) state ∙ ap (λ (k : Progress). targets v.state k.arrays.items) progress
 
 -- it can't be extended, and nothing is called
-pub extend_refused : (x : View) → (volume x).fit → can_extend x.linear (book x) (target_of (book x)) ≡ false → TriesWork Extend x x (Err (record { array = 0 }))
-extend_refused x fit is = record { keeps = keeps_more 0 1 x x (omega arith) (keeps_none x fit); done = tt; stuck = (refl, inl (is, refl, refl)) }
-
--- a new array isn't made
-pub make_refused : (n height : ℕ) (v : View) → (volume v).fit → TriesWork (Make n height) v v (Err (record { array = n }))
-make_refused n height v fit = record { keeps = keeps_more 0 1 v v (omega arith) (keeps_none v fit); done = tt; stuck = (refl, (refl, refl)) }
+pub extend_refused : (x : View) (runs : x.bays.one → x.bays.one → Type 0) (bay : x.bays.one) → (volume x).fit → can_extend x.linear (book x) (target_of (book x)) ≡ false
+    → TriesWork Extend x x runs bay (Err (record { array = 0 }))
+extend_refused x runs bay fit is = record { keeps = keeps_more 0 1 x x (omega arith) (keeps_none x fit); done = tt; stuck = (refl, inl (is, refl, refl)) }

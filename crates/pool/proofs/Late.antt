@@ -10,9 +10,9 @@ use Rattle.lvm_group.specs.Runs.{Linear}
 use Rattle.raid_laws.specs.Raid.{Raid}
 use Rattle.shr_base.specs.Units.{units_of}
 use Rattle.pool.specs.declared.replacing.GrowFault.{GrowFault}
-use Rattle.pool.specs.declared.replacing.GrowFault.TheVariants.{NoSuchDrive, Attach, Twice, Memory, Gone, PlanPending, NotWhole, NotResynced, Unbuilt, TooManySegments}
+use Rattle.pool.specs.declared.replacing.GrowFault.TheVariants.{NoSuchDrive, Attach, Twice, Memory, Gone, PlanPending, NotWhole, NotResynced, Smaller, TooManySegments}
 use Rattle.pool.specs.Replaced.{IsAnswer}
-use Rattle.pool.specs.Replacing.{fault_of, first_cause, has_other_missing, has_resync, has_same, is_planned, lacks_segments, refusal_of, standing_refusals}
+use Rattle.pool.specs.Replacing.{fault_of, first_cause, has_other_missing, has_resync, is_planned, lacks_segments, reaches_own, refusal_of, standing_refusals}
 use Rattle.pool.specs.Works.{arrays_now}
 
 abbrev pub Answer : Type 0
@@ -39,9 +39,6 @@ late_planned = (record { listed = λ same. cc; attached = λ same. cc; had = λ 
 
 pub late_whole : IsLate NotWhole × (NotWhole ≢ Gone)
 late_whole = (record { listed = λ same. cc; attached = λ same. cc; had = λ same. cc; other = λ same. cc }, λ same. cc)
-
-pub late_unbuilt : IsLate Unbuilt × (Unbuilt ≢ Gone)
-late_unbuilt = (record { listed = λ same. cc; attached = λ same. cc; had = λ same. cc; other = λ same. cc }, λ same. cc)
 
 pub late_resynced : IsLate NotResynced × (NotResynced ≢ Gone)
 late_resynced = (record { listed = λ same. cc; attached = λ same. cc; had = λ same. cc; other = λ same. cc }, λ same. cc)
@@ -83,19 +80,29 @@ pub late_if : (b : Bool) → AreLate (then_some b TooManySegments)
 late_if true = late_some TooManySegments late_segments
 late_if false = late_none
 
-standing_late : (a b d e : Bool) → AreLate (first_cause ((PlanPending, a) ∷ (NotWhole, b) ∷ (NotResynced, d) ∷ (Unbuilt, e) ∷ []))
-standing_late a b d e =
-    late_cause PlanPending a ((NotWhole, b) ∷ (NotResynced, d) ∷ (Unbuilt, e) ∷ []) late_planned
-    (late_cause NotWhole b ((NotResynced, d) ∷ (Unbuilt, e) ∷ []) late_whole
-    (late_cause NotResynced d ((Unbuilt, e) ∷ []) late_resynced (late_cause Unbuilt e [] late_unbuilt late_none)))
+standing_late : (a b d : Bool) → AreLate (first_cause ((PlanPending, a) ∷ (NotWhole, b) ∷ (NotResynced, d) ∷ []))
+standing_late a b d =
+    late_cause PlanPending a ((NotWhole, b) ∷ (NotResynced, d) ∷ []) late_planned
+    (late_cause NotWhole b ((NotResynced, d) ∷ []) late_whole (late_cause NotResynced d [] late_resynced late_none))
+
+-- that of a plan, of the room, or of the arrays of the place
+first_late : (standing : Option GrowFault) (plan : Option AdmitFault) (lacks misses : Bool) → AreLate standing
+    → AreLate (option_or (option_or standing (option_or (option_map fault_of plan) (then_some lacks TooManySegments))) (then_some misses Smaller))
+first_late standing plan lacks misses late =
+    late_or (option_or standing (option_or (option_map fault_of plan) (then_some lacks TooManySegments))) (then_some misses Smaller)
+    (late_or standing (option_or (option_map fault_of plan) (then_some lacks TooManySegments)) late
+    (late_or (option_map fault_of plan) (then_some lacks TooManySegments) (late_map plan) (late_if lacks)))
+    (late_smaller misses)
+  where
+    late_smaller : (b : Bool) → AreLate (then_some b Smaller)
+    late_smaller true = late_some Smaller (late_plan OfSmaller)
+    late_smaller false = late_none
 
 pub refusal_late : (l : Linear) (v : Raid) (place sectors : ℕ) → AreLate (refusal_of l v place sectors)
 refusal_late l v place sectors =
-    let plan = first_refusal (replace_refusals v.state (arrays_now v) place (units_of sectors v.state.extent)) in
-    let room = then_some (lacks_segments l v place) TooManySegments in
-    late_or (first_cause (standing_refusals v place sectors)) (option_or (option_map fault_of plan) room)
-    (standing_late (is_planned v.state.plan) (has_other_missing v.state place) (has_resync (arrays_now v)) (not (has_same v place sectors)))
-    (late_or (option_map fault_of plan) room (late_map plan) (late_if (lacks_segments l v place)))
+    let units = units_of sectors v.state.extent in
+    first_late (first_cause (standing_refusals v place)) (first_refusal (replace_refusals v.state (arrays_now v) place units)) (lacks_segments l v place units) (not (reaches_own v place sectors))
+    (standing_late (is_planned v.state.plan) (has_other_missing v.state place) (has_resync (arrays_now v)))
 
 -- so is each answer
 pub answer_late : (l : Linear) (v : Raid) (place sectors : ℕ) (r : Answer) → IsAnswer (refusal_of l v place sectors) r → (f : GrowFault) → r ≡ Err f → IsLate f

@@ -40,3 +40,7 @@ mod Grows
 mod Trying
 mod Added
 mod AddedDrives
+mod ReachedArrays
+mod Enlarged
+mod EnlargedDrives
+mod GrownPools

@@ -20,7 +20,7 @@ use Rattle.raid_rack.specs.declared.arrays.Arrays.{Arrays}
 use Rattle.raid_laws.specs.Book.{IsAfter, drive_of}
 use Rattle.raid_laws.specs.Enlisting.{enlisted, next_drive, with_drive}
 use Rattle.raid_laws.specs.Moves.{KeepsArrays, LosesOnly}
-use Rattle.raid_laws.specs.NewDrive.{drive_table, entry_of, first_in, is_reached, joins, length_in}
+use Rattle.raid_laws.specs.NewDrive.{drive_table, entry_of, first_in, is_reached, joins, length_in, reaches_all}
 use Rattle.raid_rack.specs.RaidRack.{IsRunning, no_array, raid_by}
 use Rattle.raid_laws.specs.Missing.{raised}
 use Rattle.raid_laws.proofs.Committed.{raised_range}
@@ -187,13 +187,17 @@ module _ (r q : Arrays) (x y : Seen) (before : IsRunning r x) (after : IsRunning
   pub same_views : AreSameMembers xs ys
   same_views = subst (λ zs. AreSameMembers xs zs) (sym (views_are q after.count)) (subst (λ zs. AreSameMembers zs q.all.items) (sym (views_are r before.count)) are)
 
+  -- the disk reaches the arrays of the place as it did
+  pub reached_all : (sectors : ℕ) → reaches_all ys place sectors ≡ reaches_all xs place sectors
+  reached_all sectors =
+      ap₂ (λ (f : ℕ → Bool) n. nat_le 10273 sectors && list_all f (range_with_len 0 n)) (λ i n. reached_same xs ys same_views place sectors n i) same_views.count
+
   -- what a drive that is taken in relies on
   pub still_admitted : (sectors : ℕ) → has_other_missing q.state place ≡ false → IsAdmitted (raid_by r) place sectors → IsAdmitted (raid_by q) place sectors
   still_admitted sectors whole is = record {
     whole = whole;
     units = ap (λ n. has_units q.state place (units_of sectors n)) marks.same.extent ∙ has_units_same r.state q.state marks place (units_of sectors r.state.extent) ∙ is.units;
-    reaches =
-        ap₂ (λ (f : ℕ → Bool) n. nat_le 10273 sectors && list_all f (range_with_len 0 n)) (λ i n. reached_same xs ys same_views place sectors n i) same_views.count ∙ is.reaches;
+    reaches = reached_all sectors ∙ is.reaches;
     serial = ap (λ n. n == 4294967295) marks.same.serial ∙ is.serial;
   }
 

@@ -13,12 +13,13 @@ use Rattle.slice_rack.specs.Slices.{IsOrderly, Slices, disk_of, place_of, seat_o
 use Rattle.slice_rack.specs.Sliced.{slices_of}
 use Rattle.array_image.specs.Places.{log_slice}
 use Rattle.array_image.specs.States.{is_current}
+use Rattle.array_model.specs.View.{HasFault}
 use Rattle.lvm_group.specs.Runs.{IsOrderly as IsOrderlyVolume}
 use Rattle.raid_rack.specs.declared.arrays.Arrays.{Arrays}
-use Rattle.raid_laws.specs.Book.{after_same}
+use Rattle.raid_laws.specs.Book.{IsAfter, after_same}
 use Rattle.raid_laws.specs.Enlisting.{IsNotWhole, IsRefused, IsWrittenBy, new_table}
 use Rattle.raid_laws.specs.Losing.{arrays_same}
-use Rattle.raid_laws.specs.Moves.{IsSet}
+use Rattle.raid_laws.specs.Moves.{IsSet, KeepsArrays}
 use Rattle.raid_laws.specs.NewDrive.{IsOfDrive}
 use Rattle.raid_laws.specs.Raid.{Raid, is_left}
 use Rattle.raid_rack.specs.RaidRack.{IsFit, raid_by}
@@ -34,6 +35,8 @@ use Rattle.pool_state.specs.declared.contents.State.{State}
 use Rattle.log_laws.proofs.Kept.{place_of_log}
 use Rattle.rack.specs.Joins.{keeps_same}
 use Rattle.raid_rack.proofs.Vacated.{disk_left}
+use Rattle.pool.specs.Moment.{moment_of}
+use Rattle.pool.specs.Replaced.{HasMarked, IsDeclined}
 use Rattle.pool.specs.Replacing.{IsAdmitted}
 use Rattle.pool.specs.Taking.{AreTold, Carries, TakesBy}
 use Rattle.pool.specs.View.{View, book, volume}
@@ -78,17 +81,13 @@ kept_disk Told a b may d only unspent low never = record {
 
 module _ (x : View) (b : Seen) (s : Shelf) (place disk : ℕ) (t : Slices) (linear : IsOrderlyVolume x.linear) (fit : (volume x).fit)
     (kind : IsVacating x place t) (empty : IsFit x.arrays (slices_of t x.bay))
-    (now : IsBay b s) (names : KeepsShelf x.shelf s) (ordered : IsOrderly x.slices) (orderly : IsOrderly t) (admits : IsAdmitted (book x) place (x.bay.sectors disk)) where
+    (now : IsBay b s) (names : KeepsShelf x.shelf s) (ordered : IsOrderly x.slices) (orderly : IsOrderly t) where
   abbrev mid : View
   mid = later x x.bay x.shelf t x.arrays
 
   -- the table that it is to have, by the list of arrays
   table_is : new_table x.arrays.state x.arrays.all.items place (x.bay.sectors disk) ≡ table_on x place disk
   table_is = ap (λ vs. new_table x.arrays.state vs place (x.bay.sectors disk)) (sym (views_are x.arrays fit.0.running.count))
-
-  -- the tables from which it is taken in
-  abbrev pub vacates : Vacates x place disk
-  vacates = record { admits = admits; tables = t; seats = kind; orderly = orderly; fit = empty }
 
   pub mid_fit : (volume mid).fit
   mid_fit = (empty, inside_later x x.bay x.shelf t x.arrays fit refl (λ n. refl))
@@ -183,7 +182,7 @@ module _ (x : View) (b : Seen) (s : Shelf) (place disk : ℕ) (t : Slices) (line
     | inr stays ↦ inl (same ∙ stays.1)
   ]
 
-  slices_left : (e : GrowFault) → (e ≡ Gone) ⊎ (e ≡ NotWhole) → (s : State) → ((p : ℕ) → is_current s p ≡ true → is_current (book x).state p ≡ true)
+  pub slices_left : (e : GrowFault) → (e ≡ Gone) ⊎ (e ≡ NotWhole) → (s : State) → ((p : ℕ) → is_current s p ≡ true → is_current (book x).state p ≡ true)
       → (t ≡ x.slices) ⊎ (((e ≡ Gone) ⊎ (e ≡ NotWhole)) × (is_current s place ≡ false) × Seats x.slices t place None)
   slices_left e which s fewer = elim kind [
     | inl gave ↦ inr (
@@ -194,110 +193,129 @@ module _ (x : View) (b : Seen) (s : Shelf) (place disk : ℕ) (t : Slices) (line
     | inr stays ↦ inl stays.1
   ]
 
-  -- ---- it refused a call
+  -- ---- it isn't taken in
 
-  pub taken_gone : IsRefused t disk (new_table x.arrays.state x.arrays.all.items place (x.bay.sectors disk)) (book x) x.bay b → ((p : ℕ) → seat_of t p ≢ Some disk)
-      → IsFit x.arrays (slices_of t b) → TakesBy x (later x b s t x.arrays) place disk (Err Gone)
-  taken_gone by_list free after =
-      let refused = subst (λ e. IsRefused t disk e (book x) x.bay b) table_is by_list in
-      let only = refused.only in
-      let y = later x b s t x.arrays in
-      let may : ℕ → ℕ → List ℕ → Type 0 = IsOfDrive disk (table_on x place disk) in
-      let reads = reads_apart t x.bay b disk may orderly empty.running.set.fit.1 only (λ d k v at. at.0) free in
-      let both = only_read mid b s linear mid_fit after reads in
-      let fit_now : (volume y).fit = (after, inside_later x b s t x.arrays fit refl (λ n. refl)) in
-      record {
-        continues = goes_on t x.arrays may only fit_now orderly;
-        carries = carries_then x mid y mid_goes mid_carries (carries_kept mid y both.0 both.1 refl (λ names all. truths_reads (book x) (slices_of t x.bay) (slices_of t b) empty.running.set reads)
-            (λ names all. held_reads mid b mid_fit after reads));
-        raises = raises_more 0 19 (book x) (book x) (omega arith) (raises_none (book x));
-        keeps = book_but place (book x) (book x) (book_same (book x));
-        kept = book_same (book x);
-        outside = outside_of_it t x.arrays may only fit_now orderly (λ d k v at. inr at.0) (λ d k v is. inl is);
-        retired = λ why d seat other. retired_by may only d seat (λ k v at. other at.0);
-        laid = laid_by t (only_weaker may (IsWrittenBy t disk (table_on x place disk)) (λ d k v own. inl own) only);
-        names = names.names;
-        bare = bare_left t refl;
-        disks = only.stays.disks;
-        answer = inr (inl refl);
-        gone = λ same. refused.gone;
-        not_whole = λ same. absurd (let e : Gone ≡ NotWhole = cc same in cc e);
-        declined = record {
-          marks = after_same (book x).state;
-          plan = refl;
-          arrays = arrays_same (book x);
-          cause = λ k was gone. absurd (both_ways (is_current (book x).state k) gone was);
-          slices = slices_left Gone (inl refl) (book x).state (λ p is. is);
-          unmarked = λ is missing. refl;
-          others = λ is k away was. was;
-          quiet = λ other none. absurd (other refl);
-        };
-        left = inl (record { vacates = vacates; slices = refl; same = refl; refused = refused });
-        out = λ same. absurd (let e : Gone ≡ NotWhole = cc same in cc e);
-        replaced = tt;
-        table = tt;
-        enters = tt;
-        moments = tt;
-        leaves = λ traced a holds k i since until stopped.
-            inr (means_kept mid y both.0 both.1 traced a (holds_of x mid mid_goes mid_carries a holds) k i since until stopped);
-      }
+  -- it refused a call
+  pub declined_gone : IsDeclined (moment_of x) (moment_of (later x b s t x.arrays)) place Gone
+  declined_gone = record {
+    marks = after_same (book x).state;
+    plan = refl;
+    arrays = arrays_same (book x);
+    cause = λ k was gone. absurd (both_ways (is_current (book x).state k) gone was);
+    slices = slices_left Gone (inl refl) (book x).state (λ p is. is);
+    unmarked = λ is missing. refl;
+    others = λ is k away was. was;
+    quiet = λ other none. absurd (other refl);
+  }
 
-  -- ---- another drive was found gone
+  -- another drive was found gone
+  pub declined_lost : (z : Arrays) → IsAfter (book x).state (raid_by z).state → (raid_by z).state.plan ≡ (book x).state.plan → KeepsArrays (book x) (raid_by z)
+      → ((k : ℕ) → is_left (book x) k ≡ true → is_left (raid_by z) k ≡ false → HasFault (slices_of t x.bay) (slices_of t b) k) → HasMarked (moment_of x) (moment_of (later x b s t z))
+      → IsDeclined (moment_of x) (moment_of (later x b s t z)) place NotWhole
+  declined_lost z marks plan arrays cause lost = record {
+    marks = marks;
+    plan = plan;
+    arrays = arrays;
+    cause = λ k was gone.
+        let left = heeded_left (book x) k fit.0.heeded was in
+        subst (λ d. Rose (x.bay.faults d) (b.faults d)) (same_disk k was) (went mid (later x b s t z) k refl (cause k left (not_left (raid_by z) k gone)));
+    slices = slices_left NotWhole (inr refl) (raid_by z).state marks.current;
+    unmarked = λ is. absurd (let e : NotWhole ≡ Gone = is in cc e);
+    others = λ is. absurd (let e : NotWhole ≡ Gone = is in cc e);
+    quiet = λ other none. absurd (none lost);
+  }
 
-  pub taken_lost : (z : Arrays) → IsNotWhole t disk (new_table x.arrays.state x.arrays.all.items place (x.bay.sectors disk)) (book x) (raid_by z) x.bay b → IsFit z (slices_of t b)
-      → TakesBy x (later x b s t z) place disk (Err NotWhole)
-  taken_lost z by_list after =
-      let lost = subst (λ e. IsNotWhole t disk e (book x) (raid_by z) x.bay b) table_is by_list in
-      let only = lost.only in
-      let mends = lost.mends in
-      let y = later x b s t z in
-      let may : ℕ → ℕ → List ℕ → Type 0 = IsWrittenBy t disk (table_on x place disk) in
-      let moves = mends.moves in
-      let both = moved mid b s t z linear mid_fit after moves in
-      let fit_now : (volume y).fit = (after, inside_later x b s t z fit moves.book.same.made moves.sectors) in
-      let out : LeavesOut x y place disk = record { vacates = vacates; slices = refl; not_whole = lost } in
-      let kept = book_lost (book x) (raid_by z) (slices_of t b) after.running.set after.heeded moves.book.same.made moves.arrays in
-      record {
-        continues = goes_on t z may only fit_now orderly;
-        carries = carries_then x mid y mid_goes mid_carries (carries_kept mid y both.0 both.1 moves.book.same.made (λ names all. lost.truths) (λ names all. held_moves mid b t z mid_fit after moves));
-        raises = raises_more 18 19 (book x) (raid_by z) (omega arith) lost.raises;
-        keeps = book_but place (book x) (raid_by z) kept;
-        kept = kept;
-        outside = outside_of_it t z may only fit_now orderly (λ d k v at. elim at [ inl own ↦ inr own.0 | inr sliced ↦ inl sliced ]) (λ d k v is. inl is);
-        retired = λ why d seat other.
-            retired_by may only d seat
-            (λ k v at. elim at [
-              | inl own ↦ other own.0
-              | inr sliced ↦ elim kind [
-                | inl gave ↦ bare_mid gave.1 d seat k v sliced
-                | inr stays ↦ elim why [ inl missing ↦ both_ways (is_current (book x).state place) missing stays.0 | inr never ↦ never refl ]
-              ]
-            ]);
-        laid = laid_by t only;
-        names = names.names;
-        bare = bare_left t refl;
-        disks = only.stays.disks;
-        answer = inr (inr refl);
-        gone = λ same. absurd (let e : NotWhole ≡ Gone = cc same in cc e);
-        not_whole = λ same. (lost.lost.0, lost.lost.1, lost.lost.2);
-        declined = record {
-          marks = moves.book;
-          plan = moves.plan;
-          arrays = moves.arrays;
-          cause = λ k was gone.
-              let left = heeded_left (book x) k fit.0.heeded was in
-              subst (λ d. Rose (x.bay.faults d) (b.faults d)) (same_disk k was) (went mid y k refl (moves.cause k left (not_left (raid_by z) k gone)));
-          slices = slices_left NotWhole (inr refl) (raid_by z).state moves.book.current;
-          unmarked = λ is. absurd (let e : NotWhole ≡ Gone = is in cc e);
-          others = λ is. absurd (let e : NotWhole ≡ Gone = is in cc e);
-          quiet = λ other none. absurd (none (lost.lost.0, lost.lost.1, lost.lost.2));
-        };
-        left = inr out;
-        out = λ same. out;
-        replaced = tt;
-        table = tt;
-        enters = tt;
-        moments = tt;
-        leaves = λ traced a holds k i since until stopped.
-            inr (means_kept mid y both.0 both.1 traced a (holds_of x mid mid_goes mid_carries a holds) k i since until stopped);
-      }
+  -- ---- a disk of the same units
+
+  module _ (admits : IsAdmitted (book x) place (x.bay.sectors disk)) where
+    -- the tables from which it is taken in
+    abbrev pub vacates : Vacates x place disk
+    vacates = record { admits = admits; tables = t; seats = kind; orderly = orderly; fit = empty }
+
+    -- ---- it refused a call
+
+    pub taken_gone : IsRefused t disk (new_table x.arrays.state x.arrays.all.items place (x.bay.sectors disk)) (book x) x.bay b → ((p : ℕ) → seat_of t p ≢ Some disk)
+        → IsFit x.arrays (slices_of t b) → TakesBy x (later x b s t x.arrays) place disk (Err Gone)
+    taken_gone by_list free after =
+        let refused = subst (λ e. IsRefused t disk e (book x) x.bay b) table_is by_list in
+        let only = refused.only in
+        let y = later x b s t x.arrays in
+        let may : ℕ → ℕ → List ℕ → Type 0 = IsOfDrive disk (table_on x place disk) in
+        let reads = reads_apart t x.bay b disk may orderly empty.running.set.fit.1 only (λ d k v at. at.0) free in
+        let both = only_read mid b s linear mid_fit after reads in
+        let fit_now : (volume y).fit = (after, inside_later x b s t x.arrays fit refl (λ n. refl)) in
+        record {
+          continues = goes_on t x.arrays may only fit_now orderly;
+          carries = carries_then x mid y mid_goes mid_carries (carries_kept mid y both.0 both.1 refl (λ names all. truths_reads (book x) (slices_of t x.bay) (slices_of t b) empty.running.set reads)
+              (λ names all. held_reads mid b mid_fit after reads));
+          raises = raises_more 0 19 (book x) (book x) (omega arith) (raises_none (book x));
+          keeps = book_but place (book x) (book x) (book_same (book x));
+          kept = book_same (book x);
+          outside = outside_of_it t x.arrays may only fit_now orderly (λ d k v at. inr at.0) (λ d k v is. inl is);
+          retired = λ why d seat other. retired_by may only d seat (λ k v at. other at.0);
+          laid = laid_by t (only_weaker may (IsWrittenBy t disk (table_on x place disk)) (λ d k v own. inl own) only);
+          names = names.names;
+          bare = bare_left t refl;
+          disks = only.stays.disks;
+          answer = inr (inl refl);
+          gone = λ same. refused.gone;
+          not_whole = λ same. absurd (let e : Gone ≡ NotWhole = cc same in cc e);
+          declined = declined_gone;
+          left = inl (record { vacates = vacates; slices = refl; same = refl; refused = refused });
+          out = λ same. absurd (let e : Gone ≡ NotWhole = cc same in cc e);
+          replaced = tt;
+          table = tt;
+          enters = tt;
+          moments = tt;
+          leaves = λ traced a holds k i since until stopped.
+              inr (means_kept mid y both.0 both.1 traced a (holds_of x mid mid_goes mid_carries a holds) k i since until stopped);
+        }
+
+    -- ---- another drive was found gone
+
+    pub taken_lost : (z : Arrays) → IsNotWhole t disk (new_table x.arrays.state x.arrays.all.items place (x.bay.sectors disk)) (book x) (raid_by z) x.bay b → IsFit z (slices_of t b)
+        → TakesBy x (later x b s t z) place disk (Err NotWhole)
+    taken_lost z by_list after =
+        let lost = subst (λ e. IsNotWhole t disk e (book x) (raid_by z) x.bay b) table_is by_list in
+        let only = lost.only in
+        let mends = lost.mends in
+        let y = later x b s t z in
+        let may : ℕ → ℕ → List ℕ → Type 0 = IsWrittenBy t disk (table_on x place disk) in
+        let moves = mends.moves in
+        let both = moved mid b s t z linear mid_fit after moves in
+        let fit_now : (volume y).fit = (after, inside_later x b s t z fit moves.book.same.made moves.sectors) in
+        let out : LeavesOut x y place disk = record { vacates = vacates; slices = refl; not_whole = lost } in
+        let kept = book_lost (book x) (raid_by z) (slices_of t b) after.running.set after.heeded moves.book.same.made moves.arrays in
+        record {
+          continues = goes_on t z may only fit_now orderly;
+          carries = carries_then x mid y mid_goes mid_carries (carries_kept mid y both.0 both.1 moves.book.same.made (λ names all. lost.truths) (λ names all. held_moves mid b t z mid_fit after moves));
+          raises = raises_more 18 19 (book x) (raid_by z) (omega arith) lost.raises;
+          keeps = book_but place (book x) (raid_by z) kept;
+          kept = kept;
+          outside = outside_of_it t z may only fit_now orderly (λ d k v at. elim at [ inl own ↦ inr own.0 | inr sliced ↦ inl sliced ]) (λ d k v is. inl is);
+          retired = λ why d seat other.
+              retired_by may only d seat
+              (λ k v at. elim at [
+                | inl own ↦ other own.0
+                | inr sliced ↦ elim kind [
+                  | inl gave ↦ bare_mid gave.1 d seat k v sliced
+                  | inr stays ↦ elim why [ inl missing ↦ both_ways (is_current (book x).state place) missing stays.0 | inr never ↦ never refl ]
+                ]
+              ]);
+          laid = laid_by t only;
+          names = names.names;
+          bare = bare_left t refl;
+          disks = only.stays.disks;
+          answer = inr (inr refl);
+          gone = λ same. absurd (let e : NotWhole ≡ Gone = cc same in cc e);
+          not_whole = λ same. (lost.lost.0, lost.lost.1, lost.lost.2);
+          declined = declined_lost z moves.book moves.plan moves.arrays moves.cause (lost.lost.0, lost.lost.1, lost.lost.2);
+          left = inr out;
+          out = λ same. out;
+          replaced = tt;
+          table = tt;
+          enters = tt;
+          moments = tt;
+          leaves = λ traced a holds k i since until stopped.
+              inr (means_kept mid y both.0 both.1 traced a (holds_of x mid mid_goes mid_carries a holds) k i since until stopped);
+        }

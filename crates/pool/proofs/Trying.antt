@@ -18,7 +18,7 @@ use Rattle.raid_rack.specs.declared.arrays.RaidRack.{RaidRack}
 use Rattle.raid_rack.specs.declared.works.Stuck.{Stuck}
 use Rattle.pool.specs.declared.Pool.{Pool}
 use Rattle.pool.specs.Growing.{IsRefused, IsRefusedGrowth, IsRefusedRow, LacksIn, TriesWork, change_in, linear_after}
-use Rattle.pool.specs.View.{arrays_of, book, view, volume}
+use Rattle.pool.specs.View.{arrays_of, bay_in, book, view, volume}
 use Rattle.pool.proofs.Grows.{goes_of, growth_tried, row_tried}
 use Rattle.pool.proofs.Reached.{with_arrays}
 use Rattle.pool.proofs.Serving.{KeepNames}
@@ -58,21 +58,21 @@ module _ {R : Type 0} (seen : R → Seen) (shelf : R → Shelf) (runs : R → R 
     (same : linear p.volume ≡ linear_after work (linear p.volume) (raid_in (arrays_of p))) where
   pub row_from : RowSays seen runs asked r old new
       → ((w : Raid) (array : ℕ) → array ≡ array_of work → IsRefusedRow work (raid_in (arrays_of p)) w
-      → IsRefused (view seen shelf p).slices (view seen shelf p).bay (linear p.volume) work (raid_in (arrays_of p)) w array)
-      → TriesWork asked (view seen shelf p) (view seen shelf (with_arrays p new)) r
+      → IsRefused seen runs (view seen shelf p).slices (bay_in p) (linear p.volume) work (raid_in (arrays_of p)) w array)
+      → TriesWork asked (view seen shelf p) (view seen shelf (with_arrays p new)) runs (bay_in p) r
   row_from own refused =
       let mine = subst (λ k. RowSays seen runs work r k new) reached (subst (λ k. RowSays seen runs k r old new) is own) in
-      subst (λ k. TriesWork k (view seen shelf p) (view seen shelf (with_arrays p new)) r) (sym is)
+      subst (λ k. TriesWork k (view seen shelf p) (view seen shelf (with_arrays p new)) runs (bay_in p) r) (sym is)
       (row_tried seen shelf runs names p new work fit r same mine.says mine.keeps mine.ran mine.book mine.raises refused)
 
   pub growth_from : (seconds : ℕ) (L : RaidRack R → Raid → Raid → Type 0) (k : ℕ) → k ≤ 2 ^ 20
-      → ((mid w : Raid) → L (arrays_of p) mid w → LacksIn (view seen shelf p).slices (view seen shelf p).bay work mid w)
+      → ((mid w : Raid) → L (arrays_of p) mid w → LacksIn seen runs (view seen shelf p).slices (bay_in p) work mid w)
       → GrowthSays seen runs seconds work L k r old new
-      → ((w : Raid) (array : ℕ) → array ≡ array_of work → IsRefusedGrowth (view seen shelf p).slices (view seen shelf p).bay work (raid_in (arrays_of p)) w
-      → IsRefused (view seen shelf p).slices (view seen shelf p).bay (linear p.volume) work (raid_in (arrays_of p)) w array)
-      → TriesWork asked (view seen shelf p) (view seen shelf (with_arrays p new)) r
+      → ((w : Raid) (array : ℕ) → array ≡ array_of work → IsRefusedGrowth seen runs (view seen shelf p).slices (bay_in p) work (raid_in (arrays_of p)) w
+      → IsRefused seen runs (view seen shelf p).slices (bay_in p) (linear p.volume) work (raid_in (arrays_of p)) w array)
+      → TriesWork asked (view seen shelf p) (view seen shelf (with_arrays p new)) runs (bay_in p) r
   growth_from seconds L k few lacking own refused =
       let mine = subst (λ o. GrowthSays seen runs seconds work L k r o new) reached own in
-      subst (λ t. TriesWork t (view seen shelf p) (view seen shelf (with_arrays p new)) r) (sym is)
+      subst (λ t. TriesWork t (view seen shelf p) (view seen shelf (with_arrays p new)) runs (bay_in p) r) (sym is)
       (growth_tried seen shelf runs names p new work fit r same seconds (L (arrays_of p)) lacking mine.idle mine.grows mine.named mine.fit k few mine.raises mine.seats mine.goes mine.ran
       refused)

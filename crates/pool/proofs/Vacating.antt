@@ -1,20 +1,23 @@
 -- A place whose drive is missing has given its disk up, as the volume shows it, and what is written on a disk afterwards.
-use Rattle.std.proofs.Common.{◌≡◌, ℕ, ◌+◌, ◌<◌, false, List, None, slice_get, refl, ap, subst, ◌∙◌, inl, inr, arith}
-use Rattle.std.proofs.lemmas.Bool.{cases_eq}
+use Rattle.std.proofs.Common.{◌≡◌, ℕ, ◌+◌, ◌<◌, Bool, false, if◌then◌else◌, List, Some, None, slice_get, refl, sym, ap, subst, ◌∙◌, inl, inr, arith}
+use Rattle.std.proofs.lemmas.Bool.{cases_eq, eq-eqb, ne_eqb}
 use Rattle.rack.specs.Joins.{keeps_same}
 use Rattle.rack.specs.Sequences.{WritesOnly}
 use Rattle.rack.specs.Shelf.{KeepsShelf}
 use Rattle.slice_rack.specs.Changes.{Seats}
 use Rattle.slice_rack.specs.Runs.{IsSliced}
-use Rattle.slice_rack.specs.Slices.{IsOrderly, Slices, place_of}
+use Rattle.slice_rack.specs.Slices.{IsOrderly, Slices, place_of, seat_of}
 use Rattle.slice_rack.specs.Sliced.{slices_of}
 use Rattle.array_image.specs.States.{is_current}
+use Rattle.array_model.specs.View.{View as ArrayView}
 use Rattle.lvm_group.specs.Laws.{array_below}
 use Rattle.lvm_group.specs.Runs.{IsOrderly as IsOrderlyVolume, array_of, sector_of, sectors_in}
+use Rattle.raid_laws.specs.NewDrive.{SeatsDrive}
 use Rattle.raid_laws.specs.Raid.{raid_of}
 use Rattle.raid_rack.specs.RaidRack.{IsFit}
 use Rattle.raid_rack.proofs.Vacated.{disk_left, vacated_keeps, vacated_told, vacated_truths}
 use Rattle.pool.specs.Continuing.{Continues, KeepsOutside}
+use Rattle.pool.specs.Entering.{IsVacating}
 use Rattle.pool.specs.Taking.{Carries}
 use Rattle.pool.specs.View.{View, book, slices_shown, volume}
 use Rattle.pool.proofs.Later.{inside_later, later}
@@ -93,6 +96,29 @@ module _ (x : View) (place : ℕ) (t : Slices) (linear : IsOrderlyVolume x.linea
     held = λ d k out. keeps_same (x.bay.held d k);
     stops = λ told traced k i since until stopped. absurd (omega (arith, since, until));
   }
+
+-- the slices of a new drive, beside those that there were before the place gave its disk up
+pub seats_from : (x : View) (place disk : ℕ) (t u : Slices) (arrays : List ArrayView) (sectors : ℕ) → IsVacating x place t → SeatsDrive arrays place disk sectors t u
+    → SeatsDrive arrays place disk sectors x.slices u
+seats_from x place disk t u arrays sectors kind seats = elim kind [
+  | inl gave ↦ record {
+    seats = λ p.
+        elim (cases_eq p place) [
+          | inl same ↦
+              seats.seats p ∙ ap (λ (c : Bool). if c then Some disk else seat_of t p) (eq-eqb p place same)
+              ∙ sym (ap (λ (c : Bool). if c then Some disk else seat_of x.slices p) (eq-eqb p place same))
+          | inr other ↦
+              seats.seats p ∙ ap (λ (c : Bool). if c then Some disk else seat_of t p) (ne_eqb p place other)
+              ∙ (gave.1.seats p ∙ ap (λ (c : Bool). if c then None else seat_of x.slices p) (ne_eqb p place other))
+              ∙ sym (ap (λ (c : Bool). if c then Some disk else seat_of x.slices p) (ne_eqb p place other))
+        ];
+    own = seats.own;
+    own_firsts = seats.own_firsts;
+    others = λ d other. seats.others d other ∙ gave.1.sectors d other;
+    firsts = λ d other. seats.firsts d other ∙ gave.1.firsts d other;
+  }
+  | inr stays ↦ subst (λ r. SeatsDrive arrays place disk sectors r u) stays.1 seats
+]
 
 -- a call that writes on the disks, by what it may write
 pub bay_continues : (x y : View) (may : ℕ → ℕ → List ℕ → Type 0) → WritesOnly x.bay y.bay may → KeepsShelf x.shelf y.shelf → (volume y).fit → IsOrderly y.slices → y.linear ≡ x.linear

@@ -12,7 +12,7 @@ use Rattle.raid_laws.specs.Raid.{Raid}
 use Rattle.pool.specs.Entering.{Cleaned, Declines, Enters, EntersBy, LeavesBy, LeavesOut, Readies, meanwhile}
 use Rattle.pool.specs.Moment.{moment_of}
 use Rattle.pool.specs.Replaced.{HasMarked, HasMarkedOther, is_vacant}
-use Rattle.pool.specs.Replacing.{IsAdmitted, has_other_missing, refusal_of}
+use Rattle.pool.specs.Replacing.{IsAdmissible, IsAdmitted, has_other_missing}
 use Rattle.pool.specs.Taking.{Carries, IsOfPlace, ReplacesBy, TakesBy}
 use Rattle.rack.specs.Seen.{Seen}
 use Rattle.rack.specs.Shelf.{Shelf}
@@ -64,7 +64,7 @@ lost_out m y place disk e current by gone = elim by.left [
 
 module _ (x : View) (place disk : ℕ) (fit : (volume x).fit) (ordered : IsOrderly x.slices) (was : is_current (book x).state place ≡ true)
     (listed : place < length (book x).state.drives.items) (low : disk < x.bay.disks) (other : IsOfPlace (moment_of x) disk → ⊥)
-    (admits : refusal_of x.linear (book x) place (x.bay.sectors disk) ≡ None) where
+    (admits : IsAdmissible x.linear (book x) place (x.bay.sectors disk)) where
   here : IsAdmitted (book x) place (x.bay.sectors disk)
   here = admitted x.linear (book x) place (x.bay.sectors disk) admits
 

@@ -1,9 +1,6 @@
 -- A drive is added: why a disk isn't taken in, by a pool's book, and what the pool is after it.
-use Rattle.std.specs.Prelude.{◌≡◌, ◌≢◌, ◌⊎◌, ◌↔◌, ℕ, ◌==◌, ◌||◌, ◌++◌, nat_lt, Bool, true, false, List, [], ◌∷◌, length, Option, Some, None, Result, Ok, Err, IfErr, OnOk}
-use Rattle.std.specs.Bool.{then_some}
+use Rattle.std.specs.Prelude.{◌≡◌, ◌≢◌, ◌⊎◌, ◌↔◌, ℕ, ◌==◌, ◌||◌, ◌++◌, Bool, true, false, List, [], ◌∷◌, length, Option, Some, None, Result, Ok, Err, IfErr, OnOk}
 use Rattle.std.specs.List.{list_any}
-use Rattle.std.specs.Option.{option_or}
-use Rattle.growth_plan.specs.Target.{targets}
 use Rattle.rack.specs.Seen.{Rose}
 use Rattle.shr_base.specs.Units.{units_of}
 use Rattle.array_image.specs.States.{is_current}
@@ -12,20 +9,20 @@ use Rattle.transition_laws.specs.Changes.{Change, enlists}
 use Rattle.growth_laws.specs.Growing.{Turns}
 use Rattle.lvm_group.specs.Runs.{Linear}
 use Rattle.pool_state.specs.declared.contents.Drive.{Drive}
+use Rattle.pool_state.specs.declared.contents.Plan.{Plan}
 use Rattle.pool_state.specs.declared.contents.Plan.TheVariants.{Add}
 use Rattle.pool_state.specs.declared.contents.State.{State}
-use Rattle.raid_laws.specs.Enlisting.{next_drive}
 use Rattle.raid_laws.specs.Moves.{RaisesBy}
 use Rattle.raid_laws.specs.NewDrive.{SeatsDrive, joins}
 use Rattle.raid_laws.specs.Raid.{Raid}
 use Rattle.pool.specs.declared.replacing.GrowFault.{GrowFault}
-use Rattle.pool.specs.declared.replacing.GrowFault.TheVariants.{Attach, Twice, Memory, PlanPending, NotWhole, NotResynced, Unbuilt, Gone}
+use Rattle.pool.specs.declared.replacing.GrowFault.TheVariants.{Attach, Twice, Memory, PlanPending, NotWhole, NotResynced, Gone}
 use Rattle.pool.specs.Calls.{Marks}
 use Rattle.pool.specs.Continuing.{Continues}
 use Rattle.pool.specs.Keeping.{Raises}
 use Rattle.pool.specs.Moment.{IsNamed, Moment, moment_of, views_of}
 use Rattle.pool.specs.Replaced.{IsOfDrive, NamesDisk, faults_before}
-use Rattle.pool.specs.Replacing.{first_of, has_resync, is_planned, lacks_room, planning}
+use Rattle.pool.specs.Replacing.{first_of, has_resync, is_planned, lacks_room, new_drive, planning}
 use Rattle.pool.specs.View.{View, book}
 use Rattle.pool.specs.Works.{arrays_now}
 
@@ -38,21 +35,16 @@ lacks_drive s = (length s.drives.items == 0) || list_any (λ (d : Drive). d.miss
 -- a state with the pool's next drive at the end of the list, of so many units, and with the plan that adds it
 abbrev pub adding : ℕ → State → State
 adding units s = record (planning (Add (length s.drives.items)) s) {
-  drives = record { items = s.drives.items ++ record { id = next_drive s; units = units; missing = false } ∷ [] };
+  drives = record { items = s.drives.items ++ new_drive units s ∷ [] };
 }
 
 -- each refusal by how the pool stands, with its cause, in the order in which they are looked for
 abbrev pub adding_refusals : Raid → List (GrowFault × Bool)
 adding_refusals v = (PlanPending, is_planned v.state.plan) ∷ (NotWhole, lacks_drive v.state) ∷ (NotResynced, has_resync (arrays_now v)) ∷ []
 
--- It would make a new array, which isn't built: at the plan's end there are more arrays than there are now.
-abbrev pub needs_array : Raid → ℕ → Bool
-needs_array v units = nat_lt v.state.made (length (targets (adding units v.state) (arrays_now v)))
-
 -- the first refusal of a drive of so many units, by these that are looked for before
 abbrev pub refusal_after : List (GrowFault × Bool) → Linear → Raid → ℕ → Option GrowFault
-refusal_after standing l v units =
-    option_or (first_of standing (add_refusals v.state (arrays_now v) units) (lacks_room l v (adding units v.state))) (then_some (needs_array v units) Unbuilt)
+refusal_after standing l v units = first_of standing (add_refusals v.state (arrays_now v) units) (lacks_room l v (adding units v.state))
 
 -- the first refusal of all, of a disk of so many sectors
 abbrev pub refusal_of_add : Linear → Raid → ℕ → Option GrowFault
@@ -97,18 +89,20 @@ IsUnchanged x y = (book y ≡ book x) × (y.slices ≡ x.slices)
 abbrev pub units_on : Moment → Moment → ℕ → ℕ
 units_on p q disk = units_of (q.sectors disk) p.book.state.extent
 
--- the book with the drive of the next place, by the plan that adds it
-abbrev pub next_change : Moment → Moment → ℕ → Change
-next_change p q disk =
-    let place = length p.book.state.drives.items in
-    enlists place (units_on p q disk) (Add place) (joins (views_of p.book) place (q.sectors disk))
+-- the book with the pool's next drive on a place, by a plan
+abbrev pub next_change : Moment → Moment → (place : ℕ) → Plan → (disk : ℕ) → Change
+next_change p q place plan disk = enlists place (units_on p q disk) plan (joins (views_of p.book) place (q.sectors disk))
 
--- The disk is the drive of the next place: that alone is changed of the book, by one commit, but for losses; and where it is marked itself it refused a call. It has a log
--- slice. No array has it as a member yet.
-pub record IsAdded (p q : Moment) (disk : ℕ) : Type 0 where
-  pub turns : Turns (λ v. next_change p q disk) (λ v w. ⊥) p.book q.book true
-  pub cause : is_current q.book.state (length p.book.state.drives.items) ≡ false → Rose (faults_before p disk) (q.faults disk)
-  pub seats : SeatsDrive (views_of p.book) (length p.book.state.drives.items) disk (q.sectors disk) p.slices q.slices
+-- The disk is the drive of a place: that alone is changed of the book, by one commit, but for losses; and where it is marked itself it refused a call. It has a log slice, and
+-- the slices of the arrays that the place is a member of: of those its members are to be rebuilt from their start.
+pub record IsTakenIn (p q : Moment) (place : ℕ) (plan : Plan) (disk : ℕ) : Type 0 where
+  pub turns : Turns (λ v. next_change p q place plan disk) (λ v w. ⊥) p.book q.book true
+  pub cause : is_current q.book.state place ≡ false → Rose (faults_before p disk) (q.faults disk)
+  pub seats : SeatsDrive (views_of p.book) place disk (q.sectors disk) p.slices q.slices
+
+-- it is the drive of the next place
+abbrev pub IsAdded : Moment → Moment → ℕ → Type 0
+IsAdded p q disk = IsTakenIn p q (length p.book.state.drives.items) (Add (length p.book.state.drives.items)) disk
 
 -- A disk, which isn't a current drive's, is added.
 pub record AddsBy (x y : View) (disk : ℕ) (result : Result (Unit {0}) GrowFault) : Type 0 where

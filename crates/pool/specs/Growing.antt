@@ -21,7 +21,7 @@ use Rattle.raid_laws.specs.Book.{IsSameBook}
 use Rattle.raid_laws.specs.Moves.{RaisesBy}
 use Rattle.raid_laws.specs.Raid.{Raid, spent_of}
 use Rattle.raid_laws.specs.Works.{is_due}
-use Rattle.raid_rack.specs.Growing.{CannotLay}
+use Rattle.raid_rack.specs.Growing.{CannotLay, CannotMake}
 use Rattle.raid_rack.specs.declared.works.Stuck.{Stuck}
 use Rattle.pool.specs.Calls.{Marks}
 use Rattle.pool.specs.Keeping.{KeepsWorks}
@@ -108,42 +108,43 @@ pub data DoesWorks : ℕ → Linear → Raid → Linear → Raid → Type 0 wher
 
 -- ---- a work that can't be done
 
--- It can't any more once the losses of the try are marked; or the slice of a member that joins can't be laid. `t` and `x` are the slices and the disks before it.
-abbrev pub LacksIn : Slices → Seen → Work → Raid → Raid → Type 0
-LacksIn t x (Begin n place) mid w = Lacks (Begin n place) mid w ⊎ CannotLay t x mid place n
-LacksIn t x (Resync n) mid w = Lacks (Resync n) mid w
-LacksIn t x (Rebuild n place) mid w = Lacks (Rebuild n place) mid w
-LacksIn t x (TakeOver n) mid w = Lacks (TakeOver n) mid w
-LacksIn t x (Reshape n) mid w = Lacks (Reshape n) mid w
-LacksIn t x (Finish n) mid w = Lacks (Finish n) mid w
-LacksIn t x (Make n height) mid w = Lacks (Make n height) mid w
-LacksIn t x (Zero n) mid w = Lacks (Zero n) mid w
-LacksIn t x (Ready n) mid w = Lacks (Ready n) mid w
-LacksIn t x Extend mid w = Lacks Extend mid w
-LacksIn t x Close mid w = Lacks Close mid w
+-- It can't any more once the losses of the try are marked; or the slice of a member that joins can't be laid, or that of a member of a new array can't be entered or laid.
+-- `t` and `r` are the slices and the bay before it.
+abbrev pub LacksIn : {R : Type 0} → (R → Seen) → (R → R → Type 0) → Slices → R → Work → Raid → Raid → Type 0
+LacksIn seen runs t r (Begin n place) mid w = Lacks (Begin n place) mid w ⊎ CannotLay t (seen r) mid place n
+LacksIn seen runs t r (Make n height) mid w = Lacks (Make n height) mid w ⊎ CannotMake seen runs t r mid height
+LacksIn seen runs t r (Resync n) mid w = Lacks (Resync n) mid w
+LacksIn seen runs t r (Rebuild n place) mid w = Lacks (Rebuild n place) mid w
+LacksIn seen runs t r (TakeOver n) mid w = Lacks (TakeOver n) mid w
+LacksIn seen runs t r (Reshape n) mid w = Lacks (Reshape n) mid w
+LacksIn seen runs t r (Finish n) mid w = Lacks (Finish n) mid w
+LacksIn seen runs t r (Zero n) mid w = Lacks (Zero n) mid w
+LacksIn seen runs t r (Ready n) mid w = Lacks (Ready n) mid w
+LacksIn seen runs t r Extend mid w = Lacks Extend mid w
+LacksIn seen runs t r Close mid w = Lacks Close mid w
 
 -- a row, or the end of a plan: it isn't due, and nothing was called; or the row can't be had
 abbrev pub IsRefusedRow : Work → (v w : Raid) → Type 0
 IsRefusedRow work v w = ((is_due v work ≡ false) × (w ≡ v)) ⊎ LacksRow v w work
 
 -- a work of a growth, so
-abbrev pub IsRefusedGrowth : Slices → Seen → Work → (v w : Raid) → Type 0
-IsRefusedGrowth t x work v w =
-    ((is_due_to_grow v work ≡ false) × (w ≡ v)) ⊎ ((seconds : ℕ) × Turns (change_in seconds work) (LacksIn t x work) v w false)
+abbrev pub IsRefusedGrowth : {R : Type 0} → (R → Seen) → (R → R → Type 0) → Slices → R → Work → (v w : Raid) → Type 0
+IsRefusedGrowth seen runs t r work v w =
+    ((is_due_to_grow v work ≡ false) × (w ≡ v)) ⊎ ((seconds : ℕ) × Turns (change_in seconds work) (LacksIn seen runs t r work) v w false)
 
--- Why a work isn't done, which names this array. A new array isn't made yet, and nothing is called.
-abbrev pub IsRefused : Slices → Seen → Linear → Work → (v w : Raid) → (array : ℕ) → Type 0
-IsRefused t x l (Resync n) v w array = (array ≡ n) × IsRefusedRow (Resync n) v w
-IsRefused t x l (Rebuild n place) v w array = (array ≡ n) × IsRefusedRow (Rebuild n place) v w
-IsRefused t x l (TakeOver n) v w array = (array ≡ n) × IsRefusedGrowth t x (TakeOver n) v w
-IsRefused t x l (Begin n place) v w array = (array ≡ n) × IsRefusedGrowth t x (Begin n place) v w
-IsRefused t x l (Reshape n) v w array = (array ≡ n) × IsRefusedGrowth t x (Reshape n) v w
-IsRefused t x l (Finish n) v w array = (array ≡ n) × IsRefusedGrowth t x (Finish n) v w
-IsRefused t x l (Make n height) v w array = (array ≡ n) × (w ≡ v)
-IsRefused t x l (Zero n) v w array = (array ≡ n) × IsRefusedGrowth t x (Zero n) v w
-IsRefused t x l (Ready n) v w array = (array ≡ n) × IsRefusedGrowth t x (Ready n) v w
-IsRefused t x l Extend v w array = CannotExtend l v w array
-IsRefused t x l Close v w array = (array ≡ 0) × IsRefusedRow Close v w
+-- why a work isn't done, which names this array
+abbrev pub IsRefused : {R : Type 0} → (R → Seen) → (R → R → Type 0) → Slices → R → Linear → Work → (v w : Raid) → (array : ℕ) → Type 0
+IsRefused seen runs t r l (Resync n) v w array = (array ≡ n) × IsRefusedRow (Resync n) v w
+IsRefused seen runs t r l (Rebuild n place) v w array = (array ≡ n) × IsRefusedRow (Rebuild n place) v w
+IsRefused seen runs t r l (TakeOver n) v w array = (array ≡ n) × IsRefusedGrowth seen runs t r (TakeOver n) v w
+IsRefused seen runs t r l (Begin n place) v w array = (array ≡ n) × IsRefusedGrowth seen runs t r (Begin n place) v w
+IsRefused seen runs t r l (Reshape n) v w array = (array ≡ n) × IsRefusedGrowth seen runs t r (Reshape n) v w
+IsRefused seen runs t r l (Finish n) v w array = (array ≡ n) × IsRefusedGrowth seen runs t r (Finish n) v w
+IsRefused seen runs t r l (Make n height) v w array = (array ≡ n) × IsRefusedGrowth seen runs t r (Make n height) v w
+IsRefused seen runs t r l (Zero n) v w array = (array ≡ n) × IsRefusedGrowth seen runs t r (Zero n) v w
+IsRefused seen runs t r l (Ready n) v w array = (array ≡ n) × IsRefusedGrowth seen runs t r (Ready n) v w
+IsRefused seen runs t r l Extend v w array = CannotExtend l v w array
+IsRefused seen runs t r l Close v w array = (array ≡ 0) × IsRefusedRow Close v w
 
 -- ---- calls
 
@@ -162,24 +163,24 @@ pub record KeepsGrowing (works : ℕ) (x y : View) : Type 0 where
   pub marks : Marks x y
   pub raises : RaisesBy (most_grown * works) (book x) (book y)
 
--- a work is tried
-pub record TriesWork (work : Work) (x y : View) (result : Result (Unit {0}) Stuck) : Type 0 where
+-- A work is tried. `runs` are calls on the bay in a row, and `r` is the bay before them.
+pub record TriesWork (work : Work) (x y : View) (runs : x.bays.one → x.bays.one → Type 0) (r : x.bays.one) (result : Result (Unit {0}) Stuck) : Type 0 where
   pub keeps : KeepsGrowing 1 x y
   pub done : OnOk result (IsDone work (book x) (book y) × (y.linear ≡ linear_after work x.linear (book x)))
-  pub stuck : IfErr result (λ e. (y.linear ≡ x.linear) × IsRefused x.slices x.bay x.linear work (book x) (book y) e.array)
+  pub stuck : IfErr result (λ e. (y.linear ≡ x.linear) × IsRefused x.bays.seen runs x.slices r x.linear work (book x) (book y) e.array)
 
 -- no work is left, and nothing is done
 abbrev pub HasNone : View → View → Type 0
 HasNone x y = (works_of x ≡ []) × (y.linear ≡ x.linear) × (book y ≡ book x)
 
 -- the first of the works that are left is tried, where one is
-pub record TriesFirst (x y : View) (result : Result (Unit {0}) Stuck) : Type 0 where
+pub record TriesFirst (x y : View) (runs : x.bays.one → x.bays.one → Type 0) (r : x.bays.one) (result : Result (Unit {0}) Stuck) : Type 0 where
   pub keeps : KeepsGrowing 1 x y
   pub done : OnOk result (HasNone x y ⊎ DoesWork x.linear y.linear (book x) (book y))
   pub stuck :
       IfErr result
       (λ e. (y.linear ≡ x.linear)
-      × ((work : Work) × (slice_get (works_of x) 0 ≡ Some work) × IsRefused x.slices x.bay x.linear work (book x) (book y) e.array))
+      × ((work : Work) × (slice_get (works_of x) 0 ≡ Some work) × IsRefused x.bays.seen runs x.slices r x.linear work (book x) (book y) e.array))
 
 -- So many works are done, or fewer where none is left then.
 abbrev pub DoesMany : ℕ → View → View → Type 0
@@ -188,22 +189,25 @@ DoesMany count x y =
     ⊎ ((n : ℕ) × (n ≤ count) × DoesWorks n x.linear (book x) y.linear (book y) × (works_of y ≡ []))
 
 -- A work can't be done, by a book between two: fewer works than were asked for were done before it.
-pub record StopsGrowing (count : ℕ) (x y : View) (array : ℕ) : Type 0 where
+pub record StopsGrowing (count : ℕ) (x y : View) (runs : x.bays.one → x.bays.one → Type 0) (array : ℕ) : Type 0 where
   pub works : ℕ
   pub few : works < count
   pub mid : Raid
   pub done : DoesWorks works x.linear (book x) y.linear mid
   pub work : Work
   pub first : slice_get (works_by y.linear mid) 0 ≡ Some work
-  -- the slices and the disks then
+  -- the slices and the bay then
   pub slices : Slices
   pub seats : (place : ℕ) → seat_of slices place ≡ seat_of x.slices place
   pub bay : x.bays.one
-  pub stuck : IsRefused slices (x.bays.seen bay) y.linear work mid (book y) array
+  pub goes : Goes x.bay (x.bays.seen bay)
+  pub goes_on : Goes (x.bays.seen bay) y.bay
+  pub stuck : IsRefused x.bays.seen runs slices bay y.linear work mid (book y) array
 
 -- Works are done in their order, so many or all that are left, and what is answered is left. Else the first that is left then can't be done. Of contents nothing is said.
-pub record GrowsBy (count : ℕ) (x y : View) (result : Result ℕ Stuck) : Type 0 where
+-- `runs` are calls on the bay in a row.
+pub record GrowsBy (count : ℕ) (x y : View) (runs : x.bays.one → x.bays.one → Type 0) (result : Result ℕ Stuck) : Type 0 where
   pub keeps : KeepsGrowing count x y
   pub left : IfOk result (λ left. left ≡ left_of y)
   pub done : OnOk result (DoesMany (min count (left_of x)) x y)
-  pub stuck : IfErr result (λ e. StopsGrowing count x y e.array)
+  pub stuck : IfErr result (λ e. StopsGrowing count x y runs e.array)

@@ -11,6 +11,7 @@ pub mod Entering
 pub mod Taking
 pub mod Naming
 pub mod Adding
+pub mod Enlarging
 pub mod Growing
 pub mod Made
 pub mod Keeping

@@ -30,7 +30,7 @@ use Rattle.rack.specs.Untouched.{KeepsDisk}
 use Rattle.pool.specs.Continuing.{KeepsOutside, NoDisk}
 use Rattle.pool.specs.Held.{KeepsHeld}
 use Rattle.pool.specs.Moment.{IsImage, IsNamed, Moment, moment_of, views_of}
-use Rattle.pool.specs.Replacing.{refusal_of}
+use Rattle.pool.specs.Replacing.{IsAdmissible, refusal_of}
 use Rattle.pool.specs.View.{View, book, contents_in, slices_shown}
 use Rattle.pool.specs.Volume.{Means, PicksLive, is_spent}
 
@@ -161,9 +161,9 @@ pub record HasTable (x y : View) (place disk : ℕ) : Type 0 where
       x.shelf.told → ((d : ℕ) → d < x.bay.disks → x.bay.told d) → (s : ℕ) → IsOfTable (y.bay.sectors disk) s → IsSingle (y.bay.held disk s)
 
 -- A value that is laid in a sector of a new drive: zeros for the state, the first gate, or what the table of the pool's next drive has there. Nothing is against
--- taking the disk in, whose name is that of no drive.
+-- taking the disk in, which has the units of the place's drive, and whose name is that of no drive.
 pub record IsLaidOn (l : Linear) (p : Moment) (place : ℕ) (name : List ℕ) (sectors d s : ℕ) (v : List ℕ) : Type 0 where
-  pub admitted : refusal_of l p.book place sectors ≡ None
+  pub admitted : IsAdmissible l p.book place sectors
   pub other : IsOfDrive p name → ⊥
   pub value : IsLaid d (new_table p.book.state (views_of p.book) place sectors) d s v
 
@@ -190,14 +190,14 @@ pub record TakesImage (l : Linear) (p q : Moment) (place : ℕ) (name : List ℕ
   pub image : KeepsImage l p q place name
 
 -- What a line that names a disk does to the pool's drives: the name is of one disk, no other one comes, the disks of places whose drives were missing aren't
--- written, unless one is the named one, and slices move only where nothing was against it. A sector that isn't spent wasn't before.
+-- written, unless one is the named one, and slices move only where nothing was against it and the units are the same. A sector that isn't spent wasn't before.
 pub record ChangesDrive (x y : View) (place : ℕ) (name : List ℕ) : Type 0 where
   pub names : NamesDisk (moment_of x) (moment_of y) name
   pub retired :
       (k d : ℕ) → k < length (book x).state.drives.items → is_current (book x).state k ≡ false → seat_of x.slices k ≡ Some d → (IsNamed (moment_of y) name d → ⊥)
       → KeepsDisk x.shelf.told x.bay y.bay d
   pub admitted :
-      (y.slices ≡ x.slices) ⊎ ((d : ℕ) × IsNamed (moment_of y) name d × (refusal_of x.linear (book x) place (y.bay.sectors d) ≡ None))
+      (y.slices ≡ x.slices) ⊎ ((d : ℕ) × IsNamed (moment_of y) name d × IsAdmissible x.linear (book x) place (y.bay.sectors d))
   -- where slices moved none is left on the disk that the place had, unless it is the named one
   pub bare :
       (d : ℕ) → seat_of x.slices place ≡ Some d → (IsNamed (moment_of y) name d → ⊥)

@@ -18,7 +18,7 @@ use Rattle.pool.specs.Keeping.{KeepsBook, KeepsBookBut, Raises}
 use Rattle.raid_laws.specs.Moves.{RaisesBy}
 use Rattle.pool.specs.Moment.{IsImage, IsNamed, Moment, moment_of}
 use Rattle.pool.specs.Replaced.{HasMarked, HasMarkedOther, HasTable, IsAnswer, IsDeclined, IsOfDrive, IsReplaced, LeavesNew, MeansFormer, MeansWith, NamesDisk, faults_before, is_vacant}
-use Rattle.pool.specs.Replacing.{refusal_of}
+use Rattle.pool.specs.Replacing.{IsAdmissible, refusal_of}
 use Rattle.pool.specs.View.{View, book, slices_shown, volume}
 use Rattle.pool.specs.Volume.{Holds, Means, is_spent, size_of}
 
@@ -115,12 +115,12 @@ pub record ReplacesBy (x y : View) (place disk : ℕ) (result : Result (Unit {0}
       disk < x.bay.disks → AreTold x → (s : ℕ) (v : List ℕ) → s < x.bay.sectors disk → ((u : List ℕ) → IsSliced y.slices disk s u → ⊥)
       → MayLeave (y.bay.held disk s) v
       → MayLeave (x.bay.held disk s) v
-      ⊎ ((refusal_of x.linear (book x) place (x.bay.sectors disk) ≡ None) × IsLaid disk (table_on x place disk) disk s v)
+      ⊎ (IsAdmissible x.linear (book x) place (x.bay.sectors disk) × IsLaid disk (table_on x place disk) disk s v)
   pub names : y.shelf.names ≡ x.shelf.names
   pub disks : y.bay.disks ≡ x.bay.disks
   pub answer : IsAnswer (refusal_of x.linear (book x) place (x.bay.sectors disk)) result
-  -- the tables stay but where nothing is against it
-  pub admitted : (y.slices ≡ x.slices) ⊎ (refusal_of x.linear (book x) place (x.bay.sectors disk) ≡ None)
+  -- the tables stay but where nothing is against it and the units are the same
+  pub admitted : (y.slices ≡ x.slices) ⊎ IsAdmissible x.linear (book x) place (x.bay.sectors disk)
   pub gone : result ≡ Err Gone → Rose (x.bay.faults disk) (y.bay.faults disk)
   pub not_whole :
       result ≡ Err NotWhole

@@ -10,12 +10,12 @@ ghost use Rattle.pool.specs.Taking.{IsOfPlace};
 ghost use Rattle.pool.specs.View.{bay_in, book, view, volume};
 ghost use Rattle.pool.specs.Works.{progress_by};
 
-use crate::replacing::{fault_of, has_resync, is_planned, lacks_one, planning};
+use crate::replacing::{fault_of, has_resync, is_planned, lacks_one, new_drive, planning};
 use crate::{GrowFault, Pool};
 use growth_plan::{Progress, admit_add, target};
-use pool_state::{Drive, Plan, State};
+use pool_state::{Plan, State};
 use rack::{Bay, Rack};
-use shr_base::{child_id, units};
+use shr_base::units;
 
 /// Whether a drive is marked missing, or the list has none.
 fn lacks_drive(state: &State) -> bool
@@ -31,11 +31,7 @@ fn adding(units: u64, state: &State) -> State
 {
     let place = state.drives.len() as u32;
     let mut planned = planning(Plan::Add { place }, state);
-    planned.drives.push(Drive {
-        id: child_id(&state.pool, 1, state.serial, 0),
-        units,
-        missing: false,
-    });
+    planned.drives.push(new_drive(units, state));
     planned
 }
 
@@ -52,20 +48,6 @@ impl<R: Bay> Pool<R> {
         let planned = adding(units, self.state());
         let extents = target(&planned, progress);
         !self.volume.fits(extents.as_slice())
-    }
-
-    /// Whether a new array would be made once a drive of so many units is added: that isn't built.
-    fn needs_array(&self, progress: &Progress, units: u64) -> bool
-        requires few { length (book (view R.seen R.shelf self.now)).state.drives.items < 16 }
-        requires some { 0 < units }
-        requires small { units < 2 ^ 41 }
-        requires progress { progress.now ≡ progress_by (view R.seen R.shelf self.now).linear (book (view R.seen R.shelf self.now)) }
-        requires book { IsBook (book (view R.seen R.shelf self.now)).state progress.now }
-        ensures { result ≡ spec.needs_array (book (view R.seen R.shelf self.now)) units }
-    {
-        let planned = adding(units, self.state());
-        let extents = target(&planned, progress);
-        extents.len() > self.state().made as usize
     }
 
     /// Whether a drive of so many units may be added to a pool of which no drive is missing and no plan is being carried out: else the first
@@ -86,9 +68,6 @@ impl<R: Bay> Pool<R> {
         }
         if self.lacks_room(&progress, units) {
             return Err(GrowFault::TooManySegments);
-        }
-        if self.needs_array(&progress, units) {
-            return Err(GrowFault::Unbuilt);
         }
         Ok(())
     }

@@ -63,7 +63,7 @@ impl<R: Bay> Pool<R> {
     fn extend(&mut self) -> Result<(), Stuck>
         requires fit { (volume (view R.seen R.shelf self.old)).fit }
         requires listed { 0 < length (book (view R.seen R.shelf self.old)).state.drives.items }
-        ensures tries { spec.TriesWork Extend (view R.seen R.shelf self.old) (view R.seen R.shelf self.new) result }
+        ensures tries { spec.TriesWork Extend (view R.seen R.shelf self.old) (view R.seen R.shelf self.new) R.runs (bay_in self.old) result }
         ensures runs { R.runs (bay_in self.old) (bay_in self.new) }
     {
         let extents = target(self.state(), &self.progress());
@@ -80,7 +80,7 @@ impl<R: Bay> Pool<R> {
     fn try_work(&mut self, work: &Work) -> Result<(), Stuck>
         requires fit { (volume (view R.seen R.shelf self.old)).fit }
         requires listed { 0 < length (book (view R.seen R.shelf self.old)).state.drives.items }
-        ensures tries { spec.TriesWork work.now (view R.seen R.shelf self.old) (view R.seen R.shelf self.new) result }
+        ensures tries { spec.TriesWork work.now (view R.seen R.shelf self.old) (view R.seen R.shelf self.new) R.runs (bay_in self.old) result }
         ensures runs { R.runs (bay_in self.old) (bay_in self.new) }
     {
         match *work {
@@ -90,8 +90,7 @@ impl<R: Bay> Pool<R> {
             Work::Begin { array, place } => self.volume.inner().begin(array, place),
             Work::Reshape { array } => self.volume.inner().reshape(array),
             Work::Finish { array } => self.volume.inner().finish(array),
-            // No array is made yet.
-            Work::Make { array, .. } => Err(Stuck { array }),
+            Work::Make { array, height } => self.volume.inner().make(array, height),
             Work::Zero { array } => self.volume.inner().zero(array),
             Work::Ready { array } => self.volume.inner().ready(array),
             Work::Extend => self.extend(),
@@ -102,7 +101,7 @@ impl<R: Bay> Pool<R> {
     /// Tries the first of the works that are left, where one is.
     fn try_first(&mut self) -> Result<(), Stuck>
         requires { (volume (view R.seen R.shelf self.old)).fit }
-        ensures tries { spec.TriesFirst (view R.seen R.shelf self.old) (view R.seen R.shelf self.new) result }
+        ensures tries { spec.TriesFirst (view R.seen R.shelf self.old) (view R.seen R.shelf self.new) R.runs (bay_in self.old) result }
         ensures runs { R.runs (bay_in self.old) (bay_in self.new) }
     {
         match self.next_work() {
@@ -116,7 +115,7 @@ impl<R: Bay> Pool<R> {
     /// changes what is left, and the works go on. They end where a work can't be done, which names its array; those before it are done.
     pub fn grow(&mut self, count: u64) -> Result<u64, Stuck>
         requires { (volume (view R.seen R.shelf self.old)).fit }
-        ensures grows { spec.GrowsBy count (view R.seen R.shelf self.old) (view R.seen R.shelf self.new) result }
+        ensures grows { spec.GrowsBy count (view R.seen R.shelf self.old) (view R.seen R.shelf self.new) R.runs result }
         ensures runs { R.runs (bay_in self.old) (bay_in self.new) }
     {
         for _turn in 0..count.min(self.left()) {

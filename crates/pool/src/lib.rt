@@ -21,8 +21,10 @@
 
 mod adding;
 mod calls;
+mod enlarging;
 mod growing;
 mod making;
+mod reaching;
 mod replacing;
 mod standing;
 mod taking;

@@ -5,9 +5,7 @@ ghost use Rattle.std.specs.List.{list_any};
 ghost use Rattle.std.specs.Result.{result_err};
 ghost use Rattle.growth_plan.specs.Book.{IsBook};
 ghost use Rattle.pool.specs.View.{book, view, volume};
-ghost use Rattle.pool.specs.Moment.{views_of};
 ghost use Rattle.pool.specs.Works.{progress_by};
-ghost use Rattle.raid_laws.specs.NewDrive.{reaches_all};
 ghost use Rattle.pool.specs.Replacing as spec;
 
 use crate::Pool;
@@ -15,10 +13,10 @@ use arrayvec::ArrayVec;
 use growth_plan::{AdmitFault, Progress, admit_replace, target};
 use pool_state::{Drive, Plan, State};
 use rack::Bay;
-use shr_base::units;
+use shr_base::{child_id, units};
 use thiserror::Error;
 
-/// Why a drive isn't taken in. They are looked for in this order, but for `Unbuilt`: of an added drive that is looked for last before `Gone`.
+/// Why a drive isn't taken in. They are looked for in this order, but for a `Smaller` by the arrays of a place: that is looked for last before `Gone`.
 #[derive(Clone, Copy, Debug, PartialEq, Eq, Error)]
 pub enum GrowFault {
     /// The place isn't in the list.
@@ -42,13 +40,10 @@ pub enum GrowFault {
     /// Rows are left to resync.
     #[error("rows are left to resync")]
     NotResynced,
-    /// The new drive has other units than the one that it replaces, or an added one would make a new array: that isn't built.
-    #[error("not built")]
-    Unbuilt,
     /// Its units lie between those of the drives, or below all of them.
     #[error("its units lie between those of the drives, or below all of them")]
     Size,
-    /// It has fewer units than the drive that it replaces.
+    /// It has fewer units than the drive that it replaces, or doesn't reach an array of that one, which no sound pool meets.
     #[error("it has fewer units than the drive that it replaces")]
     Smaller,
     /// No serial number is left, or no place.
@@ -125,6 +120,17 @@ pub(crate) fn fault_of(fault: AdmitFault) -> GrowFault
     }
 }
 
+/// The pool's next drive, of so many units.
+pub(crate) fn new_drive(units: u64, state: &State) -> Drive
+    ensures { result ≡ spec.new_drive units state.now }
+{
+    Drive {
+        id: child_id(&state.pool, 1, state.serial, 0),
+        units,
+        missing: false,
+    }
+}
+
 /// A copy of drives. It takes no memory.
 fn copy_of(drives: &[Drive]) -> ArrayVec<Drive, 16>
     requires { length drives.now ≤ 16 }
@@ -154,31 +160,34 @@ pub(crate) fn planning(plan: Plan, state: &State) -> State
     }
 }
 
-impl<R: Bay> Pool<R> {
-    /// Whether a disk of so many sectors has room for a drive's log slice and table, and reaches each array that the place is a member of.
-    fn reaches(&self, place: u32, sectors: u64) -> bool
-        requires fit { (volume (view R.seen R.shelf self.now)).fit }
-        ensures { result ≡ reaches_all (views_of (book (view R.seen R.shelf self.now))) place sectors }
-    {
-        self.volume.below().reaches(place, sectors)
-    }
+/// A state with the pool's next drive, of so many units, at a place of the list, and with the plan that replaces the place's drive. It takes no
+/// memory.
+fn replacing(place: u32, units: u64, state: &State) -> State
+    requires listed { place < length state.now.drives.items }
+    requires few { length state.now.drives.items ≤ 16 }
+    ensures { result ≡ spec.replacing place units state.now }
+{
+    let mut planned = planning(Plan::Replace { place }, state);
+    planned.drives.as_mut_slice()[place as usize] = new_drive(units, state);
+    planned
+}
 
-    /// Whether the drive of a place has the units of a disk of so many sectors, which reaches the arrays of the place.
-    fn has_same(&self, place: u32, sectors: u64) -> bool
+impl<R: Bay> Pool<R> {
+    /// Whether the drive of a place has the units of a disk of so many sectors.
+    pub(crate) fn has_same(&self, place: u32, sectors: u64) -> bool
         requires fit { (volume (view R.seen R.shelf self.now)).fit }
         requires listed { place < length (book (view R.seen R.shelf self.now)).state.drives.items }
         ensures { result ≡ spec.has_same (book (view R.seen R.shelf self.now)) place sectors }
     {
         let state = self.state();
-        has_units(state, place, units(sectors, state.extent)) && self.reaches(place, sectors)
+        has_units(state, place, units(sectors, state.extent))
     }
 
-    /// Whether the pool stands so that the drive of a place can be replaced by a disk of so many sectors.
-    fn stands_for(&self, progress: &Progress, place: u32, sectors: u64) -> Result<(), GrowFault>
-        requires fit { (volume (view R.seen R.shelf self.now)).fit }
+    /// Whether the pool stands so that the drive of a place can be replaced.
+    fn stands_for(&self, progress: &Progress, place: u32) -> Result<(), GrowFault>
         requires listed { place < length (book (view R.seen R.shelf self.now)).state.drives.items }
         requires progress { progress.now ≡ progress_by (view R.seen R.shelf self.now).linear (book (view R.seen R.shelf self.now)) }
-        ensures { result_err result ≡ spec.first_cause (spec.standing_refusals (book (view R.seen R.shelf self.now)) place sectors) }
+        ensures { result_err result ≡ spec.first_cause (spec.standing_refusals (book (view R.seen R.shelf self.now)) place) }
     {
         let state = self.state();
         if is_planned(state.plan) {
@@ -190,20 +199,19 @@ impl<R: Bay> Pool<R> {
         if has_resync(progress) {
             return Err(GrowFault::NotResynced);
         }
-        if !self.has_same(place, sectors) {
-            return Err(GrowFault::Unbuilt);
-        }
         Ok(())
     }
 
-    /// Whether the volume doesn't fit over what the arrays offer once the drive of a place is replaced.
-    fn lacks_segments(&self, progress: &Progress, place: u32) -> bool
+    /// Whether the volume doesn't fit over what the arrays offer once the drive of a place is replaced by one of so many units.
+    fn lacks_segments(&self, progress: &Progress, place: u32, units: u64) -> bool
         requires listed { place < length (book (view R.seen R.shelf self.now)).state.drives.items }
+        requires some { 0 < units }
+        requires small { units < 2 ^ 41 }
         requires progress { progress.now ≡ progress_by (view R.seen R.shelf self.now).linear (book (view R.seen R.shelf self.now)) }
         requires book { IsBook (book (view R.seen R.shelf self.now)).state progress.now }
-        ensures { result ≡ spec.lacks_segments (view R.seen R.shelf self.now).linear (book (view R.seen R.shelf self.now)) place }
+        ensures { result ≡ spec.lacks_segments (view R.seen R.shelf self.now).linear (book (view R.seen R.shelf self.now)) place units }
     {
-        let planned = planning(Plan::Replace { place }, self.state());
+        let planned = replacing(place, units, self.state());
         let extents = target(&planned, progress);
         !self.volume.fits(extents.as_slice())
     }
@@ -216,14 +224,18 @@ impl<R: Bay> Pool<R> {
         ensures { result_err result ≡ spec.refusal_of (view R.seen R.shelf self.now).linear (book (view R.seen R.shelf self.now)) place sectors }
     {
         let progress = self.progress();
-        self.stands_for(&progress, place, sectors)?;
+        self.stands_for(&progress, place)?;
         let state = self.state();
-        match admit_replace(state, &progress, place, units(sectors, state.extent)) {
+        let units = units(sectors, state.extent);
+        match admit_replace(state, &progress, place, units) {
             Ok(()) => {}
             Err(fault) => return Err(fault_of(fault)),
         }
-        if self.lacks_segments(&progress, place) {
+        if self.lacks_segments(&progress, place, units) {
             return Err(GrowFault::TooManySegments);
+        }
+        if !self.reaches_own(&progress, place, sectors) {
+            return Err(GrowFault::Smaller);
         }
         Ok(())
     }

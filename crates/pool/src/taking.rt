@@ -1,12 +1,13 @@
 //! The drive of a place is replaced by the disk of a name.
 
-ghost use Rattle.std.specs.Prelude.{◌≡◌, ◌<◌, Some, None, Err, true, false, length, slice_get, option_map};
+ghost use Rattle.std.specs.Prelude.{◌≡◌, ◌⊎◌, ◌<◌, Some, Err, true, false, length, slice_get, option_map};
 ghost use Rattle.rack.specs.Shelf.{Attaches};
 ghost use Rattle.array_image.specs.States.{is_current};
+ghost use Rattle.pool.specs.Enlarging.{Enlarges, EnlargesDrive};
 ghost use Rattle.pool.specs.Moment.{moment_of};
 ghost use Rattle.pool.specs.Naming.{ReplacesDrive};
 ghost use Rattle.pool.specs.Replaced.{is_vacant};
-ghost use Rattle.pool.specs.Replacing.{IsAdmitted, has_other_missing, refusal_of};
+ghost use Rattle.pool.specs.Replacing.{IsAdmissible, IsAdmitted, has_other_missing};
 ghost use Rattle.pool.specs.Taking.{AttachesDisk, IsOfPlace, ReplacesBy, TakesBy};
 ghost use Rattle.pool.specs.View.{bay_in, book, view, volume, with_bay};
 
@@ -84,7 +85,7 @@ impl<R: Bay> Pool<R> {
     }
 
     /// Whether another drive than that of a place is marked missing.
-    fn lacks_other(&self, place: u32) -> bool
+    pub(crate) fn lacks_other(&self, place: u32) -> bool
         requires { place < length (book (view R.seen R.shelf self.now)).state.drives.items }
         ensures { result ≡ has_other_missing (book (view R.seen R.shelf self.now)).state place }
     {
@@ -162,7 +163,7 @@ impl<R: Bay> Pool<R> {
         requires disk { disk < (R.seen (bay_in self.old)).disks }
         requires other { IsOfPlace (moment_of (view R.seen R.shelf self.old)) disk → ⊥ }
         requires current { is_current (book (view R.seen R.shelf self.old)).state place ≡ true }
-        requires admitted { refusal_of (view R.seen R.shelf self.old).linear (book (view R.seen R.shelf self.old)) place ((R.seen (bay_in self.old)).sectors disk) ≡ None }
+        requires admitted { IsAdmissible (view R.seen R.shelf self.old).linear (book (view R.seen R.shelf self.old)) place ((R.seen (bay_in self.old)).sectors disk) }
         ensures replaces { ReplacesBy (view R.seen R.shelf self.old) (view R.seen R.shelf self.new) place disk result }
         ensures runs { R.runs (bay_in self.old) (bay_in self.new) }
     {
@@ -191,9 +192,9 @@ impl<R: Bay> Pool<R> {
         requires listed { place < length (book (view R.seen R.shelf self.old)).state.drives.items }
         requires disk { disk < (R.seen (bay_in self.old)).disks }
         requires other { IsOfPlace (moment_of (view R.seen R.shelf self.old)) disk → ⊥ }
-        requires admitted { refusal_of (view R.seen R.shelf self.old).linear (book (view R.seen R.shelf self.old)) place ((R.seen (bay_in self.old)).sectors disk) ≡ None }
+        requires admitted { IsAdmissible (view R.seen R.shelf self.old).linear (book (view R.seen R.shelf self.old)) place ((R.seen (bay_in self.old)).sectors disk) }
         ensures replaces { ReplacesBy (view R.seen R.shelf self.old) (view R.seen R.shelf self.new) place disk result }
-        ensures frame { R.frame (bay_in self.old) (bay_in self.new) }
+        ensures runs { R.runs (bay_in self.old) (bay_in self.new) }
     {
         if self.has_drive(place) {
             self.give_way(place, disk)
@@ -208,19 +209,27 @@ impl<R: Bay> Pool<R> {
         requires listed { place < length (book (view R.seen R.shelf self.old)).state.drives.items }
         requires disk { disk < (R.seen (bay_in self.old)).disks }
         requires other { IsOfPlace (moment_of (view R.seen R.shelf self.old)) disk → ⊥ }
-        ensures replaces { ReplacesBy (view R.seen R.shelf self.old) (view R.seen R.shelf self.new) place disk result }
-        ensures frame { R.frame (bay_in self.old) (bay_in self.new) }
+        ensures replaces { ReplacesBy (view R.seen R.shelf self.old) (view R.seen R.shelf self.new) place disk result
+            ⊎ Enlarges (view R.seen R.shelf self.old) (view R.seen R.shelf self.new) place disk result }
+        ensures runs { R.runs (bay_in self.old) (bay_in self.new) }
     {
         let sectors = self.volume.below().below().below().sectors(disk);
         match self.admits(place, sectors) {
-            Ok(()) => self.take_in(place, disk),
+            Ok(()) => {
+                if self.has_same(place, sectors) {
+                    self.take_in(place, disk)
+                } else {
+                    self.enlarge(place, disk)
+                }
+            }
             Err(fault) => Err(fault),
         }
     }
 
     /// Replaces the drive of a place, missing or not, by the disk of a name, which is attached where it isn't yet. The disk gets a
     /// partition table, and slices for the log and for the arrays of the place; its members there are to be rebuilt from their start. No
-    /// value of the volume moves.
+    /// value of the volume moves. Where the disk has more units than the drive, its table has an entry for each array that it reaches, and the
+    /// pool's plan is to grow by it.
     ///
     /// A drive that isn't missing is the place's until one commit on the others takes the new one in; from then on it isn't written.
     /// Before that all arrays are cleaned. Where it is found gone meanwhile, it is marked and the new drive is taken in as in the place of
@@ -230,7 +239,8 @@ impl<R: Bay> Pool<R> {
     /// found gone.
     pub fn replace(&mut self, place: u32, name: &str) -> Result<(), GrowFault>
         requires { (volume (view R.seen R.shelf self.old)).fit }
-        ensures replaced { ReplacesDrive (view R.seen R.shelf self.old) (view R.seen R.shelf self.new) place name.now result }
+        ensures replaced { ReplacesDrive (view R.seen R.shelf self.old) (view R.seen R.shelf self.new) place name.now result
+            ⊎ EnlargesDrive (view R.seen R.shelf self.old) (view R.seen R.shelf self.new) place name.now result }
         ensures unlisted { result ≡ Err GrowFault.NoSuchDrive → self.new ≡ self.old }
         ensures frame { R.frame (bay_in self.old) (bay_in self.new) }
     {

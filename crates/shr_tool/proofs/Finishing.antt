@@ -1,5 +1,5 @@
 -- How a script came out, from why it stopped and how the pool was ended.
-use Rattle.std.proofs.Common.{◌≡◌, ◌⊎◌, ℕ, ◌<◌, true, false, List, [], ◌∷◌, ◌++◌, refl, sym, ◌∙◌, ap, subst, inl, inr, arith}
+use Rattle.std.proofs.Common.{◌≡◌, ◌≢◌, ◌⊎◌, ℕ, ◌<◌, true, false, List, [], ◌∷◌, ◌++◌, refl, sym, ◌∙◌, ap, subst, inl, inr, arith}
 use Rattle.rack.specs.Seen.{Image, IsPick}
 use Rattle.slice_rack.specs.Sliced.{slices_of}
 use Rattle.assembler.specs.Sound.{TargetsLand}
@@ -13,7 +13,7 @@ use Rattle.pool_model.specs.Absent.{HoldAbsent}
 use Rattle.pool_model.specs.Alone.{LeaveOut}
 use Rattle.pool_model.specs.Grouped.{HaveOwnAreas}
 use Rattle.pool.specs.Continuing.{Continues, KeepsOutside}
-use Rattle.pool.specs.View.{View, book, slices_shown}
+use Rattle.pool.specs.View.{View, book, slices_shown, volume}
 use Rattle.pool.specs.Volume.{Holds}
 use Rattle.pool.specs.Calls.{Ends, Passes}
 use Rattle.shr_tool.specs.declared.perform.Answer.{Answer}
@@ -27,10 +27,10 @@ use Rattle.pool.specs.Moment.{moment_of}
 use Rattle.pool.specs.Proceeding.{Proceeds}
 use Rattle.shr_script.specs.Line.{Line}
 use Rattle.shr_tool.specs.Timeline.{Steps, Timeline, steps_of}
-use Rattle.shr_tool.specs.Serving.{AreBegun as BegunTo, ArePut as PutTo, Grew, HasGone, HasStopCause, IsServing, Ran, Serves, ServesEvents, StopsAtEnd}
+use Rattle.shr_tool.specs.Serving.{AreBegun, ArePut, Grew, HasGone, HasStopCause, IsServing, Ran, Serves, ServesEvents, StopsAtEnd}
 use Rattle.shr_tool.specs.Between.{HaveOthers, HoldsEach, HoldsInside, HoldsNext}
 use Rattle.shr_tool.specs.Service.{AreFit, AreLone, BeginsOn, IsOut, IsServed, Lone, none_out, pool_by}
-use Rattle.shr_tool.specs.Outcome.{AreBegun, ArePut, DoneOutcome, EndsAt, EventsOutcome, HasStatusCause, IsRunOn, Lasts, LastsUntil, LeavesItsRows, Outcome, status_by}
+use Rattle.shr_tool.specs.Outcome.{DoneOutcome, EndsAt, EventsOutcome, HasStatusCause, IsRunOn, Lasts, LastsUntil, LeavesItsRows, Outcome, status_by}
 use Rattle.shr_tool.proofs.Between.{holds_inside, next_now, told_after}
 use Rattle.shr_tool.proofs.Grown.{gone_kept}
 use Rattle.shr_tool.proofs.Growing.{along_for, proceeds_of, proceeds_to}
@@ -66,16 +66,16 @@ rows_at x m y a events ran ends serving served none n inside over settled r left
 
 -- as an event after the script's
 ends_at :
-    (x m y : View) (a : FlatArray) (events : List Event)
-    → Ran x m events
+    (m y : View) (b : FlatArray) (Told Traced : Type 0)
+    → (volume m).fit
+    → (Told → Holds m b)
+    → (Told → Traced → m.bay.traced)
     → Ends m y
     → IsLawful y
-    → EndsAt (IsServing x a) x.bay.traced y.bay (moment_of m) (moment_of y) (array_by a events)
-ends_at x m y a events ran ends laws =
-    let b = array_by a events in
-    let traced_then : IsServing x a → x.bay.traced → m.bay.traced = λ serving traced. ran.continues.traced serving.0.shelf traced in
+    → EndsAt Told Traced y.bay (moment_of m) (moment_of y) b
+ends_at m y b Told Traced fit holds traced_then ends laws =
     record {
-      later = λ serving traced. (ends.passes.apart.stops (traced_then serving traced)).later;
+      later = λ told traced. (ends.passes.apart.stops (traced_then told traced)).later;
       linear = ends.passes.linear;
       slices = slices_kept m y ends.passes;
       after = ends.passes.marks;
@@ -83,12 +83,12 @@ ends_at x m y a events ran ends laws =
           λ place was now. elim (ends.marks place was now) [ inl rose ↦ rose | inr never ↦ absurd never ];
       stands = standing m y KeepsBook 1 ends.passes.stays.fit ends.passes.book ends.raises;
       works = ends.works;
-      held = λ serving d s low within unsliced.
+      held = λ told d s low within unsliced.
           (outside_of m y (λ d. ⊥) ends.passes laws.0).held d s
-          (record { disk = low; sector = within; is_told = (ran.holds a serving.0).disks d low; unnamed = λ never. never; unsliced = unsliced });
-      missing = λ serving. vacant_kept m y ran.continues.fit ends.passes laws.2 laws.0 (ran.holds a serving.0).disks;
-      during = λ serving traced. (ends.does.leaves (traced_then serving traced) b (ran.holds a serving.0)).new;
-      ended = λ serving traced. ends.does.ends (traced_then serving traced) b (ran.holds a serving.0);
+          (record { disk = low; sector = within; is_told = (holds told).disks d low; unnamed = λ never. never; unsliced = unsliced });
+      missing = λ told. vacant_kept m y fit ends.passes laws.2 laws.0 (holds told).disks;
+      during = λ told traced. (ends.does.leaves (traced_then told traced) b (holds told)).new;
+      ended = λ told traced. ends.does.ends (traced_then told traced) b (holds told);
     }
 
 -- each of the volume's arrays is told
@@ -217,7 +217,9 @@ lasts_of x m y a events laws ran ends =
       disks = refl;
       sectors = λ d. refl;
       held = λ d s. refl;
-      ends = ends_at x m y a events ran ends laws;
+      ends =
+          ends_at m y (array_by a events) (IsServing x a) x.bay.traced ran.continues.fit (λ serving. ran.holds a serving.0)
+          (λ serving traced. ran.continues.traced serving.0.shelf traced) ends laws;
       outside = outside_at x m y a events laws.0 ran ends.passes;
       apart = λ none. (passes none).apart;
       told = told_at x m y a events ran ends;
@@ -323,42 +325,29 @@ events_by stop worst status x m y a text rest out out' is stops laws ends =
 
 -- ---- a script that grew the pool
 
-begun_of : (stop : Stop) (worst : Answer) (text rest : List ℕ) (lines : List Line) → BegunTo stop text rest lines → AreBegun (status_by stop worst) text rest lines
-begun_of AtQuit Refuses text rest lines begun = begun
-begun_of AtQuit Given text rest lines begun = begun
-begun_of AtQuit Wants text rest lines begun = begun
-begun_of Input Refuses text rest lines begun = begun.0
-begun_of Input Given text rest lines begun = begun.0
-begun_of Input Wants text rest lines begun = begun.0
-begun_of SourceFault worst text rest lines begun = begun
-begun_of AtLimit worst text rest lines begun = begun
-begun_of SinkFault worst text rest lines begun = begun
-
-put_of : (stop : Stop) (worst : Answer) (out out' replies : List ℕ) → PutTo stop out out' replies → ArePut (status_by stop worst) out out' replies
-put_of AtQuit Refuses out out' replies put = put
-put_of AtQuit Given out out' replies put = put
-put_of AtQuit Wants out out' replies put = put
-put_of Input Refuses out out' replies put = put
-put_of Input Given out out' replies put = put
-put_of Input Wants out out' replies put = put
-put_of SourceFault worst out out' replies put = put
-put_of AtLimit worst out out' replies put = put
-put_of SinkFault worst out out' replies put = put
+-- the worst answer counts only where all lines were answered
+status_same : (stop : Stop) (all worst : Answer) → (stop ≢ SinkFault → all ≡ worst) → status_by stop all ≡ status_by stop worst
+status_same AtQuit all worst same = ap (status_by AtQuit) (same (λ is. cc))
+status_same Input all worst same = ap (status_by Input) (same (λ is. cc))
+status_same SourceFault all worst same = refl
+status_same AtLimit all worst same = refl
+status_same SinkFault all worst same = refl
 
 -- the end of the pool after it
 until_of :
-    (x m y : View) (a : FlatArray) (lines : List Line) (Put : List ℕ → Type 0)
-    → (grew : Grew x m lines Put)
+    (x m y : View) (a : FlatArray) (lines : List Line) (worst : Answer) (Put : List ℕ → Type 0)
+    → (grew : Grew x m lines worst Put)
+    → IsLawful y
     → Ends m y
-    → LastsUntil (IsServing x a) x.bay.traced x.bay y.bay (moment_of x) a grew.events grew.first grew.more grew.said
-until_of x m y a lines Put grew ends = record {
+    → LastsUntil (IsServing x a) x.bay.traced x.bay y.bay (moment_of x) a grew.events grew.first grew.more grew.said grew.answer
+until_of x m y a lines worst Put grew laws ends = record {
   last = grew.last;
   timeline =
       timeline_for (x.bay.traced × Holds x a) (x.bay.traced × IsServing x a) y.bay.stops (moment_of x) a grew.events grew.last (λ is. (is.0, is.1.0)) (gone.timeline a);
   growing = grew.growing;
   grown = moment_of m;
   lines =
-      along_for (x.shelf.told × x.bay.traced) (x.bay.traced × IsServing x a) grew.last (grew.first ∷ grew.more) grew.said (moment_of m)
+      along_for (x.shelf.told × x.bay.traced) (x.bay.traced × IsServing x a) grew.last (grew.first ∷ grew.more) grew.said grew.answer (moment_of m)
       (λ is. (is.1.0.shelf, is.0)) grew.grown;
   final = moment_of y;
   clock = refl;
@@ -370,6 +359,7 @@ until_of x m y a lines Put grew ends = record {
       proceeds_to m y (x.bay.traced × IsServing x a) (λ place. ⊥) 1 (λ is. (grew.proceeds.told is.1.0.shelf, grew.proceeds.traced is.1.0.shelf is.0)) proceeds
       (λ place was now. elim (ends.marks place was now) [ inl rose ↦ inl rose | inr never ↦ absurd never ])
       ends.raises;
+  kept = ends_at m y a ⊥ ⊥ grew.proceeds.fit (λ never. absurd never) (λ never. absurd never) ends laws;
   between = λ serving traced f on.
       subst (HoldsEach y.bay.stops (AreSerial f.state) (TargetsLand f) (HaveOwnAreas f) [] f (moment_of x) grew.events grew.last)
       (sym
@@ -401,10 +391,13 @@ outcome_of stop worst x m y a text rest out out' serves laws ends = elim serves 
     events = grown.grew.events;
     first = grown.grew.first;
     more = grown.grew.more;
-    begun = subst (AreBegun (status_by stop worst) text rest) grown.grew.lines_are (begun_of stop worst text rest grown.lines grown.begun);
+    stop = stop;
+    begun = subst (AreBegun stop text rest) grown.grew.lines_are grown.begun;
+    answer = grown.grew.answer;
+    status_is = ap (status_by stop) grown.grew.worst_is ∙ status_same stop grown.all worst grown.worst_is;
     said = grown.grew.said;
-    put = λ serving. put_of stop worst out out' (texts a grown.grew.events ++ grown.grew.said) (grown.grew.put a serving.0);
-    lasts = until_of x m y a grown.lines (PutTo stop out out') grown.grew ends;
+    put = λ serving. grown.grew.put a serving.0;
+    lasts = until_of x m y a grown.lines grown.all (ArePut stop out out') grown.grew laws ends;
   })
 ]
 

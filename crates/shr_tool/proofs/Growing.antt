@@ -1,28 +1,27 @@
 -- What lines of a script keep whatever becomes of the pool's volume.
-use Rattle.std.proofs.Common.{◌≡◌, ℕ, ◌||◌, true, false, List, [], ◌∷◌, ◌++◌, append_assoc, Result, Ok, refl, sym, ◌∙◌, ap, subst, inl, inr, arith}
+use Rattle.std.proofs.Common.{◌≡◌, ℕ, ◌||◌, true, false, List, [], ◌∷◌, ◌++◌, append_assoc, Ok, refl, sym, ◌∙◌, ap, subst, inl, inr, arith}
 use Rattle.std.proofs.lemmas.Bool.{both_ways, cases_Bool, cases_eq, ne_eqb}
 use Rattle.std.proofs.lemmas.List.{append-nil}
 use Rattle.array_image.specs.States.{is_current}
 use Rattle.pool_state.specs.declared.contents.Plan.TheVariants.{Replace as Replacing}
 use Rattle.raid_rack.proofs.Enlisted.{current_enlisted}
-use Rattle.shr_script.specs.declared.Command.TheVariants.{Read, Replace}
+use Rattle.shr_script.specs.declared.Command.TheVariants.{Replace}
 use Rattle.shr_script.specs.Line.{Line}
-use Rattle.shr_script.specs.Reply.{data_line}
-use Rattle.pool.proofs.Booked.{raises_still}
-use Rattle.pool.specs.Calls.{ReadsSector}
-use Rattle.pool.specs.declared.calls.SectorFault.{SectorFault}
 use Rattle.pool.specs.Continuing.{Continues}
 use Rattle.pool.specs.Keeping.{Raises}
 use Rattle.pool.specs.Moment.{Moment, moment_of}
 use Rattle.pool.specs.Proceeding.{Proceeds}
 use Rattle.pool.specs.View.{View, book, volume}
 use Rattle.shr_tool.specs.declared.perform.Answer.{Answer}
-use Rattle.shr_tool.specs.Events.{Event, calls_in, line_of, takes_disk}
+use Rattle.shr_tool.specs.declared.perform.Answer.TheVariants.{Given}
+use Rattle.shr_tool.specs.Events.{Event, calls_in, line_of, takes_disk, worse}
 use Rattle.shr_tool.specs.Events.Event.{answered, spent, lost, last, replaced, declined, stepped, stuck, shown}
-use Rattle.shr_tool.specs.Growing.{GrowsAlong, GrowsOn, IsAgainst, IsReplyTo, MarksWent, ProceedsTo}
+use Rattle.shr_tool.specs.Growing.{GrowsAlong, GrowsOn, IsAgainst, IsAnswered, IsEvent, MarksWent, ProceedsTo}
 use Rattle.shr_tool.specs.Serving.{Acts, Answers}
 use Rattle.shr_tool.specs.Timeline.{Performs}
+use Rattle.shr_tool.proofs.History.{IsLawful, performed}
 use Rattle.shr_tool.proofs.Serial.{listed_by, replaced_by}
+use Rattle.shr_tool.proofs.Timelines.{happens_for, worse_assoc, worse_given}
 
 -- ---- the bay goes on
 
@@ -127,37 +126,40 @@ marks_performed x y event text performs = elim (cases_Bool (takes_disk event)) [
   ]
 ]
 
+-- what is known of it where nothing is told of stops and of what the volume holds
+event_of :
+    (x y : View) (line : Line) (answer : Answer) (text : List ℕ) → (volume x).fit → IsLawful y → Answers x y line answer text
+    → IsEvent (moment_of x) (moment_of y) line answer text
+event_of x y line answer text fit laws answers =
+    let performs = answers.performs in
+    let array = performs.reply.0 in
+    record {
+      event = answers.event;
+      line_is = answers.line_is;
+      answer_is = answers.answer_is;
+      array = array;
+      size = performs.reply.1;
+      text_is = performs.reply.2;
+      happens =
+          happens_for ⊥ ⊥ y.bay.stops (λ k i. ⊥) (moment_of x) (moment_of y) array answers.event (λ never. never) (λ never. absurd never)
+          (performed x y answers.event text ⊥ array fit performs laws (λ never. absurd never) (λ never. absurd never));
+    }
+
+pub proceeds_by : (x y : View) (line : Line) (answer : Answer) (text : List ℕ) → Acts x y line answer text → Proceeds x y
+proceeds_by x y line answer text acts = elim acts [ inl answers ↦ proceeds_of x y answers.performs.continues | inr grows ↦ grows.1.proceeds ]
+
 -- a line that was done on a pool keeps what one keeps on a pool that has grown
-pub grows_of : (x y : View) (line : Line) (answer : Answer) (text : List ℕ) → Answers x y line answer text → GrowsOn x y line text
-grows_of x y line answer text answers =
+pub grows_by :
+    (x y : View) (line : Line) (answer : Answer) (text : List ℕ) → (volume x).fit → IsLawful y → Acts x y line answer text → GrowsOn x y line answer text
+grows_by x y line answer text fit laws (inr grows) = grows.1
+grows_by x y line answer text fit laws (inl answers) =
     let performs = answers.performs in
     record {
       proceeds = proceeds_of x y performs.continues;
       marks = subst (λ l. MarksWent (IsAgainst l) (moment_of x) (moment_of y)) answers.line_is (marks_performed x y answers.event text performs);
       raises = subst (λ l. Raises (calls_in l) x y) answers.line_is performs.raises;
-      reply = answers.reply;
+      answered = inl (event_of x y line answer text fit laws answers);
     }
-
-pub grows_by : (x y : View) (line : Line) (answer : Answer) (text : List ℕ) → Acts x y line answer text → GrowsOn x y line text
-grows_by x y line answer text acts = elim acts [ inl answers ↦ grows_of x y line answer text answers | inr grows ↦ grows.1 ]
-
--- no call
-pub grows_still : (x : View) (line : Line) (text : List ℕ) → (volume x).fit → IsReplyTo (moment_of x) line text → GrowsOn x x line text
-grows_still x line text fit reply = record {
-  proceeds = proceeds_same x fit;
-  marks = λ place was now. absurd (both_ways (is_current (book x).state place) now was);
-  raises = raises_still (calls_in line) x;
-  reply = reply;
-}
-
--- ---- replies
-
-pub read_reply :
-    {X : Type 0} (x y : View) (sector : ℕ) (into text : List ℕ) (r : Result X SectorFault)
-    → text ≡ data_line into
-    → ReadsSector x y sector into r
-    → IsReplyTo (moment_of y) (Ok (Read sector)) text
-read_reply x y sector into text r is read = inl (into, is)
 
 -- ---- lines in a row
 
@@ -183,30 +185,54 @@ proceeds_for P Q Lost calls p q for proceeds =
     record { later = λ traced. proceeds.later (for traced); disks = proceeds.disks; marks = proceeds.marks; raises = proceeds.raises }
 
 -- one line more
-pub along_more :
-    (Traced : Type 0) (p : Moment) (lines : List Line) (said : List ℕ) (q r : Moment) (line : Line) (text : List ℕ)
-    → GrowsAlong Traced p lines said q
+abbrev pub along_more :
+    (Traced : Type 0) (p : Moment) (lines : List Line) (said : List ℕ) (worst : Answer) (q r : Moment) (line : Line) (answer : Answer) (text : List ℕ)
+    → GrowsAlong Traced p lines said worst q
     → ProceedsTo Traced (IsAgainst line) (calls_in line) q r
-    → IsReplyTo r line text
-    → GrowsAlong Traced p (lines ++ line ∷ []) (said ++ text) r
-along_more Traced p [] said q r line text along proceeds reply =
-    (r, text, [], subst (λ m. ProceedsTo Traced (IsAgainst line) (calls_in line) m r) (sym along.0) proceeds, reply, end, (refl, refl))
-  where
-    end : said ++ text ≡ text ++ []
-    end = ap (λ s. s ++ text) along.1 ∙ sym (append-nil text)
-along_more Traced p (first ∷ lines) said q r line text along proceeds reply = (
-  along.0,
-  along.1,
-  along.2 ++ text,
-  along.3,
-  along.4,
-  ap (λ s. s ++ text) along.5 ∙ append_assoc along.1 along.2 text,
-  along_more Traced along.0 lines along.2 q r line text along.6 proceeds reply,
+    → IsAnswered q r line answer text
+    → GrowsAlong Traced p (lines ++ line ∷ []) (said ++ text) (worse worst answer) r
+along_more Traced p [] said worst q r line answer text along proceeds does = (
+  r,
+  answer,
+  text,
+  Given,
+  [],
+  subst (λ m. ProceedsTo Traced (IsAgainst line) (calls_in line) m r) (sym along.0) proceeds,
+  subst (λ m. IsAnswered m r line answer text) (sym along.0) does,
+  ap (λ b. worse b answer) along.2 ∙ sym (worse_given answer),
+  ap (λ s. s ++ text) along.1 ∙ sym (append-nil text),
+  (refl, refl, refl),
 )
+along_more Traced p (first ∷ lines) said worst q r line answer text along proceeds does =
+    let at = along.0 in
+    let others = along.3 in
+    let more = along.4 in (
+      at,
+      along.1,
+      along.2,
+      worse others answer,
+      more ++ text,
+      along.5,
+      along.6,
+      ap (λ b. worse b answer) along.7 ∙ sym (worse_assoc along.1 others answer),
+      ap (λ s. s ++ text) along.8 ∙ append_assoc along.2 more text,
+      along_more Traced at lines more others q r line answer text along.9 proceeds does,
+    )
 
 -- where stops are told for another reason
-pub along_for :
-    (P Q : Type 0) (p : Moment) (lines : List Line) (said : List ℕ) (q : Moment) → (Q → P) → GrowsAlong P p lines said q → GrowsAlong Q p lines said q
-along_for P Q p [] said q for along = along
-along_for P Q p (line ∷ lines) said q for along =
-    (along.0, along.1, along.2, proceeds_for P Q (IsAgainst line) (calls_in line) p along.0 for along.3, along.4, along.5, along_for P Q along.0 lines along.2 q for along.6)
+abbrev pub along_for :
+    (P Q : Type 0) (p : Moment) (lines : List Line) (said : List ℕ) (worst : Answer) (q : Moment)
+    → (Q → P) → GrowsAlong P p lines said worst q → GrowsAlong Q p lines said worst q
+along_for P Q p [] said worst q for along = along
+along_for P Q p (line ∷ lines) said worst q for along = (
+  along.0,
+  along.1,
+  along.2,
+  along.3,
+  along.4,
+  proceeds_for P Q (IsAgainst line) (calls_in line) p along.0 for along.5,
+  along.6,
+  along.7,
+  along.8,
+  along_for P Q along.0 lines along.4 along.3 q for along.9,
+)

@@ -11,12 +11,14 @@ use Rattle.pool.specs.Moment.{Moment, moment_of}
 use Rattle.pool.specs.View.{View}
 use Rattle.pool.specs.Volume.{Holds}
 use Rattle.shr_tool.specs.Between.{HoldsEach}
-use Rattle.shr_tool.specs.Events.{Event, calls_in, lines_of, texts}
+use Rattle.shr_tool.specs.declared.perform.Answer.{Answer}
+use Rattle.shr_tool.specs.declared.perform.Answer.TheVariants.{Given}
+use Rattle.shr_tool.specs.Events.{Event, calls_in, lines_of, texts, worse, worst_of}
 use Rattle.shr_tool.specs.Growing.{GrowsOn, IsAgainst, IsGrowing}
 use Rattle.shr_tool.specs.Serving.{Answered, Grew, HasGone, Ran}
 use Rattle.shr_tool.proofs.Between.{each_kept}
 use Rattle.shr_tool.proofs.Growing.{along_more, proceeds_of, proceeds_then, proceeds_to}
-use Rattle.shr_tool.proofs.Timelines.{steps_kept, timeline_kept}
+use Rattle.shr_tool.proofs.Timelines.{steps_kept, timeline_kept, worse_assoc}
 
 -- ---- the events before it
 
@@ -49,13 +51,13 @@ gone_kept x old new events last past gone = record {
 
 -- the first line that grows the pool
 pub grew_first :
-    (x y z : View) (events : List Event) (line : Line) (text out out' : List ℕ) (Put : List ℕ → Type 0)
+    (x y z : View) (events : List Event) (line : Line) (answer : Answer) (text out out' : List ℕ) (Put : List ℕ → Type 0)
     → Answered x y events out out'
-    → IsGrowing (moment_of y) line
-    → GrowsOn y z line text
+    → IsGrowing (moment_of y) (moment_of z) line
+    → GrowsOn y z line answer text
     → ((all : List ℕ) → out' ≡ out ++ all → Put (all ++ text))
-    → Grew x z (lines_of events ++ line ∷ []) Put
-grew_first x y z events line text out out' Put answered growing grows puts =
+    → Grew x z (lines_of events ++ line ∷ []) (worse (worst_of events) answer) Put
+grew_first x y z events line answer text out out' Put answered growing grows puts =
     let ran = answered.ran in
     let told : x.shelf.told → x.bay.traced → y.shelf.told × y.bay.traced = λ told traced. (ran.continues.told told, ran.continues.traced told traced) in
     record {
@@ -72,21 +74,23 @@ grew_first x y z events line text out out' Put answered growing grows puts =
       growing = growing;
       later = λ named traced. grows.proceeds.later (told named traced).0 (told named traced).1;
       said = text;
+      answer = answer;
+      worst_is = refl;
       grown =
-          along_more (x.shelf.told × x.bay.traced) (moment_of y) [] [] (moment_of y) (moment_of z) line text (refl, refl)
+          along_more (x.shelf.told × x.bay.traced) (moment_of y) [] [] Given (moment_of y) (moment_of z) line answer text (refl, refl, refl)
           (proceeds_to y z (x.shelf.told × x.bay.traced) (IsAgainst line) (calls_in line) (λ is. told is.0 is.1) grows.proceeds grows.marks grows.raises)
-          grows.reply;
+          grows.answered;
       put = λ a holds. puts (texts a events) (answered.put a holds);
     }
 
 -- and each one after it
 pub grew_more :
-    (x y z : View) (lines : List Line) (line : Line) (text out out' : List ℕ) (Put : List ℕ → Type 0)
-    → Grew x y lines (λ all. out' ≡ out ++ all)
-    → GrowsOn y z line text
+    (x y z : View) (lines : List Line) (worst : Answer) (line : Line) (answer : Answer) (text out out' : List ℕ) (Put : List ℕ → Type 0)
+    → Grew x y lines worst (λ all. out' ≡ out ++ all)
+    → GrowsOn y z line answer text
     → ((all : List ℕ) → out' ≡ out ++ all → Put (all ++ text))
-    → Grew x z (lines ++ line ∷ []) Put
-grew_more x y z lines line text out out' Put grew grows puts =
+    → Grew x z (lines ++ line ∷ []) (worse worst answer) Put
+grew_more x y z lines worst line answer text out out' Put grew grows puts =
     let told : x.shelf.told → x.bay.traced → y.shelf.told × y.bay.traced =
     λ told traced. (grew.proceeds.told told, grew.proceeds.traced told traced) in
     record {
@@ -108,17 +112,20 @@ grew_more x y z lines line text out out' Put grew grows puts =
           let now = grows.proceeds.later (told named traced).0 (told named traced).1 in
           omega (arith, before, now);
       said = grew.said ++ text;
+      answer = worse grew.answer answer;
+      worst_is = worse_assoc (worst_of grew.events) grew.answer answer ∙ ap (λ b. worse b answer) grew.worst_is;
       grown =
-          along_more (x.shelf.told × x.bay.traced) grew.last (grew.first ∷ grew.more) grew.said (moment_of y) (moment_of z) line text grew.grown
+          along_more (x.shelf.told × x.bay.traced) grew.last (grew.first ∷ grew.more) grew.said grew.answer (moment_of y) (moment_of z) line answer text grew.grown
           (proceeds_to y z (x.shelf.told × x.bay.traced) (IsAgainst line) (calls_in line) (λ is. told is.0 is.1) grows.proceeds grows.marks grows.raises)
-          grows.reply;
+          grows.answered;
       put = λ a holds.
           subst Put (append_assoc (texts a grew.events) grew.said text) (puts (texts a grew.events ++ grew.said) (grew.put a holds));
     }
 
 -- the replies that were put, as they are told
-pub grew_put : (x y : View) (lines : List Line) (P Q : List ℕ → Type 0) → ((all : List ℕ) → P all → Q all) → Grew x y lines P → Grew x y lines Q
-grew_put x y lines P Q for grew = record {
+pub grew_put :
+    (x y : View) (lines : List Line) (worst : Answer) (P Q : List ℕ → Type 0) → ((all : List ℕ) → P all → Q all) → Grew x y lines worst P → Grew x y lines worst Q
+grew_put x y lines worst P Q for grew = record {
   events = grew.events;
   first = grew.first;
   more = grew.more;
@@ -129,6 +136,8 @@ grew_put x y lines P Q for grew = record {
   growing = grew.growing;
   later = grew.later;
   said = grew.said;
+  answer = grew.answer;
+  worst_is = grew.worst_is;
   grown = grew.grown;
   put = λ a holds. for (texts a grew.events ++ grew.said) (grew.put a holds);
 }

@@ -80,7 +80,7 @@ outside_by x y event text unspent performs =
     ]
 
 -- a line that was done is an event
-performed :
+pub performed :
     (x y : View) (event : Event) (text : List ℕ) (Traced : Type 0) (a : FlatArray)
     → (volume x).fit
     → Performs x y event text
@@ -405,7 +405,7 @@ pub record AsEvents (x y : View) (lines : List Line) (out out' : List ℕ) (wors
 
 -- or one of them did
 abbrev pub SoFar : View → View → List Line → List ℕ → List ℕ → Answer → Type 0
-SoFar x y lines out out' worst = AsEvents x y lines out out' worst ⊎ Grew x y lines (λ all. out' ≡ out ++ all)
+SoFar x y lines out out' worst = AsEvents x y lines out out' worst ⊎ Grew x y lines worst (λ all. out' ≡ out ++ all)
 
 -- of a text these lines have been answered, and this is left
 pub record History (x y : View) (text rest : List ℕ) (count : ℕ) (out out' : List ℕ) (worst : Answer) : Type 0 where

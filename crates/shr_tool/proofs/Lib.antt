@@ -4,8 +4,10 @@ mod Attached
 mod Between
 pub mod Chains
 mod Declined
+mod Drawn
 mod DriveTable
 mod EitherPool
+mod Enlarged
 mod Entered
 mod Examined
 mod Exported
@@ -22,6 +24,7 @@ mod Grown
 mod Heads
 mod History
 mod Lone
+mod LostDrive
 mod Imported
 mod LayoutLemmas
 mod Limits
@@ -53,6 +56,7 @@ mod Through
 mod Online
 mod Timelines
 mod Told
+mod Tried
 mod TurnedDown
 mod Within
 mod LeavingOut

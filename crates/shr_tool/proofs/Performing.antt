@@ -1,28 +1,20 @@
 -- A call of the pool answers a line as an event has it.
-use Rattle.std.proofs.Common.{◌≡◌, ◌⊎◌, ℕ, ◌+◌, ◌-◌, ◌<◌, ◌≤◌, true, false, not, nat_le, nat_lt, List, Result, Ok, Err, OnErr, codes, refl, sym, ◌∙◌, ap, subst, inl, inr, arith}
-use Rattle.std.specs.Prelude.{min}
-use Rattle.std.specs.Option.{option_map_or}
-use Rattle.std.proofs.lemmas.Bool.{both_ways, cases_lt, cases_Bool}
+use Rattle.std.proofs.Common.{◌≡◌, ◌⊎◌, ℕ, ◌+◌, ◌-◌, ◌<◌, ◌≤◌, true, false, nat_le, nat_lt, List, [], Result, Ok, Err, codes, refl, sym, ◌∙◌, ap, subst, inl, inr, arith}
+use Rattle.std.proofs.lemmas.Bool.{both_ways}
 use Rattle.std.proofs.lemmas.Bool.Decides.{nat_tests}
-use Rattle.std.proofs.lemmas.Option.{slice_get_past}
-use Rattle.std.proofs.Math.Nat.{le-min, min-eq_left}
 use Rattle.rack.specs.Moments.{IsSound}
 use Rattle.rack.specs.Seen.{Image}
 use Rattle.shr_script.specs.Line.{Line}
 use Rattle.shr_script.specs.declared.Command.TheVariants.{Read, Write, Fill, Flush, Lose}
 use Rattle.shr_script.specs.Reply.{data_line, as_line, refused_line}
-use Rattle.flat_array.specs.Array.{FlatArray, filled, flushed, written}
+use Rattle.flat_array.specs.Array.{FlatArray, filled, flushed, fresh, written}
 use Rattle.flat_array.specs.Reply.{reply, after, spent_line, uniform_sector}
-use Rattle.array_image.specs.States.{is_current}
-use Rattle.raid_laws.specs.Losses.{has_other}
-use Rattle.pool.specs.declared.calls.LoseFault.{LoseFault}
-use Rattle.pool.specs.declared.calls.LoseFault.TheVariants.{LastDrive, NoSuchDrive}
 use Rattle.pool.specs.declared.calls.SectorFault.{SectorFault}
 use Rattle.pool.specs.declared.calls.SectorFault.TheVariants.{Range, Spent}
 use Rattle.pool.specs.View.{View, book, volume}
 use Rattle.pool.specs.Volume.{Does, Holds, Means, is_spent, size_of, unchanged}
 use Rattle.pool.specs.Keeping.{KeepsWorks, Raises}
-use Rattle.pool.specs.Calls.{Flushes, LosesDrive, Marks, Passes, ReadsSector, WritesSector}
+use Rattle.pool.specs.Calls.{Flushes, Marks, Passes, ReadsSector, WritesSector}
 use Rattle.shr_tool.proofs.Filled.{works_same}
 use Rattle.shr_tool.specs.declared.perform.SpentAt.{SpentAt}
 use Rattle.shr_tool.specs.Events.{Event, IsOfArray, Touches, TouchesLast, becomes, calls_in, calls_none, line_of, takes_disk, text_of, works_on}
@@ -63,8 +55,9 @@ means_before x y (stepped count left) a i none means = means
 means_before x y (stuck count array) a i none means = means
 means_before x y (shown text) a i none means = means
 
--- A call answers a line by what it does: stops inside it leave the array before the line or after it.
-pub performs_by :
+-- A call answers a line by what it does: stops inside it leave the array before the line or after it. Its reply is that of some array of the volume's size, and of each that the volume
+-- holds.
+performs_with :
     (x y : View) (event : Event) (text : List ℕ) (during now : FlatArray → FlatArray)
     → takes_disk event ≡ false
     → (calls_none event ≡ true → moment_of y ≡ moment_of x)
@@ -73,12 +66,13 @@ pub performs_by :
     → (works_on event ≡ false → KeepsWorks (book x) (book y))
     → Cause x y event
     → MarksFor (moment_of x) (moment_of y) event
+    → (a : FlatArray) × (a.size ≡ size_of x) × (text ≡ text_of a event)
     → ((a : FlatArray) → Holds x a → text ≡ text_of a event)
     → ((a : FlatArray) → Holds x a → now a ≡ becomes a event)
     → ((a : FlatArray) → Holds x a → (during a ≡ a) ⊎ (during a ≡ becomes a event))
     → Does x y during now
     → Performs x y event text
-performs_by x y event text during now none still passes raises works cause marks text_is same one_of does = record {
+performs_with x y event text during now none still passes raises works cause marks reply text_is same one_of does = record {
   continues = continues_of x y passes;
   still = still;
   passes = λ _. passes;
@@ -90,6 +84,7 @@ performs_by x y event text during now none still passes raises works cause marks
   cause = cause;
   marks = λ _. marks;
   text_is = text_is;
+  reply = reply;
   holds = λ a holds. subst (λ b. Holds y b) (same a holds) (does.becomes a holds);
   leaves = λ traced a holds k i since until stopped.
       let means = (does.leaves traced a holds).new k i since until stopped in
@@ -99,6 +94,30 @@ performs_by x y event text during now none still passes raises works cause marks
       ];
   ends = λ traced a holds i stopped. subst (λ b. Means y b i) (same a holds) (does.ends traced a holds i stopped);
 }
+
+-- the reply to an event that every array of so many sectors is answered so
+pub reply_sized :
+    (x : View) (event : Event) (text : List ℕ) → ((a : FlatArray) → a.size ≡ size_of x → text ≡ text_of a event)
+    → (a : FlatArray) × (a.size ≡ size_of x) × (text ≡ text_of a event)
+reply_sized x event text is = let a = fresh (size_of x) (λ s. []) in (a, refl, is a refl)
+
+-- a call whose reply no value decides
+pub performs_by :
+    (x y : View) (event : Event) (text : List ℕ) (during now : FlatArray → FlatArray)
+    → takes_disk event ≡ false
+    → (calls_none event ≡ true → moment_of y ≡ moment_of x)
+    → Passes x y
+    → Raises (calls_in (line_of event)) x y
+    → (works_on event ≡ false → KeepsWorks (book x) (book y))
+    → Cause x y event
+    → MarksFor (moment_of x) (moment_of y) event
+    → ((a : FlatArray) → a.size ≡ size_of x → text ≡ text_of a event)
+    → ((a : FlatArray) → Holds x a → now a ≡ becomes a event)
+    → ((a : FlatArray) → Holds x a → (during a ≡ a) ⊎ (during a ≡ becomes a event))
+    → Does x y during now
+    → Performs x y event text
+performs_by x y event text during now none still passes raises works cause marks is same one_of does =
+    performs_with x y event text during now none still passes raises works cause marks (reply_sized x event text is) (λ a holds. is a holds.size) same one_of does
 
 -- a line that touches no sector and loses no drive
 touches_none :
@@ -138,7 +157,7 @@ pub still_done :
     → ((place : ℕ) → line ≡ Ok (Lose place) → ⊥)
     → IsOfArray line
     → ((a : FlatArray) → Holds x a → a ≡ after a line)
-    → ((a : FlatArray) → Holds x a → text ≡ reply a line)
+    → ((a : FlatArray) → a.size ≡ size_of x → text ≡ reply a line)
     → Performs x x (answered line) text
 still_done x line text fit sound none never other apart same is =
     performs_by x x (answered line) text unchanged unchanged refl (λ none. refl) (passes_same x fit) (raises_still (calls_in line) x) (λ none. works_same x) (touches_none x x line none never other apart)
@@ -160,11 +179,11 @@ beyond_test : (s n : ℕ) → n < s → nat_le s n ≡ false
 beyond_test s n beyond = grind (arith, nat_tests)
 
 -- a sector of the volume is one of the array
-inside_array : (x : View) (a : FlatArray) (sector : ℕ) → Holds x a → sector < size_of x → nat_lt sector a.size ≡ true
-inside_array x a sector holds inside = below_test sector a.size (subst (λ n. sector < n) (sym holds.size) inside)
+inside_array : (x : View) (a : FlatArray) (sector : ℕ) → a.size ≡ size_of x → sector < size_of x → nat_lt sector a.size ≡ true
+inside_array x a sector sized inside = below_test sector a.size (subst (λ n. sector < n) (sym sized) inside)
 
-outside_array : (x : View) (a : FlatArray) (sector : ℕ) → Holds x a → size_of x ≤ sector → nat_lt sector a.size ≡ false
-outside_array x a sector holds past = past_test sector a.size (subst (λ n. n ≤ sector) (sym holds.size) past)
+outside_array : (x : View) (a : FlatArray) (sector : ℕ) → a.size ≡ size_of x → size_of x ≤ sector → nat_lt sector a.size ≡ false
+outside_array x a sector sized past = past_test sector a.size (subst (λ n. n ≤ sector) (sym sized) past)
 
 -- ---- a read
 
@@ -177,10 +196,12 @@ pub read_done :
 read_done x y sector into text r is_ok is reads_r =
     let reads : ReadsSector x y sector into {X = Unit {0}} (Ok tt) = subst (λ q. ReadsSector x y sector into q) is_ok reads_r in
     let served = reads.fault.served in
-    performs_by x y (answered (Ok (Read sector))) text unchanged unchanged refl (λ none. absurd (both_ways false refl none)) reads.passes reads.raises (λ none. reads.works)
+    let some = fresh (size_of x) (λ s. into) in
+    performs_with x y (answered (Ok (Read sector))) text unchanged unchanged refl (λ none. absurd (both_ways false refl none)) reads.passes reads.raises (λ none. reads.works)
     (touches_one x y (Ok (Read sector)) sector reads.passes served.1 (λ s touches. touches.0) (λ s touches. touches.0) (λ place loses. cc) tt)
     (marks_for x y _ reads.passes reads.marks)
-    (λ a holds. rw (inside_array x a sector holds served.0) (is ∙ ap data_line (reads.value a holds)))
+    (some, refl, rw (inside_array x some sector refl served.0) is)
+    (λ a holds. rw (inside_array x a sector holds.size served.0) (is ∙ ap data_line (reads.value a holds)))
     (λ a holds. refl)
     (λ a holds. inl refl)
     reads.does
@@ -197,7 +218,7 @@ read_outside x y sector into text r refused is reads =
     (touches_none x y (Ok (Read sector)) (λ s touches. let inside = touches.1 in omega arith)
     (λ s touches. let inside = touches.1 in omega arith) (λ place loses. cc) tt)
     (marks_for x y _ reads.passes reads.marks)
-    (λ a holds. rw (outside_array x a sector holds past) is)
+    (λ a sized. rw (outside_array x a sector sized past) is)
     (λ a holds. refl)
     (λ a holds. inl refl)
     reads.does
@@ -216,7 +237,7 @@ read_spent x y sector into text r refused is reads =
       λ s touches before. absurd (let same = touches.0 in omega arith),
     )
     (marks_for x y _ reads.passes reads.marks)
-    (λ a holds. is)
+    (λ a sized. is)
     (λ a holds. refl)
     (λ a holds. inl refl)
     reads.does
@@ -233,11 +254,11 @@ write_done x y sector v text r is_ok is writes_r =
     let writes : WritesSector x y sector v {X = Unit {0}} (Ok tt) = subst (λ q. WritesSector x y sector v q) is_ok writes_r in
     let served = writes.fault.served in
     let same : (a : FlatArray) → Holds x a → written a sector v ≡ after a (Ok (Write sector v)) =
-    λ a holds. rw (inside_array x a sector holds served.0) refl in
+    λ a holds. rw (inside_array x a sector holds.size served.0) refl in
     performs_by x y (answered (Ok (Write sector v))) text (λ a. written a sector v) (λ a. written a sector v) refl (λ none. absurd (both_ways false refl none)) writes.passes writes.raises (λ none. writes.works)
     (touches_one x y (Ok (Write sector v)) sector writes.passes served.1 (λ s touches. touches.0) (λ s touches. touches.0) (λ place loses. cc) tt)
     (marks_for x y _ writes.passes writes.marks)
-    (λ a holds. rw (inside_array x a sector holds served.0) is)
+    (λ a sized. rw (inside_array x a sector sized served.0) is)
     same
     (λ a holds. inr (same a holds))
     writes.written
@@ -255,8 +276,8 @@ write_outside x y sector v text r refused is writes_r =
     (touches_none x y (Ok (Write sector v)) (λ s touches. let inside = touches.1 in omega arith)
     (λ s touches. let inside = touches.1 in omega arith) (λ place loses. cc) tt)
     (marks_for x y _ writes.passes writes.marks)
-    (λ a holds. rw (outside_array x a sector holds past) is)
-    (λ a holds. rw (outside_array x a sector holds past) refl)
+    (λ a sized. rw (outside_array x a sector sized past) is)
+    (λ a holds. rw (outside_array x a sector holds.size past) refl)
     (λ a holds. inl refl)
     writes.kept
 
@@ -275,7 +296,7 @@ write_spent x y sector v text r refused is writes_r =
       λ s touches before. absurd (let same = touches.0 in omega arith),
     )
     (marks_for x y _ writes.passes writes.marks)
-    (λ a holds. is)
+    (λ a sized. is)
     (λ a holds. refl)
     (λ a holds. inl refl)
     writes.kept
@@ -283,8 +304,8 @@ write_spent x y sector v text r refused is writes_r =
 -- ---- a fill
 
 -- sectors of the volume are sectors of the array
-all_inside : (x : View) (a : FlatArray) (end : ℕ) → Holds x a → end ≤ size_of x → nat_le end a.size ≡ true
-all_inside x a end holds inside = within_test end a.size (subst (λ n. end ≤ n) (sym holds.size) inside)
+all_inside : (x : View) (a : FlatArray) (end : ℕ) → a.size ≡ size_of x → end ≤ size_of x → nat_le end a.size ≡ true
+all_inside x a end sized inside = within_test end a.size (subst (λ n. end ≤ n) (sym sized) inside)
 
 pub fill_done :
     (x y : View) (sector count byte : ℕ) (text : List ℕ) (r : Result (Unit {0}) SpentAt)
@@ -297,7 +318,7 @@ fill_done x y sector count byte text r inside is_ok is fills_r =
     let fills : Fills x y sector count (uniform_sector byte) (Ok tt) =
     subst (λ q. Fills x y sector count (uniform_sector byte) q) is_ok fills_r in
     let same : (a : FlatArray) → Holds x a → filled a sector count (uniform_sector byte) ≡ after a (Ok (Fill sector count byte)) =
-    λ a holds. rw (all_inside x a (sector + count) holds inside) refl in
+    λ a holds. rw (all_inside x a (sector + count) holds.size inside) refl in
     performs_by x y (answered (Ok (Fill sector count byte))) text (λ a. filled a sector count (uniform_sector byte))
     (λ a. filled a sector count (uniform_sector byte))
     refl (λ none. absurd (both_ways false refl none)) fills.passes fills.raises (λ none. fills.works) (
@@ -307,7 +328,7 @@ fill_done x y sector count byte text r inside is_ok is fills_r =
       tt,
     )
     (marks_for x y _ fills.passes fills.marks)
-    (λ a holds. rw (all_inside x a (sector + count) holds inside) is)
+    (λ a sized. rw (all_inside x a (sector + count) sized inside) is)
     same
     (λ a holds. inr (same a holds))
     fills.done.0.does
@@ -334,7 +355,7 @@ fill_spent x y sector count byte text r at inside refused is fills_r =
       λ s touches early. some.unspent s touches.0 (omega arith),
     )
     (marks_for x y _ fills.passes fills.marks)
-    (λ a holds. is)
+    (λ a sized. is)
     (λ a holds. refl)
     (λ a holds. inr refl)
     some.does
@@ -347,14 +368,14 @@ pub fill_outside :
     → text ≡ refused_line (codes "range")
     → Performs x x (answered (Ok (Fill sector count byte))) text
 fill_outside x sector count byte text fit sound past is =
-    let test : (a : FlatArray) → Holds x a → nat_le (sector + count) a.size ≡ false =
-    λ a holds. beyond_test (sector + count) a.size (subst (λ n. n < sector + count) (sym holds.size) past) in
+    let test : (a : FlatArray) → a.size ≡ size_of x → nat_le (sector + count) a.size ≡ false =
+    λ a sized. beyond_test (sector + count) a.size (subst (λ n. n < sector + count) (sym sized) past) in
     still_done x (Ok (Fill sector count byte)) text fit sound
     (λ s touches. let inside = touches.2 in omega arith)
     (λ s touches. let inside = touches.2 in omega arith)
     (λ place loses. cc) tt
-    (λ a holds. rw (test a holds) refl)
-    (λ a holds. rw (test a holds) is)
+    (λ a holds. rw (test a holds.size) refl)
+    (λ a sized. rw (test a sized) is)
 
 -- ---- a flush
 
@@ -364,130 +385,7 @@ flush_done x y text is flushes =
     performs_by x y (answered (Ok Flush)) text unchanged flushed refl (λ none. absurd (both_ways false refl none)) flushes.passes flushes.raises (λ none. flushes.works)
     (touches_none x y (Ok Flush) (λ s touches. touches) (λ s touches. touches) (λ place loses. cc) tt)
     (marks_for x y _ flushes.passes flushes.marks)
-    (λ a holds. is)
+    (λ a sized. is)
     (λ a holds. refl)
     (λ a holds. inl refl)
     flushes.does
-
--- ---- the loss of a drive
-
--- a pool has at most 16 drives
-none_past : (x : View) (place : ℕ) → (volume x).fit → 16 ≤ place → is_current (book x).state place ≡ false
-none_past x place fit past =
-    let few = fit.0.running.set.few in
-    let none = slice_get_past (book x).state.drives.items place (omega arith) in
-    ap (λ drive. option_map_or (λ d. not d.missing) drive false) none
-
--- a place as the call has it: itself, or no place, like itself
-pub record IsCut (at place : ℕ) : Type 0 where
-  pub same : place < 16 → at ≡ place
-  pub past : 16 ≤ place → 16 ≤ at
-
--- the place of a line, cut at the last number of 32 bits
-pub is_cut : (at place most : ℕ) → most ≡ 4294967295 → at ≡ min place most → IsCut at place
-is_cut at place most most_is least = record {
-  same = λ small. least ∙ min-eq_left (omega arith);
-  past = λ great. subst (λ n. 16 ≤ n) (sym least) (le-min great (omega arith));
-}
-
-current_cut : (x : View) (at place : ℕ) → (volume x).fit → IsCut at place → is_current (book x).state at ≡ is_current (book x).state place
-current_cut x at place fit cut =
-    elim (cases_lt place 16) [
-      | inl inside ↦ ap (is_current (book x).state) (cut.same inside)
-      | inr past ↦ none_past x at fit (cut.past past) ∙ sym (none_past x place fit past)
-    ]
-
--- a current place is that of the call
-cut_current : (x : View) (at place : ℕ) → (volume x).fit → IsCut at place → is_current (book x).state at ≡ true → at ≡ place
-cut_current x at place fit cut current =
-    elim (cases_lt place 16) [
-      | inl inside ↦ cut.same inside
-      | inr past ↦ absurd (both_ways (is_current (book x).state at) (none_past x at fit (cut.past past)) current)
-    ]
-
-pub lose_done :
-    (x y : View) (at place : ℕ) (text : List ℕ) (r : Result (Unit {0}) LoseFault)
-    → (volume x).fit
-    → IsCut at place
-    → r ≡ Ok tt
-    → text ≡ as_line (codes "ok")
-    → LosesDrive x y at r
-    → Performs x y (lost place) text
-lose_done x y at place text r fit cut is_ok is loses_r =
-    let loses : LosesDrive x y at {X = Unit {0}} (Ok tt) = subst (λ q. LosesDrive x y at q) is_ok loses_r in
-    let current : is_current (book x).state at ≡ true =
-    elim (cases_Bool (is_current (book x).state at)) [
-      | inl current ↦ current
-      | inr missing ↦ absurd (let other = loses.missing.1 missing in cc)
-    ] in
-    let same : at ≡ place = cut_current x at place fit cut current in
-    performs_by x y (lost place) text unchanged unchanged refl (λ none. absurd (both_ways false refl none)) loses.passes loses.raises (λ none. loses.works) (
-      subst (λ p. is_current (book x).state p ≡ true) same current,
-      subst (λ p. is_current (book y).state p ≡ false) same loses.lost,
-    )
-    (record {
-      after = loses.passes.marks;
-      cause = λ p was now. elim (loses.marks p was now) [ inl rose ↦ inl rose | inr this ↦ inr (ap lost (sym (this ∙ same))) ];
-    })
-    (λ a holds. is)
-    (λ a holds. refl)
-    (λ a holds. inl refl)
-    loses.does
-
--- what holds where a call is refused
-pub kept_by : {X E K : Type 0} (r : Result X E) (e : E) → r ≡ Err e → OnErr r K → K
-kept_by {X} {E} {K} r e refused kept = subst (λ q. OnErr q K) refused kept
-
--- refused, it marks no drive
-still_marks : (x y : View) (event : Event) → Passes x y → book y ≡ book x → MarksFor (moment_of x) (moment_of y) event
-still_marks x y event passes same = record {
-  after = passes.marks;
-  cause = λ p was now. absurd (both_ways (is_current (book x).state p) (subst (λ b. is_current b.state p ≡ false) same now) was);
-}
-
-pub lose_missing :
-    (x y : View) (at place : ℕ) (text : List ℕ) (r : Result (Unit {0}) LoseFault)
-    → (volume x).fit
-    → IsCut at place
-    → r ≡ Err NoSuchDrive
-    → book y ≡ book x
-    → text ≡ refused_line (codes "no-such-drive")
-    → LosesDrive x y at r
-    → Performs x y (answered (Ok (Lose place))) text
-lose_missing x y at place text r fit cut refused same is loses =
-    let missing = loses.missing.0 refused in
-    performs_by x y (answered (Ok (Lose place))) text unchanged unchanged refl (λ none. absurd (both_ways false refl none)) loses.passes loses.raises (λ none. loses.works) (
-      λ s touches. absurd touches,
-      λ s touches. absurd touches,
-      λ p line.
-          let this : place ≡ p = cc in
-          subst (λ q. is_current (book x).state q ≡ false) this (sym (current_cut x at place fit cut) ∙ missing),
-      tt,
-    )
-    (still_marks x y _ loses.passes same)
-    (λ a holds. is)
-    (λ a holds. refl)
-    (λ a holds. inl refl)
-    loses.does
-
-pub lose_last :
-    (x y : View) (at place : ℕ) (text : List ℕ) (r : Result (Unit {0}) LoseFault)
-    → (volume x).fit
-    → IsCut at place
-    → r ≡ Err LastDrive
-    → book y ≡ book x
-    → text ≡ refused_line (codes "last-drive")
-    → LosesDrive x y at r
-    → Performs x y (last place) text
-lose_last x y at place text r fit cut refused same is loses =
-    let cause = loses.last.0 refused in
-    let this : at ≡ place = cut_current x at place fit cut cause.0 in
-    performs_by x y (last place) text unchanged unchanged refl (λ none. absurd (both_ways false refl none)) loses.passes loses.raises (λ none. loses.works) (
-      subst (λ p. is_current (book x).state p ≡ true) this cause.0,
-      subst (λ p. has_other (book x).state p ≡ false) this cause.1,
-    )
-    (still_marks x y _ loses.passes same)
-    (λ a holds. is)
-    (λ a holds. refl)
-    (λ a holds. inl refl)
-    loses.does

@@ -19,7 +19,7 @@ use Rattle.pool_model.specs.Taken.{attached}
 use Rattle.pool_model.proofs.Alone.{alone_attached}
 use Rattle.pool_model.proofs.Unsliced.{free_stranger}
 use Rattle.pool.specs.declared.replacing.GrowFault.{GrowFault}
-use Rattle.pool.specs.declared.replacing.GrowFault.TheVariants.{Attach, Gone, Memory, NoSuchDrive, NotResynced, NotWhole, PlanPending, Size, Smaller, TooManyDrives, TooManyLayers, TooManySegments, Twice, Unbuilt}
+use Rattle.pool.specs.declared.replacing.GrowFault.TheVariants.{Attach, Gone, Memory, NoSuchDrive, NotResynced, NotWhole, PlanPending, Size, Smaller, TooManyDrives, TooManyLayers, TooManySegments, Twice}
 use Rattle.pool.specs.Moment.{IsNamed, moment_of}
 use Rattle.pool.specs.Replaced.{ChangesDrive, IsAnswer, IsDeclined, IsLookedAt, IsOfDrive}
 use Rattle.pool.specs.Replacing.{refusal_of}
@@ -59,7 +59,6 @@ twice_or Memory = inr (λ same. let e : Memory ≡ Twice = same in cc e)
 twice_or PlanPending = inr (λ same. let e : PlanPending ≡ Twice = same in cc e)
 twice_or NotWhole = inr (λ same. let e : NotWhole ≡ Twice = same in cc e)
 twice_or NotResynced = inr (λ same. let e : NotResynced ≡ Twice = same in cc e)
-twice_or Unbuilt = inr (λ same. let e : Unbuilt ≡ Twice = same in cc e)
 twice_or Size = inr (λ same. let e : Size ≡ Twice = same in cc e)
 twice_or Smaller = inr (λ same. let e : Smaller ≡ Twice = same in cc e)
 twice_or TooManyDrives = inr (λ same. let e : TooManyDrives ≡ Twice = same in cc e)
@@ -171,7 +170,7 @@ module _ {L : Type 0} {o : Option Lone} (x y : View) (place : ℕ) (name : List 
               free v
               (sliced_old x y place name unspent performs.continues (performs.outside looks) changes told f goes d s v (subst (λ (t : Slices). IsSliced t d s v) stayed.1 at)) in
               elim (image.2 s (i d s) within_now unsliced left) [
-                | inr laid ↦ absurd (against never laid.admitted)
+                | inr laid ↦ absurd (against never laid.admitted.0)
                 | inl held ↦
                     elim (subst (λ (g : ℕ → Values). MayLeave (g s) (i d s)) new.1.3 held) [ inl same ↦ same | inr none ↦ absurd none ]
               ]) in

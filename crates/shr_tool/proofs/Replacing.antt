@@ -1,10 +1,14 @@
 -- A drive is replaced, or isn't: the line's event by what the call says.
-use Rattle.std.proofs.Common.{◌≡◌, ℕ, ◌<◌, ◌≤◌, true, false, not, List, Result, Ok, Err, codes, length, refl, sym, ap, subst, inl, inr, arith}
+use Rattle.std.proofs.Common.{◌≡◌, ℕ, ◌<◌, ◌≤◌, ◌==◌, true, false, not, List, Option, Some, None, option_map, Result, Ok, Err, codes, length, refl, sym, ◌∙◌, ap, subst, inl, inr, eq-eqb, arith}
+use Rattle.std.specs.Option.{option_map_or}
 use Rattle.std.proofs.lemmas.Bool.{both_ways, cases_Bool, cases_lt}
+use Rattle.std.proofs.lemmas.Option.{none-some}
+use Rattle.array_core.proofs.Stripped.{some_same}
+use Rattle.pool_state.specs.declared.contents.Drive.{Drive}
 use Rattle.rack.specs.Moments.{IsSound}
 use Rattle.shr_script.specs.Reply.{as_line, refused_line}
 use Rattle.pool.specs.declared.replacing.GrowFault.{GrowFault}
-use Rattle.pool.specs.declared.replacing.GrowFault.TheVariants.{NoSuchDrive, Attach, Twice, Memory, PlanPending, NotWhole, NotResynced, Unbuilt, Size, Smaller, TooManyDrives, TooManyLayers, TooManySegments, Gone}
+use Rattle.pool.specs.declared.replacing.GrowFault.TheVariants.{NoSuchDrive, Attach, Twice, Memory, PlanPending, NotWhole, NotResynced, Size, Smaller, TooManyDrives, TooManyLayers, TooManySegments, Gone}
 use Rattle.pool.specs.Naming.{ReplacesDrive}
 use Rattle.pool.specs.View.{View, book, volume}
 use Rattle.pool.specs.Volume.{unchanged}
@@ -15,10 +19,11 @@ use Rattle.shr_tool.proofs.Filled.{works_same}
 use Rattle.shr_tool.specs.Events.{grow_word, looks_at}
 use Rattle.shr_tool.specs.Events.Event.{declined, replaced}
 use Rattle.shr_tool.specs.Timeline.{Performs}
-use Rattle.shr_tool.proofs.Performing.{IsCut, marks_for, performs_by}
+use Rattle.shr_tool.proofs.LostDrive.{IsCut}
+use Rattle.shr_tool.proofs.Performing.{marks_for, performs_by, reply_sized}
 
 -- a place of the list is that of the call
-cut_listed : (x : View) (at place : ℕ) → (volume x).fit → IsCut at place → at < length (book x).state.drives.items → at ≡ place
+pub cut_listed : (x : View) (at place : ℕ) → (volume x).fit → IsCut at place → at < length (book x).state.drives.items → at ≡ place
 cut_listed x at place fit cut low =
     let few = fit.0.running.set.few in
     elim (cases_lt place 16) [
@@ -31,6 +36,12 @@ ok_no_fault fault same = cc
 
 same_fault : (e f : GrowFault) → ◌≡◌ {A = Result (Unit {0}) GrowFault} (Err e) (Err f) → e ≡ f
 same_fault e f same = cc
+
+-- the drive of a place has so many units where it is said to
+pub has_its_units :
+    (o : Option Drive) (units disk : ℕ) → option_map (λ (d : Drive). d.units) o ≡ Some units → disk ≡ units → option_map_or (λ (d : Drive). d.units == disk) o false ≡ true
+has_its_units None units disk is enough = absurd (none-some units is)
+has_its_units (Some d) units disk is enough = eq-eqb d.units disk (some_same d.units units is ∙ sym enough)
 
 pub replace_done :
     (x y : View) (at place : ℕ) (name text : List ℕ) (r : Result (Unit {0}) GrowFault)
@@ -60,6 +71,7 @@ replace_done x y at place name text r fit cut is_ok is done_r =
       cause = (done.cause, done.replaced);
       marks = λ none. absurd (both_ways true none refl);
       text_is = λ a holds. is;
+      reply = reply_sized x (replaced place name) text (λ a sized. is);
       holds = done.holds;
       leaves = done.leaves;
       ends = done.ends;
@@ -74,7 +86,6 @@ unlisted Memory none = absurd (both_ways true none refl)
 unlisted PlanPending none = absurd (both_ways true none refl)
 unlisted NotWhole none = absurd (both_ways true none refl)
 unlisted NotResynced none = absurd (both_ways true none refl)
-unlisted Unbuilt none = absurd (both_ways true none refl)
 unlisted Size none = absurd (both_ways true none refl)
 unlisted Smaller none = absurd (both_ways true none refl)
 unlisted TooManyDrives none = absurd (both_ways true none refl)
@@ -123,7 +134,7 @@ unlisted_done x at place name text fit sound cut is done =
       },
     )
     (marks_for x x event (passes_same x fit) (marks_same x (λ p. ⊥)))
-    (λ a holds. is)
+    (λ a sized. is)
     (λ a holds. refl)
     (λ a holds. inl refl)
     (does_none x (passes_same x fit) sound)
@@ -171,6 +182,7 @@ decline_done x y at place name text r fault fit sound cut refused is still done_
             cause = (done.cause, done.declined);
             marks = λ none. absurd (both_ways (looks_at fault) none looks);
             text_is = λ a holds. is;
+            reply = reply_sized x (declined place name fault) text (λ a sized. is);
             holds = done.holds;
             leaves = λ traced a holds k i since until stopped.
                 elim (done.leaves traced a holds k i since until stopped) [

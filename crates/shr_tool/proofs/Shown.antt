@@ -24,7 +24,7 @@ pub show_done :
 show_done x text fit sound is =
     performs_by x x (shown text) text unchanged unchanged refl (λ none. refl) (passes_same x fit) (raises_still 1 x) (λ none. works_same x) is
     (marks_for x x (shown text) (passes_same x fit) (marks_same x (λ place. ⊥)))
-    (λ a holds. refl)
+    (λ a sized. refl)
     (λ a holds. refl)
     (λ a holds. inl refl)
     (does_none x (passes_same x fit) sound)

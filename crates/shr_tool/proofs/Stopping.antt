@@ -94,8 +94,9 @@ so_far_still shown p q x lines out out' out'' before now answer so_far none wors
     answered = answered_still shown p q x plain.events out out' out'' plain.answered same put;
   })
   | inr grew ↦ inr
-      (subst (λ b. Grew x (shown b) lines (λ all. out'' ≡ out ++ all)) (sym same)
-      (grew_put x (shown p) lines (λ all. out' ≡ out ++ all) (λ all. out'' ≡ out ++ all) (λ all is. put ∙ is) grew))
+      (subst (λ b. Grew x (shown b) lines now (λ all. out'' ≡ out ++ all)) (sym same)
+      (grew_put x (shown p) lines now (λ all. out' ≡ out ++ all) (λ all. out'' ≡ out ++ all) (λ all is. put ∙ is)
+      (subst (λ b. Grew x (shown p) lines b (λ all. out' ≡ out ++ all)) (sym (worse_is ∙ (ap (worse before) none ∙ worse_given before))) grew)))
 ]
 
 -- with one line more
@@ -116,11 +117,15 @@ so_far_more x y z lines line answer before now text out out' out'' laws so_far a
       answered = answered_more x y z plain.events line answer text out out' out'' laws plain.answered answers put;
     })
     | inr grows ↦ inr
-        (subst (λ ls. Grew x z (ls ++ line ∷ []) (λ all. out'' ≡ out ++ all)) (sym plain.lines_are)
-        (grew_first x y z plain.events line text out out' (λ all. out'' ≡ out ++ all) plain.answered grows.0 grows.1 (λ all. put_more out out' out'' text all put)))
+        (subst (λ ls. Grew x z (ls ++ line ∷ []) now (λ all. out'' ≡ out ++ all)) (sym plain.lines_are)
+        (subst (λ b. Grew x z (lines_of plain.events ++ line ∷ []) b (λ all. out'' ≡ out ++ all)) (ap (λ b. worse b answer) plain.worst_is ∙ sym worse_is)
+        (grew_first x y z plain.events line answer text out out' (λ all. out'' ≡ out ++ all) plain.answered grows.0 grows.1
+        (λ all. put_more out out' out'' text all put))))
   ]
   | inr grew ↦ inr
-      (grew_more x y z lines line text out out' (λ all. out'' ≡ out ++ all) grew (grows_by y z line answer text acts) (λ all. put_more out out' out'' text all put))
+      (subst (λ b. Grew x z (lines ++ line ∷ []) b (λ all. out'' ≡ out ++ all)) (sym worse_is)
+      (grew_more x y z lines before line answer text out out' (λ all. out'' ≡ out ++ all) grew (grows_by y z line answer text grew.proceeds.fit laws acts)
+      (λ all. put_more out out' out'' text all put)))
 ]
 
 -- ---- a script that goes on
@@ -189,7 +194,7 @@ all_answered :
     → SoFar x y lines out out' worst → script_of text ≡ lines → Serves AtQuit x y text rest out out' worst
 all_answered x y text rest out out' worst lines so_far script = elim so_far [
   | inl plain ↦ inl (record { events = plain.events; script = script ∙ plain.lines_are; worst_is = plain.worst_is; answered = plain.answered })
-  | inr grew ↦ inr (record { lines = lines; begun = script; grew = grew })
+  | inr grew ↦ inr (record { lines = lines; begun = script; all = worst; worst_is = λ other. refl; grew = grew })
 ]
 
 -- or all of the input
@@ -198,7 +203,7 @@ input_answered :
     → SoFar x y lines out out' worst → script_of text ≡ lines → length text ≤ 2 ^ 32 → Serves Input x y text rest out out' worst
 input_answered x y text rest out out' worst lines so_far script short = elim so_far [
   | inl plain ↦ inl (record { events = plain.events; script = script ∙ plain.lines_are; worst_is = plain.worst_is; answered = plain.answered }, short)
-  | inr grew ↦ inr (record { lines = lines; begun = (script, short); grew = grew })
+  | inr grew ↦ inr (record { lines = lines; begun = (script, short); all = worst; worst_is = λ other. refl; grew = grew })
 ]
 
 -- the sink refused the reply to a line
@@ -232,17 +237,22 @@ refused_put x y z text rest out out' out'' worst lines tail line laws so_far scr
     | inr grows ↦ inr (record {
       lines = lines ++ line ∷ [];
       begun = (tail, script);
+      all = worse (worst_of plain.events) refuses.answer;
+      worst_is = λ other. absurd (other refl);
       grew =
-          subst (λ ls. Grew x z (ls ++ line ∷ []) (ArePut SinkFault out out'')) (sym plain.lines_are)
-          (grew_first x y z plain.events line refuses.text out out' (ArePut SinkFault out out'') plain.answered grows.0 grows.1
+          subst (λ ls. Grew x z (ls ++ line ∷ []) (worse (worst_of plain.events) refuses.answer) (ArePut SinkFault out out'')) (sym plain.lines_are)
+          (grew_first x y z plain.events line refuses.answer refuses.text out out' (ArePut SinkFault out out'') plain.answered grows.0 grows.1
           (λ all. prefix_more out out' out'' refuses.text all refuses.prefix));
     })
   ]
   | inr grew ↦ inr (record {
     lines = lines ++ line ∷ [];
     begun = (tail, script);
+    all = worse worst refuses.answer;
+    worst_is = λ other. absurd (other refl);
     grew =
-        grew_more x y z lines line refuses.text out out' (ArePut SinkFault out out'') grew (grows_by y z line refuses.answer refuses.text refuses.acts)
+        grew_more x y z lines worst line refuses.answer refuses.text out out' (ArePut SinkFault out out'') grew
+        (grows_by y z line refuses.answer refuses.text grew.proceeds.fit laws refuses.acts)
         (λ all. prefix_more out out' out'' refuses.text all refuses.prefix);
   })
 ]
@@ -314,7 +324,11 @@ last_answered shown laws p q x text rest out out' out'' before now lines said Si
   where
     -- the worst answer isn't told where the sink refused a reply
     sink_worst : (x y : View) (text rest out out' : List ℕ) (before now : Answer) → Serves SinkFault x y text rest out out' before → Serves SinkFault x y text rest out out' now
-    sink_worst x y text rest out out' before now serves = serves
+    sink_worst x y text rest out out' before now serves = elim serves [
+      | inl events ↦ inl events
+      | inr grown ↦
+          inr (record { lines = grown.lines; begun = grown.begun; all = grown.all; worst_is = λ other. absurd (other refl); grew = grown.grew })
+    ]
 
 -- ---- a script of one line that grows no pool
 
@@ -325,35 +339,35 @@ first_alone line (event ∷ events) first more rest same =
     let long : length (line ∷ []) ≡ length ((lines_of (event ∷ events) ++ first ∷ more) ++ rest) = ap length same in absurd (omega (arith, simp length-append at long))
 
 never_grown :
-    (x y : View) (line : Line) (lines rest : List Line) (Put : List ℕ → Type 0)
-    → ((m : _) → IsGrowing m line → ⊥)
+    (x y : View) (line : Line) (lines rest : List Line) (worst : Answer) (Put : List ℕ → Type 0)
+    → ((m n : _) → IsGrowing m n line → ⊥)
     → line ∷ [] ≡ lines ++ rest
-    → Grew x y lines Put
+    → Grew x y lines worst Put
     → ⊥
-never_grown x y line lines rest Put never same grew =
-    never grew.last
-    (subst (IsGrowing grew.last) (first_alone line grew.events grew.first grew.more rest (same ∙ ap (λ ls. ls ++ rest) grew.lines_are)) grew.growing)
+never_grown x y line lines rest worst Put never same grew =
+    never grew.last grew.grown.0
+    (subst (IsGrowing grew.last grew.grown.0) (first_alone line grew.events grew.first grew.more rest (same ∙ ap (λ ls. ls ++ rest) grew.lines_are)) grew.growing)
 
 pub one_answered :
     {P : Type 0} (shown : P → View) (p q : P) (x : View) (text rest : List ℕ) (out out' : List ℕ) (before now : Answer) (line : Line) (said : Option Line) (stop : Stop)
     → script_of text ≡ line ∷ []
-    → ((m : _) → IsGrowing m line → ⊥)
+    → ((m n : _) → IsGrowing m n line → ⊥)
     → LastAnswers shown before now stop said p q out out'
     → Serves stop x (shown q) text rest out out' now
     → ServesEvents stop x (shown q) text rest out out' now
 one_answered shown p q x text rest out out' before now line said AtQuit script never answers serves = elim serves [
   | inl events ↦ events
-  | inr grown ↦ absurd (never_grown x (shown q) line grown.lines [] (ArePut AtQuit out out') never (sym script ∙ (grown.begun ∙ sym (append-nil grown.lines))) grown.grew)
+  | inr grown ↦ absurd (never_grown x (shown q) line grown.lines [] grown.all (ArePut AtQuit out out') never (sym script ∙ (grown.begun ∙ sym (append-nil grown.lines))) grown.grew)
 ]
 one_answered shown p q x text rest out out' before now line said Input script never answers serves = elim serves [
   | inl events ↦ events
-  | inr grown ↦ absurd (never_grown x (shown q) line grown.lines [] (ArePut Input out out') never (sym script ∙ (grown.begun.0 ∙ sym (append-nil grown.lines))) grown.grew)
+  | inr grown ↦ absurd (never_grown x (shown q) line grown.lines [] grown.all (ArePut Input out out') never (sym script ∙ (grown.begun.0 ∙ sym (append-nil grown.lines))) grown.grew)
 ]
 one_answered shown p q x text rest out out' before now line said SourceFault script never answers serves = absurd answers
 one_answered shown p q x text rest out out' before now line said Limit script never answers serves = absurd answers
 one_answered shown p q x text rest out out' before now line said SinkFault script never answers serves = elim serves [
   | inl events ↦ events
-  | inr grown ↦ absurd (never_grown x (shown q) line grown.lines grown.begun.0 (ArePut SinkFault out out') never (sym script ∙ grown.begun.1) grown.grew)
+  | inr grown ↦ absurd (never_grown x (shown q) line grown.lines grown.begun.0 grown.all (ArePut SinkFault out out') never (sym script ∙ grown.begun.1) grown.grew)
 ]
 
 -- ---- the text
@@ -418,7 +432,7 @@ source_stopped x y text rest rest' left line count to out out' worst h r emptied
     ∙ (ap (λ ls. h.lines ++ ls) (cut_script_of-last r.bytes r.no_feed) ∙ append-nil h.lines) in
     elim h.so_far [
       | inl plain ↦ inl (record { taken = taken; text_is = text_is; events = plain.events; script = script ∙ plain.lines_are; answered = plain.answered })
-      | inr grew ↦ inr (record { lines = h.lines; begun = (taken, text_is, script); grew = grew })
+      | inr grew ↦ inr (record { lines = h.lines; begun = (taken, text_is, script); all = worst; worst_is = λ other. refl; grew = grew })
     ]
 
 -- some bytes are left
@@ -450,7 +464,7 @@ limit_stopped x y text rest rest' left line count to out out' worst h r =
     ∙ (ap (λ ls. h.lines ++ ls) (cut_script_of-last bytes r.part.no_feed) ∙ append-nil h.lines)) in
     elim h.so_far [
       | inl plain ↦ inl (record { longer = longer; events = plain.events; script = script ∙ plain.lines_are; answered = plain.answered })
-      | inr grew ↦ inr (record { lines = h.lines; begun = (longer, script); grew = grew })
+      | inr grew ↦ inr (record { lines = h.lines; begun = (longer, script); all = worst; worst_is = λ other. refl; grew = grew })
     ]
 
 -- ---- the cause that is answered

@@ -63,6 +63,7 @@ use Rattle.shr_tool.proofs.Entered.{own_entered}
 use Rattle.shr_tool.proofs.Former.{copy_parts, gave_below, going_seat, held_log, lacks_bare, not_over, on_same, seat_listed, seat_or}
 use Rattle.shr_tool.proofs.GivesWay.{entered_copy}
 use Rattle.shr_tool.proofs.LeavingOut.{alone_later, lone_sector, out_later}
+use Rattle.shr_tool.proofs.Replacing.{has_its_units}
 use Rattle.shr_tool.proofs.TakenTables.{lies_taken, table_taken}
 
 -- ---- what holds of each line that names a disk
@@ -186,7 +187,9 @@ module _ {L : Type 0} {o : Option Lone} (x y : View) (place : ℕ) (name text : 
   is = performs.cause.1 disk named
 
   free : IsAdmitted (book x) place (y.bay.sectors disk)
-  free = admitted x.linear (book x) place (y.bay.sectors disk) (answer_none (refusal_of x.linear (book x) place (y.bay.sectors disk)) (cause.answer look disk named))
+  free =
+      admitted x.linear (book x) place (y.bay.sectors disk)
+      (answer_none (refusal_of x.linear (book x) place (y.bay.sectors disk)) (cause.answer look disk named), has_its_units (slice_get (book x).state.drives.items place) is.units _ is.units_is is.enough)
 
   pub disk_is : disk_in (moment_of y) place ≡ disk
   disk_is = ap (λ o. unwrap_or o 0) (is.seats.seats place ∙ ap (λ (c : Bool). if c then Some disk else seat_of x.slices place) (eq-eqb place place refl))

@@ -37,7 +37,7 @@ worse_given Given = refl
 worse_given Spent = refl
 worse_given Memory = refl
 
-worse_assoc : (a b c : Answer) → worse a (worse b c) ≡ worse (worse a b) c
+pub worse_assoc : (a b c : Answer) → worse a (worse b c) ≡ worse (worse a b) c
 worse_assoc Given b c = refl
 worse_assoc Spent Given c = refl
 worse_assoc Spent Spent Given = refl
@@ -54,6 +54,30 @@ worst_of-snoc (first ∷ events) event =
 
 -- ---- timelines
 
+-- an event, where what stops leave is told for another reason, and later calls have left the past as it was
+pub happens_for :
+    (P Q : Type 0) (old new : ℕ → Image → Type 0) (p q : Moment) (a : FlatArray) (event : Event)
+    → (Q → P)
+    → (Q → (k : ℕ) (i : Image) → k ≤ q.clock → new k i → old k i)
+    → Happens P old p q a event
+    → Happens Q new p q a event
+happens_for P Q old new p q a event for past happens = record {
+  later = λ told. happens.later (for told);
+  still = happens.still;
+  cause = happens.cause;
+  linear = happens.linear;
+  disks = happens.disks;
+  held = λ told. happens.held (for told);
+  named = λ told. happens.named (for told);
+  missing = λ told. happens.missing (for told);
+  slices = happens.slices;
+  marks = happens.marks;
+  stands = happens.stands;
+  works = happens.works;
+  during = λ told k i since until stopped. happens.during (for told) k i since until (past told k i until stopped);
+  ended = λ told i stopped. happens.ended (for told) i (past told q.clock i (omega arith) stopped);
+}
+
 -- later calls leave the past as it was
 pub timeline_kept :
     (Traced : Type 0) (old new : ℕ → Image → Type 0) (limit : ℕ)
@@ -64,29 +88,12 @@ pub timeline_kept :
     → Timeline Traced new p a events q
 timeline_kept Traced old new limit past p a [] q within line = line
 timeline_kept Traced old new limit past p a (event ∷ events) q within line =
-    let at = line.0 in
-    let happens = line.1 in
-    let order : Traced → at.clock ≤ q.clock =
-    λ traced. timeline_order Traced old at (becomes a event) events q traced line.2 in (
+    let at = line.0 in (
       at,
-      record {
-        later = happens.later;
-        still = happens.still;
-        cause = happens.cause;
-        linear = happens.linear;
-        disks = happens.disks;
-        held = happens.held;
-        named = happens.named;
-        missing = happens.missing;
-        slices = happens.slices;
-        marks = happens.marks;
-        stands = happens.stands;
-        works = happens.works;
-        during =
-            λ traced k i since until stops.
-            happens.during traced k i since until (past traced k i (let rest = order traced in omega arith) stops);
-        ended = λ traced i stops. happens.ended traced i (past traced at.clock i (let rest = order traced in omega arith) stops);
-      },
+      happens_for Traced Traced old new p at a event (λ traced. traced)
+          (λ traced k i until.
+          past traced k i (let rest = timeline_order Traced old at (becomes a event) events q traced line.2 in omega (arith, until, rest, within)))
+          line.1,
       timeline_kept Traced old new limit past at (becomes a event) events q within line.2,
     )
 

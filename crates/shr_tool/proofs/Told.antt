@@ -2,8 +2,9 @@
 use Rattle.std.proofs.Common.{◌≡◌, ℕ, List, [], ◌∷◌, codes, refl, sym, ap, subst, inl, inr}
 use Rattle.rack.specs.Seen.{Image, Seen}
 use Rattle.flat_array.specs.Array.{FlatArray}
+use Rattle.shr_tool.specs.declared.perform.Answer.{Answer}
 use Rattle.shr_tool.specs.declared.opening.Task.{Task}
-use Rattle.shr_tool.specs.declared.opening.Task.TheVariants.{Serve, Import, Export, Show}
+use Rattle.shr_tool.specs.declared.opening.Task.TheVariants.{Serve, Import, Export, Show, Trial}
 use Rattle.shr_tool.specs.declared.status.Status.{Status}
 use Rattle.shr_tool.specs.declared.status.Status.TheVariants.{Done, Words, Limit, Source, Sink, Refused, Memory, Spent}
 use Rattle.pool.specs.Continuing.{KeepsOutside}
@@ -13,10 +14,12 @@ use Rattle.shr_tool.specs.Exporting.{ExportOutcome}
 use Rattle.shr_tool.specs.Importing.{ImportOutcome}
 use Rattle.shr_tool.specs.Outcome.{EndsAt, EventsOutcome, Lasts, LastsUntil, Outcome}
 use Rattle.shr_tool.specs.Tasks.{TaskOutcome}
+use Rattle.shr_tool.specs.Trial.{TrialOutcome}
 use Rattle.shr_script.specs.Line.{Line}
 use Rattle.shr_tool.proofs.Growing.{along_for, proceeds_for}
 use Rattle.pool.specs.Moment.{Moment}
-use Rattle.shr_tool.specs.Timeline.{Happens, Steps, Timeline, steps_of}
+use Rattle.shr_tool.specs.Timeline.{Steps, Timeline, steps_of}
+use Rattle.shr_tool.proofs.Timelines.{happens_for}
 use Rattle.shr_tool.specs.Service.{AreFit, AreLone, IsOut, none_out, pool_by}
 use Rattle.assembler.specs.Sound.{TargetsLand}
 use Rattle.pool_model.specs.Grouped.{HaveOwnAreas}
@@ -29,33 +32,13 @@ pub outside_told :
     (t u : Slices) (named : ℕ → Type 0) (T U : Type 0) (a b : Seen) → (U → T) → KeepsOutside t u named T a b → KeepsOutside t u named U a b
 outside_told t u named T U a b for keeps = record { slices = keeps.slices; held = keeps.held; stops = λ is. keeps.stops (for is) }
 
-happens_for :
-    (P Q : Type 0) (stops : ℕ → Image → Type 0) (p q : Moment) (a : FlatArray) (event : Event)
-    → (Q → P) → Happens P stops p q a event → Happens Q stops p q a event
-happens_for P Q stops p q a event for happens = record {
-  later = λ traced. happens.later (for traced);
-  still = happens.still;
-  cause = happens.cause;
-  linear = happens.linear;
-  disks = happens.disks;
-  held = λ traced. happens.held (for traced);
-  named = λ traced. happens.named (for traced);
-  missing = λ traced. happens.missing (for traced);
-  slices = happens.slices;
-  marks = happens.marks;
-  stands = happens.stands;
-  works = happens.works;
-  during = λ traced. happens.during (for traced);
-  ended = λ traced. happens.ended (for traced);
-}
-
 pub timeline_for :
     (P Q : Type 0) (stops : ℕ → Image → Type 0) (p : Moment) (a : FlatArray) (events : List Event) (q : Moment)
     → (Q → P) → Timeline P stops p a events q → Timeline Q stops p a events q
 timeline_for P Q stops p a [] q for line = line
 timeline_for P Q stops p a (event ∷ events) q for line = (
   line.0,
-  happens_for P Q stops p line.0 a event for line.1,
+  happens_for P Q stops stops p line.0 a event for (λ told k i until stopped. stopped) line.1,
   timeline_for P Q stops line.0 (becomes a event) events q for line.2,
 )
 
@@ -189,14 +172,14 @@ events_for Spent T U S R x y from a text rest out out' told traced o = record {
 
 -- one that grew the pool
 until_for :
-    (T U S R : Type 0) (x y : Seen) (from : Moment) (a : FlatArray) (events : List Event) (first : Line) (more : List Line) (said : List ℕ)
-    → (U → T) → (R → S) → LastsUntil T S x y from a events first more said → LastsUntil U R x y from a events first more said
-until_for T U S R x y from a events first more said told traced lasts = record {
+    (T U S R : Type 0) (x y : Seen) (from : Moment) (a : FlatArray) (events : List Event) (first : Line) (more : List Line) (said : List ℕ) (worst : Answer)
+    → (U → T) → (R → S) → LastsUntil T S x y from a events first more said worst → LastsUntil U R x y from a events first more said worst
+until_for T U S R x y from a events first more said worst told traced lasts = record {
   last = lasts.last;
   timeline = timeline_for (S × T) (R × U) y.stops from a events lasts.last (λ is. (traced is.0, told is.1)) lasts.timeline;
   growing = lasts.growing;
   grown = lasts.grown;
-  lines = along_for (S × T) (R × U) lasts.last (first ∷ more) said lasts.grown (λ is. (traced is.0, told is.1)) lasts.lines;
+  lines = along_for (S × T) (R × U) lasts.last (first ∷ more) said worst lasts.grown (λ is. (traced is.0, told is.1)) lasts.lines;
   final = lasts.final;
   clock = lasts.clock;
   faults = lasts.faults;
@@ -204,6 +187,7 @@ until_for T U S R x y from a events first more said told traced lasts = record {
   sectors = lasts.sectors;
   held = lasts.held;
   ends = proceeds_for (S × T) (R × U) (λ place. ⊥) 1 lasts.grown lasts.final (λ is. (traced is.0, told is.1)) lasts.ends;
+  kept = lasts.kept;
   between = λ is so f on.
       subst (HoldsEach y.stops (AreSerial f.state) (TargetsLand f) (HaveOwnAreas f) [] f from events lasts.last)
       (sym (steps_for (S × T) (R × U) y.stops from a events lasts.last (λ is. (traced is.0, told is.1)) lasts.timeline))
@@ -219,10 +203,13 @@ outcome_for status T U S R x y from a text rest out out' told traced o = elim o 
     events = grown.events;
     first = grown.first;
     more = grown.more;
+    stop = grown.stop;
     begun = grown.begun;
+    answer = grown.answer;
+    status_is = grown.status_is;
     said = grown.said;
     put = λ is. grown.put (told is);
-    lasts = until_for T U S R x y from a grown.events grown.first grown.more grown.said told traced grown.lasts;
+    lasts = until_for T U S R x y from a grown.events grown.first grown.more grown.said grown.answer told traced grown.lasts;
   })
 ]
 
@@ -261,6 +248,18 @@ import_for status T U S R x y from a text rest out out' told traced o = record {
   says = o.says;
 }
 
+trial_for :
+    (seed : ℕ) (status : Status) (T U S R : Type 0) (x y : Seen) (from : Moment) (a : FlatArray) (out out' : List ℕ)
+    → (U → T) → (R → S) → TrialOutcome seed status T S x y from a out out' → TrialOutcome seed status U R x y from a out out'
+trial_for seed status T U S R x y from a out out' told traced o = record {
+  result = o.result;
+  events = o.events;
+  tries = o.tries;
+  tallied = λ is. o.tallied (told is);
+  lasts = lasts_for T U S R x y from a o.events told traced o.lasts;
+  says = o.says;
+}
+
 -- the same task, told where the array is told
 pub task_for :
     (task : Task) (status : Status) (T U S R : Type 0) (x y : Seen) (from : Moment) (a : FlatArray) (text rest out out' : List ℕ)
@@ -273,3 +272,5 @@ task_for Export status T U S R x y from a text rest out out' told traced o =
     export_for status T U S R x y from a out out' told traced o
 task_for Show status T U S R x y from a text rest out out' told traced o =
     events_for status T U S R x y from a (codes "status") [] out out' told traced o
+task_for (Trial seed) status T U S R x y from a text rest out out' told traced o =
+    trial_for seed status T U S R x y from a out out' told traced o

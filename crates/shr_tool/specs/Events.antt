@@ -5,7 +5,7 @@ use Rattle.shr_script.specs.Line.{Line}
 use Rattle.shr_script.specs.Reply.{as_line, left_line, refused_line}
 use Rattle.flat_array.specs.Array.{FlatArray}
 use Rattle.pool.specs.declared.replacing.GrowFault.{GrowFault}
-use Rattle.pool.specs.declared.replacing.GrowFault.TheVariants.{NoSuchDrive, Attach, Twice, Memory as NoMemory, PlanPending, NotWhole, NotResynced, Unbuilt as NotBuilt, Size as OfSize, Smaller, TooManyDrives, TooManyLayers, TooManySegments, Gone}
+use Rattle.pool.specs.declared.replacing.GrowFault.TheVariants.{NoSuchDrive, Attach, Twice, Memory as NoMemory, PlanPending, NotWhole, NotResynced, Size as OfSize, Smaller, TooManyDrives, TooManyLayers, TooManySegments, Gone}
 use Rattle.shr_tool.specs.declared.perform.Answer.{Answer}
 use Rattle.shr_tool.specs.declared.perform.Answer.TheVariants.{Given, Spent, Memory}
 use Rattle.flat_array.specs.Reply.{after, after_spent, reply, spent_line}
@@ -70,7 +70,6 @@ grow_word NoMemory = codes "memory"
 grow_word PlanPending = codes "plan-pending"
 grow_word NotWhole = codes "not-whole"
 grow_word NotResynced = codes "not-resynced"
-grow_word NotBuilt = codes "unbuilt"
 grow_word OfSize = codes "size"
 grow_word Smaller = codes "smaller"
 grow_word TooManyDrives = codes "too-many-drives"
@@ -125,7 +124,6 @@ answer_by NoMemory = Memory
 answer_by PlanPending = Given
 answer_by NotWhole = Given
 answer_by NotResynced = Given
-answer_by NotBuilt = Given
 answer_by OfSize = Given
 answer_by Smaller = Given
 answer_by TooManyDrives = Given
@@ -167,7 +165,6 @@ looks_at NoMemory = true
 looks_at PlanPending = true
 looks_at NotWhole = true
 looks_at NotResynced = true
-looks_at NotBuilt = true
 looks_at OfSize = true
 looks_at Smaller = true
 looks_at TooManyDrives = true

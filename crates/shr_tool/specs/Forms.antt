@@ -1,18 +1,7 @@
--- What the program does of the forms of its words today.
+-- What the forms of the program's words ask of its ends.
 use Rattle.std.specs.Prelude.{Bool, true, false, Option, Some, None}
 use Rattle.shr_words.specs.declared.forms.Form.{Form}
 use Rattle.shr_words.specs.declared.forms.Form.TheVariants.{Layout, Create, Serve, Import, Export, Status, Examine, Trial}
-
--- whether a form is built
-abbrev pub is_built : Form → Bool
-is_built (Layout request) = true
-is_built (Create extent) = true
-is_built Serve = true
-is_built Import = true
-is_built Export = true
-is_built Status = true
-is_built Examine = true
-is_built (Trial seed) = false
 
 -- the words that use disks
 abbrev pub uses_disks : Option Form → Bool
@@ -24,7 +13,7 @@ uses_disks (Some Import) = true
 uses_disks (Some Export) = true
 uses_disks (Some Status) = true
 uses_disks (Some Examine) = true
-uses_disks (Some (Trial seed)) = false
+uses_disks (Some (Trial seed)) = true
 
 -- the words that read the input
 abbrev pub reads_input : Option Form → Bool

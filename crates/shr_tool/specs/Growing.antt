@@ -1,63 +1,169 @@
--- Lines of a script from the first one on that grows the pool. Of the volume nothing is said after it: only what lines keep whatever becomes of that.
-use Rattle.std.specs.Prelude.{◌≡◌, ◌⊎◌, ℕ, ◌*◌, ◌≤◌, true, false, List, [], ◌∷◌, ◌++◌, codes, decimal, Ok, Err}
+-- Lines of a script from the first one on that grows the pool. Of what the volume holds nothing is said after it: only how the pool stands before each line and after it.
+use Rattle.std.specs.Prelude.{◌≡◌, ◌⊎◌, ℕ, ◌*◌, ◌<◌, ◌≤◌, min, true, false, List, [], ◌∷◌, ◌++◌, codes, length, slice_get, Some, None, Result, Ok, Err, IfErr, OnOk}
 use Rattle.array_image.specs.States.{is_current}
+use Rattle.flat_array.specs.Array.{FlatArray}
+use Rattle.growth_laws.specs.Growing.{GetsLonger}
 use Rattle.lvm_group.specs.Runs.{sectors_in}
+use Rattle.pool_state.specs.declared.contents.Plan.{Plan}
+use Rattle.pool_state.specs.declared.contents.Plan.TheVariants.{Add as Adding, Replace as Replacing}
+use Rattle.pool_state.specs.declared.contents.Work.{Work}
+use Rattle.rack.specs.Seen.{Rose, Seen}
 use Rattle.raid_laws.specs.Moves.{RaisesBy}
+use Rattle.slice_rack.specs.Slices.{seat_of}
 use Rattle.shr_script.specs.declared.Command.TheVariants.{Read, Write, Fill, Flush, Size, Lose, Replace, Add, Step, Status, Quit}
 use Rattle.shr_script.specs.Line.{Line}
-use Rattle.shr_script.specs.Reply.{as_line, data_line, left_line, refused_line}
-use Rattle.flat_array.specs.Reply.{fault_word, spent_line}
+use Rattle.shr_script.specs.Reply.{as_line, left_line, refused_line}
 use Rattle.pool.specs.declared.replacing.GrowFault.{GrowFault}
+use Rattle.pool.specs.declared.replacing.GrowFault.TheVariants.{Gone, NotWhole}
+use Rattle.pool.specs.Adding.{HasAddCause, IsTakenIn}
+use Rattle.pool.specs.Growing.{DoesWorks, IsRefused}
 use Rattle.pool.specs.Keeping.{Raises, most_raised}
-use Rattle.pool.specs.Moment.{Moment, moment_of}
+use Rattle.pool.specs.Moment.{IsNamed, Moment, moment_of}
 use Rattle.pool.specs.Proceeding.{Proceeds, has_growth}
-use Rattle.pool.specs.Replaced.{DriveWentFrom, DriveWentSince}
+use Rattle.pool.specs.Replaced.{DriveWentFrom, DriveWentSince, HasMarkedOther, IsAnswer, IsDeclined, IsOfDrive, NamesDisk, faults_before}
+use Rattle.pool.specs.Replacing.{has_same, refusal_of}
 use Rattle.pool.specs.View.{View}
-use Rattle.pool.specs.Works.{left_by}
-use Rattle.shr_tool.specs.Events.{calls_in, grow_word, stuck_line}
-use Rattle.shr_tool.specs.StatusText.{status_text}
-use Rattle.shr_tool.specs.Timeline.{KeepsDisks}
+use Rattle.pool.specs.Works.{left_by, works_by}
+use Rattle.shr_tool.specs.declared.perform.Answer.{Answer}
+use Rattle.shr_tool.specs.declared.perform.Answer.TheVariants.{Given, Spent}
+use Rattle.shr_tool.specs.Events.{Event, answer_by, answer_of, calls_in, grow_word, line_of, stuck_line, text_of, worse}
+use Rattle.shr_tool.specs.Timeline.{Happens, KeepsDisks}
 
--- A line grows the pool as it stands: it adds a drive, or asks for works while one of a growth is left.
-abbrev pub IsGrowing : Moment → Line → Type 0
-IsGrowing p (Ok (Read sector)) = ⊥
-IsGrowing p (Ok (Write sector bytes)) = ⊥
-IsGrowing p (Ok (Fill sector count byte)) = ⊥
-IsGrowing p (Ok Flush) = ⊥
-IsGrowing p (Ok Size) = ⊥
-IsGrowing p (Ok (Lose place)) = ⊥
-IsGrowing p (Ok (Replace place name)) = ⊥
-IsGrowing p (Ok (Add name)) = Unit {0}
-IsGrowing p (Ok (Step count)) = has_growth p.linear p.book ≡ true
-IsGrowing p (Ok Status) = ⊥
-IsGrowing p (Ok Quit) = ⊥
-IsGrowing p (Err fault) = ⊥
+-- A line grows the pool as it stands: it adds a drive; it replaces one by a disk of other units, where nothing is against it; or it asks for works while one of a growth is
+-- left. `q` is the pool after the line, by which the disk of a name is known.
+abbrev pub IsGrowing : (p q : Moment) → Line → Type 0
+IsGrowing p q (Ok (Read sector)) = ⊥
+IsGrowing p q (Ok (Write sector bytes)) = ⊥
+IsGrowing p q (Ok (Fill sector count byte)) = ⊥
+IsGrowing p q (Ok Flush) = ⊥
+IsGrowing p q (Ok Size) = ⊥
+IsGrowing p q (Ok (Lose place)) = ⊥
+IsGrowing p q (Ok (Replace place name)) =
+    (place < length p.book.state.drives.items)
+    × (IsOfDrive p name → ⊥)
+    × ((d : ℕ) × IsNamed q name d × (refusal_of p.linear p.book place (q.sectors d) ≡ None) × (has_same p.book place (q.sectors d) ≡ false))
+IsGrowing p q (Ok (Add name)) = Unit {0}
+IsGrowing p q (Ok (Step count)) = has_growth p.linear p.book ≡ true
+IsGrowing p q (Ok Status) = ⊥
+IsGrowing p q (Ok Quit) = ⊥
+IsGrowing p q (Err fault) = ⊥
 
--- ---- replies
+-- ---- a line that takes a drive in
 
--- `ok`, or refused for a reason why a drive isn't taken in
-abbrev pub IsTakingReply : List ℕ → Type 0
-IsTakingReply text = (text ≡ as_line (codes "ok")) ⊎ ((fault : GrowFault) × (text ≡ refused_line (grow_word fault)))
+-- its reply, by how that came out
+abbrev pub taking_text : Result (Unit {0}) GrowFault → List ℕ
+taking_text (Ok done) = as_line (codes "ok")
+taking_text (Err fault) = refused_line (grow_word fault)
 
--- refused past the end, or at a sector that can't be had
-abbrev pub IsSectorRefused : List ℕ → Type 0
-IsSectorRefused text = (text ≡ refused_line (codes "range")) ⊎ ((sector : ℕ) × (text ≡ spent_line sector))
+-- what the status has to say of it
+abbrev pub taking_answer : Result (Unit {0}) GrowFault → Answer
+taking_answer (Ok done) = Given
+taking_answer (Err fault) = answer_by fault
 
--- A text is one of the replies that a line may have, by how the pool stands after it.
-abbrev pub IsReplyTo : Moment → Line → List ℕ → Type 0
-IsReplyTo q (Ok (Read sector)) text = ((bytes : List ℕ) × (text ≡ data_line bytes)) ⊎ IsSectorRefused text
-IsReplyTo q (Ok (Write sector bytes)) text = (text ≡ as_line (codes "ok")) ⊎ IsSectorRefused text
-IsReplyTo q (Ok (Fill sector count byte)) text = (text ≡ as_line (codes "ok")) ⊎ IsSectorRefused text
-IsReplyTo q (Ok Flush) text = text ≡ as_line (codes "ok")
-IsReplyTo q (Ok Size) text = text ≡ as_line (codes "size " ++ decimal (sectors_in q.linear))
-IsReplyTo q (Ok (Lose place)) text =
-    (text ≡ as_line (codes "ok")) ⊎ ((text ≡ refused_line (codes "no-such-drive")) ⊎ (text ≡ refused_line (codes "last-drive")))
-IsReplyTo q (Ok (Replace place name)) text = IsTakingReply text
-IsReplyTo q (Ok (Add name)) text = IsTakingReply text
-IsReplyTo q (Ok (Step count)) text = (text ≡ left_line (left_by q.linear q.book)) ⊎ ((array : ℕ) × (text ≡ stuck_line array))
-IsReplyTo q (Ok Status) text = text ≡ status_text q.linear q.book
-IsReplyTo q (Ok Quit) text = text ≡ []
-IsReplyTo q (Err fault) text = text ≡ refused_line (fault_word fault)
+-- The disk of a name becomes the drive of a place by a plan, or it doesn't. No other disk comes, and the volume lies where it lay.
+abbrev pub TakesIn : (p q : Moment) → List ℕ → (place : ℕ) → Plan → Result (Unit {0}) GrowFault → Type 0
+TakesIn p q name place plan result =
+    NamesDisk p q name × (q.linear ≡ p.linear) × OnOk result ((d : ℕ) → IsNamed q name d → IsTakenIn p q place plan d)
+
+-- It becomes that of the next place. Or it doesn't, for the first reason that there is, and the book is as it was.
+abbrev pub Adds : (p q : Moment) → List ℕ → Result (Unit {0}) GrowFault → Type 0
+Adds p q name result =
+    let next = length p.book.state.drives.items in
+    TakesIn p q name next (Adding next) result
+    × HasAddCause p.linear p q name result
+    × IfErr result (λ fault. (q.book ≡ p.book) × (q.slices ≡ p.slices))
+
+-- It replaces the drive of a place, where nothing was against it. Or it doesn't: it refused a call, or another drive was found gone and is marked.
+abbrev pub Enlarges : (p q : Moment) → (place : ℕ) → List ℕ → Result (Unit {0}) GrowFault → Type 0
+Enlarges p q place name result =
+    TakesIn p q name place (Replacing place) result
+    × IsAnswer None result
+    × (result ≡ Err Gone → (d : ℕ) → IsNamed q name d → Rose (faults_before p d) (q.faults d))
+    × (result ≡ Err NotWhole → HasMarkedOther p q place)
+    × IfErr result (IsDeclined p q place)
+
+-- ---- works
+
+-- no disk comes, and each place has its disk
+abbrev pub KeepsSeats : (p q : Moment) → Type 0
+KeepsSeats p q =
+    (q.disks ≡ p.disks)
+    × ((d : ℕ) → q.sectors d ≡ p.sectors d)
+    × (q.names ≡ p.names)
+    × ((name : List ℕ) → q.ready name ≡ p.ready name)
+    × ((place : ℕ) → seat_of q.slices place ≡ seat_of p.slices place)
+
+-- So many works were done, each the first that was left by the book after the one before it; or fewer where none was left then.
+abbrev pub DoesMany : ℕ → (p q : Moment) → Type 0
+DoesMany count p q =
+    DoesWorks count p.linear p.book q.linear q.book
+    ⊎ ((works : ℕ) × (works ≤ count) × DoesWorks works p.linear p.book q.linear q.book × (works_by q.linear q.book ≡ []))
+
+-- The bay at a moment. Of what its disks hold and of stops nothing is told.
+abbrev pub bay_at : Moment → Seen
+bay_at p = record {
+  disks = p.disks;
+  sectors = p.sectors;
+  held = p.held;
+  clock = p.clock;
+  stops = λ k i. ⊥;
+  faults = p.faults;
+  spent = λ d s. false;
+  lasting = ⊥;
+  steady = ⊥;
+  fit = ⊥;
+  told = λ d. ⊥;
+  traced = ⊥;
+}
+
+-- Fewer works were done, and then the first that was left couldn't be, which is one of this array. It says why by how the pool stood at the moment `at` of that.
+abbrev pub Stops : ℕ → (p q : Moment) → (array : ℕ) → Type 0
+Stops count p q array =
+    (works : ℕ) × (at : Moment) × (work : Work)
+    × (works < count)
+    × DoesWorks works p.linear p.book at.linear at.book
+    × KeepsSeats p at
+    × (slice_get (works_by at.linear at.book) 0 ≡ Some work)
+    × (q.linear ≡ at.linear)
+    × IsRefused bay_at KeepsSeats at.slices at at.linear work at.book q.book array
+
+-- ---- what lines do
+
+-- what a line that grows the pool does, by what the status has to say of it and by its reply
+abbrev pub IsGrownBy : (p q : Moment) → Line → Answer → List ℕ → Type 0
+IsGrownBy p q (Ok (Read sector)) answer text = ⊥
+IsGrownBy p q (Ok (Write sector bytes)) answer text = ⊥
+IsGrownBy p q (Ok (Fill sector count byte)) answer text = ⊥
+IsGrownBy p q (Ok Flush) answer text = ⊥
+IsGrownBy p q (Ok Size) answer text = ⊥
+IsGrownBy p q (Ok (Lose place)) answer text = ⊥
+IsGrownBy p q (Ok (Replace place name)) answer text =
+    (result : Result (Unit {0}) GrowFault) × (answer ≡ taking_answer result) × (text ≡ taking_text result) × Enlarges p q place name result
+IsGrownBy p q (Ok (Add name)) answer text =
+    (result : Result (Unit {0}) GrowFault) × (answer ≡ taking_answer result) × (text ≡ taking_text result) × Adds p q name result
+IsGrownBy p q (Ok (Step count)) answer text =
+    KeepsSeats p q
+    × GetsLonger p.book q.book
+    × (((answer ≡ Given) × (text ≡ left_line (left_by q.linear q.book)) × DoesMany (min count (left_by p.linear p.book)) p q)
+    ⊎ ((array : ℕ) × (answer ≡ Spent) × (text ≡ stuck_line array) × Stops count p q array))
+IsGrownBy p q (Ok Status) answer text = ⊥
+IsGrownBy p q (Ok Quit) answer text = ⊥
+IsGrownBy p q (Err fault) answer text = ⊥
+
+-- A line was answered as an event of a run, by how the pool stood before it and after it. Of stops nothing is told, and of what the volume holds only that some array of so many
+-- sectors is answered so.
+pub record IsEvent (p q : Moment) (line : Line) (answer : Answer) (text : List ℕ) : Type 0 where
+  pub event : Event
+  pub line_is : line_of event ≡ line
+  pub answer_is : answer_of event ≡ answer
+  pub array : FlatArray
+  pub size : array.size ≡ sectors_in p.linear
+  pub text_is : text ≡ text_of array event
+  pub happens : Happens ⊥ (λ k i. ⊥) p q array event
+
+-- it was, or it grew the pool
+abbrev pub IsAnswered : (p q : Moment) → Line → Answer → List ℕ → Type 0
+IsAnswered p q line answer text = IsEvent p q line answer text ⊎ (IsGrowing p q line × IsGrownBy p q line answer text)
 
 -- ---- what lines keep
 
@@ -79,16 +185,18 @@ pub record ProceedsTo (Traced : Type 0) (Lost : ℕ → Type 0) (calls : ℕ) (p
   pub raises : RaisesBy (most_raised * calls) p.book q.book
 
 -- a line that is answered by this text on a pool that has grown, or grows by it
-pub record GrowsOn (x y : View) (line : Line) (text : List ℕ) : Type 0 where
+pub record GrowsOn (x y : View) (line : Line) (answer : Answer) (text : List ℕ) : Type 0 where
   pub proceeds : Proceeds x y
   pub marks : MarksWent (IsAgainst line) (moment_of x) (moment_of y)
   pub raises : Raises (calls_in line) x y
-  pub reply : IsReplyTo (moment_of y) line text
+  pub answered : IsAnswered (moment_of x) (moment_of y) line answer text
 
--- lines in a row, from one moment to another, and their replies
-abbrev pub GrowsAlong : Type 0 → Moment → List Line → List ℕ → Moment → Type 0
-GrowsAlong Traced p [] said q = (p ≡ q) × (said ≡ [])
-GrowsAlong Traced p (line ∷ lines) said q =
-    (at : Moment) × (text : List ℕ) × (more : List ℕ)
-    × ProceedsTo Traced (IsAgainst line) (calls_in line) p at × IsReplyTo at line text × (said ≡ text ++ more)
-    × GrowsAlong Traced at lines more q
+-- lines in a row, from one moment to another, their replies, and the worst of their answers
+abbrev pub GrowsAlong : Type 0 → Moment → List Line → List ℕ → Answer → Moment → Type 0
+GrowsAlong Traced p [] said worst q = (p ≡ q) × (said ≡ []) × (worst ≡ Given)
+GrowsAlong Traced p (line ∷ lines) said worst q =
+    (at : Moment) × (answer : Answer) × (text : List ℕ) × (others : Answer) × (more : List ℕ)
+    × ProceedsTo Traced (IsAgainst line) (calls_in line) p at
+    × IsAnswered p at line answer text
+    × (worst ≡ worse answer others) × (said ≡ text ++ more)
+    × GrowsAlong Traced at lines more others q

@@ -14,6 +14,7 @@ pub mod Saying
 pub mod Outcome
 pub mod Importing
 pub mod Exporting
+pub mod Trial
 pub mod Tasks
 pub mod Entry
 pub mod Attaching

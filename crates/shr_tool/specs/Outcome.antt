@@ -36,7 +36,7 @@ use Rattle.shr_tool.specs.declared.serve.Stop.{Stop}
 use Rattle.shr_tool.specs.declared.serve.Stop.TheVariants.{Quit as AtQuit, Input, SourceFault, Limit as AtLimit, SinkFault}
 use Rattle.shr_tool.specs.declared.perform.Answer.{Answer}
 use Rattle.shr_tool.specs.declared.perform.Answer.TheVariants.{Given, Spent as Refuses, Memory as Wants}
-use Rattle.shr_tool.specs.Events.{AnyTakes, Event, any_takes, array_by, lines_of, text_of, texts, worst_of}
+use Rattle.shr_tool.specs.Events.{AnyTakes, Event, any_takes, array_by, lines_of, text_of, texts, worse, worst_of}
 use Rattle.pool.specs.Keeping.{KeepsBook, KeepsWorks}
 use Rattle.pool.specs.Moment.{Moment}
 use Rattle.pool.specs.Continuing.{KeepsOutside}
@@ -45,6 +45,7 @@ use Rattle.rack.specs.Shelf.{Shelf}
 use Rattle.slice_rack.specs.Runs.{IsSliced}
 use Rattle.shr_tool.specs.Timeline.{KeepsMissing, KeepsSlices, KeepsStanding, MeansAt, Timeline, steps_of}
 use Rattle.shr_tool.specs.Growing.{GrowsAlong, IsGrowing, ProceedsTo}
+use Rattle.shr_tool.specs.Serving.{AreBegun, ArePut}
 use Rattle.shr_tool.specs.Service.{AreFit, AreLone, AreUngiven, IsOut, IsServed, none_out, pool_by}
 use Rattle.shr_tool.specs.Between.{HaveOthers, HoldsEach, HoldsInside, HoldsNext}
 
@@ -231,57 +232,52 @@ EventsOutcome Spent Told Traced x y from a text rest out out' = DoneOutcome Refu
 -- ---- a script that grew the pool
 
 -- Events of a script from a moment on up to a line that grew the pool: that, the lines after it, and the end of the pool, when the disks show y. Of the events is
--- told what is told of a run without such a line: but of the volume nothing is told after them. Of the rest: the bay's disks, marks with their causes, numbers, and replies.
-pub record LastsUntil (Told Traced : Type 0) (x y : Seen) (from : Moment) (a : FlatArray) (events : List Event) (first : Line) (more : List Line) (said : List ℕ) : Type 0 where
+-- told what is told of a run without such a line: but of the volume nothing is told after them. Of the rest: the bay's disks, marks with their causes, numbers, and how each line was
+-- answered, by the book before it and after it.
+pub record LastsUntil (Told Traced : Type 0) (x y : Seen) (from : Moment) (a : FlatArray) (events : List Event) (first : Line) (more : List Line) (said : List ℕ) (worst : Answer) : Type 0 where
   pub last : Moment
   pub timeline : Timeline (Traced × Told) y.stops from a events last
-  pub growing : IsGrowing last first
   pub grown : Moment
-  pub lines : GrowsAlong (Traced × Told) last (first ∷ more) said grown
+  pub lines : GrowsAlong (Traced × Told) last (first ∷ more) said worst grown
+  pub growing : IsGrowing last lines.0 first
   pub final : Moment
   pub clock : final.clock ≡ y.clock
   pub faults : (d : ℕ) → final.faults d ≡ y.faults d
   pub disks : final.disks ≡ y.disks
   pub sectors : (d : ℕ) → final.sectors d ≡ y.sectors d
   pub held : (d s : ℕ) → final.held d s ≡ y.held d s
-  -- no line loses a drive in the end
+  -- no line loses a drive in the end, which is that of a run without such a line, but that nothing is told of stops and of what the volume holds
   pub ends : ProceedsTo (Traced × Told) (λ place. ⊥) 1 grown final
+  pub kept : EndsAt ⊥ ⊥ y grown final a
   -- What a stop leaves before the first line, and at the end of each event and inside it, holds a sound pool again, as in a run without such a line.
   pub between :
       Told → Traced → (f : Found) → IsRunOn f from x
       → HoldsEach y.stops (AreSerial f.state) (TargetsLand f) (HaveOwnAreas f) [] f from events last (steps_of (Traced × Told) y.stops from a events last timeline)
 
--- these are the lines of a text that were begun, by the status
-abbrev pub AreBegun : Status → List ℕ → List ℕ → List Line → Type 0
-AreBegun Done text rest lines = script_of text ≡ lines
-AreBegun Words text rest lines = ⊥
-AreBegun Limit text rest lines = (2 ^ 32 < length text) × (cut_script_of (take (2 ^ 32) text) ≡ lines)
-AreBegun Source text rest lines = (taken : List ℕ) × (text ≡ taken ++ rest) × (cut_script_of taken ≡ lines)
-AreBegun Sink text rest lines = (more : List Line) × (script_of text ≡ lines ++ more)
-AreBegun Refused text rest lines = ⊥
-AreBegun Memory text rest lines = script_of text ≡ lines
-AreBegun Spent text rest lines = script_of text ≡ lines
+-- the status of a script that stopped so, on a pool that was ended
+abbrev pub status_by : Stop → Answer → Status
+status_by AtQuit Given = Done
+status_by AtQuit Refuses = Spent
+status_by AtQuit Wants = Memory
+status_by Input Given = Done
+status_by Input Refuses = Spent
+status_by Input Wants = Memory
+status_by SourceFault worst = Source
+status_by AtLimit worst = Limit
+status_by SinkFault worst = Sink
 
--- these replies were put, or a prefix of them where the sink refused one
-abbrev pub ArePut : Status → List ℕ → List ℕ → List ℕ → Type 0
-ArePut Done out out' replies = out' ≡ out ++ replies
-ArePut Words out out' replies = ⊥
-ArePut Limit out out' replies = out' ≡ out ++ replies
-ArePut Source out out' replies = out' ≡ out ++ replies
-ArePut Sink out out' replies = AddsPrefix out out' replies
-ArePut Refused out out' replies = ⊥
-ArePut Memory out out' replies = out' ≡ out ++ replies
-ArePut Spent out out' replies = out' ≡ out ++ replies
-
--- how it came out
+-- How it came out, by why the script stopped and by the worst of all answers.
 pub record GrownOutcome (status : Status) (Told Traced : Type 0) (x y : Seen) (from : Moment) (a : FlatArray) (text rest out out' : List ℕ) : Type 0 where
   pub events : List Event
   pub first : Line
   pub more : List Line
-  pub begun : AreBegun status text rest (lines_of events ++ first ∷ more)
+  pub stop : Stop
+  pub begun : AreBegun stop text rest (lines_of events ++ first ∷ more)
+  pub answer : Answer
+  pub status_is : status_by stop (worse (worst_of events) answer) ≡ status
   pub said : List ℕ
-  pub put : Told → ArePut status out out' (texts a events ++ said)
-  pub lasts : LastsUntil Told Traced x y from a events first more said
+  pub put : Told → ArePut stop out out' (texts a events ++ said)
+  pub lasts : LastsUntil Told Traced x y from a events first more said answer
 
 -- How a script came out on a pool that held an array, where that was told. `from` is the moment when it began, `y` what the disks show
 -- in the end. No line grew the pool, or one did.
@@ -299,15 +295,3 @@ HasStatusCause Sink source source' sink sink' = Rose sink sink'
 HasStatusCause Refused source source' sink sink' = Unit {0}
 HasStatusCause Memory source source' sink sink' = Unit {0}
 HasStatusCause Spent source source' sink sink' = Unit {0}
-
--- the status of a script that stopped so, on a pool that was ended
-abbrev pub status_by : Stop → Answer → Status
-status_by AtQuit Given = Done
-status_by AtQuit Refuses = Spent
-status_by AtQuit Wants = Memory
-status_by Input Given = Done
-status_by Input Refuses = Spent
-status_by Input Wants = Memory
-status_by SourceFault worst = Source
-status_by AtLimit worst = Limit
-status_by SinkFault worst = Sink

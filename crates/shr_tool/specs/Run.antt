@@ -38,7 +38,7 @@ pub record OnDisks {B : Type 0} (seen : B → Seen) (shelf : B → Shelf) (bay :
   pub are : AreAttached (seen bay) (seen attached) (shelf bay) (shelf attached) names
   pub outcome : P attached
 
--- how `serve`, `import`, `export` or `status` came out
+-- how `serve`, `import`, `export`, `status` or `trial` came out
 pub data PoolOutcome {B : Type 0} (seen : B → Seen) (shelf : B → Shelf) (runs : B → B → Type 0) (bay after : B) (task : Task) (names : List (List ℕ)) (text rest out out' : List ℕ) (status : Status)
     : Type 0 where
   name_refused : NameRefused (seen bay) (seen after) (shelf bay) (shelf after) names out out' status → PoolOutcome seen shelf runs bay after task names text rest out out' status

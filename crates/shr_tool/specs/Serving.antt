@@ -1,5 +1,5 @@
 -- A script that is answered on a pool: what was answered, and why it stopped.
-use Rattle.std.specs.Prelude.{◌≡◌, ◌⊎◌, true, false, ℕ, ◌<◌, ◌≤◌, ◌^◌, List, [], ◌∷◌, ◌++◌, length, take, Option, Some, None, Result, Ok, Err}
+use Rattle.std.specs.Prelude.{◌≡◌, ◌≢◌, ◌⊎◌, true, false, ℕ, ◌<◌, ◌≤◌, ◌^◌, List, [], ◌∷◌, ◌++◌, length, take, Option, Some, None, Result, Ok, Err}
 use Rattle.rack.specs.Seen.{Image, Rose}
 use Rattle.io_ends.specs.Sink.{AddsPrefix}
 use Rattle.shr_script.specs.Line.{Line}
@@ -18,7 +18,7 @@ use Rattle.shr_tool.specs.Events.{AnyTakes, Event, answer_of, any_takes, array_b
 use Rattle.pool.specs.Moment.{Moment, moment_of}
 use Rattle.pool.specs.Proceeding.{Proceeds}
 use Rattle.shr_tool.specs.Timeline.{Timeline, Performs, Steps, steps_of}
-use Rattle.shr_tool.specs.Growing.{GrowsAlong, GrowsOn, IsGrowing, IsReplyTo}
+use Rattle.shr_tool.specs.Growing.{GrowsAlong, GrowsOn, IsGrowing}
 use Rattle.shr_tool.specs.Heads.{KeepsHeads}
 use Rattle.shr_tool.specs.Service.{AreFit, AreLone, BeginsOn, GoesBy, GoesOn, IsServed, Lone, none_out, pool_by}
 use Rattle.shr_tool.specs.Between.{HaveOthers, HoldsEach}
@@ -52,11 +52,10 @@ pub record Answers (x y : View) (line : Line) (answer : Answer) (text : List ℕ
   pub line_is : line_of event ≡ line
   pub answer_is : answer_of event ≡ answer
   pub performs : Performs x y event text
-  pub reply : IsReplyTo (moment_of y) line text
 
 -- So it was, or it grew the pool.
 abbrev pub Acts : View → View → Line → Answer → List ℕ → Type 0
-Acts x y line answer text = Answers x y line answer text ⊎ (IsGrowing (moment_of x) line × GrowsOn x y line text)
+Acts x y line answer text = Answers x y line answer text ⊎ (IsGrowing (moment_of x) (moment_of y) line × GrowsOn x y line answer text)
 
 -- a line was answered, and its reply put
 pub record Replies (x y : View) (line : Line) (answer : Answer) (out out' : List ℕ) : Type 0 where
@@ -174,8 +173,8 @@ pub record HasGone (x : View) (stops : ℕ → Image → Type 0) (events : List 
       (a : FlatArray) → IsServing x a → x.bay.traced → (f : Found) → BeginsOn (HaveOwnAreas f) x → GoesBy (TargetsLand f) None f x
       → HoldsEach stops (AreSerial f.state) (TargetsLand f) (HaveOwnAreas f) [] f (moment_of x) events last steps
 
--- Events were done in a row, and then lines of which the first one grew the pool. `Put` is what is known of all their replies.
-pub record Grew (x y : View) (lines : List Line) (Put : List ℕ → Type 0) : Type 0 where
+-- Events were done in a row, and then lines of which the first one grew the pool. `worst` is the worst of all answers, and `Put` is what is known of all replies.
+pub record Grew (x y : View) (lines : List Line) (worst : Answer) (Put : List ℕ → Type 0) : Type 0 where
   pub events : List Event
   pub first : Line
   pub more : List Line
@@ -183,10 +182,12 @@ pub record Grew (x y : View) (lines : List Line) (Put : List ℕ → Type 0) : T
   pub proceeds : Proceeds x y
   pub last : Moment
   pub gone : HasGone x y.bay.stops events last
-  pub growing : IsGrowing last first
   pub later : x.shelf.told → x.bay.traced → last.clock ≤ y.bay.clock
   pub said : List ℕ
-  pub grown : GrowsAlong (x.shelf.told × x.bay.traced) last (first ∷ more) said (moment_of y)
+  pub answer : Answer
+  pub worst_is : worse (worst_of events) answer ≡ worst
+  pub grown : GrowsAlong (x.shelf.told × x.bay.traced) last (first ∷ more) said answer (moment_of y)
+  pub growing : IsGrowing last grown.0 first
   pub put : (a : FlatArray) → Holds x a → Put (texts a events ++ said)
 
 -- these are the lines of a text that were begun, by why it was left
@@ -205,15 +206,17 @@ ArePut SourceFault out out' replies = out' ≡ out ++ replies
 ArePut Limit out out' replies = out' ≡ out ++ replies
 ArePut SinkFault out out' replies = AddsPrefix out out' replies
 
--- how it was answered
-pub record ServesGrown (stop : Stop) (x y : View) (text rest out out' : List ℕ) : Type 0 where
+-- How it was answered. Where the sink refused the reply to the last line, that one's answer isn't among those of which the worst is told.
+pub record ServesGrown (stop : Stop) (x y : View) (text rest out out' : List ℕ) (worst : Answer) : Type 0 where
   pub lines : List Line
   pub begun : AreBegun stop text rest lines
-  pub grew : Grew x y lines (ArePut stop out out')
+  pub all : Answer
+  pub worst_is : stop ≢ SinkFault → all ≡ worst
+  pub grew : Grew x y lines all (ArePut stop out out')
 
 -- How a script was answered, by why it stopped. No line grew the pool, or one did.
 abbrev pub Serves : Stop → View → View → List ℕ → List ℕ → List ℕ → List ℕ → Answer → Type 0
-Serves stop x y text rest out out' worst = ServesEvents stop x y text rest out out' worst ⊎ ServesGrown stop x y text rest out out'
+Serves stop x y text rest out out' worst = ServesEvents stop x y text rest out out' worst ⊎ ServesGrown stop x y text rest out out' worst
 
 -- The last line was answered, by why the script stopped; `before` and `now`: the worst answer.
 abbrev pub LastAnswers : {P : Type 0} → (P → View) → Answer → Answer → Stop → Option Line → P → P → List ℕ → List ℕ → Type 0

@@ -19,11 +19,12 @@ use Rattle.raid_laws.specs.Raid.{Raid}
 use Rattle.pool.specs.Moment.{IsNamed, Moment, moment_of}
 use Rattle.pool.specs.Continuing.{Continues, KeepsOutside}
 use Rattle.pool.specs.Entering.{StaysStill}
+use Rattle.pool.specs.Proceeding.{has_growth}
 use Rattle.pool.specs.Naming.{EntersNamed, LeavesNamed}
 use Rattle.pool.specs.Replaced.{ChangesDrive, DriveWentFrom, HasGrowCause, HasTable, IsDeclined, IsReplaced, LeavesNew, TakesImage, is_vacant}
 use Rattle.pool.specs.View.{View, book, contents_in, spent_by}
 use Rattle.pool.specs.Works.{HasRowsAlone, KeepsAllMembers, KeepsPlan, StopsStuck, left_by, works_by}
-use Rattle.pool.specs.Volume.{Holds, Means, PicksLive}
+use Rattle.pool.specs.Volume.{Holds, Means, PicksLive, size_of}
 use Rattle.shr_tool.specs.Events.{Event, IsOfArray, Takes, Touches, TouchesLast, becomes, calls_in, calls_none, line_of, takes_disk, text_of, works_on}
 use Rattle.shr_tool.specs.StatusText.{status_text}
 use Rattle.shr_tool.specs.Events.Event.{answered, spent, lost, last, replaced, declined, stepped, stuck, shown}
@@ -44,7 +45,7 @@ pub record HasSteps (p q : Moment) (count left : ℕ) : Type 0 where
 
 -- Why an event was answered so: the sector that it refuses is spent at its end, and those that it served weren't before, nor is the last
 -- one at its end; a drive that is lost was current, and another one is left; a drive is replaced, or isn't for a reason; works of
--- maintenance were done, or an array can't do one; how the pool stands is said of the book at the event's end.
+-- maintenance were done, where none of a growth was left, or an array can't do one; how the pool stands is said of the book at the event's end.
 abbrev pub HasCause : Moment → Moment → Event → Type 0
 HasCause p q (answered line) =
     ((s : ℕ) → Touches (sectors_in p.linear) line s → spent_by p.linear p.book s ≡ false)
@@ -60,8 +61,8 @@ HasCause p q (last place) = (is_current p.book.state place ≡ true) × (has_oth
 HasCause p q (replaced place name) =
     HasGrowCause p.linear p q place name (Ok tt) × ((d : ℕ) → IsNamed q name d → IsReplaced p q place d)
 HasCause p q (declined place name fault) = HasGrowCause p.linear p q place name (Err fault) × IsDeclined p q place fault
-HasCause p q (stepped count left) = HasSteps p q count left
-HasCause p q (stuck count array) = StopsStuck ((d : ℕ) → Rose (p.faults d) (q.faults d) → ⊥) p.linear count p.book q.book array
+HasCause p q (stepped count left) = (has_growth p.linear p.book ≡ false) × HasSteps p q count left
+HasCause p q (stuck count array) = (has_growth p.linear p.book ≡ false) × StopsStuck ((d : ℕ) → Rose (p.faults d) (q.faults d) → ⊥) p.linear count p.book q.book array
 HasCause p q (shown text) = text ≡ status_text q.linear q.book
 
 -- Marks alone come to the pool's state, each of a drive whose disk's faults rose or that the script lost.
@@ -230,6 +231,8 @@ pub record Performs (x y : View) (event : Event) (text : List ℕ) : Type 0 wher
   pub cause : HasCause (moment_of x) (moment_of y) event
   pub marks : takes_disk event ≡ false → MarksFor (moment_of x) (moment_of y) event
   pub text_is : (a : FlatArray) → Holds x a → text ≡ text_of a event
+  -- whatever the volume holds, some array of its size is answered so
+  pub reply : (a : FlatArray) × (a.size ≡ size_of x) × (text ≡ text_of a event)
   pub holds : (a : FlatArray) → Holds x a → Holds y (becomes a event)
   pub leaves :
       x.bay.traced → (a : FlatArray) → Holds x a

@@ -18,5 +18,6 @@ mod saying;
 mod serve;
 mod showing;
 mod status;
+mod trial;
 
 pub use program::run;

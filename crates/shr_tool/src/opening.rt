@@ -1,4 +1,4 @@
-//! `serve NAME..`, `import NAME..`, `export NAME..` and `status NAME..`: opens the pool of the named disks and does the task on it.
+//! `serve NAME..`, `import NAME..`, `export NAME..`, `status NAME..` and `trial SEED NAME..`: opens the pool of the named disks and does the task on it.
 
 ghost use Rattle.std.specs.Prelude.{◌≡◌, ◌≢◌, ◌⊎◌, ◌≤◌, ◌^◌, false, map, codes, string_bytes};
 ghost use Rattle.rack.specs.Sequences.{OnlyReads};
@@ -23,6 +23,7 @@ use crate::refusals::refuse_open;
 use crate::saying::refuse;
 use crate::serve::{serve_pool, show_pool};
 use crate::status::Status;
+use crate::trial::try_pool;
 use io_ends::{Sink, Source};
 use online_bay::OnlineBay;
 use pool::Pool;
@@ -43,6 +44,11 @@ pub enum Task {
     Export,
     /// How the pool stands is said, as the script `status` is answered.
     Show,
+    /// The turns that a generator draws are taken.
+    Trial {
+        /// What the generator starts with.
+        seed: u64,
+    },
 }
 
 /// Attaches the disks, opens their pool, does the task on it, and ends the pool.
@@ -161,5 +167,6 @@ fn do_on<R: Bay, I: Source, O: Sink>(
         Task::Import => import_pool(pool, input, out),
         Task::Export => export_pool(pool, out),
         Task::Show => show_pool(pool, out),
+        Task::Trial { seed } => try_pool(pool, seed, out),
     }
 }

@@ -1,9 +1,10 @@
 //! A line of a script, answered on a pool.
 
-ghost use Rattle.std.specs.Prelude.{◌≡◌, ◌+◌, ◌≤◌, ◌<◌, replicate, Ok, OnOk, IfErr, Result};
+ghost use Rattle.std.specs.Prelude.{◌≡◌, ◌+◌, ◌≤◌, ◌<◌, replicate, true, false, Ok, OnOk, IfErr, Result};
 ghost use Rattle.shr_script.specs.declared.Command.TheVariants.{Read, Write, Fill, Flush, Lose, Replace, Add, Step};
 ghost use Rattle.flat_array.specs.Reply.{fault_word, spent_line};
-ghost use Rattle.pool.specs.View.{bay_in, view, volume};
+ghost use Rattle.pool.specs.Proceeding.{has_growth};
+ghost use Rattle.pool.specs.View.{bay_in, book, view, volume};
 ghost use Rattle.pool.specs.Volume.{size_of};
 ghost use Rattle.shr_tool.specs.Events.{answer_by, grow_word, stuck_line};
 ghost use Rattle.shr_script.specs.Reply.{refused_line};
@@ -32,8 +33,8 @@ pub enum Answer {
 
 /// The first sector of a row of writes that was refused, since too many of its copies are lost.
 #[derive(Clone, Copy, Debug, PartialEq, Eq)]
-struct SpentAt {
-    sector: u64,
+pub(crate) struct SpentAt {
+    pub sector: u64,
 }
 
 /// Answers a line: does its command, or says why it is none.
@@ -161,7 +162,7 @@ fn perform_fill<R: Bay>(
 }
 
 // Writes the same bytes to sectors of the volume, one after the other, up to the first that is refused.
-fn fill_sectors<R: Bay>(
+pub(crate) fn fill_sectors<R: Bay>(
     pool: &mut Pool<R>,
     sector: u64,
     count: u64,
@@ -215,7 +216,7 @@ fn perform_replace<R: Bay>(
     text: &mut ReplyText,
 ) -> Answer
     requires { (volume (view R.seen R.shelf pool.old)).fit }
-    ensures answers { Answers (view R.seen R.shelf pool.old) (view R.seen R.shelf pool.new) (Ok (Replace place name.now)) result text.new.items }
+    ensures answers { Acts (view R.seen R.shelf pool.old) (view R.seen R.shelf pool.new) (Ok (Replace place name.now)) result text.new.items }
     ensures frame { R.frame (bay_in pool.old) (bay_in pool.new) }
 {
     // No place is greater than the last number of 32 bits.
@@ -232,7 +233,7 @@ fn perform_replace<R: Bay>(
 // `add NAME`
 fn perform_add<R: Bay>(pool: &mut Pool<R>, name: &ImageName, text: &mut ReplyText) -> Answer
     requires { (volume (view R.seen R.shelf pool.old)).fit }
-    ensures grows { GrowsOn (view R.seen R.shelf pool.old) (view R.seen R.shelf pool.new) (Ok (Add name.now)) text.new.items }
+    ensures grows { GrowsOn (view R.seen R.shelf pool.old) (view R.seen R.shelf pool.new) (Ok (Add name.now)) result text.new.items }
     ensures frame { R.frame (bay_in pool.old) (bay_in pool.new) }
 {
     match pool.add(name.as_str()) {
@@ -268,7 +269,6 @@ fn word_of_fault(fault: GrowFault) -> &'static [u8]
         GrowFault::PlanPending => b"plan-pending",
         GrowFault::NotWhole => b"not-whole",
         GrowFault::NotResynced => b"not-resynced",
-        GrowFault::Unbuilt => b"unbuilt",
         GrowFault::Size => b"size",
         GrowFault::Smaller => b"smaller",
         GrowFault::TooManyDrives => b"too-many-drives",
@@ -302,8 +302,9 @@ fn perform_step<R: Bay>(pool: &mut Pool<R>, count: u64, text: &mut ReplyText) ->
 
 // `step N`, where a work of a growth is left.
 fn grow<R: Bay>(pool: &mut Pool<R>, count: u64, text: &mut ReplyText) -> Answer
-    requires { (volume (view R.seen R.shelf pool.old)).fit }
-    ensures grows { GrowsOn (view R.seen R.shelf pool.old) (view R.seen R.shelf pool.new) (Ok (Step count)) text.new.items }
+    requires fit { (volume (view R.seen R.shelf pool.old)).fit }
+    requires left { has_growth (view R.seen R.shelf pool.old).linear (book (view R.seen R.shelf pool.old)) ≡ true }
+    ensures grows { GrowsOn (view R.seen R.shelf pool.old) (view R.seen R.shelf pool.new) (Ok (Step count)) result text.new.items }
     ensures runs { R.runs (bay_in pool.old) (bay_in pool.new) }
 {
     match pool.grow(count) {
@@ -317,7 +318,8 @@ fn grow<R: Bay>(pool: &mut Pool<R>, count: u64, text: &mut ReplyText) -> Answer
 
 // `step N`, where none is.
 fn maintain<R: Bay>(pool: &mut Pool<R>, count: u64, text: &mut ReplyText) -> Answer
-    requires { (volume (view R.seen R.shelf pool.old)).fit }
+    requires fit { (volume (view R.seen R.shelf pool.old)).fit }
+    requires none { has_growth (view R.seen R.shelf pool.old).linear (book (view R.seen R.shelf pool.old)) ≡ false }
     ensures answers { Answers (view R.seen R.shelf pool.old) (view R.seen R.shelf pool.new) (Ok (Step count)) result text.new.items }
     ensures runs { R.runs (bay_in pool.old) (bay_in pool.new) }
 {

@@ -2,12 +2,12 @@
 
 ghost use Rattle.std.specs.Prelude.{◌≡◌, ◌≢◌, ◌⊎◌, ◌<◌, ◌≤◌, ◌^◌, ℕ, List, true, false, length, drop, map, codes, string_bytes, Some, None};
 ghost use Rattle.rack.specs.Seen.{Rose};
-ghost use Rattle.shr_tool.specs.declared.status.Status.TheVariants.{Words, Refused, Memory};
-ghost use Rattle.shr_words.specs.declared.forms.Form.TheVariants.{Layout, Create, Serve, Import, Export, Status as StatusOf, Examine};
+ghost use Rattle.shr_tool.specs.declared.status.Status.TheVariants.{Words, Memory};
+ghost use Rattle.shr_words.specs.declared.forms.Form.TheVariants.{Layout, Create, Serve, Import, Export, Status as StatusOf, Examine, Trial};
 ghost use Rattle.shr_words.specs.LayoutWords.{units_asked};
 ghost use Rattle.shr_words.specs.Forms.{form_of as form_in};
 ghost use Rattle.shr_tool.specs.LayoutText.{Prints};
-ghost use Rattle.shr_tool.specs.Forms.{is_built, reads_input, uses_disks};
+ghost use Rattle.shr_tool.specs.Forms.{reads_input, uses_disks};
 ghost use Rattle.shr_script.specs.Reply.{refused_line};
 ghost use Rattle.shr_tool.specs.Limits.{KeepsLimit};
 ghost use Rattle.shr_tool.specs.Run.{PoolOutcome, CreateOutcome};
@@ -51,6 +51,9 @@ pub fn run<B: Bay, I: Source, O: Sink>(
     ensures status { form_in (map string_bytes words.now) ≡ Some StatusOf → O.told out.old
         → Ended result (PoolOutcome B.seen B.shelf B.runs bay.old bay.new Task.Show (map string_bytes (drop 1 words.now)) (I.left input.old) (I.left input.new) (O.taken out.old) (O.taken out.new)) }
 
+    ensures trial { (seed : ℕ) → form_in (map string_bytes words.now) ≡ Some (Trial seed) → O.told out.old
+        → Ended result (PoolOutcome B.seen B.shelf B.runs bay.old bay.new (Task.Trial seed) (map string_bytes (drop 2 words.now)) (I.left input.old) (I.left input.new) (O.taken out.old) (O.taken out.new)) }
+
     ensures create { (extent : ℕ) → form_in (map string_bytes words.now) ≡ Some (Create extent) → O.told out.old
         → Ended result (CreateOutcome B.seen B.shelf B.runs bay.old bay.new (map string_bytes (drop 2 words.now)) extent birth.now (O.taken out.old) (O.taken out.new)) }
 
@@ -64,9 +67,6 @@ pub fn run<B: Bay, I: Source, O: Sink>(
 
     ensures wrong { form_in (map string_bytes words.now) ≡ None → O.told out.old
         → Ended result (λ status. Says Words (refused_line (codes "words")) (O.taken out.old) (O.taken out.new) status
-        ⊎ Says Memory (refused_line (codes "memory")) (O.taken out.old) (O.taken out.new) status) }
-    ensures unbuilt { (form : _) → form_in (map string_bytes words.now) ≡ Some form → is_built form ≡ false → O.told out.old
-        → Ended result (λ status. Says Refused (refused_line (codes "unbuilt")) (O.taken out.old) (O.taken out.new) status
         ⊎ Says Memory (refused_line (codes "memory")) (O.taken out.old) (O.taken out.new) status) }
 
     // The program says that the words are wrong exactly where they are, unless there is no memory to parse them or no output.
@@ -101,7 +101,10 @@ pub fn run<B: Bay, I: Source, O: Sink>(
             create(alloc, bay, behind(words, 2), extent, birth, out).code()
         }
         Form::Status => open_for(alloc, bay, names, seconds, Task::Show, input, out).code(),
-        Form::Trial { .. } => refuse(out, b"unbuilt", Status::Refused).code(),
+        Form::Trial { seed } => {
+            let task = Task::Trial { seed };
+            open_for(alloc, bay, behind(words, 2), seconds, task, input, out).code()
+        }
     }
 }
 

@@ -17,13 +17,3 @@ lacks_room-requires-clause-some g c =
     ∙ sym c.admit_add.ensures
     ∙ ap result_err c.in-Ok.is in
     has_units v.state c.args.units c.progress-progress.ensures.book.valid c.requires.listed (fits_plan v c.args.units none)
-
-pub needs_array-requires-clause-some : goal.needs_array-requires-clause-some
-needs_array-requires-clause-some g c =
-    let v = book (view g.R.Rack.seen g.R.Bay.shelf c.args.self.now) in
-    let none : first_refusal (add_refusals v.state (arrays_now v) c.args.units) ≡ None =
-    ap (λ (s : State). first_refusal (add_refusals s (arrays_now v) c.args.units)) (sym c.state.ensures)
-    ∙ ap (λ (p : Progress). first_refusal (add_refusals c.state.result.now p.arrays.items c.args.units)) (sym c.progress-progress.ensures.value)
-    ∙ sym c.admit_add.ensures
-    ∙ ap result_err c.in-Ok.is in
-    has_units v.state c.args.units c.progress-progress.ensures.book.valid c.requires.listed (fits_plan v c.args.units none)

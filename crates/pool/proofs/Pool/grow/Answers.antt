@@ -51,8 +51,8 @@ returns-in_err-try_first g c =
         left = rw error.1 tt;
         done = rw error.1 tt;
         stuck = rw error.1
-            (subst (λ (e : Stuck). StopsGrowing c.args.count (view seen shelf p) (view seen shelf r) e.array) (sym error.2)
-            (stops_growing seen shelf turn c.args.count p q r _ (omega (arith, end, test)) before.keeps.seats before.done c.in_err-try_first.ensures.tries.stuck));
+            (subst (λ (e : Stuck). StopsGrowing c.args.count (view seen shelf p) (view seen shelf r) g.R.Rack.runs e.array) (sym error.2)
+            (stops_growing seen shelf g.R.Rack.runs turn c.args.count p q r _ (omega (arith, end, test)) before.keeps c.try_first.ensures.tries.keeps before.done c.in_err-try_first.ensures.tries.stuck));
       };
       runs = g.met.R.Rack.runs_then (bay_in p) (bay_in q) (bay_in r) before.runs c.try_first.ensures.runs;
     }

@@ -1,10 +1,12 @@
-use Rattle.std.proofs.Common.{◌<◌, length, sym, ap, subst, arith}
+use Rattle.std.proofs.Common.{◌<◌, ◌⊎◌, length, sym, ap, subst, ◌∙◌, inl, inr, arith}
 use Rattle.std.specs.Prelude.{Ok, Err}
+use Rattle.pool.specs.Enlarging.{Enlarges}
 use Rattle.pool.specs.Naming.{ReplacesDrive}
 use Rattle.pool.specs.Taking.{AttachesDisk, ReplacesBy}
 use Rattle.pool.specs.View.{arrays_of, bay_in, book, view, with_bay}
 use Rattle.raid_rack.specs.RaidRack.{slices_in}
 use Rattle.pool.proofs.Composed.{replaced_by, replaced_unattached, replaced_unlisted}
+use Rattle.pool.proofs.EnlargedDrives.{enlarged_by, listed_then}
 use Rattle.pool.proofs.Serving.{sound_in}
 use Rattle.pool.proofs.Pool.replace.Goals as goal
 
@@ -13,8 +15,9 @@ returns-then-place-len-clause-replaced g c =
     let p = c.args.self.now in
     let x = view g.R.Rack.seen g.R.Bay.shelf p in
     let past = c.if-place-len.true in
-    replaced_unlisted x c.args.place c.args.name.now c.requires (sound_in g.R.Rack.seen g.R.Bay.shelf g.met.R.Rack.sound p c.requires)
-    (let many = c.len.ensures.value in let state = ap (λ s. length s.drives.items) c.state.ensures in omega (arith, past, many, state))
+    inl
+    (replaced_unlisted x c.args.place c.args.name.now c.requires (sound_in g.R.Rack.seen g.R.Bay.shelf g.met.R.Rack.sound p c.requires)
+    (let many = c.len.ensures.value in let state = ap (λ s. length s.drives.items) c.state.ensures in omega (arith, past, many, state)))
 
 pub returns-in-Err-clause-replaced : goal.returns-in-Err-clause-replaced
 returns-in-Err-clause-replaced g c =
@@ -28,9 +31,10 @@ returns-in-Err-clause-replaced g c =
     let listed : c.args.place < length (book x).state.drives.items =
     (let many = c.len.ensures.value in let state = ap (λ s. length s.drives.items) c.state.ensures in omega (arith, low, many, state)) in
     let at = subst (λ r. AttachesDisk x (view seen shelf r) c.args.name.now (Err fault)) c.disk_of.ensures.rest c.in-Err.ensures.attaches in
-    subst (λ r. ReplacesDrive x (view seen shelf r) c.args.place c.args.name.now (Err fault)) (sym c.disk_of.ensures.rest)
+    inl
+    (subst (λ r. ReplacesDrive x (view seen shelf r) c.args.place c.args.name.now (Err fault)) (sym c.disk_of.ensures.rest)
     (replaced_unattached x (bay_in q) c.args.place c.args.name.now listed c.requires (slices_in (arrays_of p)).orderly fault at
-    (sound_in seen shelf g.met.R.Rack.sound (with_bay p (bay_in q)) at.continues.fit))
+    (sound_in seen shelf g.met.R.Rack.sound (with_bay p (bay_in q)) at.continues.fit)))
 
 pub returns-in-Ok-clause-replaced : goal.returns-in-Ok-clause-replaced
 returns-in-Ok-clause-replaced g c =
@@ -46,14 +50,26 @@ returns-in-Ok-clause-replaced g c =
     let listed : c.args.place < length (book x).state.drives.items =
     (let many = c.len.ensures.value in let state = ap (λ s. length s.drives.items) c.state.ensures in omega (arith, low, many, state)) in
     let at = subst (λ k. AttachesDisk x (view seen shelf k) c.args.name.now (Ok disk)) c.disk_of.ensures.rest c.in-Ok.ensures.attaches in
-    let by = subst (λ k. ReplacesBy (view seen shelf k) y c.args.place disk c.replace_by.result) c.disk_of.ensures.rest c.replace_by.ensures.replaces in
-    replaced_by x (bay_in q) c.args.place c.args.name.now listed c.requires (slices_in (arrays_of p)).orderly disk at y c.replace_by.result by
-    (sound_in seen shelf g.met.R.Rack.sound r by.continues.fit)
+    let by = subst (λ k. ReplacesBy (view seen shelf k) y c.args.place disk c.replace_by.result ⊎ Enlarges (view seen shelf k) y c.args.place disk c.replace_by.result)
+    c.disk_of.ensures.rest c.replace_by.ensures.replaces in
+    let names = (g.met.R.Bay.runs_shelf (bay_in q) (bay_in r) c.replace_by.ensures.runs).names in
+    elim by [
+      | inl same ↦
+          inl
+          (replaced_by x (bay_in q) c.args.place c.args.name.now listed c.requires (slices_in (arrays_of p)).orderly disk at y c.replace_by.result same
+          (sound_in seen shelf g.met.R.Rack.sound r same.continues.fit))
+      | inr other ↦
+          inr
+          (enlarged_by x (bay_in q) c.args.place c.args.name.now listed c.requires (slices_in (arrays_of p)).orderly disk at y c.replace_by.result names
+          (sym (g.met.R.Bay.numbered (bay_in r)) ∙ ap length names ∙ g.met.R.Bay.numbered (bay_in q)) other)
+    ]
 
 pub returns-in-Ok-clause-unlisted : goal.returns-in-Ok-clause-unlisted
 returns-in-Ok-clause-unlisted g c is =
     let low = c.if-place-len.false in
     let many = c.len.ensures.value in
     let state = ap (λ s. length s.drives.items) c.state.ensures in
-    let past = (returns-in-Ok-clause-replaced g c).cause.missing.0 is in
-    absurd (omega (arith, low, many, state, past))
+    elim (returns-in-Ok-clause-replaced g c) [
+      | inl by ↦ let past = by.cause.missing.0 is in absurd (omega (arith, low, many, state, past))
+      | inr by ↦ absurd (listed_then c.replace_by.result by.enlarges.by.answer is)
+    ]

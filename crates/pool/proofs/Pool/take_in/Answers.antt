@@ -9,12 +9,6 @@ fill-requires-clause-admitted g c =
     let x = view g.R.Rack.seen g.R.Bay.shelf c.args.self.now in
     admitted x.linear (book x) c.args.place (x.bay.sectors c.args.disk) c.requires.admitted
 
-pub returns-then-has_drive-clause-frame : goal.returns-then-has_drive-clause-frame
-returns-then-has_drive-clause-frame g c = g.met.R.Bay.runs_frame _ _ c.give_way.ensures.runs
-
-pub returns-else-has_drive-clause-frame : goal.returns-else-has_drive-clause-frame
-returns-else-has_drive-clause-frame g c = g.met.R.Bay.runs_frame _ _ c.fill.ensures.runs
-
 pub returns-else-has_drive-clause-replaces : goal.returns-else-has_drive-clause-replaces
 returns-else-has_drive-clause-replaces g c =
     let x = view g.R.Rack.seen g.R.Bay.shelf c.args.self.now in

@@ -1,6 +1,6 @@
 use Rattle.std.proofs.Common.{sym}
 use Rattle.lvm_group.specs.Volume.{linear}
-use Rattle.pool.specs.View.{book, view}
+use Rattle.pool.specs.View.{bay_in, book, view}
 use Rattle.pool.proofs.Grows.{first_tried, none_tried}
 use Rattle.pool.proofs.Stepping.{some_drive}
 use Rattle.pool.proofs.Pool.try_first.Goals as goal
@@ -13,8 +13,8 @@ try_work-requires-clause-listed g c =
 pub returns-in-Some-clause-tries : goal.returns-in-Some-clause-tries
 returns-in-Some-clause-tries g c =
     let p = c.args.self.now in
-    first_tried (view g.R.Rack.seen g.R.Bay.shelf p) (view g.R.Rack.seen g.R.Bay.shelf c.try_work.new.self) c.in-Some.work c.try_work.result (sym c.in-Some.ensures.first)
+    first_tried (view g.R.Rack.seen g.R.Bay.shelf p) (view g.R.Rack.seen g.R.Bay.shelf c.try_work.new.self) g.R.Rack.runs (bay_in p) c.in-Some.work c.try_work.result (sym c.in-Some.ensures.first)
     c.try_work.ensures.tries
 
 pub returns-in-None-clause-tries : goal.returns-in-None-clause-tries
-returns-in-None-clause-tries g c = none_tried (view g.R.Rack.seen g.R.Bay.shelf c.args.self.now) c.requires (sym c.in-None.ensures.first)
+returns-in-None-clause-tries g c = none_tried (view g.R.Rack.seen g.R.Bay.shelf c.args.self.now) g.R.Rack.runs (bay_in c.args.self.now) c.requires (sym c.in-None.ensures.first)

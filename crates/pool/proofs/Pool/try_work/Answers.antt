@@ -1,14 +1,12 @@
-use Rattle.std.specs.Prelude.{Err}
-use Rattle.pool.specs.Growing.{TriesWork}
 use Rattle.std.proofs.Common.{◌⊎◌, refl, sym, ap, subst, arith}
 use Rattle.std.specs.Prelude.{is_ok}
 use Rattle.slice_rack.specs.SliceRack.{below_of, tables}
 use Rattle.growth_laws.specs.Growing.{Lacks}
 use Rattle.raid_rack.specs.Growing.{CannotLay}
-use Rattle.pool_state.specs.declared.contents.Work.TheVariants.{Resync, Rebuild, TakeOver, Begin, Reshape, Finish, Zero, Ready, Close}
+use Rattle.raid_rack.specs.Growing.{CannotMake}
+use Rattle.pool_state.specs.declared.contents.Work.TheVariants.{Resync, Rebuild, TakeOver, Begin, Reshape, Finish, Make, Zero, Ready, Close}
 use Rattle.raid_rack.specs.RaidRack.{IsFit, arrays_in, raid_in, slices_in, slices_seen}
-use Rattle.pool.specs.View.{view}
-use Rattle.pool.proofs.Grows.{make_refused, ready_grows}
+use Rattle.pool.proofs.Grows.{ready_grows}
 use Rattle.pool.proofs.Trying.{growth_from, row_from, seats_on, goes_on}
 use Rattle.pool.proofs.Pool.try_work.Goals as goal
 
@@ -122,7 +120,14 @@ returns-in-Begin-clause-tries g c =
     (record { idle = own.idle; grows = own.grows; named = own.named; fit = own.fit; raises = own.raises; seats = own.seats; goes = own.goes; ran = own.runs })
     (λ w array named why. (named, why))
 
+pub make-requires : goal.make-requires
+make-requires g c = record { fit = subst (λ r. IsFit (arrays_in r) (slices_seen g.R.Rack.seen r)) (sym c.inner-in-Make.ensures.value) c.requires.fit.0 }
+
 pub returns-in-Make-clause-tries : goal.returns-in-Make-clause-tries
 returns-in-Make-clause-tries g c =
-    let x = view g.R.Rack.seen g.R.Bay.shelf c.args.self.now in
-    subst (λ k. TriesWork k x x (Err (record { array = c.in-Make.array }))) (sym c.in-Make.is) (make_refused c.in-Make.array c.in-Make.height x c.requires.fit)
+    let own = c.make.ensures in
+    growth_from g.R.Rack.seen g.R.Bay.shelf g.R.Rack.runs g.met.R.Bay.runs_shelf c.args.self.now c.inner-in-Make.result.now c.make.new.self c.args.work.now (Make c.in-Make.array c.in-Make.height) c.in-Make.is
+    c.inner-in-Make.ensures.value c.requires.fit c.make.result refl
+    (c.inner-in-Make.result.now.seconds) (λ o mid w. Lacks (Make c.in-Make.array c.in-Make.height) mid w ⊎ CannotMake g.R.Rack.seen g.R.Rack.runs (tables (slices_in o)) (below_of (slices_in o)) mid c.in-Make.height) 330 (omega arith) (λ mid w lacks. lacks)
+    (record { idle = own.idle; grows = own.grows; named = own.named; fit = own.fit; raises = own.raises; seats = own.seats; goes = own.goes; ran = own.runs })
+    (λ w array named why. (named, why))

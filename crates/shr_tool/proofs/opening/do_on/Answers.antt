@@ -8,3 +8,6 @@ returns-in-Import-clause-proceeds g c = proceeds_of _ _ (continues_of _ _ c.impo
 
 pub returns-in-Export-clause-proceeds : goal.returns-in-Export-clause-proceeds
 returns-in-Export-clause-proceeds g c = proceeds_of _ _ (continues_of _ _ c.export_pool.ensures.passes)
+
+pub returns-in-Trial-clause-proceeds : goal.returns-in-Trial-clause-proceeds
+returns-in-Trial-clause-proceeds g c = proceeds_of _ _ (continues_of _ _ c.try_pool.ensures.passes)

@@ -17,6 +17,5 @@ returns-in-Err-clause-answers g c =
       performs =
           still_done _ (Err _) _ c.requires (sound_in g.R.Rack.seen g.R.Bay.shelf g.met.R.Rack.sound pool c.requires)
           (λ s touches. touches) (λ s touches. touches) (λ place loses. cc) tt (λ a holds. refl)
-          (λ a holds. c.refused_reply.ensures ∙ ap refused_line c.word_of.ensures);
-      reply = c.refused_reply.ensures ∙ ap refused_line c.word_of.ensures;
+          (λ a sized. c.refused_reply.ensures ∙ ap refused_line c.word_of.ensures);
     }))

@@ -1,4 +1,4 @@
--- Commands that call nothing.
+-- Commands that call nothing, and one that may grow the pool.
 use Rattle.std.proofs.Common.{rules, ◌++◌, codes, refl, sym, ◌∙◌, ap, inl, Ok}
 use Rattle.std.specs.Prelude.{decimal}
 use Rattle.shr_script.specs.declared.Command.TheVariants.{Size, Quit}
@@ -19,8 +19,7 @@ returns-in-Size-clause-answers g c =
       performs =
           still_done _ (Ok Size) _ c.requires (sound_in g.R.Rack.seen g.R.Bay.shelf g.met.R.Rack.sound c.args.pool.now c.requires)
           (λ s touches. touches) (λ s touches. touches) (λ place loses. cc) tt (λ a holds. refl)
-          (λ a holds. c.size_reply.ensures ∙ ap (λ n. as_line (codes "size " ++ decimal n)) (c.size.ensures.size ∙ sym holds.size));
-      reply = c.size_reply.ensures ∙ ap (λ n. as_line (codes "size " ++ decimal n)) c.size.ensures.size;
+          (λ a sized. c.size_reply.ensures ∙ ap (λ n. as_line (codes "size " ++ decimal n)) (c.size.ensures.size ∙ sym sized));
     }))
 
 pub returns-in-Status-clause-answers : goal.returns-in-Status-clause-answers
@@ -31,7 +30,6 @@ returns-in-Status-clause-answers g c =
       line_is = refl;
       answer_is = refl;
       performs = show_done _ _ c.requires (sound_in g.R.Rack.seen g.R.Bay.shelf g.met.R.Rack.sound c.args.pool.now c.requires) c.show.ensures;
-      reply = c.show.ensures;
     }))
 
 pub returns-in-Quit-clause-answers : goal.returns-in-Quit-clause-answers
@@ -44,6 +42,8 @@ returns-in-Quit-clause-answers g c =
       performs =
           still_done _ (Ok Quit) _ c.requires (sound_in g.R.Rack.seen g.R.Bay.shelf g.met.R.Rack.sound c.args.pool.now c.requires)
           (λ s touches. touches) (λ s touches. touches) (λ place loses. cc) tt (λ a holds. refl)
-          (λ a holds. search rules);
-      reply = search rules;
+          (λ a sized. search rules);
     }))
+
+pub returns-in-Replace-clause-answers : goal.returns-in-Replace-clause-answers
+returns-in-Replace-clause-answers g c = rw c.in-Replace.is c.perform_replace.ensures.answers

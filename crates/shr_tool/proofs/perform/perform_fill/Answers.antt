@@ -1,5 +1,5 @@
 -- The sectors are inside, or the fill is refused.
-use Rattle.std.proofs.Common.{◌+◌, ◌<◌, ◌≤◌, refl, sym, inl, inr, Ok, arith}
+use Rattle.std.proofs.Common.{◌+◌, ◌<◌, ◌≤◌, refl, sym, Ok, arith}
 use Rattle.shr_script.specs.declared.Command.TheVariants.{Fill}
 use Rattle.pool.specs.View.{view}
 use Rattle.pool.specs.Volume.{size_of}
@@ -27,7 +27,6 @@ returns-then-count-size-clause-answers g c =
           fill_outside _ c.args.sector c.args.count c.args.byte _ c.requires
           (sound_in g.R.Rack.seen g.R.Bay.shelf g.met.R.Rack.sound pool c.requires)
           past c.refused_reply.ensures;
-      reply = inr (inl c.refused_reply.ensures);
     }
 
 pub returns-in-Ok-clause-answers : goal.returns-in-Ok-clause-answers
@@ -43,7 +42,6 @@ returns-in-Ok-clause-answers g c =
       performs =
           fill_done _ _ c.args.sector c.args.count c.args.byte _ _ inside c.in-Ok.is c.line_reply.ensures
           c.fill_sectors.ensures.fills;
-      reply = inl c.line_reply.ensures;
     }
 
 pub returns-in-Err-clause-answers : goal.returns-in-Err-clause-answers
@@ -59,5 +57,4 @@ returns-in-Err-clause-answers g c =
       performs =
           fill_spent _ _ c.args.sector c.args.count c.args.byte _ _ _ inside c.in-Err.is c.spent_reply.ensures.text
           c.fill_sectors.ensures.fills;
-      reply = inr (inr (_, c.spent_reply.ensures.text));
     }

@@ -11,5 +11,4 @@ returns-clause-answers g c =
       line_is = refl;
       answer_is = refl;
       performs = flush_done _ _ _ c.line_reply.ensures c.flush.ensures.flushes;
-      reply = c.line_reply.ensures;
     }

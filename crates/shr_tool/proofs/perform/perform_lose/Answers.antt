@@ -1,9 +1,9 @@
 -- The place of the call is that of the line, or both are no place.
-use Rattle.std.proofs.Common.{refl, inl, inr, ◌∙◌, ap, Err, Ok}
+use Rattle.std.proofs.Common.{refl, ◌∙◌, ap, Err, Ok}
 use Rattle.shr_script.specs.declared.Command.TheVariants.{Lose}
 use Rattle.pool.specs.View.{book, view}
 use Rattle.shr_tool.specs.Events.Event.{answered, last, lost}
-use Rattle.shr_tool.proofs.Performing.{is_cut, kept_by, lose_done, lose_last, lose_missing}
+use Rattle.shr_tool.proofs.LostDrive.{is_cut, kept_by, lose_done, lose_last, lose_missing}
 use Rattle.shr_tool.proofs.perform.perform_lose.Goals as goal
 
 pub returns-in-Ok-clause-answers : goal.returns-in-Ok-clause-answers
@@ -13,7 +13,6 @@ returns-in-Ok-clause-answers g c =
       line_is = refl;
       answer_is = refl;
       performs = lose_done _ _ _ _ _ _ c.requires (is_cut _ _ _ c.from.ensures c.min-place.ensures) c.in-Ok.is c.line_reply.ensures c.lose.ensures.lost;
-      reply = inl c.line_reply.ensures;
     }
 
 pub returns-in-Err-NoSuchDrive-clause-answers : goal.returns-in-Err-NoSuchDrive-clause-answers
@@ -25,7 +24,6 @@ returns-in-Err-NoSuchDrive-clause-answers g c =
       line_is = refl;
       answer_is = refl;
       performs = lose_missing _ _ _ _ _ _ c.requires (is_cut _ _ _ c.from.ensures c.min-place.ensures) refused same c.refused_reply.ensures c.lose.ensures.lost;
-      reply = inr (inl c.refused_reply.ensures);
     }
 
 pub returns-in-Err-LastDrive-clause-answers : goal.returns-in-Err-LastDrive-clause-answers
@@ -37,5 +35,4 @@ returns-in-Err-LastDrive-clause-answers g c =
       line_is = refl;
       answer_is = refl;
       performs = lose_last _ _ _ _ _ _ c.requires (is_cut _ _ _ c.from.ensures c.min-place.ensures) refused same c.refused_reply-in-Err-LastDrive.ensures c.lose.ensures.lost;
-      reply = inr (inr c.refused_reply-in-Err-LastDrive.ensures);
     }

@@ -1,8 +1,9 @@
 -- What was read of the words is what the clauses say of them.
-use Rattle.std.proofs.Common.{◌∙◌, Some, refl, inl, sym, ap, subst, map, drop, string_bytes}
+use Rattle.std.proofs.Common.{◌∙◌, Some, refl, sym, ap, subst, map, drop, string_bytes}
 use Rattle.shr_tool.specs.Run.{PoolOutcome, CreateOutcome}
 use Rattle.shr_tool.specs.Examining.{ExamineOutcome}
-use Rattle.shr_tool.proofs.FormLemmas.{create_same}
+use Rattle.shr_tool.specs.declared.opening.Task.TheVariants.{Trial}
+use Rattle.shr_tool.proofs.FormLemmas.{create_same, trial_same}
 use Rattle.shr_tool.proofs.program.run.Goals as goal
 
 pub returns-in-Err-Memory-clause-serve : goal.returns-in-Err-Memory-clause-serve
@@ -43,5 +44,25 @@ returns-in-Create-clause-create g c =
           (c.create.ensures.outcome out)),
     )
 
-pub returns-in-Trial-clause-unbuilt : goal.returns-in-Trial-clause-unbuilt
-returns-in-Trial-clause-unbuilt g c = λ form is unbuilt out. (c.refuse-in-Trial.result, c.code-in-Trial.ensures, inl (c.refuse-in-Trial.ensures.says out))
+pub returns-in-Err-Memory-clause-trial : goal.returns-in-Err-Memory-clause-trial
+returns-in-Err-Memory-clause-trial g c = λ seed form out. (c.refuse.result, c.code-in-Err-Memory.ensures, PoolOutcome.no_memory refl (c.refuse.ensures.says out))
+
+pub returns-in-Trial-clause-trial : goal.returns-in-Trial-clause-trial
+returns-in-Trial-clause-trial g c =
+    λ seed form out.
+    let left = g.I.Source.left in
+    let taken = g.O.Sink.taken in
+    let run = c.open_for-in-Trial in
+    let same = trial_same c.in-Trial.seed seed (sym (c.in-Ok.ensures.form ∙ ap Some c.in-Trial.is) ∙ form) in
+    let names = ap (map string_bytes) c.behind-in-Trial.ensures in
+    let came = PoolOutcome g.B.Rack.seen g.B.Bay.shelf g.B.Rack.runs c.args.bay.now run.new.bay in (
+      run.result,
+      c.code-in-Trial.ensures,
+      subst
+          (λ s. came (Trial s) (map string_bytes (drop 2 c.args.words.now)) (left c.args.input.now) (left run.new.input) (taken c.args.out.now) (taken run.new.out) run.result)
+          same
+          (subst
+          (λ ns. came (Trial c.in-Trial.seed) ns (left c.args.input.now) (left run.new.input) (taken c.args.out.now) (taken run.new.out) run.result)
+          names
+          (run.ensures.outcome tt out)),
+    )

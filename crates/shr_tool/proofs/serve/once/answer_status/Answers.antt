@@ -15,6 +15,6 @@ returns-clause-serves g c =
     let out = g.O.Sink.taken c.args.out.now in
     let before = answered_none (shown p) out c.requires (g.met.R.Bay.unspent (bay_in p), g.met.R.Rack.sound (bay_in p), (slices_in (arrays_of p)).orderly) in
     let answers = c.answer_last.ensures.answers sink in
-    one_answered shown p c.answer_last.new.pool (shown p) (codes "status") [] out (g.O.Sink.taken c.answer_last.new.out) _ _ (Ok Status) _ _ refl (λ m grows. grows) answers
+    one_answered shown p c.answer_last.new.pool (shown p) (codes "status") [] out (g.O.Sink.taken c.answer_last.new.out) _ _ (Ok Status) _ _ refl (λ m n grows. grows) answers
     (last_answered shown (λ r. (g.met.R.Bay.unspent (bay_in r), g.met.R.Rack.sound (bay_in r), (slices_in (arrays_of r)).orderly)) p c.answer_last.new.pool (shown p) (codes "status") [] out out (g.O.Sink.taken c.answer_last.new.out) _ _ [] _ _
     before refl (lit≤ tt) answers)
