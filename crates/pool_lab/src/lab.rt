@@ -259,9 +259,14 @@ impl Lab {
 
     // The replies to a script are those of the flat array.
     fn follow_script(&mut self, last: &mut LastRun) -> Result<(), AllocError> {
-        let Some(volume) = self.volume.take() else {
+        let Some(mut volume) = self.volume.take() else {
             return Ok(());
         };
+        if takes_drives(self.alloc, &last.script)? {
+            let trial = self.trial_by(last, &last.names, &volume);
+            let size = trial.size_in_the_end(&self.contents)?;
+            volume.goal = size.unwrap_or(volume.goal);
+        }
         let mut complaint = None;
         match last.ran.status {
             0 | 8 => {
@@ -303,6 +308,9 @@ impl Lab {
         let mut after = volume.copy(self.alloc)?;
         let output = last.ran.output.as_slice();
         let is_done = output.starts_with(b"imported ") || output.starts_with(b"refused long");
+        if output.starts_with(b"imported ") && !after.has_room(&last.script) {
+            after.grow()?;
+        }
         if is_done {
             after.import(&last.script);
         }
@@ -320,18 +328,7 @@ impl Lab {
         };
         let is_export = last.words.first().map(|word| word.as_bytes())
             == Some(b"export".as_slice());
-        let mut is_right = true;
-        if is_export && last.ran.status == 0 {
-            for (value, piece) in volume
-                .values
-                .iter()
-                .zip(last.ran.output.as_slice().chunks(512))
-            {
-                is_right = is_right && *value == sector_of(piece);
-            }
-            is_right = is_right
-                && last.ran.output.len() as u64 == (volume.values.len() as u64).saturating_mul(512);
-        }
+        let is_right = !is_export || last.ran.status != 0 || volume.is(&last.ran.output);
         last.volume = Some(volume.copy(self.alloc)?);
         if is_right {
             Ok(())
@@ -342,6 +339,16 @@ impl Lab {
 
     /// The last run as one that is tried again, and the volume after it where its input is no script.
     pub fn trial<'a>(&'a self, last: &'a LastRun, names: &'a [String]) -> Option<Trial<'a>> {
+        Some(self.trial_by(last, names, last.volume.as_ref()?))
+    }
+
+    // The same with the volume before it.
+    fn trial_by<'a>(
+        &'a self,
+        last: &'a LastRun,
+        names: &'a [String],
+        volume: &'a Volume,
+    ) -> Trial<'a> {
         let form = last
             .words
             .first()
@@ -349,11 +356,11 @@ impl Lab {
             .unwrap_or(b"");
         let is_script = form == b"serve".as_slice();
         let is_create = form == b"create".as_slice();
-        Some(Trial {
+        Trial {
             alloc: self.alloc,
             drives: &self.drives,
             before: &last.before,
-            volume: last.volume.as_ref()?,
+            volume,
             after: if is_script {
                 None
             } else {
@@ -365,7 +372,7 @@ impl Lab {
             may_refuse: last.loses || is_create,
             may_spend: last.loses,
             lasting: false,
-        })
+        }
     }
 
     /// Makes the drives what a stop at a moment of the last run leaves.
@@ -412,6 +419,11 @@ impl Lab {
         let sectors = (ran.output.len() / 512) as u64;
         let mut volume = Volume::zeros(self.alloc, sectors)?;
         volume.import(&ran.output);
+        if sectors < trial.volume.goal {
+            let size = trial.size_in_the_end(&contents)?;
+            volume.grown = size.unwrap_or(sectors);
+            volume.goal = volume.grown;
+        }
         Ok(Some(volume))
     }
 
@@ -435,8 +447,8 @@ impl Lab {
     }
 }
 
-// Appends a text with its lines indented.
-fn push_indented(alloc: Global, out: &mut Vec<u8>, text: &[u8]) -> Result<(), AllocError> {
+/// Appends a text with its lines indented.
+pub fn push_indented(alloc: Global, out: &mut Vec<u8>, text: &[u8]) -> Result<(), AllocError> {
     for line in lines_of(alloc, text)?.iter() {
         out.extend_from_slice(b"  ")?;
         out.extend_from_slice(line)?;
@@ -458,14 +470,31 @@ fn names_of(alloc: Global, words: &[String], script: &[u8]) -> Result<Vec<String
         names.push(word.clone()?)?;
     }
     for line in script.split(|byte| *byte == b'\n') {
-        let words = words_of(alloc, line)?;
-        if words.first().copied() == Some(b"replace".as_slice()) {
-            if let Some(name) = words.get(2) {
-                push_new(alloc, &mut names, name)?;
-            }
+        if let Some(name) = taken_in(alloc, line)? {
+            push_new(alloc, &mut names, name)?;
         }
     }
     Ok(names)
+}
+
+// Whether a script takes drives in.
+fn takes_drives(alloc: Global, script: &[u8]) -> Result<bool, AllocError> {
+    for line in script.split(|byte| *byte == b'\n') {
+        if taken_in(alloc, line)?.is_some() {
+            return Ok(true);
+        }
+    }
+    Ok(false)
+}
+
+// The drive that a line of a script takes in.
+fn taken_in<'a>(alloc: Global, line: &'a [u8]) -> Result<Option<&'a [u8]>, AllocError> {
+    let words = words_of(alloc, line)?;
+    Ok(match words.first().copied() {
+        Some(b"add") => words.get(1).copied(),
+        Some(b"replace") => words.get(2).copied(),
+        _ => None,
+    })
 }
 
 // Appends a name that isn't there yet.

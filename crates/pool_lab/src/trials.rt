@@ -1,11 +1,11 @@
 //! Runs that are tried again: with stops at their moments, and the pools that those leave.
 
-use crate::drives::{Contents, Drive, Sector};
+use crate::drives::{Contents, Drive, Sector, ZEROS};
 use crate::ends::SOUND;
 use crate::images::Moment;
 use crate::machine::Refusals;
 use crate::running::{Given, Ran, run_over};
-use crate::text::{holds, lines_of, push_digits, push_number};
+use crate::text::{holds, lines_of, number_in, push_digits, push_number};
 use crate::volume::{Volume, Walk};
 use rack_mem::Pick;
 use std::alloc::{AllocError, Global};
@@ -50,8 +50,9 @@ pub struct Tally {
     /// The calls that were refused before it, and the stop that left it.
     pub calls: Vec<u64>,
     pub stop: Option<(u64, Pick)>,
-    /// The stop in the opening that came after it.
+    /// The stop in the opening that came after it, and the script of that.
     pub again: Option<(u64, Pick)>,
+    pub steps: Vec<u8>,
     /// A drive that refused one refused all that followed.
     pub lasting: bool,
 }
@@ -66,6 +67,7 @@ impl Tally {
             calls: Vec::new(alloc),
             stop: None,
             again: None,
+            steps: Vec::new(alloc),
             lasting: false,
         }
     }
@@ -189,9 +191,17 @@ impl<'a> Trial<'a> {
         Ok(tally)
     }
 
-    /// Stops a run at each `every`-th moment, and the opening after it at each `then`-th one.
-    pub fn sweep_twice(&self, ran: &Ran, every: u64, then: u64) -> Result<Tally, AllocError> {
+    /// Stops a run at each `every`-th moment, and the one after it, which does the works that a script asks for, at each
+    /// `then`-th one.
+    pub fn sweep_twice(
+        &self,
+        ran: &Ran,
+        every: u64,
+        then: u64,
+        steps: &[u8],
+    ) -> Result<Tally, AllocError> {
         let mut tally = Tally::new(self.alloc);
+        tally.steps.extend_from_slice(steps)?;
         let mut at = Stops::new(self, ran)?;
         let last = ran.calls.checked_div(every).unwrap_or(0);
         for number in 0..=last.saturating_add(1) {
@@ -213,7 +223,8 @@ impl<'a> Trial<'a> {
         at.open(pick)
     }
 
-    /// Opens a pool again: all its sectors are read, its plan is ended, and each drive is left out in turn.
+    /// Opens a pool again: all its sectors are read, its plan is ended, and each drive is left out in turn. Where the plan
+    /// makes the volume grow, it is the same then with zeros behind it.
     pub fn judge(
         &self,
         contents: &mut Contents,
@@ -228,14 +239,30 @@ impl<'a> Trial<'a> {
         if let Some(complaint) = self.complain(&exported, walk, in_hand)? {
             return Ok(Opened::Wrong { complaint });
         }
-        let ended = self.open(contents, "serve", b"step 1000000\nstatus\n")?;
-        if let Some(complaint) = self.complain_of_works(&ended)? {
+        let ended = self.open(contents, "serve", b"status\nstep 1000000\nsize\n")?;
+        let mut volume = exported.output;
+        if holds(&ended.output, b"\nplan ") && !holds(&ended.output, b"\nplan nothing\n") {
+            push_zeros(&mut volume, walk.goal())?;
+        }
+        if let Some(complaint) = self.complain_of_works(&ended, (volume.len() / 512) as u64)? {
             return Ok(Opened::Wrong { complaint });
         }
-        if holds(&ended.output, b" missing\n") || holds(&ended.output, b"stuck") {
+        if exported.status != 0 || holds(&ended.output, b"\nrefused stuck ") {
             return Ok(Opened::Right);
         }
-        self.leave_out(contents, &exported.output)
+        if holds(&ended.output, b" missing\n") {
+            return self.compare(contents, &volume, None);
+        }
+        self.leave_out(contents, &volume)
+    }
+
+    /// The sectors that the volume has once the plan of a pool has ended; none where the pool doesn't open.
+    pub fn size_in_the_end(&self, contents: &Contents) -> Result<Option<u64>, AllocError> {
+        let mut contents = contents.copy()?;
+        let ended = self.open(&mut contents, "serve", b"step 1000000\nsize\n")?;
+        let lines = lines_of(self.alloc, &ended.output)?;
+        let size = lines.last().and_then(|line| line.strip_prefix(b"size "));
+        Ok(size.and_then(number_in))
     }
 
     // What is wrong with the volume that a pool exported.
@@ -245,8 +272,7 @@ impl<'a> Trial<'a> {
         walk: &Walk<'_>,
         in_hand: Option<&[u8]>,
     ) -> Result<Complaint, AllocError> {
-        let is_whole = exported.status == 0
-            && exported.output.len() as u64 == walk.size().saturating_mul(512);
+        let is_whole = exported.status == 0 && walk.may_have(exported.output.len() as u64);
         let is_spent = self.may_spend && exported.status == 8;
         if !is_whole && !is_spent {
             return self.say(b"the pool answers ", &exported.output);
@@ -269,30 +295,50 @@ impl<'a> Trial<'a> {
         }
     }
 
-    // What is wrong with how the works of a pool ended.
-    fn complain_of_works(&self, ended: &Ran) -> Result<Complaint, AllocError> {
-        let is_done = ended.status == 0 && ended.output.as_slice().starts_with(b"left 0\n");
-        let is_stuck = self.may_spend && ended.output.as_slice().starts_with(b"refused stuck");
+    // What is wrong with how the works of a pool ended, where the volume has so many sectors then.
+    fn complain_of_works(&self, ended: &Ran, sectors: u64) -> Result<Complaint, AllocError> {
+        let mut want = b"left 0\nsize ".to_vec(self.alloc)?;
+        push_number(&mut want, sectors)?;
+        want.push(b'\n')?;
+        let replies = behind_standing(&ended.output);
+        let is_done = ended.status == 0 && replies == want.as_slice();
+        let is_stuck = self.may_spend && replies.starts_with(b"refused stuck ");
         if is_done || is_stuck {
             return Ok(None);
         }
-        self.say(b"the works end with ", &ended.output)
+        let wrong = replies.strip_prefix(b"left 0\n").unwrap_or(replies);
+        self.say(b"the works end with ", wrong)
     }
 
     // Leaves each drive of a whole pool out in turn: the volume has to be the same.
     fn leave_out(&self, contents: &Contents, volume: &[u8]) -> Result<Opened, AllocError> {
         for at in 0..self.names.len() {
-            let mut left = contents.copy()?;
-            let exported = self.open_without(&mut left, "export", b"", Some(at))?;
-            if exported.status != 0 || exported.output.as_slice() != volume {
-                let mut complaint = b"the volume is another one without drive number ".to_vec(
-                    self.alloc,
-                )?;
-                push_number(&mut complaint, at as u64)?;
-                return Ok(Opened::Wrong { complaint });
+            let opened = self.compare(contents, volume, Some(at))?;
+            if !matches!(opened, Opened::Right) {
+                return Ok(opened);
             }
         }
         Ok(Opened::Right)
+    }
+
+    // The volume has to be this one once the works are done, also with one of the drives left out.
+    fn compare(
+        &self,
+        contents: &Contents,
+        volume: &[u8],
+        left_out: Option<usize>,
+    ) -> Result<Opened, AllocError> {
+        let mut left = contents.copy()?;
+        let exported = self.open_without(&mut left, "export", b"", left_out)?;
+        if exported.status == 0 && exported.output.as_slice() == volume {
+            return Ok(Opened::Right);
+        }
+        let mut complaint = b"the volume is another one after the works".to_vec(self.alloc)?;
+        if let Some(at) = left_out {
+            complaint.extend_from_slice(b", without drive number ")?;
+            push_number(&mut complaint, at as u64)?;
+        }
+        Ok(Opened::Wrong { complaint })
     }
 
     // A complaint with the first line of an output.
@@ -311,6 +357,23 @@ impl<'a> Trial<'a> {
         push_digits(self.alloc, &mut text, &value.bytes)?;
         Ok(Some(text))
     }
+}
+
+// Appends sectors of zeros up to so many.
+fn push_zeros(volume: &mut Vec<u8>, sectors: u64) -> Result<(), AllocError> {
+    for _ in (volume.len() / 512) as u64..sectors {
+        volume.extend_from_slice(&ZEROS.bytes)?;
+    }
+    Ok(())
+}
+
+// What a run put behind the lines that say how its pool stands.
+fn behind_standing(output: &[u8]) -> &[u8] {
+    let end = output
+        .windows(5)
+        .position(|window| window == b"\nend\n".as_slice());
+    let behind = end.and_then(|at| output.get(at.saturating_add(5)..));
+    behind.unwrap_or(output)
 }
 
 // Whether a pool was refused as one may be that lost drives or that isn't made yet.
@@ -391,12 +454,12 @@ impl<'a> Stops<'a> {
         self.trial.judge(&mut image, &self.walk, self.in_hand())
     }
 
-    // Opens what a stop here leaves under a pick, and stops that opening at each `every`-th moment.
+    // Opens what a stop here leaves under a pick, and stops that run at each `every`-th moment.
     fn open_twice(&self, pick: Pick, every: u64, tally: &mut Tally) -> Result<(), AllocError> {
         let alloc = self.trial.alloc;
         let image = self.moment.image(alloc, pick)?;
         let mut left = image.copy()?;
-        let opening = self.trial.open(&mut left, "serve", b"")?;
+        let opening = self.trial.open(&mut left, "serve", &tally.steps)?;
         let mut moment = Moment::first(alloc, &image, &opening.log)?;
         let last = opening.calls.checked_div(every).unwrap_or(0);
         for number in 0..=last {

@@ -1,7 +1,7 @@
 //! The commands of a case that run the program, and that try a run again.
 
 use crate::drawing::{Drawn, push_script};
-use crate::lab::{Lab, LastRun};
+use crate::lab::{Lab, LastRun, push_indented};
 use crate::running::Ran;
 use crate::text::{lines_of, number_in, push_block, push_number, text_of};
 use crate::trials::{Tally, Trial};
@@ -174,14 +174,21 @@ impl Lab {
         self.close(last, tally)
     }
 
-    /// `twice every N then M`: stops the last run at each N-th moment, and the opening after it at each M-th one.
+    /// `twice every N then M [steps K]`: stops the last run at each N-th moment, and the opening after it, or one that does
+    /// K works, at each M-th one.
     pub fn command_twice(&mut self, words: &[&[u8]]) -> Result<(), AllocError> {
         let every = number_behind(words, b"every", 1).max(1);
         let then = number_behind(words, b"then", 1).max(1);
+        let mut steps = Vec::new(self.alloc);
+        if let Some(works) = behind(words, b"steps") {
+            steps.extend_from_slice(b"step ")?;
+            steps.extend_from_slice(works)?;
+            steps.push(b'\n')?;
+        }
         self.try_again(
             words,
             false,
-            |trial, ran| trial.sweep_twice(ran, every, then),
+            |trial, ran| trial.sweep_twice(ran, every, then, &steps),
         )
     }
 
@@ -241,6 +248,7 @@ impl Lab {
         }
         if let Some((moment, pick)) = tally.again {
             self.paste_opening(b"run serve", last)?;
+            push_indented(self.alloc, &mut self.report, &tally.steps)?;
             self.paste_stop(moment, pick)?;
         }
         self.paste_opening(b"run export", last)

@@ -2,6 +2,10 @@
 //!
 //! A script is judged line by line: each reply has to be that of the flat array, but that a sector may be refused as spent
 //! where drives were lost.
+//!
+//! A volume grows where its pool does: at some work of a plan it gets all sectors at once that the plan brings, as zeros.
+//! Which work that is isn't known here. So from the line on that begins the plan each reply may be that of the volume before
+//! or after it, and once one is that of the volume after it, or the plan has ended, all that follow have to be.
 
 use crate::drives::{Sector, ZEROS};
 use flat_array::FlatDisk;
@@ -15,10 +19,14 @@ pub struct Volume {
     pub values: Vec<Sector>,
     /// Whether a sector's value isn't known, as after a write that was refused.
     pub unsure: Vec<bool>,
+    /// The sectors that it has once the plan has ended that the pool is carrying out.
+    pub grown: u64,
+    /// The sectors that it has in the end, if a run takes in the drives that it names.
+    pub goal: u64,
 }
 
 impl Volume {
-    /// A volume of so many sectors of zeros.
+    /// A volume of so many sectors of zeros, which doesn't grow.
     pub fn zeros(alloc: Global, sectors: u64) -> Result<Volume, AllocError> {
         let mut values = Vec::new(alloc);
         let mut unsure = Vec::new(alloc);
@@ -26,7 +34,12 @@ impl Volume {
             values.push(ZEROS)?;
             unsure.push(false)?;
         }
-        Ok(Volume { values, unsure })
+        Ok(Volume {
+            values,
+            unsure,
+            grown: sectors,
+            goal: sectors,
+        })
     }
 
     /// The same volume once more.
@@ -34,7 +47,34 @@ impl Volume {
         Ok(Volume {
             values: self.values.to_vec(alloc)?,
             unsure: self.unsure.to_vec(alloc)?,
+            grown: self.grown,
+            goal: self.goal,
         })
+    }
+
+    /// Appends the zeros that come when the plan ends.
+    pub fn grow(&mut self) -> Result<(), AllocError> {
+        for _ in self.values.len() as u64..self.grown {
+            self.values.push(ZEROS)?;
+            self.unsure.push(false)?;
+        }
+        Ok(())
+    }
+
+    /// Whether so many bytes fit into it.
+    pub fn has_room(&self, bytes: &[u8]) -> bool {
+        bytes.chunks(512).count() <= self.values.len()
+    }
+
+    /// Whether these bytes are the volume, before or after it has grown.
+    pub fn is(&self, bytes: &[u8]) -> bool {
+        let sectors = (bytes.len() / 512) as u64;
+        let is_whole = bytes.len() % 512 == 0;
+        let has_size = sectors == self.values.len() as u64 || sectors == self.grown;
+        let mut values = self.values.iter();
+        is_whole
+            && has_size
+            && bytes.chunks(512).all(|piece| *values.next().unwrap_or(&ZEROS) == sector_of(piece))
     }
 
     /// The volume with the first bytes of it written over, filled up with zeros to a whole sector.
@@ -77,6 +117,9 @@ pub struct Walk<'a> {
     alloc: Global,
     flat: FlatDisk,
     unsure: Vec<bool>,
+    // The sectors that the flat array may have by now, and those that it may have once a drive is taken in.
+    grown: u64,
+    goal: u64,
     replies: Vec<&'a [u8]>,
     // The number of the next line, and that of the next reply.
     line: usize,
@@ -101,6 +144,8 @@ impl<'a> Walk<'a> {
             alloc,
             flat: flat_of(alloc, volume)?,
             unsure: volume.unsure.to_vec(alloc)?,
+            grown: volume.grown,
+            goal: volume.goal,
             replies,
             line: 0,
             reply: 0,
@@ -150,6 +195,7 @@ impl<'a> Walk<'a> {
         got: &[u8],
     ) -> Result<Option<Fault>, AllocError> {
         if is_free(said, got) {
+            self.follow_plan(said, got)?;
             return Ok(None);
         }
         if got.starts_with(b"refused spent ") && self.may_spend {
@@ -158,15 +204,61 @@ impl<'a> Walk<'a> {
         if self.is_unsure(said) && got.starts_with(b"data ") {
             return Ok(None);
         }
-        let mut want = Vec::new(self.alloc);
-        self.flat.answer(self.alloc, said, &mut want)?;
-        let _ = want.pop();
+        let mut want = self.answer(said)?;
+        if want.as_slice() != got && self.flat.size() < self.grown {
+            self.grow()?;
+            want = self.answer(said)?;
+        }
         self.make_sure(said);
         if want.as_slice() == got {
             return Ok(None);
         }
         let got = got.to_vec(self.alloc)?;
         Ok(Some(Fault { line, want, got }))
+    }
+
+    // The reply to what a line says, without its line feed. The flat array becomes that of after it.
+    fn answer(
+        &mut self,
+        said: &Result<Command, shr_script::LineFault>,
+    ) -> Result<Vec<u8>, AllocError> {
+        let mut reply = Vec::new(self.alloc);
+        self.flat.answer(self.alloc, said, &mut reply)?;
+        let _ = reply.pop();
+        Ok(reply)
+    }
+
+    // A drive that is taken in begins a plan, and a plan has ended where no work is left.
+    fn follow_plan(
+        &mut self,
+        said: &Result<Command, shr_script::LineFault>,
+        got: &[u8],
+    ) -> Result<(), AllocError> {
+        match said {
+            Ok(Command::Add { .. }) | Ok(Command::Replace { .. }) if got == b"ok".as_slice() => {
+                self.grown = self.goal;
+                Ok(())
+            }
+            Ok(Command::Step { .. }) if got == b"left 0".as_slice() => self.grow(),
+            _ => Ok(()),
+        }
+    }
+
+    // Appends the zeros to the flat array that come when the plan ends.
+    fn grow(&mut self) -> Result<(), AllocError> {
+        if self.flat.size() >= self.grown {
+            return Ok(());
+        }
+        let mut volume = self.volume_of(false)?;
+        volume.grow()?;
+        let mut longer = flat_of(self.alloc, &volume)?;
+        for sector in 0..self.flat.size() {
+            let later = self.flat.values(sector).get(1..).unwrap_or(&[]);
+            push_values(self.alloc, &mut longer, sector, later)?;
+        }
+        self.flat = longer;
+        self.unsure = volume.unsure;
+        Ok(())
     }
 
     // Whether a line reads a sector whose value isn't known.
@@ -207,6 +299,9 @@ impl<'a> Walk<'a> {
         got: &[u8],
     ) -> Result<Option<Fault>, AllocError> {
         let spent = spent_sector(got).unwrap_or(0);
+        if spent >= self.flat.size() {
+            self.grow()?;
+        }
         match said {
             Ok(Command::Write { .. }) => self.mark(spent, 1, true),
             Ok(Command::Fill { sector, byte, .. }) => {
@@ -226,7 +321,8 @@ impl<'a> Walk<'a> {
 
     /// Whether a sector may have a value after a stop here, where this line is in hand.
     pub fn allows(&self, sector: u64, value: &Sector, in_hand: Option<&[u8]>) -> bool {
-        if self.has_unsure(sector) || self.flat.values(sector).contains(&value.bytes) {
+        let is_new = sector >= self.flat.size() && *value == ZEROS;
+        if is_new || self.has_unsure(sector) || self.flat.values(sector).contains(&value.bytes) {
             return true;
         }
         match in_hand.map(|line| next_line(without_return(line))) {
@@ -237,20 +333,34 @@ impl<'a> Walk<'a> {
 
     /// The volume as it is here, each sector with its last value.
     pub fn volume(&self) -> Result<Volume, AllocError> {
+        self.volume_of(true)
+    }
+
+    // The volume as it is here, each sector with the last one of the values that it may have, or with the first one.
+    fn volume_of(&self, is_last: bool) -> Result<Volume, AllocError> {
         let mut values = Vec::new(self.alloc);
         for sector in 0..self.flat.size() {
-            let bytes = self.flat.values(sector).last().copied().unwrap_or([0; 512]);
+            let held = self.flat.values(sector);
+            let value = if is_last { held.last() } else { held.first() };
+            let bytes = value.copied().unwrap_or([0; 512]);
             values.push(Sector { bytes })?;
         }
         Ok(Volume {
             values,
             unsure: self.unsure.to_vec(self.alloc)?,
+            grown: self.grown,
+            goal: self.goal,
         })
     }
 
-    /// The sectors of the volume.
-    pub fn size(&self) -> u64 {
-        self.flat.size()
+    /// Whether the volume may have so many bytes here.
+    pub fn may_have(&self, bytes: u64) -> bool {
+        bytes == self.flat.size().saturating_mul(512) || bytes == self.grown.saturating_mul(512)
+    }
+
+    /// The sectors that the volume has once the pool's plan has ended.
+    pub fn goal(&self) -> u64 {
+        self.goal
     }
 
     /// Whether no reply is left that no line asked for.
@@ -299,6 +409,24 @@ fn writes(command: &Command, sector: u64, value: &Sector) -> bool {
         } => { *first <= sector && sector - *first < *count && value.bytes == [*byte; 512] }
         _ => false,
     }
+}
+
+// Gives a sector of a flat array some values more.
+fn push_values(
+    alloc: Global,
+    flat: &mut FlatDisk,
+    sector: u64,
+    values: &[[u8; 512]],
+) -> Result<(), AllocError> {
+    let mut replies = Vec::new(alloc);
+    for bytes in values {
+        let write = Command::Write {
+            sector,
+            bytes: *bytes,
+        };
+        flat.answer(alloc, &Ok(write), &mut replies)?;
+    }
+    Ok(())
 }
 
 // The flat array with the values of a volume.
