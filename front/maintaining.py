@@ -19,7 +19,7 @@ from front.disks import CannotRead, Disk, Disks
 from front.engine import Session, plain_path
 from front.explain import explain_line
 from front.guard import Objection, Permits, before_opening, held
-from front.layers import Standing, add, units_of
+from front.layers import Standing, add, take_place, units_of
 from front.look import SLICE_HEAD, Look, drive_sectors, look_at
 from front.planning import standing_of
 from front.progress import Progress
@@ -243,9 +243,8 @@ def _used(look: Look, place: int) -> int:
     return (ARRAYS_FIRST + ends) * 512
 
 
-def _check_new(look: Look, new: Disks, permits: Permits, used: int) -> list[str]:
+def _check_new(look: Look, disk: Disk, permits: Permits, used: int) -> list[str]:
     """What speaks against the new image."""
-    disk = new.disks[0]
     found = held([disk]) + too_little([disk], {disk.path: used})
     taken = [place for place in look.seats if look.disks[look.seats[place]].file == disk.file]
     if taken:
@@ -261,6 +260,57 @@ def _images_of(target: str, new: str, images: list[str]) -> list[str]:
     if not target.isdecimal() and not _same(target, new) and not any(_same(image, target) for image in found):
         found.append(target)
     return found
+
+
+def _foreseen(look: Look, disk: Disk, place: int | None) -> tuple[Standing | None, list[str]]:
+    """The pool once a new drive is added, or has taken a place, or what speaks against it."""
+    assert look.state is not None
+    units = units_of(disk.sectors, look.state.extent)
+    now = standing_of(look)
+    grown, word = add(now, units) if place is None else take_place(now, place, units)
+    return grown, [f"{disk.path}: {explain_line(f'refused {word}', 'line')}"] if word else []
+
+
+def _little_room(look: Look, grown: Standing, new: Disk, place: int | None) -> list[str]:
+    """Whether the new image, which may take a place, and those that a new layer reaches have room for all that is
+    written to them."""
+    assert look.state is not None
+    disks, used = [new], {new.path: new.sectors * 512}
+    for layer in grown.layers[len(look.arrays) :]:
+        for member in layer.members:
+            if member != place and member in look.seats:
+                disk = look.disks[look.seats[member]]
+                disks.append(disk)
+                used[disk.path] = _used(look, member) + (SLICE_HEAD + layer.height * look.state.extent) * 512
+    return too_little(disks, used)
+
+
+def _has_grown(look: Look, grown: Standing) -> str:
+    """What is said of a pool that has grown so."""
+    assert look.state is not None
+    scale = look.state.extent * 512
+    return (
+        f"the volume has {show(grown.capacity * scale)} now, "
+        f"{show((grown.capacity - standing_of(look).capacity) * scale)} more"
+    )
+
+
+def _against(look: Look, place: int, fresh: Disk, permits: Permits) -> tuple[Standing | None, list[str]]:
+    """What speaks against a new drive at a place, and the pool that it grows where it has more extents than the one of
+    before."""
+    state = look.state
+    assert state is not None
+    units = state.drives[place].units
+    found = _check_new(look, fresh, permits, _used(look, place))
+    if units_of(fresh.sectors, state.extent) < units:
+        found.append(
+            f"{fresh.path} is too small: it has {fresh.sectors * 512} bytes, and the drive of place {place} needs "
+            f"{drive_sectors(units, state.extent) * 512}"
+        )
+    if found or units_of(fresh.sectors, state.extent) == units:
+        return None, found
+    grown, found = _foreseen(look, fresh, place)
+    return grown, found or (_little_room(look, grown, fresh, place) if grown else [])
 
 
 def replace(call: Call) -> int:
@@ -279,39 +329,22 @@ def replace(call: Call) -> int:
         if place >= len(state.drives):
             raise Objection(f"the pool has the places 0 to {len(state.drives) - 1}, and no place {place}")
         blocked = _not_ready(look, place)
+        if blocked:
+            raise Objection(blocked)
         least = drive_sectors(state.drives[place].units, state.extent) * 512
         with _new_image(new, least) as fresh:
-            found = [blocked] if blocked else _check_new(look, fresh, permits, _used(look, place))
-            if units_of(fresh.disks[0].sectors, state.extent) < state.drives[place].units:
-                found.append(
-                    f"{new} is too small: it has {fresh.disks[0].sectors * 512} bytes, and the drive of place "
-                    f"{place} needs {least}"
-                )
+            grown, found = _against(look, place, fresh.disks[0], permits)
+        if found:
+            raise Objection(*found)
         old = look.path(place)
-    if found:
-        raise Objection(*found)
+        said = _has_grown(look, grown) if grown else ""
     after = [image for image in images if image != old] + [new]
+    what = f"replacing place {place} and growing" if grown else f"rebuilding place {place}"
     with script_name(new) as name:
-        return _serve(images, f"replace {place} {name}", f"rebuilding place {place}", None, after)
-
-
-def _grown(look: Look, disk: Disk) -> tuple[Standing | None, list[str]]:
-    assert look.state is not None
-    grown, word = add(standing_of(look), units_of(disk.sectors, look.state.extent))
-    return grown, [f"{disk.path}: {explain_line(f'refused {word}', 'line')}"] if word else []
-
-
-def _little_room(look: Look, grown: Standing, new: Disk) -> list[str]:
-    """Whether the new image, and those that a new layer reaches, have room for all that is written to them."""
-    assert look.state is not None
-    disks, used = [new], {new.path: new.sectors * 512}
-    for layer in grown.layers[len(look.arrays) :]:
-        for place in layer.members:
-            if place in look.seats:
-                disk = look.disks[look.seats[place]]
-                disks.append(disk)
-                used[disk.path] = _used(look, place) + (SLICE_HEAD + layer.height * look.state.extent) * 512
-    return too_little(disks, used)
+        status = _serve(images, f"replace {place} {name}", what, None, after)
+    if said and status == 0:
+        print(said)
+    return status
 
 
 def grow(call: Call) -> int:
@@ -327,19 +360,18 @@ def grow(call: Call) -> int:
         assert look.state is not None
         least = drive_sectors(max(drive.units for drive in look.state.drives), look.state.extent) * 512
         with _new_image(new, least) as fresh:
-            grown, found = _grown(look, fresh.disks[0])
-            found += _check_new(look, fresh, call.permits(), 0)
+            grown, found = _foreseen(look, fresh.disks[0], None)
+            found += _check_new(look, fresh.disks[0], call.permits(), 0)
             if grown and not found:
-                found = _little_room(look, grown, fresh.disks[0])
+                found = _little_room(look, grown, fresh.disks[0], None)
         if found or grown is None:
             raise Objection(*found)
-        now = grown.capacity * look.state.extent * 512
-        gain = now - standing_of(look).capacity * look.state.extent * 512
+        said = _has_grown(look, grown)
     images = [image for image in images if not _same(image, new)]
     with script_name(new) as name:
         status = _serve(images, f"add {name}", "growing", None, [*images, new])
     if status == 0:
-        print(f"the volume has {show(now)} now, {show(gain)} more")
+        print(said)
     return status
 
 

@@ -43,14 +43,6 @@ TEXTS = (
         "Look at the synopsis, `help`; write ./-name for a file whose name begins with a dash.",
     ),
     Text(
-        "unbuilt",
-        "",
-        "words",
-        "",
-        "The form is one that this engine doesn't have yet.",
-        "",
-    ),
-    Text(
         "attach",
         "I",
         "images",
@@ -239,16 +231,6 @@ TEXTS = (
         "",
         "Rows are left to resync.",
         "Do them by `step` first: `resync` does it.",
-    ),
-    Text(
-        "unbuilt",
-        "",
-        "lines",
-        "",
-        "The image that is to replace a drive has another number of extents than the drive had, or with the one that is "
-        "to be added two drives would reach above all arrays, so that a new one would be made: this engine does neither "
-        "yet.",
-        "Make the image as large as the old one was, or as large as the highest array asks for.",
     ),
     Text(
         "size",

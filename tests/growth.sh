@@ -1,7 +1,7 @@
 #!/usr/bin/env bash
-# Pools on real files grow by drives that are added: a mirror becomes RAID-5, and arrays take one member more. The volume is written between any two
-# works, runs are killed at any time, and drives are lost in the middle. What the volume holds is compared with a file that is written alike, and its
-# new sectors are zeros.
+# Pools on real files grow by drives that are added, or that replace a smaller one: a mirror becomes RAID-5, arrays take one member more, and new ones
+# are made. The volume is written between any two works, runs are killed at any time, and drives are lost in the middle. What the volume holds is
+# compared with a file that is written alike, and its new sectors are zeros.
 . "$(dirname "$(readlink -f "${BASH_SOURCE[0]}")")/lib/program.sh"
 . "$top/tests/lib/volume.sh"
 
@@ -74,6 +74,38 @@ works() {
   expect "$1: nothing is refused" sh -c '[ -s out ] && ! grep -q refused out'
 }
 
+# kill_amid NAME SECTORS: the pool does the works that it has left in runs that are killed, each after some milliseconds more. In the end the volume has
+# so many sectors.
+kill_amid() {
+  local milliseconds now
+  for milliseconds in $(seq 3 3 48); do
+    yes 'step 1' | head -n 1000 >script
+    killed "0.0$(printf %02d "$milliseconds")" "${images[@]}"
+    now=$(printf 'size\n' | "$tool" serve "${images[@]}" | sed 's/size //')
+    [ "$now" = "$2" ] && grown "$2"
+    holds "$1 after $milliseconds milliseconds" "${images[@]}"
+  done
+  printf 'step 1000\nsize\n' >script
+  "$tool" serve "${images[@]}" <script >out 2>err
+  expect "$1: the rest" cmp -s out <(printf 'left 0\nsize %d\n' "$2")
+  grown "$2"
+  any_absent "$1" "${images[@]}"
+}
+
+# lose_amid NAME LINE WORKS PLACE SECTORS IMAGE..: a line takes a drive in, so many works are done, and the drive of a place is lost: the plan goes on
+# without it. IMAGE..: those of the pool that it leaves, by their places.
+lose_amid() {
+  local name="$1: drive $4 lost after $3 works" line=$2 works=$3 place=$4 size=$5
+  shift 5
+  printf '%s\nstep %d\nlose %d\nstep 1000\nsize\n' "$line" "$works" "$place" >script
+  "$tool" serve "${images[@]}" <script >out 2>err
+  expect "$name: the plan ends" sh -c "grep -qx 'left 0' out && grep -qx 'size $size' out"
+  grown "$size"
+  local left=("$@")
+  unset "left[place]"
+  holds "$name" "${left[@]}"
+}
+
 # A drive whose units lie between those of others isn't taken in, and nothing changes.
 make 'between' 2560 A 79104 B 79104 C 80384
 blank D 79744
@@ -96,13 +128,6 @@ exec 3>&-
 set_sector 0 97
 serve 'rows are left: it is refused until they agree' 'add D\nstep 100\nadd D\nadd E\nadd D\n' 'refused not-resynced\nleft 0\nrefused size\nok\nrefused plan-pending\n'
 holds 'rows are left' A B C E
-
-# A drive by which a new array would be made isn't taken in yet, and nothing changes.
-make 'a new array' 2560 A 79104 B 79104 C 80384
-blank D 80384
-serve 'a new array: it is refused' 'add D\nstep 0\nsize\n' 'refused unbuilt\nleft 0\nsize 2560\n'
-holds 'a new array' A B C
-expect 'a new array: its image stayed as it was' cmp -s D <(head -c $((512 * 80384)) /dev/zero)
 
 # A fourth drive of the largest size: both arrays take it.
 make 'a fourth drive' 3840 A 79104 B 80384 C 80384
@@ -182,18 +207,7 @@ make 'killed' 3840 A 79104 B 80384 C 80384
 blank D 80384
 serve 'killed: the drive is added' 'add D\n' 'ok\n'
 images=(A B C D)
-for milliseconds in $(seq 3 3 48); do
-  yes 'step 1' | head -n 1000 >script
-  killed "0.0$(printf %02d "$milliseconds")" "${images[@]}"
-  now=$(printf 'size\n' | "$tool" serve "${images[@]}" | sed 's/size //')
-  [ "$now" = 6400 ] && grown 6400
-  holds "killed after $milliseconds milliseconds" "${images[@]}"
-done
-printf 'step 1000\nsize\n' >script
-"$tool" serve "${images[@]}" <script >out 2>err
-expect 'killed: the rest' cmp -s out <(printf 'left 0\nsize 6400\n')
-grown 6400
-any_absent 'killed' "${images[@]}"
+kill_amid 'killed' 6400
 
 # A run that takes the drive in is killed: the pool is the one before, or has the drive.
 make 'added' 3840 A 79104 B 80384 C 80384
@@ -213,16 +227,10 @@ done
 
 # A drive is lost at some work: the plan goes on without it.
 for place in 0 1 2 3; do
-  for done in 0 1 9 27 40 56; do
-    make "drive $place lost after $done works" 3840 A 79104 B 80384 C 80384
+  for works in 0 1 9 27 40 56; do
+    make "a fourth drive: $place lost after $works" 3840 A 79104 B 80384 C 80384
     blank D 80384
-    printf 'add D\nstep %d\nlose %d\nstep 1000\nsize\n' "$done" "$place" >script
-    "$tool" serve A B C <script >out 2>err
-    expect "drive $place lost after $done works: the plan ends" sh -c "grep -qx 'left 0' out && grep -qx 'size 6400' out"
-    grown 6400
-    all=(A B C D)
-    unset "all[place]"
-    holds "drive $place lost after $done works" "${all[@]}"
+    lose_amid 'a fourth drive' 'add D' "$works" "$place" 6400 A B C D
   done
 done
 
@@ -242,5 +250,80 @@ for image in C D E F G H; do
   holds "two to eight: $image" "${images[@]}"
 done
 any_absent 'two to eight' "${images[@]}"
+
+# Two large drives get an array of their own: it is made, zeroed and made ready, and the volume goes on over it.
+make 'a new array' 2560 A 79104 B 79104 C 80384
+blank D 80384
+serve 'a new array: all works' 'add D\nstep 0\nsize\nstep 100\nsize\nread 5119\n' 'ok\nleft 58\nsize 2560\nleft 0\nsize 5120\ndata -\n'
+images=(A B C D)
+grown 5120
+any_absent 'a new array' "${images[@]}"
+"$tool" status "${images[@]}" </dev/null >shown 2>err
+expect 'a new array: all drives have a part in the first one' grep -qx 'array 0 level 5 members 4 rows 26' shown
+expect 'a new array: the large ones have a mirror' grep -qx 'array 1 level 1 members 2 rows 26' shown
+head -c $((sectors * 512)) /dev/urandom >bytes
+cp bytes script
+check 'a new array: the volume is filled again' 0 "imported $((sectors * 512))\n" import "${images[@]}"
+any_absent 'a new array: the volume is filled again' "${images[@]}"
+if have sgdisk gdisk; then
+  for image in "${images[@]}"; do
+    expect "a new array: sgdisk finds nothing wrong with the tables of $image" sh -c "sgdisk --verify $image | grep -q 'No problems found'"
+  done
+fi
+make 'a new array, killed' 2560 A 79104 B 79104 C 80384
+blank D 80384
+serve 'a new array, killed: the drive is added' 'add D\nstep 27\n' 'ok\nleft 31\n'
+images=(A B C D)
+kill_amid 'a new array, killed' 5120
+for place in 0 1 2 3; do
+  for works in 0 27 28 29 40 55 56; do
+    make "a new array: $place lost after $works" 2560 A 79104 B 79104 C 80384
+    blank D 80384
+    lose_amid 'a new array' 'add D' "$works" "$place" 5120 A B C D
+  done
+done
+
+# A drive is replaced by a larger one, missing or not: its members are rebuilt, and the pool grows.
+make 'a larger drive' 2560 A 79104 B 79104 C 80384
+blank D 80384
+serve 'a larger drive: all works' 'replace 0 D\nstep 0\nstep 56\nsize\n' 'ok\nleft 56\nleft 0\nsize 3840\n'
+images=(D B C)
+grown 3840
+any_absent 'a larger drive' "${images[@]}"
+make 'a larger drive for a missing one' 3840 A 79104 B 80384 C 80384
+rm A
+blank D 81664
+images=(B C)
+serve 'a larger drive for a missing one: refusals' 'replace 0 none\nreplace 0 B\nreplace 1 D\n' 'refused attach\nrefused twice\nrefused not-whole\n'
+blank E 79744
+serve 'a larger drive for a missing one: all works' 'replace 0 E\nreplace 0 D\nreplace 0 D\nstep 1000\nsize\n' \
+  'refused size\nok\nrefused twice\nleft 0\nsize 5120\n'
+images=(D B C)
+grown 5120
+any_absent 'a larger drive for a missing one' "${images[@]}"
+make 'a larger drive, killed' 2560 A 79104 B 79104 C 80384
+blank D 80384
+serve 'a larger drive, killed: it is taken in' 'replace 0 D\n' 'ok\n'
+images=(D B C)
+kill_amid 'a larger drive, killed' 3840
+for place in 0 1 2; do
+  for works in 26 27 30 53 54; do
+    make "a larger drive: $place lost after $works" 2560 A 79104 B 79104 C 80384
+    blank D 80384
+    lose_amid 'a larger drive' 'replace 0 D' "$works" "$place" 3840 D B C
+  done
+done
+
+# Layer upon layer: each larger pair of drives gets an array above all others.
+make 'layers' 1280 A 79104 B 79104
+for drive in 'C 80384 31 2560' 'D 80384 58 5120' 'E 81664 59 7680' 'F 81664 86 11520'; do
+  read -r image size works now <<<"$drive"
+  blank "$image" "$size"
+  serve "layers: $image" "add $image\nstep 0\nstep 1000\nsize\n" "ok\nleft $works\nleft 0\nsize $now\n"
+  images+=("$image")
+  grown "$now"
+  holds "layers: $image" "${images[@]}"
+done
+any_absent 'layers' "${images[@]}"
 
 close

@@ -94,9 +94,10 @@ any_absent 'a former drive' first second third
 # Refusals.
 make 'refused'
 truncate -s $((512 * 80384)) new
-truncate -s $((512 * 81664)) larger
-serve 'by their causes' 0 'replace 3 new\nreplace 0 none\nreplace 1 third\nreplace 1 larger\nlose 1\nreplace 1 larger\nlose 0\nreplace 1 new\n' \
-  'refused no-such-drive\nrefused attach\nrefused twice\nrefused unbuilt\nok\nrefused unbuilt\nok\nrefused not-whole\n' first second third
+truncate -s $((512 * 81024)) between
+truncate -s $((512 * 79104)) smaller
+serve 'by their causes' 0 'replace 3 new\nreplace 0 none\nreplace 1 third\nreplace 1 between\nreplace 1 smaller\nlose 1\nreplace 1 between\nreplace 1 smaller\nlose 0\nreplace 1 new\n' \
+  'refused no-such-drive\nrefused attach\nrefused twice\nrefused size\nrefused smaller\nok\nrefused size\nrefused smaller\nok\nrefused not-whole\n' first second third
 
 # As others read the new drive.
 make 'for others'

@@ -141,7 +141,7 @@ check 'an empty name' 2 'refused words\n' serve '' second
 check 'create of nothing' 2 'refused words\n' create
 check 'create of no names' 2 'refused words\n' create 128
 check 'create with an extent of 64 sectors' 2 'refused words\n' create 64 first second
-check 'a form that is not built' 6 'refused unbuilt\n' trial 7 first second
+check 'a trial of nothing' 2 'refused words\n' trial 7
 check 'status of nothing' 2 'refused words\n' status
 check 'import of nothing' 2 'refused words\n' import
 check 'a seed that is no number' 2 'refused words\n' trial +7 first second

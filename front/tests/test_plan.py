@@ -172,10 +172,22 @@ class Words(PoolCase):
             self.image("new", new)
             now = layout(tuple(units_of(size, 128) for size in sizes))
             grown, word = add(now, units_of(new, 128))
-            if grown and len(grown.layers) > len(now.layers):
-                # The engine makes no new array yet.
-                grown, word = None, "unbuilt"
             self.engine("serve", *images, script="add new\nstep 1000000\nsize\n")
+            lines = self.out.split("\n")
+            self.assertEqual(lines[0], f"refused {word}" if word else "ok")
+            if grown:
+                self.assertEqual(lines[2], f"size {grown.capacity * 128}")
+
+    def test_as_the_engine_replaces(self) -> None:
+        chance = random.Random(9)
+        for _ in range(GROWTHS):
+            sizes = [chance.choice((TEN, TWENTY, THIRTY)) for _ in range(chance.randint(2, 4))]
+            images, new = self.make(*sizes), chance.choice((TEN, TWENTY, THIRTY))
+            self.image("new", new)
+            place = chance.randrange(len(sizes))
+            now = layout(tuple(units_of(size, 128) for size in sizes))
+            grown, word = take_place(now, place, units_of(new, 128))
+            self.engine("serve", *images, script=f"replace {place} new\nstep 1000000\nsize\n")
             lines = self.out.split("\n")
             self.assertEqual(lines[0], f"refused {word}" if word else "ok")
             if grown:

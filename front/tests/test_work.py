@@ -77,6 +77,13 @@ class FilledCase(PoolCase):
         self.assertEqual(self.raw, self.volume)
 
 
+    def has_grown(self, size: int, *images: str) -> None:
+        """The volume has so many sectors, those that it had hold what they held, and the others zeros."""
+        self.assertEqual(self.call("check", *images), 0, self.out)
+        self.volume += bytes(size * 512 - len(self.volume))
+        self.holds(*images)
+
+
 class Replace(FilledCase):
     """A drive is replaced."""
 
@@ -137,9 +144,32 @@ class Replace(FilledCase):
             self.assertEqual(self.call("replace", *words), 9, f"{words} {self.err}")
             self.assertIn(said, self.err)
             self.assertEqual({name: text for name, text in self.hashes().items() if name in before}, before)
-        self.assertEqual(self.call("replace", "1", "large", "a", "b", "c"), 6)
-        self.assertIn("refused unbuilt", self.err)
-        self.assertIn("Make the image as large as the old one was", self.err)
+
+    def test_by_a_larger_one(self) -> None:
+        for place, gone, size, more in ((1, False, 5120, "655.36 kB"), (0, True, 6400, "1.31 MB")):
+            images = self.filled(TEN, TWENTY, THIRTY)
+            self.image("new", THIRTY)
+            self.image("between", TWENTY + 640)
+            if gone:
+                os.unlink(self.path(images[place]))
+                images.pop(place)
+                after = ["new", *images]
+            else:
+                after = ["new" if at == place else image for at, image in enumerate(images)]
+            self.assertEqual(self.call("replace", str(place), "between", *images), 9)
+            self.assertIn("between: refused size", self.err)
+            self.assertEqual(self.call("replace", str(place), "new", *images), 0, self.err)
+            self.assertRegex(self.err, rf"replacing place {place} and growing: 100 %")
+            self.assertIn(f"{more} more", self.out)
+            self.has_grown(size, *after)
+            for absent in after:
+                self.assertEqual(self.engine("export", *(image for image in after if image != absent)), 0)
+                self.assertEqual(self.raw, self.volume)
+                # It is marked missing now, and taken in again.
+                left = [image for image in after if image != absent]
+                self.assertEqual(self.call("replace", str(after.index(absent)), absent, *left), 0, self.err)
+            for image in set(after):
+                os.unlink(self.path(image))
 
     def test_blocked(self) -> None:
         images = self.filled(TEN, TEN, TEN)
@@ -172,12 +202,6 @@ class Replace(FilledCase):
 class Grow(FilledCase):
     """A pool grows by a drive."""
 
-    def has_grown(self, size: int, *images: str) -> None:
-        """The volume has so many sectors, those that it had hold what they held, and the others zeros."""
-        self.assertEqual(self.call("check", *images), 0, self.out)
-        self.volume += bytes(size * 512 - len(self.volume))
-        self.holds(*images)
-
     def test_grow(self) -> None:
         images = self.filled(TEN, TEN)
         self.image("new", TWENTY)
@@ -196,6 +220,13 @@ class Grow(FilledCase):
         self.image("my newer drive", TEN)
         self.assertEqual(self.call("grow", "my newer drive", "new", *images), 0, self.err)
         self.has_grown(3840, *images, "my newer drive", "new")
+
+    def test_a_new_layer(self) -> None:
+        images = self.filled(TEN, TEN, TWENTY)
+        self.image("new", TWENTY)
+        self.assertEqual(self.call("grow", "new", *images), 0, self.err)
+        self.assertIn("more", self.out)
+        self.has_grown(40 * 128, *images, "new")
 
     def test_refused(self) -> None:
         images = self.filled(TEN, TWENTY, TWENTY)
