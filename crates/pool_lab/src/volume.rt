@@ -253,8 +253,7 @@ impl<'a> Walk<'a> {
         volume.grow()?;
         let mut longer = flat_of(self.alloc, &volume)?;
         for sector in 0..self.flat.size() {
-            let later = self.flat.values(sector).get(1..).unwrap_or(&[]);
-            push_values(self.alloc, &mut longer, sector, later)?;
+            push_later(self.alloc, &mut longer, &self.flat, sector)?;
         }
         self.flat = longer;
         self.unsure = volume.unsure;
@@ -411,20 +410,20 @@ fn writes(command: &Command, sector: u64, value: &Sector) -> bool {
     }
 }
 
-// Gives a sector of a flat array some values more.
-fn push_values(
+// Gives a sector of a flat array the values that it has in another one behind the first.
+fn push_later(
     alloc: Global,
-    flat: &mut FlatDisk,
+    to: &mut FlatDisk,
+    from: &FlatDisk,
     sector: u64,
-    values: &[[u8; 512]],
 ) -> Result<(), AllocError> {
     let mut replies = Vec::new(alloc);
-    for bytes in values {
+    for bytes in from.values(sector).iter().skip(1) {
         let write = Command::Write {
             sector,
             bytes: *bytes,
         };
-        flat.answer(alloc, &Ok(write), &mut replies)?;
+        to.answer(alloc, &Ok(write), &mut replies)?;
     }
     Ok(())
 }
