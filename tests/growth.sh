@@ -5,55 +5,10 @@
 . "$(dirname "$(readlink -f "${BASH_SOURCE[0]}")")/lib/program.sh"
 . "$top/tests/lib/volume.sh"
 
-# blank NAME SECTORS: an image of zeros.
-blank() {
-  rm -f "$1"
-  truncate -s $((512 * $2)) "$1"
-}
-
-# make NAME SECTORS IMAGE SIZE ..: a pool of images of so many sectors, its volume full of random bytes.
-make() {
-  local name=$1
-  sectors=$2
-  shift 2
-  images=()
-  while [ $# -gt 0 ]; do
-    blank "$1" "$2"
-    images+=("$1")
-    shift 2
-  done
-  : >script
-  check "$name: the pool is made" 0 "created $sectors\n" create 128 "${images[@]}"
-  head -c $((sectors * 512)) /dev/urandom >bytes
-  cp bytes script
-  check "$name: the volume is filled" 0 "imported $((sectors * 512))\n" import "${images[@]}"
-}
-
 # serve NAME SCRIPT REPLIES: a script over the pool's images.
 serve() {
   printf '%b' "$2" >script
   check "$1" 0 "$3" serve "${images[@]}"
-}
-
-# set_sector SECTOR BYTE: the file is written as a sector of the volume is.
-set_sector() {
-  { printf "\\x$(printf %02x "$2")"; head -c 511 /dev/zero; } | dd of=bytes bs=512 seek="$1" conv=notrunc status=none
-}
-
-# put SECTOR BYTE: a line that writes a sector, and the file that is written alike.
-put() {
-  printf 'write %d %02x\n' "$1" "$2" >>script
-  set_sector "$1" "$2"
-}
-
-# killed SECONDS IMAGE..: a run of the script that is killed after some time.
-killed() {
-  local seconds=$1
-  shift
-  "$tool" serve "$@" <script >out 2>err &
-  sleep "$seconds"
-  kill -9 $! 2>/dev/null
-  wait $! 2>/dev/null
 }
 
 # grown SECTORS: the volume has so many sectors now, and what came is zeros.
@@ -74,13 +29,23 @@ works() {
   expect "$1: nothing is refused" sh -c '[ -s out ] && ! grep -q refused out'
 }
 
+# tables_are_fine NAME IMAGE..: as sgdisk sees them, where it is at hand.
+tables_are_fine() {
+  local name=$1 image
+  shift
+  have sgdisk gdisk || { echo "skipped: sgdisk isn't here, and gdisk can't be installed"; return; }
+  for image in "$@"; do
+    expect "$name: sgdisk finds nothing wrong with the tables of $image" sh -c "sgdisk --verify $image | grep -q 'No problems found'"
+  done
+}
+
 # kill_amid NAME SECTORS: the pool does the works that it has left in runs that are killed, each after some milliseconds more. In the end the volume has
 # so many sectors.
 kill_amid() {
   local milliseconds now
   for milliseconds in $(seq 3 3 48); do
     yes 'step 1' | head -n 1000 >script
-    killed "0.0$(printf %02d "$milliseconds")" "${images[@]}"
+    killed "0.0$(printf %02d "$milliseconds")" serve "${images[@]}"
     now=$(printf 'size\n' | "$tool" serve "${images[@]}" | sed 's/size //')
     [ "$now" = "$2" ] && grown "$2"
     holds "$1 after $milliseconds milliseconds" "${images[@]}"
@@ -144,17 +109,9 @@ expect 'a fourth drive: the plan has ended' grep -qx 'plan nothing' shown
 for turn in $(seq 100); do put $((turn * 673 % sectors)) $((turn + 100)); done
 "$tool" serve "${images[@]}" <script >out 2>err
 any_absent 'a fourth drive: the volume is written' "${images[@]}"
-head -c $((sectors * 512)) /dev/urandom >bytes
-cp bytes script
-check 'a fourth drive: the volume is filled again' 0 "imported $((sectors * 512))\n" import "${images[@]}"
+fill 'a fourth drive: the volume is filled again' "${images[@]}"
 any_absent 'a fourth drive: the volume is filled again' "${images[@]}"
-if have sgdisk gdisk; then
-  for image in "${images[@]}"; do
-    expect "sgdisk finds nothing wrong with the tables of $image" sh -c "sgdisk --verify $image | grep -q 'No problems found'"
-  done
-else
-  echo "skipped: sgdisk isn't here, and gdisk can't be installed"
-fi
+tables_are_fine 'a fourth drive' "${images[@]}"
 
 # Lines while a plan is there.
 make 'a plan' 3840 A 79104 B 80384 C 80384
@@ -214,7 +171,7 @@ make 'added' 3840 A 79104 B 80384 C 80384
 for milliseconds in 1 2 3 5 8; do
   blank D 80384
   printf 'add D\n' >script
-  killed "0.00$milliseconds" A B C
+  killed "0.00$milliseconds" serve A B C
   printf 'step 0\n' >script
   if "$tool" serve A B C D <script >out 2>err && grep -qx 'left 59' out; then
     holds "added within $milliseconds milliseconds" A B C D
@@ -261,15 +218,9 @@ any_absent 'a new array' "${images[@]}"
 "$tool" status "${images[@]}" </dev/null >shown 2>err
 expect 'a new array: all drives have a part in the first one' grep -qx 'array 0 level 5 members 4 rows 26' shown
 expect 'a new array: the large ones have a mirror' grep -qx 'array 1 level 1 members 2 rows 26' shown
-head -c $((sectors * 512)) /dev/urandom >bytes
-cp bytes script
-check 'a new array: the volume is filled again' 0 "imported $((sectors * 512))\n" import "${images[@]}"
+fill 'a new array: the volume is filled again' "${images[@]}"
 any_absent 'a new array: the volume is filled again' "${images[@]}"
-if have sgdisk gdisk; then
-  for image in "${images[@]}"; do
-    expect "a new array: sgdisk finds nothing wrong with the tables of $image" sh -c "sgdisk --verify $image | grep -q 'No problems found'"
-  done
-fi
+tables_are_fine 'a new array' "${images[@]}"
 make 'a new array, killed' 2560 A 79104 B 79104 C 80384
 blank D 80384
 serve 'a new array, killed: the drive is added' 'add D\nstep 27\n' 'ok\nleft 31\n'

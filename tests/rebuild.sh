@@ -15,25 +15,7 @@ make() {
   for place in 0 1 2 3; do truncate -s $((512 * sizes[place])) "${names[place]}"; done
   : >script
   check "$1: the pool is made" 0 "created $sectors\n" create 128 "${names[@]}"
-  head -c $((sectors * 512)) /dev/urandom >bytes
-  cp bytes script
-  check "$1: the volume is filled" 0 "imported $((sectors * 512))\n" import "${names[@]}"
-}
-
-# put SECTOR BYTE: a line that writes a sector, and the file that is written alike.
-put() {
-  printf 'write %d %02x\n' "$1" "$2" >>script
-  { printf "\\x$(printf %02x "$2")"; head -c 511 /dev/zero; } | dd of=bytes bs=512 seek="$1" conv=notrunc status=none
-}
-
-# killed SECONDS IMAGE..: a run of the script that is killed after some time.
-killed() {
-  local seconds=$1
-  shift
-  "$tool" serve "$@" <script >out 2>err &
-  sleep "$seconds"
-  kill -9 $! 2>/dev/null
-  wait $! 2>/dev/null
+  fill "$1: the volume is filled" "${names[@]}"
 }
 
 # Each drive, with a write between any two works.
@@ -68,7 +50,7 @@ expect 'killed: the new drive is taken in' grep -qx ok out
 images=(first second new fourth)
 yes 'step 1' | head -n 1000 >script
 for milliseconds in $(seq 5 7 61); do
-  killed "0.0$(printf %02d "$milliseconds")" "${images[@]}"
+  killed "0.0$(printf %02d "$milliseconds")" serve "${images[@]}"
   holds "killed after $milliseconds milliseconds" "${images[@]}"
 done
 printf 'step 1000\n' >script

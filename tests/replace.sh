@@ -5,6 +5,7 @@
 . "$top/tests/lib/volume.sh"
 
 # Units of ten, twenty and thirty extents: RAID-5 over all drives, and a mirror over the last two. The rows of an array are 26.
+sectors=3840
 make() {
   rm -f first second third new
   truncate -s $((512 * 79104)) first
@@ -12,9 +13,7 @@ make() {
   truncate -s $((512 * 81664)) third
   : >script
   check "$1: the pool is made" 0 'created 3840\n' create 128 first second third
-  head -c $((3840 * 512)) /dev/urandom >bytes
-  cp bytes script
-  check "$1: the volume is filled" 0 "imported $((3840 * 512))\n" import first second third
+  fill "$1: the volume is filled" first second third
 }
 
 serve() {

@@ -9,41 +9,12 @@ fi
 . "$top/tests/lib/volume.sh"
 have python3 python3 || { echo 'no python3: trials are passed over'; close; exit; }
 
-# make NAME SECTORS IMAGE SIZE ..: a pool of images of so many sectors, its volume full of random bytes.
-make() {
-  local name=$1 sectors=$2
-  shift 2
-  images=()
-  while [ $# -gt 0 ]; do
-    rm -f "$1"
-    truncate -s $((512 * $2)) "$1"
-    images+=("$1")
-    shift 2
-  done
-  : >script
-  check "$name: the pool is made" 0 "created $sectors\n" create 128 "${images[@]}"
-  head -c $((sectors * 512)) /dev/urandom >bytes
-  cp bytes script
-  check "$name: the volume is filled" 0 "imported $((sectors * 512))\n" import "${images[@]}"
-  : >script
-}
-
 # trial NAME SEED IMAGE..: the line and the bytes of a trial on these images.
 trial() {
   local name=$1 seed=$2
   shift 2
   check "$name" 0 "$(python3 "$top/tests/lib/flat.py" "$seed" bytes)\n" trial "$seed" "$@"
   holds "$name: what it leaves" "$@"
-}
-
-# killed SECONDS SEED IMAGE..: a trial that is killed after some time.
-killed() {
-  local seconds=$1 seed=$2
-  shift 2
-  "$tool" trial "$seed" "$@" >out 2>err &
-  sleep "$seconds"
-  kill -9 $! 2>/dev/null
-  wait $! 2>/dev/null
 }
 
 make 'three drives' 3840 A 79104 B 80384 C 81664
@@ -79,7 +50,7 @@ fi
 
 # Runs that are killed, each a while later, and repeated.
 for hundredths in 1 2 3 4 6; do
-  killed "0.0$hundredths" 12345 A B C
+  killed "0.0$hundredths" trial 12345 A B C
   trial "after a trial that was killed after $hundredths hundredths of a second" 0 A B C
 done
 printf 'step 1000\n' >script

@@ -164,6 +164,15 @@ class Words(PoolCase):
         xml.etree.ElementTree.parse(self.path("picture.svg"))
         self.assertEqual({name: text for name, text in self.hashes().items() if name in images}, before)
 
+    def grows_as(self, foreseen: tuple[Standing | None, str | None], images: list[str], line: str) -> None:
+        """The engine answers a line that takes a drive in as it was foreseen, and then its volume is as long."""
+        grown, word = foreseen
+        self.engine("serve", *images, script=f"{line}\nstep 1000000\nsize\n")
+        lines = self.out.split("\n")
+        self.assertEqual(lines[0], f"refused {word}" if word else "ok")
+        if grown:
+            self.assertEqual(lines[2], f"size {grown.capacity * 128}")
+
     def test_as_the_engine_grows(self) -> None:
         chance = random.Random(8)
         for _ in range(GROWTHS):
@@ -171,12 +180,7 @@ class Words(PoolCase):
             images, new = self.make(*sizes), chance.choice((TEN, TWENTY, THIRTY))
             self.image("new", new)
             now = layout(tuple(units_of(size, 128) for size in sizes))
-            grown, word = add(now, units_of(new, 128))
-            self.engine("serve", *images, script="add new\nstep 1000000\nsize\n")
-            lines = self.out.split("\n")
-            self.assertEqual(lines[0], f"refused {word}" if word else "ok")
-            if grown:
-                self.assertEqual(lines[2], f"size {grown.capacity * 128}")
+            self.grows_as(add(now, units_of(new, 128)), images, "add new")
 
     def test_as_the_engine_replaces(self) -> None:
         chance = random.Random(9)
@@ -186,9 +190,4 @@ class Words(PoolCase):
             self.image("new", new)
             place = chance.randrange(len(sizes))
             now = layout(tuple(units_of(size, 128) for size in sizes))
-            grown, word = take_place(now, place, units_of(new, 128))
-            self.engine("serve", *images, script=f"replace {place} new\nstep 1000000\nsize\n")
-            lines = self.out.split("\n")
-            self.assertEqual(lines[0], f"refused {word}" if word else "ok")
-            if grown:
-                self.assertEqual(lines[2], f"size {grown.capacity * 128}")
+            self.grows_as(take_place(now, place, units_of(new, 128)), images, f"replace {place} new")
