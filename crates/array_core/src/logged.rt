@@ -261,6 +261,7 @@ impl Array {
         if !self.stage_unspent(rack, log, all, x, from) {
             return Err(Spent { sector: x });
         }
+        // A stop leaves the old value with the old parity or the new one with the new: what a missing member had stays.
         let lost = log.commit(rack, on);
         self.note_all(&lost);
         self.answer(x)

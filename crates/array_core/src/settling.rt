@@ -42,6 +42,7 @@ impl Array {
         ensures log { log.new ≡ record log.old { added = log.new.added } }
         ensures runs { R.runs rack.old rack.new }
     {
+        // A stop after the commit that takes the mark back finds rows that agree: they are durable before it.
         self.sync(rack);
         self.settle_truth();
         self.stage_own(log);
@@ -76,6 +77,7 @@ impl Array {
     {
         self.rules();
         self.truth_rules();
+        // A stop amid the superblocks below may go by one that leaves no row to resync: the rows are durable before.
         self.sync(rack);
         self.rules();
         if self.has_lost() || self.is_settled() {

@@ -135,6 +135,7 @@ impl Array {
         if !self.next_parity(rack, &at, &side, from, &mut parity) {
             return;
         }
+        // A stop between the two leaves a wrong parity, in a row that the mark leaves to resync; no member is missing.
         self.put(rack, at.position, at.sector, from);
         self.put(rack, side.position, at.sector, &parity);
     }
@@ -238,6 +239,8 @@ impl Array {
         ensures runs { R.runs rack.old rack.new }
     {
         self.unsync_truth();
+        // A stop amid the superblocks leaves all rows to resync by the first of them, or none: the members agree still.
+        // It is durable on all members before a row is written: a stop amid such a write finds it.
         self.renew_supers(rack);
         self.mark_if_all();
     }
@@ -307,6 +310,7 @@ impl Array {
         if ready {
             return self.write_marked(rack, sector, from);
         }
+        // After a stop no resync would mend this row, as where a member is missing: one commit has all of it.
         self.write_logged(rack, log, on, whole, sector, from)
     }
 }

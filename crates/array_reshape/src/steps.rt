@@ -55,6 +55,7 @@ pub fn take_over<R: Rack>(
         log.clear();
         return answer(array, 0);
     }
+    // A stop leaves a mirror, or RAID-5 of two members, whose parity is the data: each sector reads the same.
     let lost = log.commit(rack, on);
     array.note_all(&lost);
     array.rules();
@@ -101,6 +102,7 @@ pub fn begin<R: Rack>(
     }
     join(array, on, place, drive);
     array.stage_own(log);
+    // A stop leaves the members that were, or one more and no row moved: all rows go by the old layout still.
     let lost = log.commit(rack, on);
     array.note_all(&lost);
     answer(array, 0)
@@ -146,6 +148,8 @@ pub fn row<R: Rack>(
         log.clear();
         return answer(array, position);
     }
+    // The row is written over sectors that it was read from. A stop amid them replays it; before that the position
+    // is in front of the row and the old sectors stand, after it the position is behind it.
     let lost = log.commit(rack, on);
     array.note_all(&lost);
     array.rules();
@@ -185,6 +189,7 @@ pub fn finish<R: Rack>(
     }
     let change = changes::finished(array);
     array.stage(log, &change);
+    // A stop leaves a reshape that has moved all rows, or the array without it: each sector reads the same.
     let lost = log.commit(rack, on);
     array.note_all(&lost);
     array.rules();

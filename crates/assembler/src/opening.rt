@@ -189,6 +189,7 @@ pub fn assemble<R: Rack>(
         → back.why ≡ Memory → LeavesPool R.seen R.runs rack back.rack f) }
     ensures returned { IfErr result (λ back. R.runs rack back.rack) }
 {
+    // A stop in it leaves the record pending still, or written; nothing else is written before the checks are passed.
     let rest = match bring_to_rest(alloc, rack) {
         Ok(rest) => rest,
         Err(back) => {

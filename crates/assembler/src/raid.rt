@@ -167,10 +167,13 @@ pub(crate) fn make_rack<R: Rack>(members: Members<R>, seconds: u64) -> RaidRack<
     let (mut slices, mut log, mut arrays) = (slices, log, checked.arrays);
     rules(arrays.as_slice());
     restart_rebuilds(arrays.as_mut_slice());
+    // A stop amid the gates needs no replay: whatever was pending is written by now.
     let gone = close_gates(&mut slices, &mut log, &state, absent);
+    // A stop in it leaves each disk the table that it had, in one valid copy at least.
     let left_out = mend_tables(&mut slices, &state, seats, &checked.agreed, &gone);
     note_gone(arrays.as_mut_slice(), &left_out);
     let mut raid = RaidRack::new(slices, state, arrays, log, seconds);
+    // By commits: a stop leaves a pool that the next opening finds with the same drives absent, or with them marked.
     mark_gone(&mut raid, has_stale(checked.stale.as_slice()));
     raid
 }

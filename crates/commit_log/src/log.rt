@@ -130,14 +130,19 @@ impl Log {
         let on = on.as_slice();
         self.added.seal(number);
         let mut lost = Lost::none();
+        // A stop in it leaves the gates at the number before, and the record of that one whole in the other half:
+        // what was pending stays pending, and this record doesn't count yet.
         settle_record(rack, &mut lost, on, half(number), &self.added);
         let opened = Gate { open: true, number };
+        // The record is durable: a stop amid the gates leaves it uncounted, or pending by the first that is open.
         settle_each(rack, &mut lost, on, GATE, &opened.encode());
+        // All gates are open, durably: a stop amid the targets leaves the record pending, and a replay writes the rest.
         settle_targets(rack, &mut lost, &self.added);
         let closed = Gate {
             open: false,
             number,
         };
+        // The targets are durable: a stop amid the gates needs no replay, and does no harm by one.
         close_gates(rack, &mut lost, on, &closed.encode());
         self.number = number;
         self.forget();
@@ -227,6 +232,7 @@ impl Log {
         };
         let mut lost = Lost::none();
         settle_targets(rack, &mut lost, &self.pending);
+        // The targets are durable: until here a stop leaves the record pending, and it is replayed once more.
         self.close(rack, &mut lost, on, &closed.encode());
         self.forget();
         lost.list()

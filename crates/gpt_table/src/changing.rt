@@ -57,6 +57,7 @@ pub(crate) fn replace_copy<R: Rack>(
     let sectors = rack.sectors(disk);
     let own = header_sector(copy, sectors);
     let first = entries_sector(copy, sectors);
+    // A stop between this and the last write leaves this copy invalid, and the other one to go by.
     if let Err(gone) = write_durably(rack, disk, own, &[0; 512]) {
         return Err(gone);
     }
@@ -122,6 +123,7 @@ pub fn change_entry<R: Rack>(
     ensures runs { R.runs rack.old rack.new }
 {
     table.entries = with_entry(table.entries.as_slice(), entry);
+    // A stop in it leaves the primary with the old table; one in the primary's turn leaves the backup with the new.
     if let Err(gone) = replace_copy(rack, disk, TableCopy::Backup, table) {
         return Err(gone);
     }

@@ -140,6 +140,7 @@ fn settle_copies<R: Rack>(rack: &mut R, disk: u32, copies: &Copies) -> Result<()
             return Ok(());
         }
     }
+    // The first valid copy isn't touched: after a stop amid the other one the table is read from it.
     replace_stale(rack, disk, TableCopy::Backup, primary)
 }
 

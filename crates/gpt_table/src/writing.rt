@@ -67,6 +67,7 @@ fn write_sectors<R: Rack>(
     ensures writes { WritesSectors (R.seen rack.old) (R.seen rack.new) disk (copy_plan own header.now first bytes.now) result }
     ensures runs { R.runs rack.old rack.new }
 {
+    // With no sync between: a disk whose table is laid whole is no drive of a pool yet, whatever a stop leaves of it.
     if let Err(gone) = write_entries(rack, disk, first, bytes) {
         return Err(gone);
     }

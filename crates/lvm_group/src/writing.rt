@@ -249,6 +249,7 @@ fn put_first<R: Rack>(
     if let Err(gone) = put_blank(rack, array, start.blank) {
         return Err(gone);
     }
+    // Behind the text that the header has: a stop amid it leaves that one whole.
     put_text(rack, array, start.sector, text)
 }
 
@@ -331,9 +332,11 @@ pub(crate) fn put_new<R: Rack>(
     if let Err(gone) = put_firsts(rack, pool, arrays, starts, text) {
         return Err(gone);
     }
+    // A stop before all are synced leaves headers with the text from before, or with none.
     if let Err(gone) = sync_first(rack, arrays) {
         return Err(gone);
     }
+    // The text is durable on all arrays: a stop amid the headers leaves a group by the first that has it.
     if let Err(gone) = put_headers(rack, arrays, starts, text) {
         return Err(gone);
     }

@@ -65,6 +65,7 @@ impl<B: Bay> Rack for OnlineBay<B> {
     }
 
     fn sync(&mut self, disk: u32) -> Result<(), Gone> {
+        // No call has reached it: nothing is there that a stop could undo.
         if self.is_offline(disk) {
             return Ok(());
         }

@@ -167,6 +167,7 @@ impl<R: Bay> Pool<R> {
         ensures replaces { ReplacesBy (view R.seen R.shelf self.old) (view R.seen R.shelf self.new) place disk result }
         ensures runs { R.runs (bay_in self.old) (bay_in self.new) }
     {
+        // A stop after the commit that takes the disk in finds no row to resync beside a member that is rebuilding.
         self.clean();
         if self.lacks_other(place) {
             return Err(GrowFault::NotWhole);

@@ -108,12 +108,15 @@ fn write_pool<R: Rack>(
     ensures drives { OnOk result ((d : ℕ) → IsWhole (R.seen rack.old) d → IsNewDrive plan.now birth.now d ((R.seen rack.old).sectors d) (now_on (R.seen rack.new) d)) }
     ensures runs { R.runs rack.old rack.new }
 {
+    // A stop amid these leaves all else that the disks held.
     if let Err(gone) = clear_states(rack, plan) {
         return Err(gone);
     }
+    // No disk has a state: a stop in it leaves no pool.
     if let Err(gone) = fill_drives(rack, plan, birth, group) {
         return Err(gone);
     }
+    // All else is durable: a stop amid the copies leaves a pool that is refused while one is wanting, or a whole one.
     write_states(rack, plan, birth)
 }
 

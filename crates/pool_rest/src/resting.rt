@@ -305,6 +305,8 @@ pub(crate) fn replay_on<R: Rack>(
     let mut slices = SliceRack::new(rack);
     let on = seat_drives(&mut slices, scan, state);
     let unread = lay_drives(&mut slices, scan, state);
+    // A gate stays open where a disk has refused a call: a stop then leaves the record pending, for that drive too if
+    // it answers at the next opening.
     let closing = closing_of(whole, &unread, scan, before, state, &on);
     let gone = log.replay(&mut slices, &closing);
     Replayed {

@@ -167,6 +167,7 @@ fn lay_reached<R: Rack>(
         (spec.may_join extent arrays.now place units ((R.seen rack.old).sectors disk)) table.now result }
     ensures runs { R.runs rack.old rack.new }
 {
+    // Before the drive is listed: a stop after that commit finds no superblock that an array would take for a member's.
     if let Err(gone) = clear_supers(rack, disk, arrays, extent, place, units) {
         return Err(gone);
     }
@@ -213,6 +214,7 @@ impl Arrays {
         let current = current_places(&self.state);
         self.log.clear();
         add_copies(&self.state, &current, &mut self.log);
+        // A stop before it leaves a disk that is none of the pool's; after it one that is listed, and of no array yet.
         let gone = self.log.commit(rack, &on);
         note_gone(self.all.as_mut_slice(), &gone);
         self.mend(rack);

@@ -183,6 +183,7 @@ impl Arrays {
         self.stage_all();
         let current = current_places(&self.state);
         add_copies(&self.state, &current, &mut self.log);
+        // A stop before it leaves the place as it was; after it the new drive has it, and its members count nowhere.
         let went = self.log.commit(rack, &on);
         note_gone(self.all.as_mut_slice(), &went);
         self.mend(rack);

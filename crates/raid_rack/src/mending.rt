@@ -49,6 +49,7 @@ impl Arrays {
     {
         note_gone(self.all.as_mut_slice(), lost);
         self.log.clear();
+        // A stop after the commit finds no torn row beside a missing drive: what the run wrote is durable before it.
         self.settle_all(rack);
         let gone = newly_gone(&self.state, self.all.as_slice());
         if gone.as_slice() != lost.as_slice() {
@@ -60,6 +61,8 @@ impl Arrays {
             return;
         }
         add_copies(&self.state, &on, &mut self.log);
+        // A stop leaves no mark, or the mark on all that are left with superblocks to match: so a drive that comes back
+        // is never read beside what was written without it.
         let gone = self.log.commit(rack, &on);
         note_gone(self.all.as_mut_slice(), &gone);
     }
@@ -130,6 +133,7 @@ impl Arrays {
             return;
         }
         add_copies(&self.state, &on, &mut self.log);
+        // A stop leaves the superblocks that differed, which the next opening writes over, or none that differs.
         let went = self.log.commit(rack, &on);
         note_gone(self.all.as_mut_slice(), &went);
         self.mend(rack);

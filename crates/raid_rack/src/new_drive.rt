@@ -176,12 +176,14 @@ pub(crate) fn lay_drive<R: Rack>(rack: &mut R, disk: u32, table: &Table) -> Resu
     ensures lays { LaysDrive (R.seen rack.old) (R.seen rack.new) disk table.now result }
     ensures runs { R.runs rack.old rack.new }
 {
+    // A stop between this and the commit leaves no state, and a table whose id no state lists: no drive of a pool.
     if let Err(gone) = write_durably(rack, disk, STATE_SECTOR, &ZEROS) {
         return Err(gone);
     }
     if let Err(gone) = write_whole(rack, disk, table) {
         return Err(gone);
     }
+    // Of number 0, and durable before the commit: after a stop amid that one the gates of the others decide.
     write_durably(rack, disk, GATE_SECTOR, &first_gate())
 }
 
