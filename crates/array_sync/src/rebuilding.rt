@@ -91,6 +91,7 @@ pub fn rebuild_row<R: Rack>(
         log.clear();
         return answer(array, row);
     }
+    // A stop leaves the row past the member's reach, or written and within it: no row is read that isn't there.
     let lost = log.commit(rack, on);
     array.note_all(&lost);
     array.rules();

@@ -79,6 +79,7 @@ pub fn resync_row<R: Rack>(
         log.clear();
         return answer(array, row);
     }
+    // A stop leaves the row to resync as it was, or its members agreeing and the next row the first that is left.
     let lost = log.commit(rack, on);
     array.note_all(&lost);
     array.rules();

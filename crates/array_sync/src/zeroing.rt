@@ -76,6 +76,7 @@ pub fn zero_row<R: Rack>(
     let change = array.resynced_to(offset_after(array, row + 1));
     array.stage(log, &change);
     stage_zeros(array, log, row);
+    // A stop leaves the row to be zeroed still, or its zeros and the next row the first that is left.
     let lost = log.commit(rack, on);
     array.note_all(&lost);
     array.rules();

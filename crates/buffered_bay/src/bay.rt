@@ -255,6 +255,7 @@ impl<F: FileStore> Rack for BufferedBay<F> {
     }
 
     fn sync(&mut self, disk: u32) -> Result<(), Gone> {
+        // What waits here goes to the file first: a stop after the sync would take it else.
         match self.write_back(disk) {
             Ok(()) => self.sync_clean(disk),
             Err(gone) => Err(gone),

@@ -186,6 +186,7 @@ pub(crate) fn close_gates<R: Rack>(rack: &mut R, lost: &mut Lost, on: &[u32], bl
     ensures settles { Settles (R.seen rack.old) (R.seen rack.new) (IsLogOf on.now (length on.now)) (IsClosing (went lost.old.places) on.now block.now) (IsClosing (went lost.old.places) on.now block.now) (went lost.old.places) (went lost.new.places) }
     ensures runs { R.runs rack.old rack.new }
 {
+    // Else they stay open: after a stop the record is pending still, also for a drive that went and comes back.
     if lost.is_none() {
         settle_each(rack, lost, on, GATE, block);
     }

@@ -70,6 +70,7 @@ impl<R: Bay> Pool<R> {
         if !self.can_extend(extents.as_slice()) {
             return Err(Stuck { array: 0 });
         }
+        // A stop leaves the volume shorter or longer: what is new holds zeros, durably, before a text says it.
         match self.volume.extend(extents.as_slice()) {
             Ok(()) => Ok(()),
             Err(gone) => Err(Stuck { array: gone.disk }),

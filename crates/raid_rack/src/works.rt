@@ -138,6 +138,7 @@ impl Arrays {
             return;
         }
         add_copies(&self.state, &on, &mut self.log);
+        // A stop leaves a plan of which nothing but its end is left, or the state without it.
         let gone = self.log.commit(rack, &on);
         note_gone(self.all.as_mut_slice(), &gone);
         self.mend(rack);

@@ -344,6 +344,7 @@ impl Arrays {
         self.all.push(array);
         self.state.made += 1;
         self.state.epoch = raised(self.state.epoch);
+        // Its entries are durable: a stop leaves entries that are no array's, or a young array on all its members.
         self.commit_state(rack);
         self.mend(rack);
         !self.lacks_places(&members)
