@@ -27,6 +27,7 @@ mod log;
 mod lost;
 mod record;
 mod scan;
+mod slices;
 mod writing;
 
 pub use gates::first_gate;

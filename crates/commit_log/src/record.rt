@@ -11,10 +11,12 @@ ghost use Rattle.rack.specs.Targets.{target, look, is_at};
 ghost use Rattle.log_laws.specs.Bytes.{targets_in, target_in, sector_in, IsSealed, record_bytes, passes};
 ghost use Rattle.log_laws.specs.Phases.{has_target};
 ghost use Rattle.commit_log.specs.Scans.{Agrees};
+ghost use Rattle.commit_log.specs.Slices.{is_in};
 
 use crate::gates::begins_with;
 use crate::loading::{read_record, take_sum};
 use crate::log::half;
+use crate::slices::Slices;
 use rack::{Gone, NoMemory, Rack};
 use shr_base::crc32;
 use shr_base::fields::{put_bytes, put_u32, put_u64, u32_at, u64_at};
@@ -202,16 +204,16 @@ impl Record {
         false
     }
 
-    /// Whether a slice has a target.
-    pub(crate) fn names(&self, disk: u32) -> bool
-        ensures { result ≡ has_target (targets_in self.now.bytes.items self.now.count) disk }
+    /// The slices that have a target.
+    pub(crate) fn slices(&self) -> Slices
+        ensures { (d : ℕ) → d < 272 → is_in result.flags d ≡ has_target (targets_in self.now.bytes.items self.now.count) d }
     {
+        let mut slices = Slices::none();
         for at in 0..self.count {
-            if self.target(at).0 == disk {
-                return true;
-            }
+            let (disk, _) = self.target(at);
+            slices.add(disk);
         }
-        false
+        slices
     }
 
     /// The payload for a sector: that of its last target.

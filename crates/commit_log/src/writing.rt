@@ -4,18 +4,16 @@ ghost use Rattle.std.specs.Prelude.{◌≡◌, ◌<◌, ◌≤◌, ◌+◌, ℕ,
 ghost use Rattle.rack.specs.Sequences.{IsPayload};
 ghost use Rattle.array_image.specs.Places.{log_sectors};
 ghost use Rattle.log_laws.specs.Bytes.{targets_in, target_in};
-ghost use Rattle.log_laws.specs.Phases.{Puts, SyncsAll, Settles, AreLogs, IsLogOf, IsOnEach, IsThere, IsOfRecord, IsHad, IsWanted, IsTargeted, IsClosing, went};
+ghost use Rattle.log_laws.specs.Phases.{Puts, SyncsAll, Settles, AreLogs, IsLogOf, IsOnEach, IsThere, IsOfRecord, IsHad, IsWanted, IsTargeted, IsTargetedBelow, IsClosing, went};
 
 use crate::log::GATE;
 use crate::lost::Lost;
 use crate::record::{HEAD, Record};
+use crate::slices::DISKS;
 use rack::Rack;
 
 /// Slices of a place.
 pub(crate) const SLICES: u32 = 17;
-
-/// Slices of all places.
-const DISKS: u32 = 272;
 
 /// Writes a sector of a slice, unless its place has gone.
 pub(crate) fn write_one<R: Rack>(
@@ -142,9 +140,7 @@ pub(crate) fn settle_targets<R: Rack>(rack: &mut R, lost: &mut Lost, record: &Re
     for at in 0..record.count() {
         write_target(rack, lost, record, at);
     }
-    for disk in 0..DISKS {
-        sync_targeted(rack, lost, record, disk);
-    }
+    sync_targets(rack, lost, record);
 }
 
 // A target, if the rack has its sector.
@@ -165,16 +161,18 @@ fn write_target<R: Rack>(rack: &mut R, lost: &mut Lost, record: &Record, at: u32
     write_one(rack, lost, disk, sector, record.sector(HEAD + at));
 }
 
-// A slice, if it has a target.
-fn sync_targeted<R: Rack>(rack: &mut R, lost: &mut Lost, record: &Record, disk: u32)
+// The slices that have a target, the lowest first.
+fn sync_targets<R: Rack>(rack: &mut R, lost: &mut Lost, record: &Record)
     requires fit { (R.seen rack.old).fit }
     requires disks { (R.seen rack.old).disks ≡ 272 }
-    requires disk { disk < 272 }
-    ensures syncs { let xs = targets_in record.now.bytes.items record.now.count in SyncsAll (R.seen rack.old) (R.seen rack.new) (IsTargeted xs) (λ d. (d ≡ disk) × IsTargeted xs d) (went lost.old.places) (went lost.new.places) }
+    ensures syncs { let xs = targets_in record.now.bytes.items record.now.count in SyncsAll (R.seen rack.old) (R.seen rack.new) (IsTargeted xs) (IsTargetedBelow xs 272) (went lost.old.places) (went lost.new.places) }
     ensures runs { R.runs rack.old rack.new }
 {
-    if record.names(disk) {
-        sync_one(rack, lost, disk);
+    let slices = record.slices();
+    for disk in 0..DISKS {
+        if slices.has(disk) {
+            sync_one(rack, lost, disk);
+        }
     }
 }
 

@@ -1,11 +1,14 @@
 //! Reads lines from a source in pieces, with constant memory.
 
-ghost use Rattle.std.specs.Prelude.{◌≡◌, ◌≢◌, ◌+◌, ◌-◌, ◌^◌, ◌<◌, ◌≤◌, [], ◌∷◌, ◌++◌, ℕ, length, IfOk, OnErr};
+ghost use Rattle.std.specs.Prelude.{◌≡◌, ◌≢◌, ◌+◌, ◌-◌, ◌^◌, ◌<◌, ◌≤◌, [], ◌++◌, ℕ, false, length, take, drop, slice_index, IfOk, OnErr};
+ghost use Rattle.std.specs.List.{All};
 ghost use Rattle.rack.specs.Seen.{Rose};
 ghost use Rattle.io_ends.specs.Source.{TakesFirst};
 ghost use Rattle.shr_script.specs.Reading.{kept_of, ReadsTo};
+ghost use Rattle.shr_script.specs.Script.{is_line_feed};
 
 use io_ends::{Failed, Source};
+use memchr::memchr;
 
 /// Bytes of a script that are read at most.
 pub const SCRIPT_LIMIT: u64 = 1 << 32;
@@ -114,7 +117,7 @@ impl LineReader {
         ensures grows { self.old.consumed ≤ self.new.consumed }
     {
         self.kept = 0;
-        'bytes: loop {
+        'spans: loop {
             match self.fill(input, limit) {
                 Filled::Failed => return Ended::Fault,
                 Filled::Empty => return Ended::Input,
@@ -123,11 +126,12 @@ impl LineReader {
             if self.consumed == limit {
                 return Ended::Limit;
             }
-            let byte = self.advance();
-            if byte == b'\n' {
+            let count = self.before_feed();
+            self.keep(count);
+            if self.start < self.end {
+                self.skip();
                 return Ended::LineFeed;
             }
-            self.keep(byte);
         }
     }
 
@@ -182,32 +186,55 @@ impl LineReader {
         }
     }
 
-    // Takes the next byte at hand.
-    fn advance(&mut self) -> u8
+    // How many bytes at hand stand before the first line feed.
+    fn before_feed(&self) -> usize
+        ensures inside { result ≤ length (pending self.now) }
+        ensures no_feed { All (λ b. is_line_feed b ≡ false) (take result (pending self.now)) }
+        ensures feed { result < length (pending self.now) → slice_index (pending self.now) result ≡ 10 }
+    {
+        let bytes = &self.piece[self.start..self.end];
+        match memchr(b'\n', bytes) {
+            Some(place) => place,
+            None => bytes.len(),
+        }
+    }
+
+    // Moves over the next byte at hand.
+    fn skip(&mut self)
         requires ready { self.old.start < self.old.end }
         requires room { self.old.consumed < 2 ^ 64 - 1 }
-        ensures byte { pending self.old ≡ result ∷ pending self.new }
+        ensures pending { pending self.new ≡ drop 1 (pending self.old) }
         ensures line { line_of self.new ≡ line_of self.old }
-        ensures kept { self.new.kept ≡ self.old.kept }
         ensures consumed { self.new.consumed ≡ self.old.consumed + 1 }
         ensures taken { taken_by self.new ≡ taken_by self.old }
     {
-        let byte = self.piece[self.start];
         self.start += 1;
         self.consumed += 1;
-        byte
     }
 
-    // Adds a byte to the line, where it has room.
-    fn keep(&mut self, byte: u8)
-        ensures line { line_of self.new ≡ kept_of (line_of self.old ++ byte ∷ []) }
-        ensures pending { pending self.new ≡ pending self.old }
-        ensures consumed { self.new.consumed ≡ self.old.consumed }
+    // Adds the next bytes at hand to the line, as far as it has room, and moves over them.
+    fn keep(&mut self, count: usize)
+        requires there { count ≤ length (pending self.old) }
+        requires room { taken_by self.old < 2 ^ 64 }
+        ensures line { line_of self.new ≡ kept_of (line_of self.old ++ take count (pending self.old)) }
+        ensures pending { pending self.new ≡ drop count (pending self.old) }
+        ensures left { self.new.end - self.new.start ≡ length (pending self.old) - count }
+        ensures consumed { self.new.consumed ≡ self.old.consumed + count }
         ensures taken { taken_by self.new ≡ taken_by self.old }
     {
-        if self.kept < KEPT {
-            self.line[self.kept] = byte;
-            self.kept += 1;
-        }
+        let kept = count.min(KEPT - self.kept);
+        copy_part(&self.piece, self.start, &mut self.line, self.kept, kept);
+        self.kept += kept;
+        self.start += count;
+        self.consumed += count as u64;
     }
+}
+
+// Copies so many bytes of a piece, from a place on, into a line, from another place on.
+fn copy_part(piece: &[u8; PIECE], from: usize, line: &mut [u8; KEPT], to: usize, count: usize)
+    requires source { from + count ≤ 4096 }
+    requires target { to + count ≤ 1102 }
+    ensures { line.new ≡ take to line.old ++ take count (drop from piece.now) ++ drop (to + count) line.old }
+{
+    line[to..to + count].copy_from_slice(&piece[from..from + count]);
 }

@@ -1,8 +1,8 @@
 use Rattle.std.proofs.Common.{◌≡◌, ℕ, subst, arith}
 use Rattle.rack.specs.Sequences.{IsPayload}
 use Rattle.log_laws.specs.Bytes.{targets_in}
-use Rattle.log_laws.specs.Phases.{Puts, SyncsAll, IsTargeted, IsTargetedBelow, IsWanted, went}
-use Rattle.log_laws.proofs.Rounds.{puts_no_targets, targets_then, targeted_then, targets_settled}
+use Rattle.log_laws.specs.Phases.{Puts, IsTargeted, IsWanted, went}
+use Rattle.log_laws.proofs.Rounds.{puts_no_targets, targets_then, targets_settled}
 use Rattle.commit_log.proofs.writing.settle_targets.Goals as goal
 
 pub loop-at-init : goal.loop-at-init
@@ -20,23 +20,13 @@ loop-at-preserved g c = record {
   runs = g.met.R.Rack.runs_then _ _ _ c.loop-at.invariant.runs c.write_target.ensures.runs;
 }
 
-pub loop-disk-preserved : goal.loop-disk-preserved
-loop-disk-preserved g c = record {
-  syncs = targeted_then (targets_in c.args.record.now.bytes.items c.args.record.now.count) c.loop-disk.disk
-      (went c.loop-at.lost.places) (went c.loop-disk.lost.places) (went c.sync_targeted.new.lost.places)
-      c.loop-disk.invariant.syncs c.sync_targeted.ensures.syncs;
-  runs = g.met.R.Rack.runs_then _ _ _ c.loop-disk.invariant.runs c.sync_targeted.ensures.runs;
-}
-
 pub returns-clause-settles : goal.returns-clause-settles
 returns-clause-settles g c =
     let a = g.R.Rack.seen c.args.rack.now in
     let b = g.R.Rack.seen c.loop-at.rack in
-    let d = g.R.Rack.seen c.loop-disk.rack in
     let bytes = c.args.record.now.bytes.items in
     let xs = targets_in bytes c.args.record.now.count in
     let all : c.loop-at.at ≡ c.args.record.now.count = omega (arith, c.count-at-end.ensures, c.loop-at-test.false, c.loop-at.auto.at-end) in
-    let most : c.loop-disk.disk ≡ 272 = omega (arith, c.loop-disk-test.false, c.loop-disk.auto.disk-end) in
-    targets_settled xs (went c.args.lost.now.places) (went c.loop-at.lost.places) (went c.loop-disk.lost.places) c.requires.disks
+    targets_settled xs (went c.args.lost.now.places) (went c.loop-at.lost.places) (went c.sync_targets.new.lost.places) c.requires.disks
     (subst (λ (n : ℕ). Puts a b (IsTargeted xs) (IsPayload (targets_in bytes n)) (IsWanted a (targets_in bytes n)) (went c.args.lost.now.places) (went c.loop-at.lost.places)) all c.loop-at.invariant.puts)
-    (subst (λ (n : ℕ). SyncsAll b d (IsTargeted xs) (IsTargetedBelow xs n) (went c.loop-at.lost.places) (went c.loop-disk.lost.places)) most c.loop-disk.invariant.syncs)
+    c.sync_targets.ensures.syncs

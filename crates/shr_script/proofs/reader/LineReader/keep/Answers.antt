@@ -1,10 +1,15 @@
-use Rattle.shr_script.proofs.ReadingLemmas.{kept-push, kept-full}
+use Rattle.std.proofs.Common.{ℕ, List, ◌≡◌, ◌≤◌, ◌-◌, ◌+◌, ◌++◌, take, drop, length, length-take, length-drop, ap, ◌∙◌, arith}
+use Rattle.shr_script.specs.Pieces.{pending}
+use Rattle.shr_script.proofs.ReadingLemmas.{kept-span, from_start}
 use Rattle.shr_script.proofs.reader.LineReader.keep.Goals as goal
 
-pub returns-then-self-lt-KEPT-clause-line : goal.returns-then-self-lt-KEPT-clause-line
-returns-then-self-lt-KEPT-clause-line c =
-    kept-push c.args.self.now.line _ _ c.args.self.now.room c.if-self-lt-KEPT.true
-
-pub returns-else-self-lt-KEPT-clause-line : goal.returns-else-self-lt-KEPT-clause-line
-returns-else-self-lt-KEPT-clause-line c =
-    kept-full c.args.self.now.line _ c.args.byte c.args.self.now.room c.args.self.now.in_line c.if-self-lt-KEPT.false
+pub returns-clause-line : goal.returns-clause-line
+returns-clause-line c =
+    let r = c.args.self.now in
+    let many = c.min-kept.result in
+    let at_hand : length (pending r) ≡ r.end - r.start = simp (length-drop, length-take) (omega (arith, r.in_piece, r.size)) in
+    let inside : many ≤ r.end - r.start = omega (arith, c.min-kept.ensures, c.requires.there, at_hand) in
+    ap (take (r.kept + many))
+    (c.copy_part.ensures
+    ∙ ap (λ (xs : List ℕ). take r.kept r.line ++ xs ++ drop (r.kept + many) r.line) (from_start r.piece r.start r.end many r.in_order inside))
+    ∙ kept-span r.line (pending r) r.kept c.args.count many r.room r.in_line c.requires.there c.min-kept.ensures

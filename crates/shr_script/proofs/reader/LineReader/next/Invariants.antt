@@ -4,8 +4,8 @@ use Rattle.shr_script.specs.Reading.{ReadsPart}
 use Rattle.shr_script.specs.Pieces.{pending, line_of, taken_by}
 use Rattle.shr_script.proofs.reader.LineReader.next.Given as goal
 
-abbrev pub invariant-bytes : goal.invariant-bytes
-invariant-bytes g l =
+abbrev pub invariant-spans : goal.invariant-spans
+invariant-spans g l =
     let left = g.I.Source.left in
     record {
       told : g.I.Source.told l.fn.input → g.I.Source.told l.input;
@@ -17,5 +17,5 @@ invariant-bytes g l =
       grows : l.fn.self.consumed ≤ l.self.consumed;
     }
 
-abbrev pub decreases-bytes : goal.decreases-bytes
-decreases-bytes g l = l.limit - l.self.consumed
+abbrev pub decreases-spans : goal.decreases-spans
+decreases-spans g l = l.limit - l.self.consumed
