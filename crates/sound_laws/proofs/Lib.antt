@@ -1,3 +1,4 @@
 pub mod Drives
 pub mod OwnAreas
 pub mod OnePool
+pub mod Meant
