@@ -37,7 +37,7 @@ live_after x m y s t names at reads unspent told d k below inside =
     }
 
 -- one value alone
-one_value : (v w : List ℕ) → MayLeave (only v) w → w ≡ v
+pub one_value : (v w : List ℕ) → MayLeave (only v) w → w ≡ v
 one_value v w (inl now) = now
 one_value v w (inr before) = absurd before
 
@@ -55,7 +55,7 @@ holds_image x m s t names at told some =
       same = λ k below. ap (λ (h : Values). h.current) (w.held k (subst (λ (n : ℕ). k < n) w.sectors below));
     }
 
-examined_held :
+pub examined_held :
     (x m y : Seen) (s t : Shelf) (names : List (List ℕ))
     → AreAttached x m s t names
     → OnlyReads m y

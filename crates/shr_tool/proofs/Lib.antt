@@ -3,6 +3,7 @@ mod Added
 mod Attached
 mod Between
 pub mod Chains
+mod Completed
 mod Declined
 mod Drawn
 mod DriveTable

@@ -25,3 +25,4 @@ pub mod Made
 pub mod Run
 pub mod LayoutText
 pub mod Examining
+pub mod Complete

@@ -5,7 +5,7 @@ ghost use Rattle.rack.specs.Seen.{Rose};
 ghost use Rattle.shr_tool.specs.declared.status.Status.TheVariants.{Words, Memory};
 ghost use Rattle.shr_words.specs.declared.forms.Form.TheVariants.{Layout, Create, Serve, Import, Export, Status as StatusOf, Examine, Trial};
 ghost use Rattle.shr_words.specs.LayoutWords.{units_asked};
-ghost use Rattle.shr_words.specs.Forms.{form_of as form_in};
+ghost use Rattle.shr_words.specs.Forms.{before_names, form_of as form_in};
 ghost use Rattle.shr_tool.specs.LayoutText.{Prints};
 ghost use Rattle.shr_tool.specs.Forms.{reads_input, uses_disks};
 ghost use Rattle.shr_script.specs.Reply.{refused_line};
@@ -13,6 +13,7 @@ ghost use Rattle.shr_tool.specs.Limits.{KeepsLimit};
 ghost use Rattle.shr_tool.specs.Run.{PoolOutcome, CreateOutcome};
 ghost use Rattle.shr_tool.specs.Saying.{Ended, Says};
 ghost use Rattle.shr_tool.specs.Examining.{ExamineOutcome};
+ghost use Rattle.shr_tool.specs.Complete.{Completes, NothingFails};
 
 use crate::examining::examine_image;
 use crate::layout::print_layout;
@@ -71,6 +72,12 @@ pub fn run<B: Bay, I: Source, O: Sink>(
 
     // The program says that the words are wrong exactly where they are, unless there is no memory to parse them or no output.
     ensures words { result ≡ 2 → form_in (map string_bytes words.now) ≡ None }
+
+    // Where nothing is against it, what the words ask for is done, unless memory was wanting or a sector or a work of the pool is spent.
+    ensures complete { (form : _) → form_in (map string_bytes words.now) ≡ Some form → O.told out.old → (reads_input (Some form) ≡ true → I.told input.old)
+        → NothingFails form (map string_bytes (drop (before_names form) words.now)) (B.shelf bay.old) (B.shelf bay.new)
+        (I.faults input.old) (I.faults input.new) (O.faults out.old) (O.faults out.new)
+        → Ended result (Completes B.seen B.shelf B.runs bay.old bay.new form (map string_bytes (drop (before_names form) words.now)) (I.left input.old) (I.left input.new) (O.taken out.old) (O.taken out.new)) }
 
     // `layout` and what is refused don't touch the bay, and only `serve` and `import` touch the input.
     ensures untouched { uses_disks (form_in (map string_bytes words.now)) ≡ false → bay.new ≡ bay.old }
