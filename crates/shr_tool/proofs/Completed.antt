@@ -45,7 +45,7 @@ use Rattle.shr_tool.specs.declared.importing.ImportFault.{ImportFault}
 use Rattle.shr_tool.specs.declared.importing.ImportFault.TheVariants as importing
 use Rattle.shr_tool.specs.declared.trial.Tally.{Tally}
 use Rattle.shr_tool.specs.Attaching.{AreAttached, HasAttachCause}
-use Rattle.shr_tool.specs.Complete.{AreEntry, CarriesOut, Completes, HavePlan, HoldPool, IsCarriedOut, IsDone, IsOpened, IsSoundEntry, IsOnlineOpened, IsTakenWhole, IsUndisturbed, NoneRefused, NothingFails, online_opening, opening_of}
+use Rattle.shr_tool.specs.Complete.{AreEntry, CarriesOut, Completes, HavePlan, HoldPool, IsCarriedOut, IsDone, IsOpened, IsSoundEntry, IsOnlineOpened, IsTakenWhole, IsUndisturbed, NamesImage, NoneRefused, NothingFails, online_opening, opening_of}
 use Rattle.shr_tool.specs.Entry.{contents_in, sectors_in as waiting_sectors, waiting_at}
 use Rattle.online_bay.specs.Online.{Asks, is_offline}
 use Rattle.array_image.specs.Places.{state_sector}
@@ -53,6 +53,7 @@ use Rattle.assembler_laws.specs.Holding.{AreSteady}
 use Rattle.rack.specs.Joins.{stays_then}
 use Rattle.rack.specs.Values.{Keeps, only}
 use Rattle.shr_tool.proofs.Examined.{examined_held, one_value}
+use Rattle.shr_tool.proofs.Wanting.{memory_names}
 use Rattle.shr_tool.specs.Events.{worse, worst_of}
 use Rattle.shr_tool.specs.Examining.{ExamineOutcome, ShowsImage}
 use Rattle.shr_tool.specs.Examining.ExamineOutcome.{name_refused as unattached_image, no_memory as unread_image, examined}
@@ -223,8 +224,10 @@ module _ {R : Type 0} (seen : R → Seen) (shelf : R → Shelf) (runs : R → R 
     (size : ℕ) (whole : IsTakenWhole task text size) (limit : status ≡ Limit → ⊥) where
   done_on : (came : OpenOutcome seen shelf runs bay after task text rest out out' status) (a : FlatArray)
       → IsMeant (seen bay) (seen (opening_of seen shelf runs bay after task text rest out out' status came)) a → a.size ≡ size
-      → (status ≡ Memory) ⊎ (IsOpened seen shelf runs bay after task text rest out out' status came × ((status ≡ Done) ⊎ (status ≡ Spent)))
-  done_on (inl refused) a meant sized = inl (wanting_pool seen runs bay after out out' status a meant (no_sink status source source' sink sink' cause ok) refused)
+      → ((status ≡ Memory) × (IsOpened seen shelf runs bay after task text rest out out' status came → NamesImage task text))
+      ⊎ (IsOpened seen shelf runs bay after task text rest out out' status came × ((status ≡ Done) ⊎ (status ≡ Spent)))
+  done_on (inl refused) a meant sized =
+      inl (wanting_pool seen runs bay after out out' status a meant (no_sink status source source' sink sink' cause ok) refused, λ none. absurd none)
   done_on (inr opened) a meant sized =
       let lies = (opened.meant meant.pool meant.sound meant.unfaulted).lies in
       let here : a.size ≡ sectors_in opened.from.linear =
@@ -234,7 +237,15 @@ module _ {R : Type 0} (seen : R → Seen) (shelf : R → Shelf) (runs : R → R 
       λ is.
       task_unrefused task _ _ _ _ opened.from a text rest out out' size (sym sized ∙ here) whole
       (subst (λ s. TaskOutcome task s (IsMeant (seen bay) (seen opened.opened) a × (shelf bay).told) (seen bay).traced (seen opened.opened) (seen after) opened.from a text rest out out') is (opened.outcome a)) in
-      elim (left_status status source source' sink sink' cause none ok limit refused) [ inl memory ↦ inl memory | inr done ↦ inr (tt, done) ]
+      elim (left_status status source source' sink sink' cause none ok limit refused) [
+        | inl memory ↦ inl (
+          memory,
+          λ is_open.
+              memory_names task _ _ _ _ opened.from a text rest out out'
+              (subst (λ s. TaskOutcome task s (IsMeant (seen bay) (seen opened.opened) a × (shelf bay).told) (seen bay).traced (seen opened.opened) (seen after) opened.from a text rest out out') memory (opened.outcome a)),
+        )
+        | inr done ↦ inr (tt, done)
+      ]
 
 -- ---- from what waited
 
@@ -323,7 +334,8 @@ module _ {B : Type 0} (seen : B → Seen) (shelf : B → Shelf) (runs : B → B 
     meant_then = meant_entry seen runs lasting unspent (seen bay) (shelf bay) (shelf attached) names attached are well.told size well.entry online.asked online.asks opening begin well.calm
 
     carried_then : IsTakenWhole task text size
-        → (status ≡ Memory) ⊎ (IsOnlineOpened seen shelf runs attached after task text rest out out' status online × ((status ≡ Done) ⊎ (status ≡ Spent)))
+        → ((status ≡ Memory) × (IsOnlineOpened seen shelf runs attached after task text rest out out' status online → NamesImage task text))
+        ⊎ (IsOnlineOpened seen shelf runs attached after task text rest out out' status online × ((status ≡ Done) ⊎ (status ≡ Spent)))
     carried_then whole =
         done_on (online_seen seen) (online_shelf shelf) (online_runs runs) online.asked (record { bay = after; offline = online.offline }) task text rest out out' status
         source source' sink sink' cause none ok size whole (limit size whole) online.outcome _ meant_then pool.size_is
