@@ -55,9 +55,8 @@ use Rattle.rack.specs.Values.{Keeps, only}
 use Rattle.shr_tool.proofs.Examined.{examined_held, one_value}
 use Rattle.shr_tool.proofs.Wanting.{memory_names}
 use Rattle.shr_tool.specs.Events.{worse, worst_of}
-use Rattle.shr_tool.specs.Examining.{ExamineOutcome, ShowsImage}
+use Rattle.shr_tool.specs.Examining.{ExamineOutcome, IsShown}
 use Rattle.shr_tool.specs.Examining.ExamineOutcome.{name_refused as unattached_image, no_memory as unread_image, examined}
-use Rattle.shr_tool.specs.Examining.ShowsImage.{shown, cut, gone, no_memory as cut_by_memory}
 use Rattle.shr_tool.specs.Forms.{reads_input, uses_disks}
 use Rattle.shr_tool.specs.Importing.{SaysWritten, Writes}
 use Rattle.shr_tool.specs.LayoutText.{Prints, answer_status}
@@ -399,17 +398,21 @@ module _ {B : Type 0} (seen : B → Seen) (shelf : B → Shelf) (runs : B → B 
 
 pub examine_done :
     (x : Seen) (s : Shelf) (y : Seen) (t : Shelf) (names : List (List ℕ)) (out out' : List ℕ) (status : Status) → (status ≡ Sink → ⊥) → Differ names → (Rose s.faults t.faults → ⊥)
-    → ExamineOutcome x s y t names out out' status → s.told → NoneRefused y → IsDone status
-examine_done x s y t names out out' status sound differ attached (unattached_image refused) told calm =
+    → ExamineOutcome x s y t names out out' status → NoneRefused y → IsDone status
+examine_done x s y t names out out' status sound differ attached (unattached_image refused) calm =
     inr (wanting_name x y s t names out out' status differ attached sound refused)
-examine_done x s y t names out out' status sound differ attached (unread_image says) told calm = inr (said Memory status _ out out' sound says)
-examine_done x s y t names out out' status sound differ attached (examined is) told calm = of (is.shows told)
+examine_done x s y t names out out' status sound differ attached (unread_image says) calm = inr (said Memory status _ out out' sound says)
+examine_done x s y t names out out' status sound differ attached (examined is) calm = of status sound is.ends (λ e. calm 0 (is.cause e))
   where
-    of : {lines : List (List ℕ)} → ShowsImage lines out out' status → IsDone status
-    of (shown done put) = inl done
-    of (cut failed put) = absurd (sound failed)
-    of (gone between put says) = absurd (calm 0 (is.cause (said Refused status _ between out' sound says)))
-    of (cut_by_memory between put says) = inr (said Memory status _ between out' sound says)
+    of : (status : Status) → (status ≡ Sink → ⊥) → IsShown status → (status ≡ Refused → ⊥) → IsDone status
+    of Done sound ends refused = inl refl
+    of Words sound ends refused = absurd ends
+    of Limit sound ends refused = absurd ends
+    of Source sound ends refused = absurd ends
+    of Sink sound ends refused = absurd (sound refl)
+    of Refused sound ends refused = absurd (refused refl)
+    of Memory sound ends refused = inr refl
+    of Spent sound ends refused = absurd ends
 
 -- ---- forms
 
@@ -426,7 +429,7 @@ memory_done seen shelf runs bay after form names text rest out out' status is = 
     of forms.Import = inl is
     of forms.Export = inl is
     of forms.Status = inl is
-    of forms.Examine = λ told calm. inr is
+    of forms.Examine = λ calm. inr is
     of (forms.Trial seed) = inl is
 
 -- what is said of a form, by the names behind so many words

@@ -170,5 +170,5 @@ Completes seen shelf runs bay after Serve names text rest out out' status = Carr
 Completes seen shelf runs bay after Import names text rest out out' status = CarriesOut seen shelf runs bay after tasks.Import names text rest out out' status
 Completes seen shelf runs bay after Export names text rest out out' status = CarriesOut seen shelf runs bay after tasks.Export names text rest out out' status
 Completes seen shelf runs bay after StatusOf names text rest out out' status = CarriesOut seen shelf runs bay after tasks.Show names text rest out out' status
-Completes seen shelf runs bay after Examine names text rest out out' status = (shelf bay).told → NoneRefused (seen after) → IsDone status
+Completes seen shelf runs bay after Examine names text rest out out' status = NoneRefused (seen after) → IsDone status
 Completes seen shelf runs bay after (Trial seed) names text rest out out' status = CarriesOut seen shelf runs bay after (tasks.Trial seed) names text rest out out' status
