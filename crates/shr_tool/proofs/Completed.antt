@@ -45,7 +45,7 @@ use Rattle.shr_tool.specs.declared.importing.ImportFault.{ImportFault}
 use Rattle.shr_tool.specs.declared.importing.ImportFault.TheVariants as importing
 use Rattle.shr_tool.specs.declared.trial.Tally.{Tally}
 use Rattle.shr_tool.specs.Attaching.{AreAttached, HasAttachCause}
-use Rattle.shr_tool.specs.Complete.{AreEntry, CarriesOut, Completes, HavePlan, HoldPool, IsCarriedOut, IsDone, IsOpened, IsSoundEntry, IsOnlineOpened, IsTakenWhole, IsUndisturbed, NoneRefused, NothingFails, online_opening, opening_of}
+use Rattle.shr_tool.specs.Complete.{AreEntry, CarriesOut, Completes, HavePlan, HoldPool, IsCarriedOut, IsDone, IsOpened, IsSoundEntry, IsOnlineOpened, IsTakenWhole, IsUndisturbed, NamesImage, NoneRefused, NothingFails, online_opening, opening_of}
 use Rattle.shr_tool.specs.Entry.{contents_in, sectors_in as waiting_sectors, waiting_at}
 use Rattle.online_bay.specs.Online.{Asks, is_offline}
 use Rattle.array_image.specs.Places.{state_sector}
@@ -53,10 +53,10 @@ use Rattle.assembler_laws.specs.Holding.{AreSteady}
 use Rattle.rack.specs.Joins.{stays_then}
 use Rattle.rack.specs.Values.{Keeps, only}
 use Rattle.shr_tool.proofs.Examined.{examined_held, one_value}
+use Rattle.shr_tool.proofs.Wanting.{memory_names}
 use Rattle.shr_tool.specs.Events.{worse, worst_of}
-use Rattle.shr_tool.specs.Examining.{ExamineOutcome, ShowsImage}
+use Rattle.shr_tool.specs.Examining.{ExamineOutcome, IsShown}
 use Rattle.shr_tool.specs.Examining.ExamineOutcome.{name_refused as unattached_image, no_memory as unread_image, examined}
-use Rattle.shr_tool.specs.Examining.ShowsImage.{shown, cut, gone, no_memory as cut_by_memory}
 use Rattle.shr_tool.specs.Forms.{reads_input, uses_disks}
 use Rattle.shr_tool.specs.Importing.{SaysWritten, Writes}
 use Rattle.shr_tool.specs.LayoutText.{Prints, answer_status}
@@ -223,8 +223,10 @@ module _ {R : Type 0} (seen : R → Seen) (shelf : R → Shelf) (runs : R → R 
     (size : ℕ) (whole : IsTakenWhole task text size) (limit : status ≡ Limit → ⊥) where
   done_on : (came : OpenOutcome seen shelf runs bay after task text rest out out' status) (a : FlatArray)
       → IsMeant (seen bay) (seen (opening_of seen shelf runs bay after task text rest out out' status came)) a → a.size ≡ size
-      → (status ≡ Memory) ⊎ (IsOpened seen shelf runs bay after task text rest out out' status came × ((status ≡ Done) ⊎ (status ≡ Spent)))
-  done_on (inl refused) a meant sized = inl (wanting_pool seen runs bay after out out' status a meant (no_sink status source source' sink sink' cause ok) refused)
+      → ((status ≡ Memory) × (IsOpened seen shelf runs bay after task text rest out out' status came → NamesImage task text))
+      ⊎ (IsOpened seen shelf runs bay after task text rest out out' status came × ((status ≡ Done) ⊎ (status ≡ Spent)))
+  done_on (inl refused) a meant sized =
+      inl (wanting_pool seen runs bay after out out' status a meant (no_sink status source source' sink sink' cause ok) refused, λ none. absurd none)
   done_on (inr opened) a meant sized =
       let lies = (opened.meant meant.pool meant.sound meant.unfaulted).lies in
       let here : a.size ≡ sectors_in opened.from.linear =
@@ -234,7 +236,15 @@ module _ {R : Type 0} (seen : R → Seen) (shelf : R → Shelf) (runs : R → R 
       λ is.
       task_unrefused task _ _ _ _ opened.from a text rest out out' size (sym sized ∙ here) whole
       (subst (λ s. TaskOutcome task s (IsMeant (seen bay) (seen opened.opened) a × (shelf bay).told) (seen bay).traced (seen opened.opened) (seen after) opened.from a text rest out out') is (opened.outcome a)) in
-      elim (left_status status source source' sink sink' cause none ok limit refused) [ inl memory ↦ inl memory | inr done ↦ inr (tt, done) ]
+      elim (left_status status source source' sink sink' cause none ok limit refused) [
+        | inl memory ↦ inl (
+          memory,
+          λ is_open.
+              memory_names task _ _ _ _ opened.from a text rest out out'
+              (subst (λ s. TaskOutcome task s (IsMeant (seen bay) (seen opened.opened) a × (shelf bay).told) (seen bay).traced (seen opened.opened) (seen after) opened.from a text rest out out') memory (opened.outcome a)),
+        )
+        | inr done ↦ inr (tt, done)
+      ]
 
 -- ---- from what waited
 
@@ -323,7 +333,8 @@ module _ {B : Type 0} (seen : B → Seen) (shelf : B → Shelf) (runs : B → B 
     meant_then = meant_entry seen runs lasting unspent (seen bay) (shelf bay) (shelf attached) names attached are well.told size well.entry online.asked online.asks opening begin well.calm
 
     carried_then : IsTakenWhole task text size
-        → (status ≡ Memory) ⊎ (IsOnlineOpened seen shelf runs attached after task text rest out out' status online × ((status ≡ Done) ⊎ (status ≡ Spent)))
+        → ((status ≡ Memory) × (IsOnlineOpened seen shelf runs attached after task text rest out out' status online → NamesImage task text))
+        ⊎ (IsOnlineOpened seen shelf runs attached after task text rest out out' status online × ((status ≡ Done) ⊎ (status ≡ Spent)))
     carried_then whole =
         done_on (online_seen seen) (online_shelf shelf) (online_runs runs) online.asked (record { bay = after; offline = online.offline }) task text rest out out' status
         source source' sink sink' cause none ok size whole (limit size whole) online.outcome _ meant_then pool.size_is
@@ -387,17 +398,21 @@ module _ {B : Type 0} (seen : B → Seen) (shelf : B → Shelf) (runs : B → B 
 
 pub examine_done :
     (x : Seen) (s : Shelf) (y : Seen) (t : Shelf) (names : List (List ℕ)) (out out' : List ℕ) (status : Status) → (status ≡ Sink → ⊥) → Differ names → (Rose s.faults t.faults → ⊥)
-    → ExamineOutcome x s y t names out out' status → s.told → NoneRefused y → IsDone status
-examine_done x s y t names out out' status sound differ attached (unattached_image refused) told calm =
+    → ExamineOutcome x s y t names out out' status → NoneRefused y → IsDone status
+examine_done x s y t names out out' status sound differ attached (unattached_image refused) calm =
     inr (wanting_name x y s t names out out' status differ attached sound refused)
-examine_done x s y t names out out' status sound differ attached (unread_image says) told calm = inr (said Memory status _ out out' sound says)
-examine_done x s y t names out out' status sound differ attached (examined is) told calm = of (is.shows told)
+examine_done x s y t names out out' status sound differ attached (unread_image says) calm = inr (said Memory status _ out out' sound says)
+examine_done x s y t names out out' status sound differ attached (examined is) calm = of status sound is.ends (λ e. calm 0 (is.cause e))
   where
-    of : {lines : List (List ℕ)} → ShowsImage lines out out' status → IsDone status
-    of (shown done put) = inl done
-    of (cut failed put) = absurd (sound failed)
-    of (gone between put says) = absurd (calm 0 (is.cause (said Refused status _ between out' sound says)))
-    of (cut_by_memory between put says) = inr (said Memory status _ between out' sound says)
+    of : (status : Status) → (status ≡ Sink → ⊥) → IsShown status → (status ≡ Refused → ⊥) → IsDone status
+    of Done sound ends refused = inl refl
+    of Words sound ends refused = absurd ends
+    of Limit sound ends refused = absurd ends
+    of Source sound ends refused = absurd ends
+    of Sink sound ends refused = absurd (sound refl)
+    of Refused sound ends refused = absurd (refused refl)
+    of Memory sound ends refused = inr refl
+    of Spent sound ends refused = absurd ends
 
 -- ---- forms
 
@@ -414,7 +429,7 @@ memory_done seen shelf runs bay after form names text rest out out' status is = 
     of forms.Import = inl is
     of forms.Export = inl is
     of forms.Status = inl is
-    of forms.Examine = λ told calm. inr is
+    of forms.Examine = λ calm. inr is
     of (forms.Trial seed) = inl is
 
 -- what is said of a form, by the names behind so many words

@@ -14,7 +14,7 @@ use Rattle.shr_tool.specs.declared.status.Status.TheVariants.{Refused, Memory, S
 use Rattle.shr_tool.specs.Entry.{waiting_at, sectors_in, contents_in, IsEntryImage}
 use Rattle.shr_tool.specs.Attaching.{AreAttached}
 use Rattle.shr_tool.specs.Saying.{Says}
-use Rattle.shr_tool.specs.Examining.{ShowsImage, Examined}
+use Rattle.shr_tool.specs.Examining.{ShowsImage, Examined, IsShown}
 
 -- a disk that was attached is live after reads
 live_after :
@@ -100,13 +100,15 @@ pub examined_by :
     → T
     → Shows m y 0 f f' T T' out between (image_lines (m.sectors 0)) result
     → ((lines : List (List ℕ)) → Puts result out between lines → ShowsImage lines out out' status)
+    → IsShown status
     → (status ≡ Refused → Rose (m.faults 0) (y.faults 0))
     → Examined x s y names out out' status
-examined_by x m y s t names out between out' result status at some unspent sink shows how cause = record {
+examined_by x m y s t names out between out' result status at some unspent sink shows how ends cause = record {
   shows = λ told.
       let image = contents_in (waiting_at s.ready names 0) in
       subst (λ (n : ℕ). ShowsImage (image_lines n image) out out' status) (at.waited told 0 some).sectors
       (how (image_lines (m.sectors 0) image) (shows.puts sink image (holds_image x m s t names at told some)));
+  ends = ends;
   cause = λ e. subst (λ (n : ℕ). Rose n (y.faults 0)) (at.unfaulted 0 some) (cause e);
   held = examined_held x m y s t names at shows.only unspent;
   leaves = examined_leaves x m y s t names at shows.only unspent;
@@ -125,3 +127,10 @@ memory_said line out out' status says same =
       | inl said ↦ memory_no_refused (sym said.0 ∙ same)
       | inr unsaid ↦ sink_no_refused (sym unsaid.0 ∙ same)
     ]
+
+-- where a line was put that ends a run so, it ended so, or the sink refused it
+pub said_shown : (wanted status : Status) (line out out' : List ℕ) → IsShown wanted → Says wanted line out out' status → IsShown status
+said_shown wanted status line out out' shown says = elim says.said [
+  | inl said ↦ subst (λ (s : Status). IsShown s) (sym said.0) shown
+  | inr unsaid ↦ subst (λ (s : Status). IsShown s) (sym unsaid.0) tt
+]

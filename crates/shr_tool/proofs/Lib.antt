@@ -59,6 +59,7 @@ mod Timelines
 mod Told
 mod Tried
 mod TurnedDown
+mod Wanting
 mod Within
 mod LeavingOut
 mod LeavingStops

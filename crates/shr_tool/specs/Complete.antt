@@ -1,5 +1,6 @@
 -- How a run comes out where nothing is against it: what the words ask for is done, unless memory was wanting or a sector or a work of the pool is spent.
-use Rattle.std.specs.Prelude.{◌≡◌, ◌⊎◌, ℕ, ◌*◌, ◌<◌, ◌≤◌, ◌^◌, true, List, [], ◌∷◌, length, slice_get, Option, Some}
+use Rattle.std.specs.Prelude.{◌≡◌, ◌⊎◌, ℕ, ◌*◌, ◌<◌, ◌≤◌, ◌^◌, Bool, true, false, List, [], ◌∷◌, length, slice_get, Option, Some, Ok, Err}
+use Rattle.std.specs.List.{list_any}
 use Rattle.std.proofs.Common.{inl, inr}
 use Rattle.rack.specs.Seen.{Image, Seen, Rose}
 use Rattle.rack.specs.Shelf.{Differ, Shelf, Waiting}
@@ -10,6 +11,9 @@ use Rattle.pool_image.specs.Drives.{Found, found}
 use Rattle.pool_image.specs.Meaning.{Volume, meaning}
 use Rattle.pool_model.specs.Pools.{IsSoundPool}
 use Rattle.pool_rest.specs.SoundLogs.{HasSoundLogs}
+use Rattle.shr_script.specs.declared.Command.TheVariants.{Read, Write, Fill, Flush, Size, Lose, Replace, Add, Step, Status as ShowLine, Quit}
+use Rattle.shr_script.specs.Line.{Line}
+use Rattle.shr_script.specs.Script.{script_of}
 use Rattle.shr_words.specs.declared.forms.Form.{Form}
 use Rattle.shr_words.specs.declared.forms.Form.TheVariants.{Layout, Create, Serve, Import, Export, Status as StatusOf, Examine, Trial}
 use Rattle.shr_words.specs.LayoutWords.{units_asked}
@@ -93,6 +97,29 @@ IsTakenWhole tasks.Export text size = Unit {0}
 IsTakenWhole tasks.Show text size = Unit {0}
 IsTakenWhole (tasks.Trial seed) text size = Unit {0}
 
+-- a line names an image, to add it or to replace a drive by it
+abbrev pub names_image : Line → Bool
+names_image (Ok (Read sector)) = false
+names_image (Ok (Write sector bytes)) = false
+names_image (Ok (Fill sector count byte)) = false
+names_image (Ok Flush) = false
+names_image (Ok Size) = false
+names_image (Ok (Lose place)) = false
+names_image (Ok (Replace place name)) = true
+names_image (Ok (Add name)) = true
+names_image (Ok (Step count)) = false
+names_image (Ok ShowLine) = false
+names_image (Ok Quit) = false
+names_image (Err fault) = false
+
+-- the task is a script with such a line
+abbrev pub NamesImage : Task → List ℕ → Type 0
+NamesImage tasks.Serve text = list_any names_image (script_of text) ≡ true
+NamesImage tasks.Import text = ⊥
+NamesImage tasks.Export text = ⊥
+NamesImage tasks.Show text = ⊥
+NamesImage (tasks.Trial seed) text = ⊥
+
 -- What waited under some names is told, and is a sound pool of a volume of so many sectors; and no disk refused a call until now.
 pub record IsUndisturbed (s : Shelf) (names : List (List ℕ)) (now : Seen) (size : ℕ) : Type 0 where
   pub told : s.told
@@ -114,7 +141,8 @@ IsOnlineOpened seen shelf runs attached after task text rest out out' status onl
     IsOpened (online_seen seen) (online_shelf shelf) (online_runs runs) online.asked (record { bay = after; offline = online.offline }) task text rest out out' status online.outcome
 
 -- How a task on the disks of some names came out. Where what waited is a sound pool and no disk refused a call until it was opened, what it was opened on meant an array of
--- the volume's size. And where the task takes its input whole it was opened, and all was done, or a sector or a work was refused as spent; or memory was wanting.
+-- the volume's size. And where the task takes its input whole it was opened, and all was done, or a sector or a work was refused as spent; or memory was wanting, before it was
+-- open or for a line that names an image.
 pub record IsCarriedOut {B : Type 0} (seen : B → Seen) (shelf : B → Shelf) (runs : B → B → Type 0) (bay attached after : B) (task : Task) (names : List (List ℕ)) (text rest out out' : List ℕ)
     (status : Status) : Type 0 where
   pub online : OnlineOutcome seen shelf runs attached after task text rest out out' status
@@ -123,7 +151,8 @@ pub record IsCarriedOut {B : Type 0} (seen : B → Seen) (shelf : B → Shelf) (
       → (a : FlatArray) × (a.size ≡ size) × IsMeant (online_seen seen online.asked) (online_seen seen (online_opening seen shelf runs attached after task text rest out out' status online)) a
   pub complete :
       (size : ℕ) → IsUndisturbed (shelf bay) names (seen (online_opening seen shelf runs attached after task text rest out out' status online).bay) size → IsTakenWhole task text size
-      → (status ≡ Memory) ⊎ (IsOnlineOpened seen shelf runs attached after task text rest out out' status online × ((status ≡ Done) ⊎ (status ≡ Spent)))
+      → ((status ≡ Memory) × (IsOnlineOpened seen shelf runs attached after task text rest out out' status online → NamesImage task text))
+      ⊎ (IsOnlineOpened seen shelf runs attached after task text rest out out' status online × ((status ≡ Done) ⊎ (status ≡ Spent)))
 
 -- all disks were attached and the task carried out on them, unless memory was wanting
 abbrev pub CarriesOut : {B : Type 0} → (B → Seen) → (B → Shelf) → (B → B → Type 0) → B → B → Task → List (List ℕ) → List ℕ → List ℕ → List ℕ → List ℕ → Status → Type 0
@@ -141,5 +170,5 @@ Completes seen shelf runs bay after Serve names text rest out out' status = Carr
 Completes seen shelf runs bay after Import names text rest out out' status = CarriesOut seen shelf runs bay after tasks.Import names text rest out out' status
 Completes seen shelf runs bay after Export names text rest out out' status = CarriesOut seen shelf runs bay after tasks.Export names text rest out out' status
 Completes seen shelf runs bay after StatusOf names text rest out out' status = CarriesOut seen shelf runs bay after tasks.Show names text rest out out' status
-Completes seen shelf runs bay after Examine names text rest out out' status = (shelf bay).told → NoneRefused (seen after) → IsDone status
+Completes seen shelf runs bay after Examine names text rest out out' status = NoneRefused (seen after) → IsDone status
 Completes seen shelf runs bay after (Trial seed) names text rest out out' status = CarriesOut seen shelf runs bay after (tasks.Trial seed) names text rest out out' status
