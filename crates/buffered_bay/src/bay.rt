@@ -33,6 +33,13 @@ impl<F: FileStore> BufferedBay<F> {
         }
     }
 
+    /// The files.
+    pub fn files(&self) -> &F
+        ensures { result.now ≡ self.now.files }
+    {
+        &self.files
+    }
+
     /// Stores all dirty sectors. A disk that refuses them counts a fault, and they stay dirty.
     pub fn write_back_all(&mut self)
         ensures reads { OnlyReads (F.view self.old.files).seen (F.view self.new.files).seen }
