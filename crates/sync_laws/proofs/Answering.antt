@@ -22,19 +22,16 @@ use Rattle.sync_laws.proofs.Logged.{AreOnMembers}
 use Rattle.sync_laws.proofs.Owed.{none_or}
 use Rattle.sync_laws.proofs.Supers.{supers_few}
 
-abbrev pub Nothing : Type 0
-Nothing = Unit {0}
-
 -- an answer that is refused where a fact doesn't hold
-pub not_ok : (lacks : Bool) (r : Result Nothing Spent) → OnOk r (lacks ≡ false) → lacks ≡ true → is_ok r ≡ false
+pub not_ok : {X : Type 0} (lacks : Bool) (r : Result X Spent) → OnOk r (lacks ≡ false) → lacks ≡ true → is_ok r ≡ false
 not_ok lacks (Ok x) served is = absurd (both_ways lacks served is)
 not_ok lacks (Err e) served is = refl
 
-pub served_by : (was now : Bool) (r : Result Nothing Spent) → now ≡ was → OnOk r (was ≡ false) → OnOk r (now ≡ false)
+pub served_by : {X : Type 0} (was now : Bool) (r : Result X Spent) → now ≡ was → OnOk r (was ≡ false) → OnOk r (now ≡ false)
 served_by was now (Ok x) same served = same ∙ served
 served_by was now (Err e) same served = tt
 
-pub refused_by : (was now : Bool) (m n : ℕ) (r : Result Nothing Spent) → now ≡ was → m ≡ n → IfErr r (λ e. (e.sector ≡ m) × (was ≡ true)) → IfErr r (λ e. (e.sector ≡ n) × (now ≡ true))
+pub refused_by : {X : Type 0} (was now : Bool) (m n : ℕ) (r : Result X Spent) → now ≡ was → m ≡ n → IfErr r (λ e. (e.sector ≡ m) × (was ≡ true)) → IfErr r (λ e. (e.sector ≡ n) × (now ≡ true))
 refused_by was now m n (Ok x) same sector refused = tt
 refused_by was now m n (Err e) same sector refused = (refused.0 ∙ sector, same ∙ refused.1)
 
@@ -80,11 +77,14 @@ row_elsewhere v l on lost a b c few reads members commit =
 
 -- ---- the log's room
 
-pub staged_few : (u : View) (added : List Target) → IsArray u → u.truth.raid_disks ≤ 16 → AddsSupersOf u [] added → length added ≤ 16
-staged_few u added is_array most adds =
+pub staged_length : (u : View) (added : List Target) → IsArray u → AddsSupersOf u [] added → length added ≤ u.truth.raid_disks
+staged_length u added is_array adds =
     let few = supers_few u [] added is_array adds in
     let long : length added ≡ length adds.targets = ap length adds.appended in
-    omega (arith, few, long, most)
+    omega (arith, few, long)
+
+pub staged_few : (u : View) (added : List Target) → IsArray u → u.truth.raid_disks ≤ 16 → AddsSupersOf u [] added → length added ≤ 16
+staged_few u added is_array most adds = let few = staged_length u added is_array adds in omega (arith, few, most)
 
 pub some_added : (supers data_targets : List Target) → 0 < length supers → 0 < length (supers ++ data_targets)
 some_added supers data_targets some = let sum = length-append supers data_targets in omega (arith, some, sum)
