@@ -1,6 +1,6 @@
 //! Rows of a member that are left to rebuild.
 
-ghost use Rattle.std.specs.Prelude.{◌≡◌, ◌⊎◌, ◌<◌, ◌+◌, ◌/◌, ◌*◌, ℕ, List, [], true, false, is_ok, OnOk, IfErr};
+ghost use Rattle.std.specs.Prelude.{◌≡◌, ◌⊎◌, ◌<◌, ◌+◌, ◌/◌, ◌*◌, ℕ, List, [], true, false, is_ok, OnOk, IfOk, IfErr};
 ghost use Rattle.array_model.specs.View.{View, rows_of};
 ghost use Rattle.array_model.specs.Members.{HasSlices, first_of_row, row_layout};
 ghost use Rattle.log_laws.specs.View.{committed, emptied};
@@ -10,7 +10,7 @@ ghost use Rattle.array_core.specs.Pool.{Goes};
 ghost use Rattle.array_core.specs.Superblocks.{rebuilt_by};
 ghost use Rattle.array_core.specs.Writing.{KeepsElsewhere};
 ghost use Rattle.sync_laws.specs.Rows.{others_give, row_spent};
-ghost use Rattle.sync_laws.specs.Steps.{HasRowLeft, Steps, reach_on, rebuilt};
+ghost use Rattle.sync_laws.specs.Steps.{HasRowLeft, Steps, StepsRows, reach_on, rebuilt, rows_left};
 
 use crate::members::{is_row_spent, stage_member};
 use array_core::{Array, Change, Seat, Spent};
@@ -39,9 +39,10 @@ fn next_change(array: &Array, place: u32, row: u64) -> Change
     array.rebuilt_to(place, (row + 1) * CHUNK_SECTORS)
 }
 
-/// The answer to a row of a rebuild: it is refused where the row can't be had.
-fn answer(array: &Array, row: u64) -> Result<(), Spent>
+/// The answer to so many rows of a rebuild: they are refused where the first can't be had.
+fn answer(array: &Array, row: u64, rows: u64) -> Result<u64, Spent>
     requires { row < rows_of array.now }
+    ensures rows { IfOk result (λ k. k ≡ rows) }
     ensures served { OnOk result (row_spent array.now row ≡ false) }
     ensures refused { IfErr result (λ e. (e.sector ≡ first_of_row (row_layout array.now (row * 128)) (row * 128)) × (row_spent array.now row ≡ true)) }
 {
@@ -51,28 +52,30 @@ fn answer(array: &Array, row: u64) -> Result<(), Spent>
             sector: array.first_in_row(row * CHUNK_SECTORS),
         })
     } else {
-        Ok(())
+        Ok(rows)
     }
 }
 
-/// Rebuilds the next row of a place's member: its sectors are computed from the other members. One commit of the log has them and the
-/// superblocks by which that member counts in the row; the last row's say that it is whole. It is durable when the call returns, and
-/// no value of the array has changed.
-/// It is refused exactly where another member is missing after the losses of this call, or isn't rebuilt past the row, or the row is
-/// left to resync. Where the member itself went, its row stands in the log's record, and it is missing.
-pub fn rebuild_row<R: Rack>(
+/// Rebuilds the next rows of a place's member, at least one and at most so many: its sectors are computed from the other members. One
+/// commit of the log has them and the superblocks by which that member counts in the rows; those after the last row say that it is
+/// whole. It is durable when the call returns, which answers how many rows it did, and no value of the array has changed.
+/// It is refused exactly where another member is missing after the losses of this call, or isn't rebuilt past the first of the rows,
+/// or that row is left to resync. Where the member itself went, its rows stand in the log's record, and it is missing.
+pub fn rebuild_rows<R: Rack>(
     array: &mut Array,
     rack: &mut R,
     log: &mut Log,
     on: &Places,
     place: u32,
-) -> Result<(), Spent>
+    most: u64,
+) -> Result<u64, Spent>
     requires slices { HasSlices array.old (R.seen rack.old) }
     requires disks { (R.seen rack.old).disks ≡ 272 }
     requires logs { AreLogs (R.seen rack.old).sectors on.now.items }
     requires empty { log.old.added ≡ [] }
     requires row { HasRowLeft array.old place }
-    ensures steps { Steps array.old (rebuilt array.old place) array.new log.old.number log.new.number on.now.items (R.seen rack.old) (R.seen rack.new) (is_ok result) }
+    requires some { 0 < most }
+    ensures steps { StepsRows array.old array.new (rebuilt array.old place) (rows_left array.old place) most log.old.number log.new.number on.now.items (R.seen rack.old) (R.seen rack.new) result }
     ensures elsewhere { KeepsElsewhere false array.old on.now.items (R.seen rack.old) (R.seen rack.new) }
     ensures goes { Goes (R.seen rack.old) (R.seen rack.new) }
     ensures log { (log.new ≡ emptied log.old) ⊎ (log.new ≡ committed log.old) }
@@ -85,16 +88,45 @@ pub fn rebuild_row<R: Rack>(
     array.unsynced_rows();
     let position = array.position(place);
     let row = next_row(array, place);
+    let rows = 1;
     let change = next_change(array, place, row);
     array.stage(log, &change);
     if !stage_member(array, rack, log, position, row) {
         log.clear();
-        return answer(array, row);
+        return answer(array, row, rows);
     }
     let lost = log.commit(rack, on);
     array.note_all(&lost);
     array.rules();
-    let answered = answer(array, row);
+    let answered = answer(array, row, rows);
     array.adopt(&change);
     answered
+}
+
+/// Rebuilds the next row of a place's member, as `rebuild_rows` does it.
+pub fn rebuild_row<R: Rack>(
+    array: &mut Array,
+    rack: &mut R,
+    log: &mut Log,
+    on: &Places,
+    place: u32,
+) -> Result<(), Spent>
+    requires slices { HasSlices array.old (R.seen rack.old) }
+    requires disks { (R.seen rack.old).disks ≡ 272 }
+    requires logs { AreLogs (R.seen rack.old).sectors on.now.items }
+    requires empty { log.old.added ≡ [] }
+    requires row { HasRowLeft array.old place }
+    ensures steps { Steps array.old (rebuilt array.old place 1) array.new log.old.number log.new.number on.now.items (R.seen rack.old) (R.seen rack.new) (is_ok result) }
+    ensures elsewhere { KeepsElsewhere false array.old on.now.items (R.seen rack.old) (R.seen rack.new) }
+    ensures goes { Goes (R.seen rack.old) (R.seen rack.new) }
+    ensures log { (log.new ≡ emptied log.old) ⊎ (log.new ≡ committed log.old) }
+    ensures runs { R.runs rack.old rack.new }
+    ensures served { OnOk result (others_give array.new place (reach_on array.old place / 128) ≡ true) }
+    ensures refused { IfErr result (λ e. (e.sector ≡ first_of_row (row_layout array.old (reach_on array.old place)) (reach_on array.old place))
+        × (others_give array.new place (reach_on array.old place / 128) ≡ false)) }
+{
+    match rebuild_rows(array, rack, log, on, place, 1) {
+        Ok(_) => Ok(()),
+        Err(spent) => Err(spent),
+    }
 }

@@ -1,6 +1,6 @@
 //! Rows of an array that are left to resync.
 
-ghost use Rattle.std.specs.Prelude.{◌≡◌, ◌⊎◌, ◌<◌, ◌≤◌, ◌+◌, ◌*◌, ℕ, List, [], length, true, false, is_ok, OnOk, IfErr};
+ghost use Rattle.std.specs.Prelude.{◌≡◌, ◌⊎◌, ◌<◌, ◌≤◌, ◌+◌, ◌-◌, ◌*◌, ℕ, List, [], length, true, false, is_ok, OnOk, IfOk, IfErr};
 ghost use Rattle.array_model.specs.View.{View, rows_of};
 ghost use Rattle.array_model.specs.Members.{HasSlices, first_of_row, row_layout};
 ghost use Rattle.log_laws.specs.View.{committed, emptied};
@@ -8,7 +8,7 @@ ghost use Rattle.log_laws.specs.Phases.{AreLogs};
 ghost use Rattle.array_core.specs.Pool.{Goes};
 ghost use Rattle.array_core.specs.Writing.{KeepsElsewhere};
 ghost use Rattle.sync_laws.specs.Rows.{lacks_row};
-ghost use Rattle.sync_laws.specs.Steps.{Steps, offset_after, resynced};
+ghost use Rattle.sync_laws.specs.Steps.{Steps, StepsRows, offset_after, resynced};
 
 use crate::rows::{lacks_row, stage_row};
 use array_core::{Array, Spent};
@@ -29,9 +29,10 @@ pub(crate) fn offset_after(array: &Array, rows: u64) -> u64
     }
 }
 
-/// The answer to a row of resync: it is refused where a member is missing.
-fn answer(array: &Array, row: u64) -> Result<(), Spent>
+/// The answer to so many rows of resync: they are refused where a member is missing from the first.
+fn answer(array: &Array, row: u64, rows: u64) -> Result<u64, Spent>
     requires { row < rows_of array.now }
+    ensures rows { IfOk result (λ k. k ≡ rows) }
     ensures served { OnOk result (lacks_row array.now row ≡ false) }
     ensures refused { IfErr result (λ e. (e.sector ≡ first_of_row (row_layout array.now (row * 128)) (row * 128)) × (lacks_row array.now row ≡ true)) }
 {
@@ -41,14 +42,57 @@ fn answer(array: &Array, row: u64) -> Result<(), Spent>
             sector: array.first_in_row(row * CHUNK_SECTORS),
         })
     } else {
-        Ok(())
+        Ok(rows)
     }
 }
 
-/// Resyncs the first row that is left: a mirror's other members get the chunk of its first one, and of RAID-5 the parity is
+/// Resyncs the next rows that are left, at least one and at most so many: a mirror's other members get the chunk of its first one, and of RAID-5 the parity is
 /// computed from the data. One commit of the log has the sectors of each member that is changed and the superblocks that leave the
-/// next row; the last row's say that none is left. It is durable when the call returns, and no value of the array has changed.
-/// It is refused exactly where a member is missing after the losses of this call, or isn't rebuilt past the row.
+/// rows after them; those after the last row say that none is left. It is durable when the call returns, which answers how many rows
+/// it did, and no value of the array has changed.
+/// It is refused exactly where a member is missing after the losses of this call, or isn't rebuilt past the first of the rows.
+pub fn resync_rows<R: Rack>(
+    array: &mut Array,
+    rack: &mut R,
+    log: &mut Log,
+    on: &Places,
+    most: u64,
+) -> Result<u64, Spent>
+    requires slices { HasSlices array.old (R.seen rack.old) }
+    requires disks { (R.seen rack.old).disks ≡ 272 }
+    requires logs { AreLogs (R.seen rack.old).sectors on.now.items }
+    requires empty { log.old.added ≡ [] }
+    requires grown { array.old.young ≡ false }
+    requires row { array.old.resync < rows_of array.old }
+    requires some { 0 < most }
+    ensures steps { StepsRows array.old array.new (resynced array.old) (rows_of array.old - array.old.resync) most log.old.number log.new.number on.now.items (R.seen rack.old) (R.seen rack.new) result }
+    ensures elsewhere { KeepsElsewhere false array.old on.now.items (R.seen rack.old) (R.seen rack.new) }
+    ensures goes { Goes (R.seen rack.old) (R.seen rack.new) }
+    ensures log { (log.new ≡ emptied log.old) ⊎ (log.new ≡ committed log.old) }
+    ensures runs { R.runs rack.old rack.new }
+    ensures served { OnOk result (lacks_row array.new array.old.resync ≡ false) }
+    ensures refused { IfErr result (λ e. (e.sector ≡ first_of_row (row_layout array.old (array.old.resync * 128)) (array.old.resync * 128))
+        × (lacks_row array.new array.old.resync ≡ true)) }
+{
+    array.rules();
+    array.unsynced_rows();
+    let row = array.resync_from();
+    let rows = 1;
+    let change = array.resynced_to(offset_after(array, row + rows));
+    array.stage(log, &change);
+    if !stage_row(array, rack, log, row) {
+        log.clear();
+        return answer(array, row, rows);
+    }
+    let lost = log.commit(rack, on);
+    array.note_all(&lost);
+    array.rules();
+    let answered = answer(array, row, rows);
+    array.adopt(&change);
+    answered
+}
+
+/// Resyncs the first row that is left, as `resync_rows` does it.
 pub fn resync_row<R: Rack>(
     array: &mut Array,
     rack: &mut R,
@@ -61,7 +105,7 @@ pub fn resync_row<R: Rack>(
     requires empty { log.old.added ≡ [] }
     requires grown { array.old.young ≡ false }
     requires row { array.old.resync < rows_of array.old }
-    ensures steps { Steps array.old (resynced array.old) array.new log.old.number log.new.number on.now.items (R.seen rack.old) (R.seen rack.new) (is_ok result) }
+    ensures steps { Steps array.old (resynced array.old 1) array.new log.old.number log.new.number on.now.items (R.seen rack.old) (R.seen rack.new) (is_ok result) }
     ensures elsewhere { KeepsElsewhere false array.old on.now.items (R.seen rack.old) (R.seen rack.new) }
     ensures goes { Goes (R.seen rack.old) (R.seen rack.new) }
     ensures log { (log.new ≡ emptied log.old) ⊎ (log.new ≡ committed log.old) }
@@ -70,19 +114,8 @@ pub fn resync_row<R: Rack>(
     ensures refused { IfErr result (λ e. (e.sector ≡ first_of_row (row_layout array.old (array.old.resync * 128)) (array.old.resync * 128))
         × (lacks_row array.new array.old.resync ≡ true)) }
 {
-    array.rules();
-    array.unsynced_rows();
-    let row = array.resync_from();
-    let change = array.resynced_to(offset_after(array, row + 1));
-    array.stage(log, &change);
-    if !stage_row(array, rack, log, row) {
-        log.clear();
-        return answer(array, row);
+    match resync_rows(array, rack, log, on, 1) {
+        Ok(_) => Ok(()),
+        Err(spent) => Err(spent),
     }
-    let lost = log.commit(rack, on);
-    array.note_all(&lost);
-    array.rules();
-    let answered = answer(array, row);
-    array.adopt(&change);
-    answered
 }

@@ -1,6 +1,6 @@
 //! Rows of a young array that are left to zero.
 
-ghost use Rattle.std.specs.Prelude.{◌≡◌, ◌⊎◌, ◌<◌, ◌*◌, ℕ, List, [], true, false, is_ok, OnOk, IfErr};
+ghost use Rattle.std.specs.Prelude.{◌≡◌, ◌⊎◌, ◌<◌, ◌-◌, ◌*◌, ℕ, List, [], true, false, is_ok, OnOk, IfOk, IfErr};
 ghost use Rattle.array_image.specs.SoundArray.{first_unsynced};
 ghost use Rattle.array_model.specs.View.{View, rows_of};
 ghost use Rattle.array_model.specs.Members.{HasSlices, first_of_row, row_layout};
@@ -9,7 +9,7 @@ ghost use Rattle.log_laws.specs.Phases.{AreLogs};
 ghost use Rattle.array_core.specs.Pool.{Goes};
 ghost use Rattle.array_core.specs.Writing.{KeepsElsewhere};
 ghost use Rattle.sync_laws.specs.Rows.{lacks_two};
-ghost use Rattle.sync_laws.specs.Steps.{Zeroes};
+ghost use Rattle.sync_laws.specs.Steps.{Zeroes, ZeroesRows};
 
 use crate::resyncing::offset_after;
 use crate::zeros::{lacks_two, stage_zeros};
@@ -26,9 +26,10 @@ fn next_row(array: &Array) -> u64
     array.truth().resync_offset / CHUNK_SECTORS
 }
 
-/// The answer to a row of zeros: it is refused where two members are missing.
-fn answer(array: &Array, row: u64) -> Result<(), Spent>
+/// The answer to so many rows of zeros: they are refused where two members are missing from the first.
+fn answer(array: &Array, row: u64, rows: u64) -> Result<u64, Spent>
     requires { row < rows_of array.now }
+    ensures rows { IfOk result (λ k. k ≡ rows) }
     ensures served { OnOk result (lacks_two array.now row ≡ false) }
     ensures refused { IfErr result (λ e. (e.sector ≡ first_of_row (row_layout array.now (row * 128)) (row * 128)) × (lacks_two array.now row ≡ true)) }
 {
@@ -38,14 +39,57 @@ fn answer(array: &Array, row: u64) -> Result<(), Spent>
             sector: array.first_in_row(row * CHUNK_SECTORS),
         })
     } else {
-        Ok(())
+        Ok(rows)
     }
 }
 
-/// Zeroes the next row of a young array that is left to zero: one commit of the log has zeros for the row of each member that counts
-/// in it and the superblocks that leave the next row; the last row's say that none is left. It is durable when the call returns: the
-/// row's sectors are zeros, and those of the rows before it keep their values.
-/// It is refused exactly where two members are missing after the losses of this call, or not rebuilt past the row.
+/// Zeroes the next rows of a young array that are left to zero, at least one and at most so many: one commit of the log has zeros for
+/// the rows of each member that counts in them and the superblocks that leave the rows after them; those after the last row say that
+/// none is left. It is durable when the call returns, which answers how many rows it did: their sectors are zeros, and those of the
+/// rows before them keep their values.
+/// It is refused exactly where two members are missing after the losses of this call, or not rebuilt past the first of the rows.
+pub fn zero_rows<R: Rack>(
+    array: &mut Array,
+    rack: &mut R,
+    log: &mut Log,
+    on: &Places,
+    most: u64,
+) -> Result<u64, Spent>
+    requires slices { HasSlices array.old (R.seen rack.old) }
+    requires disks { (R.seen rack.old).disks ≡ 272 }
+    requires logs { AreLogs (R.seen rack.old).sectors on.now.items }
+    requires empty { log.old.added ≡ [] }
+    requires young { array.old.young ≡ true }
+    requires row { first_unsynced array.old.truth < rows_of array.old }
+    requires some { 0 < most }
+    ensures zeroes { ZeroesRows array.old array.new (rows_of array.old - first_unsynced array.old.truth) most log.old.number log.new.number on.now.items (R.seen rack.old) (R.seen rack.new) result }
+    ensures elsewhere { KeepsElsewhere false array.old on.now.items (R.seen rack.old) (R.seen rack.new) }
+    ensures goes { Goes (R.seen rack.old) (R.seen rack.new) }
+    ensures log { (log.new ≡ emptied log.old) ⊎ (log.new ≡ committed log.old) }
+    ensures runs { R.runs rack.old rack.new }
+    ensures served { OnOk result (lacks_two array.new (first_unsynced array.old.truth) ≡ false) }
+    ensures refused { IfErr result (λ e. (e.sector ≡ first_of_row (row_layout array.old (first_unsynced array.old.truth * 128)) (first_unsynced array.old.truth * 128))
+        × (lacks_two array.new (first_unsynced array.old.truth) ≡ true)) }
+{
+    array.rules();
+    let row = next_row(array);
+    let rows = 1;
+    if lacks_two(array, row) {
+        log.clear();
+        return answer(array, row, rows);
+    }
+    let change = array.resynced_to(offset_after(array, row + rows));
+    array.stage(log, &change);
+    stage_zeros(array, log, row);
+    let lost = log.commit(rack, on);
+    array.note_all(&lost);
+    array.rules();
+    let answered = answer(array, row, rows);
+    array.adopt(&change);
+    answered
+}
+
+/// Zeroes the next row of a young array that is left to zero, as `zero_rows` does it.
 pub fn zero_row<R: Rack>(
     array: &mut Array,
     rack: &mut R,
@@ -58,7 +102,7 @@ pub fn zero_row<R: Rack>(
     requires empty { log.old.added ≡ [] }
     requires young { array.old.young ≡ true }
     requires row { first_unsynced array.old.truth < rows_of array.old }
-    ensures zeroes { Zeroes array.old array.new log.old.number log.new.number on.now.items (R.seen rack.old) (R.seen rack.new) (is_ok result) }
+    ensures zeroes { Zeroes array.old array.new 1 log.old.number log.new.number on.now.items (R.seen rack.old) (R.seen rack.new) (is_ok result) }
     ensures elsewhere { KeepsElsewhere false array.old on.now.items (R.seen rack.old) (R.seen rack.new) }
     ensures goes { Goes (R.seen rack.old) (R.seen rack.new) }
     ensures log { (log.new ≡ emptied log.old) ⊎ (log.new ≡ committed log.old) }
@@ -67,19 +111,8 @@ pub fn zero_row<R: Rack>(
     ensures refused { IfErr result (λ e. (e.sector ≡ first_of_row (row_layout array.old (first_unsynced array.old.truth * 128)) (first_unsynced array.old.truth * 128))
         × (lacks_two array.new (first_unsynced array.old.truth) ≡ true)) }
 {
-    array.rules();
-    let row = next_row(array);
-    if lacks_two(array, row) {
-        log.clear();
-        return answer(array, row);
+    match zero_rows(array, rack, log, on, 1) {
+        Ok(_) => Ok(()),
+        Err(spent) => Err(spent),
     }
-    let change = array.resynced_to(offset_after(array, row + 1));
-    array.stage(log, &change);
-    stage_zeros(array, log, row);
-    let lost = log.commit(rack, on);
-    array.note_all(&lost);
-    array.rules();
-    let answered = answer(array, row);
-    array.adopt(&change);
-    answered
 }

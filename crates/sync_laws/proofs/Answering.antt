@@ -22,19 +22,16 @@ use Rattle.sync_laws.proofs.Logged.{AreOnMembers}
 use Rattle.sync_laws.proofs.Owed.{none_or}
 use Rattle.sync_laws.proofs.Supers.{supers_few}
 
-abbrev pub Nothing : Type 0
-Nothing = Unit {0}
-
 -- an answer that is refused where a fact doesn't hold
-pub not_ok : (lacks : Bool) (r : Result Nothing Spent) → OnOk r (lacks ≡ false) → lacks ≡ true → is_ok r ≡ false
+pub not_ok : {X : Type 0} (lacks : Bool) (r : Result X Spent) → OnOk r (lacks ≡ false) → lacks ≡ true → is_ok r ≡ false
 not_ok lacks (Ok x) served is = absurd (both_ways lacks served is)
 not_ok lacks (Err e) served is = refl
 
-pub served_by : (was now : Bool) (r : Result Nothing Spent) → now ≡ was → OnOk r (was ≡ false) → OnOk r (now ≡ false)
+pub served_by : {X : Type 0} (was now : Bool) (r : Result X Spent) → now ≡ was → OnOk r (was ≡ false) → OnOk r (now ≡ false)
 served_by was now (Ok x) same served = same ∙ served
 served_by was now (Err e) same served = tt
 
-pub refused_by : (was now : Bool) (m n : ℕ) (r : Result Nothing Spent) → now ≡ was → m ≡ n → IfErr r (λ e. (e.sector ≡ m) × (was ≡ true)) → IfErr r (λ e. (e.sector ≡ n) × (now ≡ true))
+pub refused_by : {X : Type 0} (was now : Bool) (m n : ℕ) (r : Result X Spent) → now ≡ was → m ≡ n → IfErr r (λ e. (e.sector ≡ m) × (was ≡ true)) → IfErr r (λ e. (e.sector ≡ n) × (now ≡ true))
 refused_by was now m n (Ok x) same sector refused = tt
 refused_by was now m n (Err e) same sector refused = (refused.0 ∙ sector, same ∙ refused.1)
 

@@ -31,7 +31,7 @@ use Rattle.array_core.specs.Writing.{KeepsElsewhere}
 use Rattle.array_core.proofs.RowLists.{some_payload}
 use Rattle.sync_laws.specs.Rows.{AddsCopies, AreCopies, IsGiven, OfMember, others_give, row_spent}
 use Rattle.sync_laws.specs.Steps.{Steps, reach_on, rebuilt}
-use Rattle.sync_laws.proofs.Answering.{Nothing, row_elsewhere}
+use Rattle.sync_laws.proofs.Answering.{row_elsewhere}
 use Rattle.sync_laws.proofs.Logged.{AreOnMembers, all_had, all_valid}
 use Rattle.sync_laws.proofs.Others.{OthersGive, give_after, give_now, stays_lacking, unspent_others, others_few, same_wanting, unspent_few}
 use Rattle.sync_laws.proofs.Rebuilt.{IsRebuilding, get_past, next_array, next_loses, next_rows, next_same, next_state, own_reach, own_seat, reach_before, rebuilt_there, row_change, row_inside, stage_is, Outside, alike}
@@ -52,7 +52,7 @@ pub record MemberStaged (v : View) (place p to : ℕ) (a : Seen) (xs : List Targ
   pub supers : List Target
   pub own_data : List Target
   pub added : xs ≡ supers ++ own_data
-  pub adds : AddsSupersOf (rebuilt v place) [] supers
+  pub adds : AddsSupersOf (rebuilt v place 1) [] supers
   pub copies : AreCopies v (OfMember p to 128) (IsGiven v a p) own_data
 
 -- the row, and where the next one begins
@@ -85,7 +85,7 @@ pub staged : (v u : View) (a b : Seen) (place p to row : ℕ) (c : Change) (x y 
     → Notes v u a b → not (row_spent u row) ≡ true
     → MemberStaged v place p to a z
 staged v u a b place p to row c x y z is unsynced row_is change empty adds copies notes had =
-    let next : adopted c v ≡ rebuilt v place = ap (λ (d : Change). adopted d v) (change_is v place p to row c is row_is change) ∙ stage_is v place p to is in
+    let next : adopted c v ≡ rebuilt v place 1 = ap (λ (d : Change). adopted d v) (change_is v place p to row c is row_is change) ∙ stage_is v place p to is in
     record {
       is = is;
       unsynced = unsynced;
@@ -155,27 +155,27 @@ module _ (v : View) (place p to : ℕ) (a b : Seen) (xs : List Target) (row : Me
         long = at.long;
       }
 
-  live_on : IsOpen (shape_of (rebuilt v place)) v.number a → (d t : ℕ) (u : List ℕ) → IsPayload row.own_data d t u → IsLive a a d t
+  live_on : IsOpen (shape_of (rebuilt v place 1)) v.number a → (d t : ℕ) (u : List ℕ) → IsPayload row.own_data d t u → IsLive a a d t
   live_on opened d t u pay =
       let at = row.copies.on d t u pay in
       let last = at.inside.1 in
       let reach = own_reach v place p to row.is in
-      let among : Among (member_on (rebuilt v place) p) (shape_of (rebuilt v place)).members =
-      subst (λ (ms : List Member). Among (member_on (rebuilt v place) p) ms) (sym (shape_members (rebuilt v place))) (member_among (rebuilt v place) p v.truth.raid_disks row.is.low) in
+      let among : Among (member_on (rebuilt v place 1) p) (shape_of (rebuilt v place 1)).members =
+      subst (λ (ms : List Member). Among (member_on (rebuilt v place 1) p) ms) (sym (shape_members (rebuilt v place 1))) (member_among (rebuilt v place 1) p v.truth.raid_disks row.is.low) in
       subst (λ e. IsLive a a e t) (sym (at.disk ∙ ap (slice_on v) at.inside.2))
       (subst (λ e. IsLive a a (slice_on v p) e) (sym at.at)
-      (opened (member_on (rebuilt v place) p) at.sector among (omega (arith, last, reach))))
+      (opened (member_on (rebuilt v place 1) p) at.sector among (omega (arith, last, reach))))
 
   -- what isn't spent after it wasn't before
-  pub member_unspent : (y : ℕ) → spent_in (rebuilt v place) y ≡ false → spent_in v y ≡ false
+  pub member_unspent : (y : ℕ) → spent_in (rebuilt v place 1) y ≡ false → spent_in v y ≡ false
   member_unspent y unspent =
       let t = sector_in (layout_at (shape_of v) y) y in
-      let now : spent_in (rebuilt v place) y ≡ spent_with (wanting t (members_of (rebuilt v place))) (nat_lt (row_at t) v.resync) =
-      spent_given (rebuilt v place) y t (ap (λ (l : Layout). sector_in l y) (sym (layout_same v (rebuilt v place) y refl))) in
+      let now : spent_in (rebuilt v place 1) y ≡ spent_with (wanting t (members_of (rebuilt v place 1))) (nat_lt (row_at t) v.resync) =
+      spent_given (rebuilt v place 1) y t (ap (λ (l : Layout). sector_in l y) (sym (layout_same v (rebuilt v place 1) y refl))) in
       let outside : Outside to t → spent_in v y ≡ false =
       λ out.
       spent_given v y t refl
-      ∙ ap (λ (k : ℕ). spent_with k (nat_lt (row_at t) v.resync)) (sym (same_wanting v (rebuilt v place) t refl (λ j low. alike v place p to row.is j t low (λ same. out))))
+      ∙ ap (λ (k : ℕ). spent_with k (nat_lt (row_at t) v.resync)) (sym (same_wanting v (rebuilt v place 1) t refl (λ j low. alike v place p to row.is j t low (λ same. out))))
       ∙ sym now ∙ unspent in
       elim (cases_lt t to) [
         | inl early ↦ outside (inl early)
@@ -191,7 +191,7 @@ module _ (v : View) (place p to : ℕ) (a b : Seen) (xs : List Target) (row : Me
         ]
       ]
 
-  pub member_step : Step v v.truth.events v.truth.resync_offset v.resync (rebuilt v place).seats v.marked row.own_data a b (λ spent. Unit {0})
+  pub member_step : Step v v.truth.events v.truth.resync_offset v.resync (rebuilt v place 1).seats v.marked row.own_data a b (λ spent. Unit {0})
   member_step = record {
     is_array = row.is.is_array;
     next = next_array v place p to row.is;
@@ -214,7 +214,7 @@ module _ (v : View) (place p to : ℕ) (a b : Seen) (xs : List Target) (row : Me
   pub member_on_members : AreOnMembers v xs
   member_on_members =
       subst (AreOnMembers v) (sym row.added)
-      (on_members v v.truth.events v.truth.resync_offset v.resync (rebuilt v place).seats v.marked row.supers row.own_data a b member_step row.adds)
+      (on_members v v.truth.events v.truth.resync_offset v.resync (rebuilt v place 1).seats v.marked row.supers row.own_data a b member_step row.adds)
 
   pub member_valid : list_all is_target xs ≡ true
   member_valid = all_valid v xs row.is.is_array member_on_members
@@ -222,7 +222,7 @@ module _ (v : View) (place p to : ℕ) (a b : Seen) (xs : List Target) (row : Me
   pub member_apart : are_apart xs ≡ true
   member_apart =
       ap are_apart row.added
-      ∙ all_apart v v.truth.events v.truth.resync_offset v.resync (rebuilt v place).seats v.marked row.supers row.own_data a b member_step row.adds
+      ∙ all_apart v v.truth.events v.truth.resync_offset v.resync (rebuilt v place 1).seats v.marked row.supers row.own_data a b member_step row.adds
 
   pub member_some : 0 < length xs
   member_some =
@@ -238,15 +238,15 @@ module _ (v : View) (place p to : ℕ) (a b : Seen) (xs : List Target) (row : Me
 pub member_steps : (v u z w : View) (a b c : Seen) (l : LogView) (on lost : List ℕ) (place p to number after row : ℕ) (change : Change) (answered : Bool)
     → MemberStaged v place p to a l.added → HasSlices v a → OnlyReads a b → Notes v u a b → CommitCall l on lost b c → IsSameButSeats u z → LosesPlaces u z (names lost) → IsArray z
     → row ≡ to / 128 → change ≡ rebuilt_by v place ((row + 1) * 128) → w ≡ adopted change z → l.number ≡ number → after ≡ next_number l.number
-    → Steps v (rebuilt v place) w number after on a c answered
+    → Steps v (rebuilt v place 1) w number after on a c answered
 member_steps v u z w a b c l on lost place p to number after row change answered staged_row slices reads notes commit same loses z_array row_is changed adopts number_is after_is =
     let is = staged_row.is in
     let same_v = same_view_then v u z notes.same same in
     let adopted_w : w ≡ adopted (row_change v place) z = adopts ∙ ap (λ (d : Change). adopted d z) (change_is v place p to row change is row_is changed) in
-    committed_steps v u z w v.truth.events v.truth.resync_offset v.resync (rebuilt v place).seats v.marked a b c l on lost staged_row.supers staged_row.own_data number after
+    committed_steps v u z w v.truth.events v.truth.resync_offset v.resync (rebuilt v place 1).seats v.marked a b c l on lost staged_row.supers staged_row.own_data number after
     (member_step v place p to a b l.added staged_row slices.lasting reads) staged_row.adds staged_row.added slices reads notes commit same loses
-    (subst (λ (x : View). IsSameButSeats (rebuilt v place) x) (sym adopted_w) (next_same v place p to is z z_array same_v))
-    (λ gone loses_v. subst (λ (x : View). LosesPlaces (rebuilt v place) x gone) (sym adopted_w) (next_loses v place p to is z z_array same_v gone loses_v))
+    (subst (λ (x : View). IsSameButSeats (rebuilt v place 1) x) (sym adopted_w) (next_same v place p to is z z_array same_v))
+    (λ gone loses_v. subst (λ (x : View). LosesPlaces (rebuilt v place 1) x gone) (sym adopted_w) (next_loses v place p to is z z_array same_v gone loses_v))
     number_is after_is answered (λ spent. tt)
     (λ rows. member_unspent v place p to a b l.added staged_row slices.lasting reads)
 
@@ -274,10 +274,10 @@ gives_none v u place p to row lost is same loses row_is =
     let start = row_start v place p to row is row_is in
     ap (λ (r : ℕ). others_give u place r) (sym row_is) ∙ give_now v place p to is u same lost loses row (omega (arith, start))
 
-pub gives_ok : (spent gives : Bool) (r : Result Nothing Spent) → gives ≡ not spent → OnOk r (spent ≡ false) → OnOk r (gives ≡ true)
+pub gives_ok : {X : Type 0} (spent gives : Bool) (r : Result X Spent) → gives ≡ not spent → OnOk r (spent ≡ false) → OnOk r (gives ≡ true)
 gives_ok spent gives (Ok x) same served = same ∙ ap not served
 gives_ok spent gives (Err e) same served = tt
 
-pub gives_err : (spent gives : Bool) (m n : ℕ) (r : Result Nothing Spent) → gives ≡ not spent → m ≡ n → IfErr r (λ e. (e.sector ≡ m) × (spent ≡ true)) → IfErr r (λ e. (e.sector ≡ n) × (gives ≡ false))
+pub gives_err : {X : Type 0} (spent gives : Bool) (m n : ℕ) (r : Result X Spent) → gives ≡ not spent → m ≡ n → IfErr r (λ e. (e.sector ≡ m) × (spent ≡ true)) → IfErr r (λ e. (e.sector ≡ n) × (gives ≡ false))
 gives_err spent gives m n (Ok x) same sector refused = tt
 gives_err spent gives m n (Err e) same sector refused = (refused.0 ∙ sector, same ∙ ap not refused.1)

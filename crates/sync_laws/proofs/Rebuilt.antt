@@ -128,9 +128,9 @@ rebuilt_there size to = by (to == size)
 
 module _ (v : View) (place p to : ℕ) (is : IsRebuilding v place p to) where
   abbrev next : View
-  next = rebuilt v place
+  next = rebuilt v place 1
 
-  pub next_seat : (k : ℕ) → slice_get (rebuilt v place).seats k ≡ option_map (reseat v place (place_at v k)) (slice_get v.seats k)
+  pub next_seat : (k : ℕ) → slice_get (rebuilt v place 1).seats k ≡ option_map (reseat v place (place_at v k)) (slice_get v.seats k)
   next_seat k =
       mapped_at v (λ s. if s.place == place then rebuilt_seat v.truth.size (reach_on v place + 128) else s.seat) (reseat v place) (λ s. refl) is.is_array k
 
@@ -139,13 +139,13 @@ module _ (v : View) (place p to : ℕ) (is : IsRebuilding v place p to) where
   option_same (Some x) = refl
 
   -- nobody else's seat changes
-  pub other_seat : (k : ℕ) → (place_at v k ≡ place → ⊥) → slice_get (rebuilt v place).seats k ≡ slice_get v.seats k
+  pub other_seat : (k : ℕ) → (place_at v k ≡ place → ⊥) → slice_get (rebuilt v place 1).seats k ≡ slice_get v.seats k
   other_seat k other =
       next_seat k
       ∙ ap (λ (b : Bool). option_map (λ (seat : Seat). if b then rebuilt_seat v.truth.size (reach_on v place + 128) else seat) (slice_get v.seats k)) (ne_eqb (place_at v k) place other)
       ∙ option_same (slice_get v.seats k)
 
-  pub own_seat : slice_get (rebuilt v place).seats p ≡ Some (rebuilt_seat v.truth.size (to + 128))
+  pub own_seat : slice_get (rebuilt v place 1).seats p ≡ Some (rebuilt_seat v.truth.size (to + 128))
   own_seat =
       next_seat p ∙ ap (option_map (reseat v place (place_at v p))) is.seat
       ∙ ap (λ (b : Bool). Some (if b then rebuilt_seat v.truth.size (reach_on v place + 128) else Rebuilding to)) (eq-eqb (place_at v p) place is.at)
@@ -154,27 +154,27 @@ module _ (v : View) (place p to : ℕ) (is : IsRebuilding v place p to) where
   pub place_of_other : (j : ℕ) → j < v.truth.raid_disks → (j ≡ p → ⊥) → place_at v j ≡ place → ⊥
   place_of_other j low other same = other (places_apart v j p is.is_array low is.low (same ∙ sym is.at))
 
-  pub other_member : (j : ℕ) → j < v.truth.raid_disks → (j ≡ p → ⊥) → member_on (rebuilt v place) j ≡ member_on v j
+  pub other_member : (j : ℕ) → j < v.truth.raid_disks → (j ≡ p → ⊥) → member_on (rebuilt v place 1) j ≡ member_on v j
   other_member j low other =
       ap (member_by_seat v.truth.size (place_at v j)) (other_seat j (place_of_other j low other))
 
-  pub own_reach : (member_on (rebuilt v place) p).reach ≡ to + 128
+  pub own_reach : (member_on (rebuilt v place 1) p).reach ≡ to + 128
   own_reach = ap (λ (o : Option Seat). option_map_or (seat_reach v.truth.size) o 0) own_seat ∙ rebuilt_reach v.truth.size (to + 128)
 
   pub reach_before : (member_on v p).reach ≡ to
   reach_before = ap (λ (o : Option Seat). option_map_or (seat_reach v.truth.size) o 0) is.seat
 
   -- members count alike but in the row
-  pub alike : (j t : ℕ) → j < v.truth.raid_disks → (j ≡ p → Outside to t) → nat_lt t (member_on (rebuilt v place) j).reach ≡ nat_lt t (member_on v j).reach
+  pub alike : (j t : ℕ) → j < v.truth.raid_disks → (j ≡ p → Outside to t) → nat_lt t (member_on (rebuilt v place 1) j).reach ≡ nat_lt t (member_on v j).reach
   alike j t low outside = elim (cases_eq j p) [
     | inr other ↦ ap (λ (m : Member). nat_lt t m.reach) (other_member j low other)
     | inl same ↦
         let after = own_reach in
         let before = reach_before in
-        subst (λ (k : ℕ). nat_lt t (member_on (rebuilt v place) k).reach ≡ nat_lt t (member_on v k).reach) (sym same)
+        subst (λ (k : ℕ). nat_lt t (member_on (rebuilt v place 1) k).reach ≡ nat_lt t (member_on v k).reach) (sym same)
         (elim (outside same) [
-          | inl early ↦ lt-ltb t (member_on (rebuilt v place) p).reach (omega (arith, early, after)) ∙ sym (lt-ltb t (member_on v p).reach (omega (arith, early, before)))
-          | inr late ↦ le-ltb t (member_on (rebuilt v place) p).reach (omega (arith, late, after)) ∙ sym (le-ltb t (member_on v p).reach (omega (arith, late, before)))
+          | inl early ↦ lt-ltb t (member_on (rebuilt v place 1) p).reach (omega (arith, early, after)) ∙ sym (lt-ltb t (member_on v p).reach (omega (arith, early, before)))
+          | inr late ↦ le-ltb t (member_on (rebuilt v place 1) p).reach (omega (arith, late, after)) ∙ sym (le-ltb t (member_on v p).reach (omega (arith, late, before)))
         ])
   ]
 
@@ -182,7 +182,7 @@ module _ (v : View) (place p to : ℕ) (is : IsRebuilding v place p to) where
   pub row_inside : to + 128 ≤ v.truth.size
   row_inside = let left = is.left in let whole = is.whole in let rows = is.is_array.whole_rows in omega (arith, left, whole, rows)
 
-  pub next_array : IsArray (rebuilt v place)
+  pub next_array : IsArray (rebuilt v place 1)
   next_array =
       let old = is.is_array in
       record {
@@ -201,10 +201,10 @@ module _ (v : View) (place p to : ℕ) (is : IsRebuilding v place p to) where
 
   -- ---- whoever is there
 
-  present_now : (k : ℕ) → (k ≡ p → ⊥) → k < v.truth.raid_disks → slice_get (rebuilt v place).seats k ≡ slice_get v.seats k
+  present_now : (k : ℕ) → (k ≡ p → ⊥) → k < v.truth.raid_disks → slice_get (rebuilt v place 1).seats k ≡ slice_get v.seats k
   present_now k other low = other_seat k (place_of_other k low other)
 
-  pub next_state : (s : State) → IsStateOf v s → IsStateOf (rebuilt v place) s
+  pub next_state : (s : State) → IsStateOf v s → IsStateOf (rebuilt v place 1) s
   next_state s state = record {
     set = state.set;
     profile = state.profile;
@@ -219,7 +219,7 @@ module _ (v : View) (place p to : ℕ) (is : IsRebuilding v place p to) where
         elim (cases_eq k p) [
           | inr other ↦ ap (option_map (λ seat. not (is_missing_seat seat))) (present_now k other (omega (arith, inside, count))) ∙ old
           | inl same ↦
-              ap (λ (j : ℕ). option_map (λ seat. not (is_missing_seat seat)) (slice_get (rebuilt v place).seats j)) same
+              ap (λ (j : ℕ). option_map (λ seat. not (is_missing_seat seat)) (slice_get (rebuilt v place 1).seats j)) same
               ∙ ap (option_map (λ seat. not (is_missing_seat seat))) own_seat
               ∙ ap (λ (b : Bool). Some (not b)) (rebuilt_there v.truth.size (to + 128))
               ∙ sym (ap (λ (j : ℕ). option_map (λ seat. not (is_missing_seat seat)) (slice_get v.seats j)) same ∙ ap (option_map (λ seat. not (is_missing_seat seat))) is.seat)
@@ -227,13 +227,13 @@ module _ (v : View) (place p to : ℕ) (is : IsRebuilding v place p to) where
         ];
   }
 
-  pub next_rows : HasRowRebuilds v → HasRowRebuilds (rebuilt v place)
+  pub next_rows : HasRowRebuilds v → HasRowRebuilds (rebuilt v place 1)
   next_rows rows k at seat =
       elim (cases_eq k p) [
-        | inl same ↦ own_row (to + 128 == v.truth.size) refl (sym (ap (λ (j : ℕ). slice_get (rebuilt v place).seats j) (sym same) ∙ seat) ∙ own_seat)
+        | inl same ↦ own_row (to + 128 == v.truth.size) refl (sym (ap (λ (j : ℕ). slice_get (rebuilt v place 1).seats j) (sym same) ∙ seat) ∙ own_seat)
         | inr other ↦ elim (cases_lt k v.truth.raid_disks) [
           | inl low ↦ rows k at (sym (present_now k other low) ∙ seat)
-          | inr past ↦ absurd (let count = next_array.seats in let bad : None ≡ Some (Rebuilding at) = sym (get_past (rebuilt v place).seats k (omega (arith, past, count))) ∙ seat in cc)
+          | inr past ↦ absurd (let count = next_array.seats in let bad : None ≡ Some (Rebuilding at) = sym (get_past (rebuilt v place 1).seats k (omega (arith, past, count))) ∙ seat in cc)
         ]
       ]
     where
@@ -326,7 +326,7 @@ module _ (v : View) (place p to : ℕ) (is : IsRebuilding v place p to) (z : Vie
       by None = refl
       by (Some seat) = ap Some (kept seat)
 
-  pub next_same : IsSameButSeats (rebuilt v place) (adopted (row_change v place) z)
+  pub next_same : IsSameButSeats (rebuilt v place 1) (adopted (row_change v place) z)
   next_same = record {
     number = same.number;
     truth = refl;
@@ -338,7 +338,7 @@ module _ (v : View) (place p to : ℕ) (is : IsRebuilding v place p to) (z : Vie
   }
 
   seats_lost : (lost : ℕ → Bool) → LosesPlaces v z lost
-      → (k : ℕ) → slice_get (adopted (row_change v place) z).seats k ≡ option_map (seat_unless lost (place_at v k)) (slice_get (rebuilt v place).seats k)
+      → (k : ℕ) → slice_get (adopted (row_change v place) z).seats k ≡ option_map (seat_unless lost (place_at v k)) (slice_get (rebuilt v place 1).seats k)
   seats_lost lost loses k =
       seat_by k ∙ ap (option_map (adopted_seat (row_change v place) (place_at v k))) (loses.seats k)
       ∙ by (slice_get v.seats k) refl
@@ -361,17 +361,17 @@ module _ (v : View) (place p to : ℕ) (is : IsRebuilding v place p to) (z : Vie
       by None at = refl
       by (Some seat) at = ap Some (by_lost (lost (place_at v k)) seat at)
 
-  pub next_loses : (lost : ℕ → Bool) → LosesPlaces v z lost → LosesPlaces (rebuilt v place) (adopted (row_change v place) z) lost
+  pub next_loses : (lost : ℕ → Bool) → LosesPlaces v z lost → LosesPlaces (rebuilt v place 1) (adopted (row_change v place) z) lost
   next_loses lost loses = record { seats = seats_lost lost loses; went = loses.went }
 
 -- what is staged of it
-pub stage_is : (v : View) (place p to : ℕ) → IsRebuilding v place p to → adopted (row_change v place) v ≡ rebuilt v place
+pub stage_is : (v : View) (place p to : ℕ) → IsRebuilding v place p to → adopted (row_change v place) v ≡ rebuilt v place 1
 stage_is v place p to is =
     let w = adopted (row_change v place) v in
     let kept = next_same v place p to is v is.is_array (same_view v) in
-    let seats : w.seats ≡ (rebuilt v place).seats =
-    same_lists w.seats (rebuilt v place).seats
-    (λ k. seats_lost v place p to is v is.is_array (same_view v) (λ q. false) (loses_nobody v) k ∙ nobody (slice_get (rebuilt v place).seats k)) in
+    let seats : w.seats ≡ (rebuilt v place 1).seats =
+    same_lists w.seats (rebuilt v place 1).seats
+    (λ k. seats_lost v place p to is v is.is_array (same_view v) (λ q. false) (loses_nobody v) k ∙ nobody (slice_get (rebuilt v place 1).seats k)) in
     λ i. record v { seats = seats i; devices = kept.devices i; resync = kept.resync i; marked = kept.marked i }
   where
     nobody : (o : Option Seat) → option_map (λ seat. seat) o ≡ o

@@ -39,7 +39,7 @@ use Rattle.sync_laws.proofs.Rebuilt.{IsRebuilding, Outside, alike, next_array, o
 use Rattle.sync_laws.proofs.Restoring.{row_firsts, same_row}
 use Rattle.sync_laws.proofs.Sources.{IsSourceBefore, mirror_two, own_source, source_alike}
 
-same_size : (v : View) (place : ℕ) → (shape_of (rebuilt v place)).size ≡ (shape_of v).size
+same_size : (v : View) (place : ℕ) → (shape_of (rebuilt v place 1)).size ≡ (shape_of v).size
 unfolding shape_of
 same_size v place = refl
 
@@ -62,7 +62,7 @@ module _ (v : View) (place p to : ℕ) (is : IsRebuilding v place p to) (a b : S
   n = v.number
 
   abbrev g : View
-  g = rebuilt v place
+  g = rebuilt v place 1
 
   abbrev cur : Image
   cur = current_in b.held
@@ -124,13 +124,13 @@ module _ (v : View) (place p to : ℕ) (is : IsRebuilding v place p to) (a b : S
   lacks_here : (t : ℕ) → to ≤ t → nat_lt t (member_on v p).reach ≡ false
   lacks_here t first = let reach = reach_before v place p to is in le-ltb t (member_on v p).reach (omega (arith, reach, first))
 
-  member_same : (j : ℕ) → j < v.truth.raid_disks → (j ≡ p → ⊥) → member_on (rebuilt v place) j ≡ member_on v j
+  member_same : (j : ℕ) → j < v.truth.raid_disks → (j ≡ p → ⊥) → member_on (rebuilt v place 1) j ≡ member_on v j
   member_same j low other = other_member v place p to is j low other
 
-  same_count : (j t : ℕ) → j < v.truth.raid_disks → (j ≡ p → Outside to t) → nat_lt t (member_on (rebuilt v place) j).reach ≡ nat_lt t (member_on v j).reach
+  same_count : (j t : ℕ) → j < v.truth.raid_disks → (j ≡ p → Outside to t) → nat_lt t (member_on (rebuilt v place 1) j).reach ≡ nat_lt t (member_on v j).reach
   same_count j t low outside = alike v place p to is j t low outside
 
-  column_same : (j t : ℕ) → j < v.truth.raid_disks → (j ≡ p → Outside to t) → column now v.number t (member_on (rebuilt v place) j) ≡ column cur v.number t (member_on v j)
+  column_same : (j t : ℕ) → j < v.truth.raid_disks → (j ≡ p → Outside to t) → column now v.number t (member_on (rebuilt v place 1) j) ≡ column cur v.number t (member_on v j)
   column_same j t low outside =
       ap₂ (λ (c : Bool) (u : List ℕ). if c then Some u else None) (same_count j t low outside) (same_at j t low outside)
 
@@ -154,25 +154,25 @@ module _ (v : View) (place p to : ℕ) (is : IsRebuilding v place p to) (a b : S
   in_layout : (y j : ℕ) → j < width (layout_at (shape_of v) y) → j < v.truth.raid_disks
   in_layout y j low = let most = (layout_is v y is.is_array).most in omega (arith, low, most)
 
-  layout_after : (y : ℕ) → layout_at (shape_of (rebuilt v place)) y ≡ layout_at (shape_of v) y
-  layout_after y = layout_same v (rebuilt v place) y refl
+  layout_after : (y : ℕ) → layout_at (shape_of (rebuilt v place 1)) y ≡ layout_at (shape_of v) y
+  layout_after y = layout_same v (rebuilt v place 1) y refl
 
   stripe_same : (y : ℕ) → ((j : ℕ) → j < width (layout_at (shape_of v) y) → j ≡ p → Outside to (sector_at (shape_of v) y))
-      → map (column now v.number (sector_at (shape_of v) y)) (take (width (layout_at (shape_of v) y)) (members_of (rebuilt v place)))
+      → map (column now v.number (sector_at (shape_of v) y)) (take (width (layout_at (shape_of v) y)) (members_of (rebuilt v place 1)))
       ≡ map (column cur v.number (sector_at (shape_of v) y)) (take (width (layout_at (shape_of v) y)) (members_of v))
   stripe_same y outside =
       let t = sector_at (shape_of v) y in
       let layout = layout_at (shape_of v) y in
       let most = (layout_is v y is.is_array).most in
-      row_firsts (rebuilt v place) now n t layout most
-      ∙ same_row v (rebuilt v place) now cur n n t (width layout) (λ j low. column_same j t (in_layout y j low) (outside j low))
+      row_firsts (rebuilt v place 1) now n t layout most
+      ∙ same_row v (rebuilt v place 1) now cur n n t (width layout) (λ j low. column_same j t (in_layout y j low) (outside j low))
       ∙ sym (row_firsts v cur n t layout most)
 
-  value_after : (y : ℕ) → value_by (shape_of (rebuilt v place)) now v.number y
-      ≡ given (layout_at (shape_of v) y) (map (column now v.number (sector_at (shape_of v) y)) (take (width (layout_at (shape_of v) y)) (members_of (rebuilt v place)))) (position_in (layout_at (shape_of v) y) y)
+  value_after : (y : ℕ) → value_by (shape_of (rebuilt v place 1)) now v.number y
+      ≡ given (layout_at (shape_of v) y) (map (column now v.number (sector_at (shape_of v) y)) (take (width (layout_at (shape_of v) y)) (members_of (rebuilt v place 1)))) (position_in (layout_at (shape_of v) y) y)
   value_after y =
       let layout = layout_at (shape_of v) y in
-      sym (value_given (rebuilt v place) now y layout (sector_in layout y) (position_in layout y) (sym (layout_after y))
+      sym (value_given (rebuilt v place 1) now y layout (sector_in layout y) (position_in layout y) (sym (layout_after y))
       (ap (λ (l : Layout). position_in l y) (sym (layout_after y))) (ap (λ (l : Layout). sector_in l y) (sym (layout_after y))))
 
   value_before : (y : ℕ) → value_by (shape_of v) cur v.number y
@@ -183,27 +183,27 @@ module _ (v : View) (place p to : ℕ) (is : IsRebuilding v place p to) (a b : S
   position_low : (y : ℕ) → position_in (layout_at (shape_of v) y) y < width (layout_at (shape_of v) y)
   position_low y = low_position v.truth.raid_disks (layout_at (shape_of v) y) y (layout_is v y is.is_array)
 
-  source_after : (y : ℕ) → sector_at (shape_of v) y < to + 128 → source_at (shape_of (rebuilt v place)) y ≡ Some (member_on (rebuilt v place) (position_in (layout_at (shape_of v) y) y))
+  source_after : (y : ℕ) → sector_at (shape_of v) y < to + 128 → source_at (shape_of (rebuilt v place 1)) y ≡ Some (member_on (rebuilt v place 1) (position_in (layout_at (shape_of v) y) y))
   source_after y last =
       let q = position_in (layout_at (shape_of v) y) y in
       let t = sector_at (shape_of v) y in
       let low = in_layout y q (position_low y) in
-      let counts : t < (member_on (rebuilt v place) q).reach =
+      let counts : t < (member_on (rebuilt v place 1) q).reach =
       elim (cases_eq q p) [
-        | inl same ↦ (let after = own_reach v place p to is in subst (λ (k : ℕ). t < (member_on (rebuilt v place) k).reach) (sym same) (omega (arith, last, after)))
+        | inl same ↦ (let after = own_reach v place p to is in subst (λ (k : ℕ). t < (member_on (rebuilt v place 1) k).reach) (sym same) (omega (arith, last, after)))
         | inr other ↦ subst (λ (m : Member). t < m.reach) (sym (member_same q low other)) (counts_here q t low other last)
       ] in
-      let found = own_source (rebuilt v place) y (next_array v place p to is) in
-      let at : position_in (layout_at (shape_of (rebuilt v place)) y) y ≡ q = ap (λ (l : Layout). position_in l y) (layout_after y) in
-      let here : sector_at (shape_of (rebuilt v place)) y ≡ t = ap (λ (l : Layout). sector_in l y) (layout_after y) in
-      found (subst (λ (s : ℕ). s < (member_on (rebuilt v place) (position_in (layout_at (shape_of (rebuilt v place)) y) y)).reach) (sym here) (subst (λ (k : ℕ). t < (member_on (rebuilt v place) k).reach) (sym at) counts))
-      ∙ ap (λ (k : ℕ). Some (member_on (rebuilt v place) k)) at
+      let found = own_source (rebuilt v place 1) y (next_array v place p to is) in
+      let at : position_in (layout_at (shape_of (rebuilt v place 1)) y) y ≡ q = ap (λ (l : Layout). position_in l y) (layout_after y) in
+      let here : sector_at (shape_of (rebuilt v place 1)) y ≡ t = ap (λ (l : Layout). sector_in l y) (layout_after y) in
+      found (subst (λ (s : ℕ). s < (member_on (rebuilt v place 1) (position_in (layout_at (shape_of (rebuilt v place 1)) y) y)).reach) (sym here) (subst (λ (k : ℕ). t < (member_on (rebuilt v place 1) k).reach) (sym at) counts))
+      ∙ ap (λ (k : ℕ). Some (member_on (rebuilt v place 1) k)) at
 
   source_before : (y : ℕ) → sector_at (shape_of v) y < to + 128 → (position_in (layout_at (shape_of v) y) y ≡ p → ⊥)
       → source_at (shape_of v) y ≡ Some (member_on v (position_in (layout_at (shape_of v) y) y))
   source_before y last other = own_source v y is.is_array (counts_here _ (sector_at (shape_of v) y) (in_layout y _ (position_low y)) other last)
 
-  value_kept : (y : ℕ) → value_by (shape_of (rebuilt v place)) now v.number y ≡ value_by (shape_of v) cur v.number y
+  value_kept : (y : ℕ) → value_by (shape_of (rebuilt v place 1)) now v.number y ≡ value_by (shape_of v) cur v.number y
   value_kept y =
       let layout = layout_at (shape_of v) y in
       let t = sector_at (shape_of v) y in
@@ -211,7 +211,7 @@ module _ (v : View) (place p to : ℕ) (is : IsRebuilding v place p to) (a b : S
       elim (where_is y) [
         | inl outside ↦ value_after y ∙ ap (λ stripe. given layout stripe q) (stripe_same y outside) ∙ sym (value_before y)
         | inr inside ↦
-            own_value (shape_of (rebuilt v place)) n y now (member_on (rebuilt v place) q) (source_after y inside.2)
+            own_value (shape_of (rebuilt v place 1)) n y now (member_on (rebuilt v place 1) q) (source_after y inside.2)
             ∙ ap (λ (l : Layout). now (slice_on v q) (data_sector + sector_in l y)) (layout_after y)
             ∙ elim (cases_eq q p) [
               | inr other ↦
@@ -226,21 +226,21 @@ module _ (v : View) (place p to : ℕ) (is : IsRebuilding v place p to) (a b : S
             ]
       ]
 
-  source_kept : (y : ℕ) (m : Member) → source_at (shape_of (rebuilt v place)) y ≡ Some m
-      → ((o : Member) × (source_at (shape_of v) y ≡ Some o) × (o.place ≡ m.place) × (sector_at (shape_of (rebuilt v place)) y ≡ sector_at (shape_of v) y)
-      × (look xs (member_slice m.place v.number) (data_sector + sector_at (shape_of (rebuilt v place)) y) ≡ None))
-      ⊎ (look xs (member_slice m.place v.number) (data_sector + sector_at (shape_of (rebuilt v place)) y) ≡ Some (value_by (shape_of v) cur v.number y))
+  source_kept : (y : ℕ) (m : Member) → source_at (shape_of (rebuilt v place 1)) y ≡ Some m
+      → ((o : Member) × (source_at (shape_of v) y ≡ Some o) × (o.place ≡ m.place) × (sector_at (shape_of (rebuilt v place 1)) y ≡ sector_at (shape_of v) y)
+      × (look xs (member_slice m.place v.number) (data_sector + sector_at (shape_of (rebuilt v place 1)) y) ≡ None))
+      ⊎ (look xs (member_slice m.place v.number) (data_sector + sector_at (shape_of (rebuilt v place 1)) y) ≡ Some (value_by (shape_of v) cur v.number y))
   source_kept y m source =
       let layout = layout_at (shape_of v) y in
       let t = sector_at (shape_of v) y in
       let q = position_in layout y in
-      let here : sector_at (shape_of (rebuilt v place)) y ≡ t = ap (λ (l : Layout). sector_in l y) (layout_after y) in
+      let here : sector_at (shape_of (rebuilt v place 1)) y ≡ t = ap (λ (l : Layout). sector_in l y) (layout_after y) in
       elim (where_is y) [
         | inl outside ↦
-            let found : IsSourceBefore v (rebuilt v place) layout t q m =
-            source_alike v (rebuilt v place) layout t q m (layout_is v y is.is_array).most refl (λ j low. same_count j t (in_layout y j low) (outside j low))
-            (sym (ap (λ (l : Layout). source_in l (sector_in l y) (position_in l y) (shape_of (rebuilt v place)).members) (layout_after y)
-            ∙ ap (source_in layout t q) (shape_members (rebuilt v place))) ∙ source) in
+            let found : IsSourceBefore v (rebuilt v place 1) layout t q m =
+            source_alike v (rebuilt v place 1) layout t q m (layout_is v y is.is_array).most refl (λ j low. same_count j t (in_layout y j low) (outside j low))
+            (sym (ap (λ (l : Layout). source_in l (sector_in l y) (position_in l y) (shape_of (rebuilt v place 1)).members) (layout_after y)
+            ∙ ap (source_in layout t q) (shape_members (rebuilt v place 1))) ∙ source) in
             let low = in_layout y found.position found.low in
             let slice : member_slice m.place n ≡ slice_on v found.position = ap (λ (o : Member). member_slice o.place n) found.own in
             inl (
@@ -251,7 +251,7 @@ module _ (v : View) (place p to : ℕ) (is : IsRebuilding v place p to) (a b : S
               ap₂ (λ (d s : ℕ). look xs d (data_sector + s)) slice here ∙ none_at found.position t low (outside found.position found.low),
             )
         | inr inside ↦
-            let own : member_on (rebuilt v place) q ≡ m = some_same (sym (source_after y inside.2) ∙ source) in
+            let own : member_on (rebuilt v place 1) q ≡ m = some_same (sym (source_after y inside.2) ∙ source) in
             let slice : member_slice m.place n ≡ slice_on v q = ap (λ (o : Member). member_slice o.place n) (sym own) in
             elim (cases_eq q p) [
               | inr other ↦ inl (
@@ -273,12 +273,12 @@ module _ (v : View) (place p to : ℕ) (is : IsRebuilding v place p to) (a b : S
       some_same : {x z : Member} → Some x ≡ Some z → x ≡ z
       some_same e = cc
 
-  counted : (m : Member) (t : ℕ) → Among m (shape_of (rebuilt v place)).members → t < m.reach
+  counted : (m : Member) (t : ℕ) → Among m (shape_of (rebuilt v place 1)).members → t < m.reach
       → ((o : Member) × Among o (shape_of v).members × (o.place ≡ m.place) × (t < o.reach)) ⊎ ((u : List ℕ) × (look xs (member_slice m.place v.number) (data_sector + t) ≡ Some u))
   counted m t among counts =
-      let at = position_of (rebuilt v place) v.truth.raid_disks m (subst (λ (ms : List Member). Among m ms) (shape_members (rebuilt v place)) among) in
+      let at = position_of (rebuilt v place 1) v.truth.raid_disks m (subst (λ (ms : List Member). Among m ms) (shape_members (rebuilt v place 1)) among) in
       let j = at.0 in
-      let reach : t < (member_on (rebuilt v place) j).reach = subst (λ (o : Member). t < o.reach) at.2 counts in
+      let reach : t < (member_on (rebuilt v place 1) j).reach = subst (λ (o : Member). t < o.reach) at.2 counts in
       let old : Among (member_on v j) (shape_of v).members = subst (λ (ms : List Member). Among (member_on v j) ms) (sym (shape_members v)) (member_among v j v.truth.raid_disks at.1) in
       let place_is : place_at v j ≡ m.place = ap (λ (o : Member). o.place) (sym at.2) in
       elim (cases_eq j p) [
@@ -286,7 +286,7 @@ module _ (v : View) (place p to : ℕ) (is : IsRebuilding v place p to) (a b : S
         | inl same ↦
             let after = own_reach v place p to is in
             let before = reach_before v place p to is in
-            let last : t < (member_on (rebuilt v place) p).reach = subst (λ (k : ℕ). t < (member_on (rebuilt v place) k).reach) same reach in
+            let last : t < (member_on (rebuilt v place 1) p).reach = subst (λ (k : ℕ). t < (member_on (rebuilt v place 1) k).reach) same reach in
             elim (cases_lt t to) [
               | inl early ↦ inl (member_on v j, old, place_is, subst (λ (k : ℕ). t < (member_on v k).reach) (sym same) (omega (arith, early, before)))
               | inr first ↦ (let target = target_at t first (omega (arith, last, after)) in
@@ -368,7 +368,7 @@ module _ (v : View) (place p to : ℕ) (is : IsRebuilding v place p to) (a b : S
   ]
 
   row_agrees : (y : ℕ) (layout : Layout) → layout_at (shape_of v) y ≡ layout → p < width layout → to ≤ sector_at (shape_of v) y → sector_at (shape_of v) y < to + 128
-      → AgreeIn layout (map (data_of now v.number (sector_at (shape_of v) y)) (firsts (rebuilt v place) (width layout)))
+      → AgreeIn layout (map (data_of now v.number (sector_at (shape_of v) y)) (firsts (rebuilt v place 1) (width layout)))
   row_agrees y (mirror k) layout low first last =
       let t = sector_at (shape_of v) y in
       let x = given (mirror k) (map (column cur n t) (take k (members_of v))) p in
@@ -381,12 +381,12 @@ module _ (v : View) (place p to : ℕ) (is : IsRebuilding v place p to) (a b : S
         | inl same ↦ ap (piece t) same ∙ own
         | inr other ↦ same_at j t (inside j less) (λ same. absurd (other same)) ∙ copy_given y k j layout low less other first last
       ] in
-      agree_one x n t k now (firsts (rebuilt v place) k)
-      (λ m among. let at = position_of (rebuilt v place) k m among in ap (data_of now n t) at.2 ∙ each at.0 at.1)
+      agree_one x n t k now (firsts (rebuilt v place 1) k)
+      (λ m among. let at = position_of (rebuilt v place 1) k m among in ap (data_of now n t) at.2 ∙ each at.0 at.1)
   row_agrees y (parity k) layout low first last =
       let t = sector_at (shape_of v) y in
       let most : k ≤ v.truth.raid_disks = subst (λ (l : Layout). width l ≤ v.truth.raid_disks) layout (layout_is v y is.is_array).most in
-      ap (xor_all 512) (map_made (member_on (rebuilt v place)) (data_of now n t) (piece t) (λ j. refl) (range_with_len 0 k))
+      ap (xor_all 512) (map_made (member_on (rebuilt v place 1)) (data_of now n t) (piece t) (λ j. refl) (range_with_len 0 k))
       ∙ sum_put (full t) (piece t) p k low
       (λ j less. full_sized t j (omega (arith, less, most)) first last)
       (filled_none cur n t (member_on v p) (lacks_here t first))
@@ -398,19 +398,19 @@ module _ (v : View) (place p to : ℕ) (is : IsRebuilding v place p to) (a b : S
       ∙ sum_given t k most low first last)
 
   agree_after : (y : ℕ) → sector_at (shape_of v) y < v.truth.size → row_at (sector_at (shape_of v) y) < v.resync
-      → AllCount (layout_at (shape_of v) y) (shape_of (rebuilt v place)) (sector_at (shape_of v) y)
+      → AllCount (layout_at (shape_of v) y) (shape_of (rebuilt v place 1)) (sector_at (shape_of v) y)
       → AreEven (shape_of v) v.number v.resync cur
-      → AgreeIn (layout_at (shape_of v) y) (there (map (column now v.number (sector_at (shape_of v) y)) (take (width (layout_at (shape_of v) y)) (members_of (rebuilt v place)))))
+      → AgreeIn (layout_at (shape_of v) y) (there (map (column now v.number (sector_at (shape_of v) y)) (take (width (layout_at (shape_of v) y)) (members_of (rebuilt v place 1)))))
   agree_after y inside synced counts even =
       let layout = layout_at (shape_of v) y in
       let t = sector_at (shape_of v) y in
       let k = width layout in
       let most = (layout_is v y is.is_array).most in
-      let after : take k (members_of (rebuilt v place)) ≡ firsts (rebuilt v place) k = take_firsts (rebuilt v place) k v.truth.raid_disks most in
-      let all : (j : ℕ) → j < k → t < (member_on (rebuilt v place) j).reach =
-      λ j low. counts (member_on (rebuilt v place) j)
-      (subst (λ (ms : List Member). Among (member_on (rebuilt v place) j) (take k ms)) (sym (shape_members (rebuilt v place)))
-      (subst (λ (ms : List Member). Among (member_on (rebuilt v place) j) ms) (sym after) (member_among (rebuilt v place) j k low))) in
+      let after : take k (members_of (rebuilt v place 1)) ≡ firsts (rebuilt v place 1) k = take_firsts (rebuilt v place 1) k v.truth.raid_disks most in
+      let all : (j : ℕ) → j < k → t < (member_on (rebuilt v place 1) j).reach =
+      λ j low. counts (member_on (rebuilt v place 1) j)
+      (subst (λ (ms : List Member). Among (member_on (rebuilt v place 1) j) (take k ms)) (sym (shape_members (rebuilt v place 1)))
+      (subst (λ (ms : List Member). Among (member_on (rebuilt v place 1) j) ms) (sym after) (member_among (rebuilt v place 1) j k low))) in
       elim (where_is y) [
         | inl outside ↦
             subst (λ stripe. AgreeIn layout (there stripe)) (sym (stripe_same y outside))
@@ -419,26 +419,26 @@ module _ (v : View) (place p to : ℕ) (is : IsRebuilding v place p to) (a b : S
             (λ m among.
             let at = position_of v k m (subst (λ (ms : List Member). Among m ms) (take_firsts v k v.truth.raid_disks most) (subst (λ (ms : List Member). Among m (take k ms)) (shape_members v) among)) in
             subst (λ (o : Member). t < o.reach) (sym at.2)
-            (ltb-true t (member_on v at.0).reach (sym (same_count at.0 t (in_layout y at.0 at.1) (outside at.0 at.1)) ∙ lt-ltb t (member_on (rebuilt v place) at.0).reach (all at.0 at.1))))))
+            (ltb-true t (member_on v at.0).reach (sym (same_count at.0 t (in_layout y at.0 at.1) (outside at.0 at.1)) ∙ lt-ltb t (member_on (rebuilt v place 1) at.0).reach (all at.0 at.1))))))
         | inr row ↦
             subst (λ (ms : List Member). AgreeIn layout (there (map (column now n t) ms))) (sym after)
             (subst (λ stripe. AgreeIn layout (there stripe))
-            (sym (columns_all now n t (firsts (rebuilt v place) k)
-            (λ m among. let at = position_of (rebuilt v place) k m among in subst (λ (o : Member). t < o.reach) (sym at.2) (all at.0 at.1))))
-            (subst (λ vs. AgreeIn layout vs) (sym (there_all (map (data_of now n t) (firsts (rebuilt v place) k))))
+            (sym (columns_all now n t (firsts (rebuilt v place 1) k)
+            (λ m among. let at = position_of (rebuilt v place 1) k m among in subst (λ (o : Member). t < o.reach) (sym at.2) (all at.0 at.1))))
+            (subst (λ vs. AgreeIn layout vs) (sym (there_all (map (data_of now n t) (firsts (rebuilt v place 1) k))))
             (row_agrees y layout refl row.0 row.1 row.2)))
       ]
 
-  even_kept : AreEven (shape_of v) v.number v.resync cur → AreEven (shape_of (rebuilt v place)) v.number v.resync now
+  even_kept : AreEven (shape_of v) v.number v.resync cur → AreEven (shape_of (rebuilt v place 1)) v.number v.resync now
   even_kept even y =
-      subst (λ (l : Layout). sector_in l y < (shape_of (rebuilt v place)).size → row_at (sector_in l y) < v.resync → AllCount l (shape_of (rebuilt v place)) (sector_in l y)
-      → AgreeIn l (there (stripe_in now v.number (shape_of (rebuilt v place)) l (sector_in l y))))
+      subst (λ (l : Layout). sector_in l y < (shape_of (rebuilt v place 1)).size → row_at (sector_in l y) < v.resync → AllCount l (shape_of (rebuilt v place 1)) (sector_in l y)
+      → AgreeIn l (there (stripe_in now v.number (shape_of (rebuilt v place 1)) l (sector_in l y))))
       (sym (layout_after y))
       (λ inside synced counts.
-      subst (λ (ms : List Member). AgreeIn (layout_at (shape_of v) y) (there (map (column now n (sector_at (shape_of v) y)) (take (width (layout_at (shape_of v) y)) ms)))) (sym (shape_members (rebuilt v place)))
+      subst (λ (ms : List Member). AgreeIn (layout_at (shape_of v) y) (there (map (column now n (sector_at (shape_of v) y)) (take (width (layout_at (shape_of v) y)) ms)))) (sym (shape_members (rebuilt v place 1)))
       (agree_after y (subst (λ (s : ℕ). sector_at (shape_of v) y < s) (same_size v place ∙ size_is v) inside) synced counts even))
 
-  pub rebuilt_moves : (spent : ℕ → Bool) → RowMoves v (shape_of (rebuilt v place)) v.resync spent cur xs
+  pub rebuilt_moves : (spent : ℕ → Bool) → RowMoves v (shape_of (rebuilt v place 1)) v.resync spent cur xs
   rebuilt_moves spent = record {
     counted = counted;
     value = λ y alive. value_kept y;

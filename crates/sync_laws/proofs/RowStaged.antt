@@ -52,14 +52,14 @@ pub record RowStaged (v : View) (a : Seen) (xs : List Target) : Type 0 where
   pub supers : List Target
   pub own_data : List Target
   pub added : xs ≡ supers ++ own_data
-  pub adds : AddsSupersOf (resynced v) [] supers
+  pub adds : AddsSupersOf (resynced v 1) [] supers
   pub copies : AreCopies v (OfRow v (v.resync * 128) 128) (IsRowSum v a) own_data
 
 pub staged : (v u : View) (a b : Seen) (row offset : ℕ) (c : Change) (x y z : List Target) → IsUnsynced v → row ≡ v.resync → offset ≡ offset_after v (row + 1) → c ≡ resynced_to v offset
     → x ≡ [] → AddsSupersOf (adopted c v) x y → AddsCopies v (OfRow v (row * 128) 128) (IsRowSum v a) 2048 y z → Notes v u a b → not (lacks_row u row) ≡ true
     → RowStaged v a z
 staged v u a b row offset c x y z is row_is offset_is change empty adds copies notes whole =
-    let next : adopted c v ≡ resynced v = stage_is v c offset is (offset_is ∙ ap (λ (r : ℕ). offset_after v (r + 1)) row_is) change in
+    let next : adopted c v ≡ resynced v 1 = stage_is v c offset is (offset_is ∙ ap (λ (r : ℕ). offset_after v (r + 1)) row_is) change in
     record {
       is = is;
       lacks = lacks_before v u a b v.resync notes (subst (λ (r : ℕ). lacks_row u r ≡ false) row_is (not_true (lacks_row u row) whole));
@@ -160,7 +160,7 @@ module _ (v : View) (a b : Seen) (xs : List Target) (row : RowStaged v a xs) (la
 pub row_steps : (v u z w : View) (a b c : Seen) (l : LogView) (on lost : List ℕ) (number after row offset : ℕ) (change : Change) (answered : Bool)
     → RowStaged v a l.added → HasSlices v a → OnlyReads a b → Notes v u a b → CommitCall l on lost b c → IsSameButSeats u z → LosesPlaces u z (names lost) → IsArray z
     → row ≡ v.resync → offset ≡ offset_after v (row + 1) → change ≡ resynced_to v offset → w ≡ adopted change z → l.number ≡ number → after ≡ next_number l.number
-    → Steps v (resynced v) w number after on a c answered
+    → Steps v (resynced v 1) w number after on a c answered
 row_steps v u z w a b c l on lost number after row offset change answered staged_row slices reads notes commit same loses z_array row_is offset_is change_is adopts number_is after_is =
     let row_s = staged_row in
     let adopted_w = adopts ∙ ap (λ (x : Change). adopted x z) (change_is ∙ ap (resynced_to v) (offset_is ∙ ap (λ (r : ℕ). offset_after v (r + 1)) row_is)) in

@@ -111,7 +111,7 @@ adopted_is v z is z_array same =
     and_false true = refl
     and_false false = refl
 
-pub next_array : (v : View) → IsUnsynced v → IsArray (resynced v)
+pub next_array : (v : View) → IsUnsynced v → IsArray (resynced v 1)
 next_array v is =
     let old = is.is_array in
     record {
@@ -128,7 +128,7 @@ next_array v is =
       reshape = old.reshape;
     }
 
-pub next_state : (s : State) (v : View) → IsStateOf v s → v.truth.events < 2 ^ 63 - 1 → IsStateOf (resynced v) s
+pub next_state : (s : State) (v : View) → IsStateOf v s → v.truth.events < 2 ^ 63 - 1 → IsStateOf (resynced v 1) s
 next_state s v state room =
     let raise = raised_more v.truth.events room in
     record {
@@ -141,10 +141,10 @@ next_state s v state room =
       marks = state.marks;
     }
 
-pub next_rows : (v : View) → HasRowRebuilds v → HasRowRebuilds (resynced v)
+pub next_rows : (v : View) → HasRowRebuilds v → HasRowRebuilds (resynced v 1)
 next_rows v rows = rows
 
-pub next_shape : (v : View) → shape_of (resynced v) ≡ shape_of v
+pub next_shape : (v : View) → shape_of (resynced v 1) ≡ shape_of v
 unfolding shape_of
 next_shape v = refl
 
@@ -153,14 +153,14 @@ module _ (v z w : View) (is : IsUnsynced v) (z_array : IsArray z) (same : IsSame
   view_is : w ≡ record z { truth = next_truth v; resync = v.resync + 1; marked = false }
   view_is = adopts ∙ adopted_is v z is z_array same
 
-  pub next_same : IsSameButSeats (resynced v) w
+  pub next_same : IsSameButSeats (resynced v 1) w
   next_same =
-      subst (λ (x : View). IsSameButSeats (resynced v) x) (sym view_is)
+      subst (λ (x : View). IsSameButSeats (resynced v 1) x) (sym view_is)
       (record { number = same.number; truth = refl; devices = same.devices; resync = refl; young = same.young; marked = refl })
 
-  pub next_loses : (lost : ℕ → Bool) → LosesPlaces v z lost → LosesPlaces (resynced v) w lost
+  pub next_loses : (lost : ℕ → Bool) → LosesPlaces v z lost → LosesPlaces (resynced v 1) w lost
   next_loses lost loses =
-      subst (λ (x : View). LosesPlaces (resynced v) x lost) (sym view_is) (record { seats = loses.seats; went = loses.went })
+      subst (λ (x : View). LosesPlaces (resynced v 1) x lost) (sym view_is) (record { seats = loses.seats; went = loses.went })
 
   pub next_lacks : (row : ℕ) → lacks_row w row ≡ lacks_row z row
   next_lacks row =
@@ -176,7 +176,7 @@ seat_there v j t counts gone =
 pub all_there : (v : View) (j : ℕ) → lacks_row v v.resync ≡ false → j < v.truth.raid_disks → slice_get v.seats j ≢ Some Missing
 all_there v j lacks low = seat_there v j (v.resync * 128) (all_counts v v.resync j (v.resync * 128) lacks low (omega arith))
 
-pub slot_there : (v : View) (j : ℕ) → IsArray v → j < v.truth.raid_disks → slice_get v.seats j ≢ Some Missing → is_missing_seat (slot_on (resynced v) j).seat ≡ false
+pub slot_there : (v : View) (j : ℕ) → IsArray v → j < v.truth.raid_disks → slice_get v.seats j ≢ Some Missing → is_missing_seat (slot_on (resynced v 1) j).seat ≡ false
 slot_there v j is_array low there = by (slice_get v.seats j) there (λ none. past j v.seats none (let count = is_array.seats in omega (arith, low, count)))
   where
     by : (o : Option Seat) → o ≢ Some Missing → (o ≡ None → ⊥) → is_missing_seat (unwrap_or o Missing) ≡ false
@@ -240,7 +240,7 @@ is_steady v is_array lacks row steady =
         absurd (omega (arith, same, row))
 
 -- what is spent after it was before
-pub unspent_before : (v : View) → lacks_row v v.resync ≡ false → (y : ℕ) → spent_in (resynced v) y ≡ false → spent_in v y ≡ false
+pub unspent_before : (v : View) → lacks_row v v.resync ≡ false → (y : ℕ) → spent_in (resynced v 1) y ≡ false → spent_in v y ≡ false
 unfolding shape_of
 unspent_before v lacks y unspent =
     let t = sector_in (layout_at (shape_of v) y) y in
@@ -263,6 +263,6 @@ unspent_before v lacks y unspent =
     none_wants k is = let few = ltb-false 0 k is in omega (arith, few)
 
 -- what is staged of it
-pub stage_is : (v : View) (c : Change) (offset : ℕ) → IsUnsynced v → offset ≡ offset_after v (v.resync + 1) → c ≡ resynced_to v offset → adopted c v ≡ resynced v
+pub stage_is : (v : View) (c : Change) (offset : ℕ) → IsUnsynced v → offset ≡ offset_after v (v.resync + 1) → c ≡ resynced_to v offset → adopted c v ≡ resynced v 1
 stage_is v c offset is at change =
     ap (λ (x : Change). adopted x v) change ∙ ap (λ (o : ℕ). adopted (resynced_to v o) v) at ∙ adopted_is v v is is.is_array (same_view v)

@@ -88,44 +88,44 @@ unsynced v is = record { is_array = zeroing_array v is; grown = refl; row = is.r
 -- ---- the array of the change
 
 adopted_is : (v z : View) → IsYoung v → IsArray z → IsSameButSeats v z
-    → adopted (resynced_to v (offset_after v (first_unsynced v.truth + 1))) z ≡ record z { truth = (zeroed v).truth; resync = rows_of v; marked = false }
+    → adopted (resynced_to v (offset_after v (first_unsynced v.truth + 1))) z ≡ record z { truth = (zeroed v 1).truth; resync = rows_of v; marked = false }
 adopted_is v z is z_array same =
     let c : Change = resynced_to v (offset_after v (first_unsynced v.truth + 1)) in
     let kept = adopted_kept c z z_array (ap places_by (sym same.truth)) refl in
-    let keeps : keeps_rows z.truth (zeroed v).truth ≡ false = ap (λ (t : Super). keeps_rows t (zeroed v).truth) same.truth ∙ keeps_none (zeroing v) (unsynced v is) in
-    let next : adopted_resync z.young z.resync z.truth (zeroed v).truth ≡ rows_of v =
-    ap (λ (b : Bool). if b then z.resync else resync_by z.young (zeroed v).truth) keeps
-    ∙ ap (λ (b : Bool). if b then v.truth.size / 128 else first_unsynced (zeroed v).truth) (same.young ∙ is.young) in
-    let mark : (z.marked && keeps_rows z.truth (zeroed v).truth) ≡ false = ap (λ (b : Bool). z.marked && b) keeps ∙ and_false z.marked in
-    λ i. record z { truth = (zeroed v).truth; seats = kept.0 i; devices = kept.1 i; resync = next i; marked = mark i }
+    let keeps : keeps_rows z.truth (zeroed v 1).truth ≡ false = ap (λ (t : Super). keeps_rows t (zeroed v 1).truth) same.truth ∙ keeps_none (zeroing v) (unsynced v is) in
+    let next : adopted_resync z.young z.resync z.truth (zeroed v 1).truth ≡ rows_of v =
+    ap (λ (b : Bool). if b then z.resync else resync_by z.young (zeroed v 1).truth) keeps
+    ∙ ap (λ (b : Bool). if b then v.truth.size / 128 else first_unsynced (zeroed v 1).truth) (same.young ∙ is.young) in
+    let mark : (z.marked && keeps_rows z.truth (zeroed v 1).truth) ≡ false = ap (λ (b : Bool). z.marked && b) keeps ∙ and_false z.marked in
+    λ i. record z { truth = (zeroed v 1).truth; seats = kept.0 i; devices = kept.1 i; resync = next i; marked = mark i }
   where
     and_false : (b : Bool) → (b && false) ≡ false
     and_false true = refl
     and_false false = refl
 
-stage_is : (v : View) → IsYoung v → adopted (resynced_to v (offset_after v (first_unsynced v.truth + 1))) v ≡ zeroed v
+stage_is : (v : View) → IsYoung v → adopted (resynced_to v (offset_after v (first_unsynced v.truth + 1))) v ≡ zeroed v 1
 stage_is v is = adopted_is v v is is.is_array (same_view v)
 
 module _ (v z w : View) (is : IsYoung v) (z_array : IsArray z) (same : IsSameButSeats v z) (adopts : w ≡ adopted (resynced_to v (offset_after v (first_unsynced v.truth + 1))) z) where
-  view_is : w ≡ record z { truth = (zeroed v).truth; resync = rows_of v; marked = false }
+  view_is : w ≡ record z { truth = (zeroed v 1).truth; resync = rows_of v; marked = false }
   view_is = adopts ∙ adopted_is v z is z_array same
 
-  next_same : IsSameButSeats (resynced (zeroing v)) (zeroing w)
+  next_same : IsSameButSeats (resynced (zeroing v) 1) (zeroing w)
   next_same =
-      subst (λ (x : View). IsSameButSeats (resynced (zeroing v)) (zeroing x)) (sym view_is)
+      subst (λ (x : View). IsSameButSeats (resynced (zeroing v) 1) (zeroing x)) (sym view_is)
       (record { number = same.number; truth = refl; devices = same.devices; resync = next_unsynced (zeroing v) (unsynced v is); young = refl; marked = refl })
 
-  next_loses : (lost : ℕ → Bool) → LosesPlaces (zeroing v) (zeroing z) lost → LosesPlaces (resynced (zeroing v)) (zeroing w) lost
+  next_loses : (lost : ℕ → Bool) → LosesPlaces (zeroing v) (zeroing z) lost → LosesPlaces (resynced (zeroing v) 1) (zeroing w) lost
   next_loses lost loses =
-      subst (λ (x : View). LosesPlaces (resynced (zeroing v)) (zeroing x) lost) (sym view_is) (record { seats = loses.seats; went = loses.went })
+      subst (λ (x : View). LosesPlaces (resynced (zeroing v) 1) (zeroing x) lost) (sym view_is) (record { seats = loses.seats; went = loses.went })
 
-  real_same : IsSameButSeats (zeroed v) w
+  real_same : IsSameButSeats (zeroed v 1) w
   real_same =
-      subst (λ (x : View). IsSameButSeats (zeroed v) x) (sym view_is)
+      subst (λ (x : View). IsSameButSeats (zeroed v 1) x) (sym view_is)
       (record { number = same.number; truth = refl; devices = same.devices; resync = refl; young = same.young; marked = refl })
 
-  real_loses : (lost : ℕ → Bool) → LosesPlaces v z lost → LosesPlaces (zeroed v) w lost
-  real_loses lost loses = subst (λ (x : View). LosesPlaces (zeroed v) x lost) (sym view_is) (record { seats = loses.seats; went = loses.went })
+  real_loses : (lost : ℕ → Bool) → LosesPlaces v z lost → LosesPlaces (zeroed v 1) w lost
+  real_loses lost loses = subst (λ (x : View). LosesPlaces (zeroed v 1) x lost) (sym view_is) (record { seats = loses.seats; went = loses.went })
 
   pub zeros_lacks : (row : ℕ) → lacks_two w row ≡ lacks_two z row
   zeros_lacks row =
@@ -140,14 +140,14 @@ pub record ZeroStaged (v : View) (xs : List Target) : Type 0 where
   pub supers : List Target
   pub own_data : List Target
   pub added : xs ≡ supers ++ own_data
-  pub adds : AddsSupersOf (zeroed v) [] supers
+  pub adds : AddsSupersOf (zeroed v 1) [] supers
   pub copies : AreCopies v (OfCounting v (first_unsynced v.truth) v.truth.raid_disks) AreZeros own_data
 
 pub staged : (v : View) (row offset : ℕ) (c : Change) (x y z : List Target) → IsYoung v → row ≡ first_unsynced v.truth → offset ≡ offset_after v (row + 1) → c ≡ resynced_to v offset
     → lacks_two v row ≡ false → x ≡ [] → AddsSupersOf (adopted c v) x y → AddsCopies v (OfCounting v row v.truth.raid_disks) AreZeros 2048 y z
     → ZeroStaged v z
 staged v row offset c x y z is row_is offset_is change few empty adds copies =
-    let next : adopted c v ≡ zeroed v =
+    let next : adopted c v ≡ zeroed v 1 =
     ap (λ (d : Change). adopted d v) (change ∙ ap (resynced_to v) (offset_is ∙ ap (λ (r : ℕ). offset_after v (r + 1)) row_is)) ∙ stage_is v is in
     record {
       is = is;
@@ -159,11 +159,11 @@ staged v row offset c x y z is row_is offset_is change few empty adds copies =
       copies = subst (λ (r : ℕ). AreCopies v (OfCounting v r v.truth.raid_disks) AreZeros copies.targets) row_is copies.copies;
     }
 
-pub staged_room : (v : View) (row offset : ℕ) (c : Change) → IsYoung v → row ≡ first_unsynced v.truth → offset ≡ offset_after v (row + 1) → c ≡ resynced_to v offset → adopted c v ≡ zeroed v
+pub staged_room : (v : View) (row offset : ℕ) (c : Change) → IsYoung v → row ≡ first_unsynced v.truth → offset ≡ offset_after v (row + 1) → c ≡ resynced_to v offset → adopted c v ≡ zeroed v 1
 staged_room v row offset c is row_is offset_is change =
     ap (λ (d : Change). adopted d v) (change ∙ ap (resynced_to v) (offset_is ∙ ap (λ (r : ℕ). offset_after v (r + 1)) row_is)) ∙ stage_is v is
 
-pub zeroed_array : (v : View) → IsYoung v → IsArray (zeroed v)
+pub zeroed_array : (v : View) → IsYoung v → IsArray (zeroed v 1)
 zeroed_array v is =
     let old = is.is_array in
     record {
@@ -320,16 +320,16 @@ no_notes v a = record { same = same_view v; lost = λ place. false; loses = lose
 module _ (v z w : View) (a c : Seen) (l : LogView) (on lost : List ℕ) (number after : ℕ) (staged_row : ZeroStaged v l.added) (slices : HasSlices v a)
     (commit : CommitCall l on lost a c) (same : IsSameButSeats v z) (loses : LosesPlaces v z (names lost)) (z_array : IsArray z)
     (adopts : w ≡ adopted (resynced_to v (offset_after v (first_unsynced v.truth + 1))) z) (number_is : l.number ≡ number) (after_is : after ≡ next_number l.number) where
-  same_g : IsSameButSeats (resynced (zeroing v)) (zeroing w)
+  same_g : IsSameButSeats (resynced (zeroing v) 1) (zeroing w)
   same_g = next_same v z w staged_row.is z_array same adopts
 
   loses_v : LosesPlaces v z (λ place. names lost place || false)
   loses_v = loses_then v v z (λ place. false) (names lost) refl (loses_nobody v) loses
 
-  loses_g : LosesPlaces (resynced (zeroing v)) (zeroing w) (λ place. names lost place || false)
+  loses_g : LosesPlaces (resynced (zeroing v) 1) (zeroing w) (λ place. names lost place || false)
   loses_g = next_loses v z w staged_row.is z_array same adopts (λ place. names lost place || false) (zeroing_loses v z (λ place. names lost place || false) loses_v)
 
-  real_noted : Notes (zeroed v) w a c
+  real_noted : Notes (zeroed v 1) w a c
   real_noted = record {
     same = real_same v z w staged_row.is z_array same adopts;
     lost = λ place. names lost place || false;
@@ -341,7 +341,7 @@ module _ (v z w : View) (a c : Seen) (l : LogView) (on lost : List ℕ) (number 
       named true is = refl
       named false is = is
 
-  pub zero_steps : (answered : Bool) → Zeroes v w number after on a c answered
+  pub zero_steps : (answered : Bool) → Zeroes v w 1 number after on a c answered
   zero_steps answered = record {
     is_done = true;
     answer = λ ok. refl;
@@ -368,7 +368,7 @@ module _ (v z w : View) (a c : Seen) (l : LogView) (on lost : List ℕ) (number 
           (subst (λ (f : Shape). Among m f.members) (sym (next_shape (zeroing v))) among));
       current = λ y row.
           ap₂ (λ (f : Shape) (n : ℕ). value_by f (current_in c.held) n y)
-          (shape_then (resynced (zeroing v)) (zeroing w) (λ place. names lost place || false) same_g.truth loses_g ∙ ap (lowered (λ place. names lost place || false)) (next_shape (zeroing v))) same_g.number
+          (shape_then (resynced (zeroing v) 1) (zeroing w) (λ place. names lost place || false) same_g.truth loses_g ∙ ap (lowered (λ place. names lost place || false)) (next_shape (zeroing v))) same_g.number
           ∙ row_zeros_left (zeroing v) a staged_row.own_data (zeroing_array v staged_row.is) may.step.commit.renew.rows (copies_zeroing v a l.added staged_row) (λ place. names lost place || false) (current_in c.held)
           (λ m t among.
           all_current (zeroing v) (zeroing v) (zeroing z) (zeroing w) (raised v.truth.events) (offset_after v (first_unsynced v.truth + 1)) (first_unsynced v.truth + 1) v.seats false a a c l on lost staged_row.supers staged_row.own_data number after
@@ -378,8 +378,8 @@ module _ (v z w : View) (a c : Seen) (l : LogView) (on lost : List ℕ) (number 
           (subst (λ (f : Shape). Among m f.members) (sym (next_shape (zeroing v))) among))
           y row;
       single =
-          subst (λ (f : Shape). IsSettled f (zeroing w).number c.held) (sym (shape_then (resynced (zeroing v)) (zeroing w) (λ place. names lost place || false) same_g.truth loses_g))
-          (subst (λ (n : ℕ). IsSettled (lowered (λ place. names lost place || false) (shape_of (resynced (zeroing v)))) n c.held) (sym same_g.number)
+          subst (λ (f : Shape). IsSettled f (zeroing w).number c.held) (sym (shape_then (resynced (zeroing v) 1) (zeroing w) (λ place. names lost place || false) same_g.truth loses_g))
+          (subst (λ (n : ℕ). IsSettled (lowered (λ place. names lost place || false) (shape_of (resynced (zeroing v) 1))) n c.held) (sym same_g.number)
           (all_settled (zeroing v) (zeroing v) (zeroing z) (zeroing w) (raised v.truth.events) (offset_after v (first_unsynced v.truth + 1)) (first_unsynced v.truth + 1) v.seats false a a c l on lost staged_row.supers staged_row.own_data number after
           (zero_step v a l.added staged_row) staged_row.adds staged_row.added (zeroing_slices v a slices) (only_reads_start a slices.fit) (no_notes (zeroing v) a)
           commit (zeroing_same v z same) (zeroing_loses v z (names lost) loses) same_g (λ lost_v loses_z. next_loses v z w staged_row.is z_array same adopts lost_v loses_z) number_is after_is
@@ -392,7 +392,7 @@ module _ (v z w : View) (a c : Seen) (l : LogView) (on lost : List ℕ) (number 
   }
 
 -- a row that was refused before its commit
-pub zero_refused : (v : View) (number : ℕ) (on : List ℕ) (a : Seen) (answered : Bool) → HasSlices v a → IsYoung v → answered ≡ false → Zeroes v v number number on a a answered
+pub zero_refused : (v : View) (number : ℕ) (on : List ℕ) (a : Seen) (answered : Bool) → HasSlices v a → IsYoung v → answered ≡ false → Zeroes v v 1 number number on a a answered
 zero_refused v number on a answered slices is refused =
     let reads = only_reads_start a slices.fit in
     record {
@@ -400,7 +400,7 @@ zero_refused v number on a answered slices is refused =
       answer = λ ok. absurd (both_ways answered refused ok);
       view = as_it_was (notes_none v a a);
       moving = λ s vals spent may.
-          let moves = read_moves s (zeroing v) (resynced (zeroing v)) a a vals spent slices.lasting reads in
+          let moves = read_moves s (zeroing v) (resynced (zeroing v) 1) a a vals spent slices.lasting reads in
           record { stays = moves.stays; leaves = moves.leaves; holds = λ held. held; apart = moves.apart; calm = moves.calm; bounded = moves.bounded };
       row = λ none. absurd (both_ways false refl none);
       kept = λ s may. refused_kept s number (zeroing v) a a slices.lasting reads may.commit.log;

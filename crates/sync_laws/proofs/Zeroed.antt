@@ -187,12 +187,12 @@ module _ (v : View) (b : Seen) (xs : List Target) (is_array : IsArray v) (rows :
       subst (λ (o : Member). data_of now n t o ≡ zeros 512) (sym at.2)
       (ap (λ (o : Option (List ℕ)). unwrap_or o (current_in b.held (slice_on v at.0) (data_sector + t))) (payload_is xs (slice_on v at.0) (data_sector + t) has.0 copies.apart has.1) ∙ is.bytes)
 
-  row_sectors : (y : ℕ) → row_in v y ≡ v.resync → (v.resync * 128 ≤ sector_at (shape_of v) y) × (sector_at (shape_of v) y < v.resync * 128 + 128)
-  row_sectors y row = (omega (arith, row), omega (arith, row))
+  row_sectors : (y : ℕ) → (v.resync ≤ row_in v y) × (row_in v y < v.resync + 1) → (v.resync * 128 ≤ sector_at (shape_of v) y) × (sector_at (shape_of v) y < v.resync * 128 + 128)
+  row_sectors y row = (let least = row.0 in omega (arith, least), (let most = row.1 in omega (arith, most)))
 
   -- the row's sectors are zeros in contents that have them
   pub row_zeros : (r : Image) → ((m : Member) (t : ℕ) → Among m (shape_of v).members → t < m.reach → r (member_slice m.place v.number) (data_sector + t) ≡ now (member_slice m.place v.number) (data_sector + t))
-      → (y : ℕ) → row_in v y ≡ v.resync → value_by (shape_of v) r v.number y ≡ zeros 512
+      → (y : ℕ) → (v.resync ≤ row_in v y) × (row_in v y < v.resync + 1) → value_by (shape_of v) r v.number y ≡ zeros 512
   unfolding value_by
   row_zeros r same y row =
       let layout = layout_at (shape_of v) y in
@@ -207,7 +207,7 @@ module _ (v : View) (b : Seen) (xs : List Target) (is_array : IsArray v) (rows :
   -- and in those of the members that are left
   pub row_zeros_left : (gone : ℕ → Bool) (r : Image)
       → ((m : Member) (t : ℕ) → Among m (shape_of v).members → t < m.reach → gone m.place ≡ false → r (member_slice m.place v.number) (data_sector + t) ≡ now (member_slice m.place v.number) (data_sector + t))
-      → (y : ℕ) → row_in v y ≡ v.resync → value_by (lowered gone (shape_of v)) r v.number y ≡ zeros 512
+      → (y : ℕ) → (v.resync ≤ row_in v y) × (row_in v y < v.resync + 1) → value_by (lowered gone (shape_of v)) r v.number y ≡ zeros 512
   unfolding value_by
   row_zeros_left gone r same y row =
       let layout = layout_at (shape_of v) y in
@@ -232,8 +232,7 @@ module _ (v : View) (b : Seen) (xs : List Target) (is_array : IsArray v) (rows :
             (sym (columns_same now cur n t ms (λ m among counted. same_before (member_slice m.place n) t (omega (arith, less)))))
             (even y inside less counts)
         | inr more ↦
-            let row : row_in v y ≡ v.resync = omega (arith, more, synced) in
-            let sectors = row_sectors y row in
+            let sectors = row_sectors y (more, synced) in
             let all : (m : Member) → Among m ms → data_of now n t m ≡ zeros 512 =
             λ m among. zeros_at m t (among_take (width layout) (shape_of v).members m among) (counts m among) sectors.0 sectors.1 in
             subst (λ stripe. AgreeIn layout (there stripe)) (sym (columns_all now n t ms counts))

@@ -1,5 +1,5 @@
 -- What a step of maintenance does to an array.
-use Rattle.std.specs.Prelude.{◌≡◌, ◌⊎◌, ℕ, ◌+◌, ◌-◌, ◌*◌, ◌%◌, ◌<◌, ◌^◌, Bool, true, false, ◌==◌, nat_lt, if◌then◌else◌, List, map, Some}
+use Rattle.std.specs.Prelude.{◌≡◌, ◌⊎◌, ℕ, ◌+◌, ◌-◌, ◌*◌, ◌/◌, ◌%◌, ◌<◌, ◌≤◌, ◌^◌, Bool, true, false, ◌==◌, nat_lt, if◌then◌else◌, List, map, Some, Result, is_ok, IfOk}
 use Rattle.std.specs.Option.{option_map_or}
 use Rattle.rack.specs.Values.{Values}
 use Rattle.rack.specs.Seen.{Image, Seen}
@@ -19,6 +19,7 @@ use Rattle.array_model.specs.View.{View, has_gone, rows_of, seat_reach, shape_of
 use Rattle.array_model.specs.Says.{Holds, IsOpen}
 use Rattle.array_model.specs.Members.{Notes}
 use Rattle.array_model.specs.ArrayCalls.{Covers, Moving, HasFields}
+use Rattle.array_core.specs.declared.Spent.{Spent}
 use Rattle.array_core.specs.Pool.{MayCommit}
 use Rattle.array_core.specs.Seats.{seat_of}
 use Rattle.array_core.specs.Slots.{slots_of}
@@ -30,11 +31,11 @@ use Rattle.array_core.specs.TruthHeld.{HasFewBits, HoldTruth}
 abbrev pub offset_after : View → ℕ → ℕ
 offset_after v rows = if nat_lt rows (rows_of v) then rows * 128 else 2 ^ 64 - 1
 
--- the array once its first row left to resync is resynced
-abbrev pub resynced : View → View
-resynced v = record v {
-  truth = record v.truth { events = raised v.truth.events; resync_offset = offset_after v (v.resync + 1) };
-  resync = v.resync + 1;
+-- the array once its next so many rows left to resync are resynced
+abbrev pub resynced : View → (rows : ℕ) → View
+resynced v rows = record v {
+  truth = record v.truth { events = raised v.truth.events; resync_offset = offset_after v (v.resync + rows) };
+  resync = v.resync + rows;
   marked = false;
 }
 
@@ -48,14 +49,18 @@ pub record HasRowLeft (v : View) (place : ℕ) : Type 0 where
   pub left : reach_on v place < v.truth.size
   pub whole : reach_on v place % 128 ≡ 0
 
+-- how many rows of a place's member are left to rebuild
+abbrev pub rows_left : View → ℕ → ℕ
+rows_left v place = (v.truth.size - reach_on v place) / 128
+
 -- the seat of a member of which so many sectors are rebuilt: it is whole where these are all
 abbrev pub rebuilt_seat : ℕ → ℕ → Seat
 rebuilt_seat size to = if to == size then Whole else Rebuilding to
 
--- the array once the next row of a place's member is rebuilt
-abbrev pub rebuilt : View → ℕ → View
-rebuilt v place = record v {
-  seats = map (λ s. if s.place == place then rebuilt_seat v.truth.size (reach_on v place + 128) else s.seat) (slots_of v);
+-- the array once the next so many rows of a place's member are rebuilt
+abbrev pub rebuilt : View → (place rows : ℕ) → View
+rebuilt v place rows = record v {
+  seats = map (λ s. if s.place == place then rebuilt_seat v.truth.size (reach_on v place + 128 * rows) else s.seat) (slots_of v);
 }
 
 -- The array is as it was, or its step is done; places that went are noted, and nothing else has changed.
@@ -96,16 +101,30 @@ pub record Steps (v next w : View) (number next_number : ℕ) (on : List ℕ) (a
   -- superblocks that said the array's truth do so after it
   pub truth : HasFewBits v.truth → HoldTruth v a → HoldTruth w b
 
+-- Rows of an array by one commit: at least one, at most so many, and no more than are left. `does rows answered` is what becomes of so
+-- many. Where it is answered, it is answered how many.
+pub record DoesRows (does : ℕ → Bool → Type 0) (rows_left most : ℕ) (result : Result ℕ Spent) : Type 0 where
+  pub rows : ℕ
+  pub some : 0 < rows
+  pub few : rows ≤ most
+  pub left : rows ≤ rows_left
+  pub steps : does rows (is_ok result)
+  pub answer : IfOk result (λ k. k ≡ rows)
+
+-- rows by a step: `next rows` is the array once so many are done
+abbrev pub StepsRows : (v w : View) (next : ℕ → View) (left most number next_number : ℕ) (on : List ℕ) (a b : Seen) (result : Result ℕ Spent) → Type 0
+StepsRows v w next left most number next_number on a b result = DoesRows (λ rows. Steps v (next rows) w number next_number on a b) left most result
+
 -- ---- rows of a young array
 
 -- the array as one whose rows left to zero are left to resync
 abbrev pub zeroing : View → View
 zeroing v = record v { young = false; resync = first_unsynced v.truth }
 
--- the array once its next row is zeroed
-abbrev pub zeroed : View → View
-zeroed v = record v {
-  truth = record v.truth { events = raised v.truth.events; resync_offset = offset_after v (first_unsynced v.truth + 1) };
+-- the array once its next so many rows are zeroed
+abbrev pub zeroed : View → (rows : ℕ) → View
+zeroed v rows = record v {
+  truth = record v.truth { events = raised v.truth.events; resync_offset = offset_after v (first_unsynced v.truth + rows) };
   resync = rows_of v;
   marked = false;
 }
@@ -114,31 +133,39 @@ zeroed v = record v {
 abbrev pub row_in : View → ℕ → ℕ
 row_in v y = row_at (sector_in (layout_at (shape_of v) y) y)
 
--- What zeroing a row needs: what a step needs where rows left to zero count as left to resync, the sectors of these rows are spent, and
+-- a sector of the next so many rows left to zero
+abbrev pub IsOfNext : View → (rows y : ℕ) → Type 0
+IsOfNext v rows y = (first_unsynced v.truth ≤ row_in (zeroing v) y) × (row_in (zeroing v) y < first_unsynced v.truth + rows)
+
+-- What zeroing rows needs: what a step needs where rows left to zero count as left to resync, the sectors of these rows are spent, and
 -- each sector of a member that counts has one value.
-pub record MayZero (s : State) (v w : View) (spent : ℕ → Bool) (number : ℕ) (on : List ℕ) (a : Seen) : Type 0 where
-  pub step : MayStep s (zeroing v) (resynced (zeroing v)) (zeroing w) number on a
+pub record MayZero (s : State) (v w : View) (rows : ℕ) (spent : ℕ → Bool) (number : ℕ) (on : List ℕ) (a : Seen) : Type 0 where
+  pub step : MayStep s (zeroing v) (resynced (zeroing v) rows) (zeroing w) number on a
   pub covers : Covers (zeroing w) spent
   pub aside : (y : ℕ) → spent y ≡ false → row_in (zeroing v) y < first_unsynced v.truth
   pub single : IsSettled (shape_of (zeroing v)) v.number a.held
 
--- Each stop leaves the new superblocks, and zeros in the row; the members that are left give zeros there, and each sector of theirs has
+-- Each stop leaves the new superblocks, and zeros in the rows; the members that are left give zeros there, and each sector of theirs has
 -- one value.
-pub record HasZeros (s : State) (v w : View) (b : Seen) : Type 0 where
-  pub durable : (r : Image) → IsLeft b r → HasFields s v.number (zeroed v).truth r
-  pub current : (y : ℕ) → row_in (zeroing v) y ≡ first_unsynced v.truth → value_by (shape_of (zeroing w)) (current_in b.held) w.number y ≡ zeros 512
-  pub zeros : (r : Image) → IsLeft b r → (y : ℕ) → row_in (zeroing v) y ≡ first_unsynced v.truth → value_by (shape_of (zeroing v)) r v.number y ≡ zeros 512
+pub record HasZeros (s : State) (v w : View) (rows : ℕ) (b : Seen) : Type 0 where
+  pub durable : (r : Image) → IsLeft b r → HasFields s v.number (zeroed v rows).truth r
+  pub current : (y : ℕ) → IsOfNext v rows y → value_by (shape_of (zeroing w)) (current_in b.held) w.number y ≡ zeros 512
+  pub zeros : (r : Image) → IsLeft b r → (y : ℕ) → IsOfNext v rows y → value_by (shape_of (zeroing v)) r v.number y ≡ zeros 512
   pub single : IsSettled (shape_of (zeroing w)) w.number b.held
 
--- A young array zeroes its next row by one commit: the values of the rows before it stay, and those of the row are zeros.
-pub record Zeroes (v w : View) (number next_number : ℕ) (on : List ℕ) (a b : Seen) (answered : Bool) : Type 0 where
+-- A young array zeroes its next so many rows by one commit: the values of the rows before them stay, and those of the rows are zeros.
+pub record Zeroes (v w : View) (rows number next_number : ℕ) (on : List ℕ) (a b : Seen) (answered : Bool) : Type 0 where
   pub is_done : Bool
   pub answer : answered ≡ true → is_done ≡ true
-  pub view : Stepped v (zeroed v) w a b is_done
+  pub view : Stepped v (zeroed v rows) w a b is_done
   pub moving :
-      (s : State) (vals : ℕ → Values) (spent : ℕ → Bool) → MayZero s v w spent number on a
-      → Moving s (zeroing v) (resynced (zeroing v)) (zeroing w) spent a b vals (if_done is_done (shape_of (zeroing v)) (shape_of (resynced (zeroing v)))) vals
+      (s : State) (vals : ℕ → Values) (spent : ℕ → Bool) → MayZero s v w rows spent number on a
+      → Moving s (zeroing v) (resynced (zeroing v) rows) (zeroing w) spent a b vals (if_done is_done (shape_of (zeroing v)) (shape_of (resynced (zeroing v) rows))) vals
   pub row :
-      is_done ≡ true → (s : State) (vals : ℕ → Values) (spent : ℕ → Bool) → MayZero s v w spent number on a
-      → Holds s (shape_of (zeroing v)) (zeroing v) vals spent a → HasZeros s v w b
-  pub kept : (s : State) → MayStep s (zeroing v) (resynced (zeroing v)) (zeroing w) number on a → LogKept s next_number (has_gone w) b
+      is_done ≡ true → (s : State) (vals : ℕ → Values) (spent : ℕ → Bool) → MayZero s v w rows spent number on a
+      → Holds s (shape_of (zeroing v)) (zeroing v) vals spent a → HasZeros s v w rows b
+  pub kept : (s : State) → MayStep s (zeroing v) (resynced (zeroing v) rows) (zeroing w) number on a → LogKept s next_number (has_gone w) b
+
+-- rows of a young array by one commit, as many as are answered
+abbrev pub ZeroesRows : (v w : View) (left most number next_number : ℕ) (on : List ℕ) (a b : Seen) (result : Result ℕ Spent) → Type 0
+ZeroesRows v w left most number next_number on a b result = DoesRows (λ rows. Zeroes v w rows number next_number on a b) left most result

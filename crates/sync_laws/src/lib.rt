@@ -2,7 +2,7 @@
 //!
 //! **What it defines.** Which members make the others of a row, what they give together, and the sectors that are written for them
 //! (`specs/Rows.antt`); and a step of maintenance as a call does it to an array, with the array that it makes (`Steps`, `Zeroes`, `resynced`,
-//! `rebuilt`: `specs/Steps.antt`).
+//! `rebuilt`), of so many rows (`StepsRows`, `ZeroesRows`: `specs/Steps.antt`).
 //!
 //! **What its lemmas say.** A step is one commit of sectors and of superblocks (`proofs/Stepping.antt`), over any change of an array's truth
 //! and seats (`Step`): at each moment contents say the array from before it or the one after it, and its values stay (`proofs/Moved.antt`,

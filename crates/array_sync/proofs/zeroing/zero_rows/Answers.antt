@@ -15,21 +15,29 @@ use Rattle.sync_laws.specs.Rows.{lacks_two}
 use Rattle.sync_laws.specs.Steps.{Zeroes, offset_after, zeroed}
 use Rattle.sync_laws.proofs.Answering.{not_ok, refused_by, served_by, staged_few}
 use Rattle.sync_laws.proofs.ZeroStaged.{staged, staged_room, zero_apart, zero_had, zero_leaves, zero_refused, zero_some, zero_steps, zero_valid, zeroed_array, zeros_lacks}
-use Rattle.array_sync.proofs.zeroing.zero_row.Goals as goal
+use Rattle.array_sync.proofs.zeroing.zero_rows.Goals as goal
 
 pub returns-then-lacks_two-clause-zeroes : goal.returns-then-lacks_two-clause-zeroes
 returns-then-lacks_two-clause-zeroes g c =
-    let number : c.clear.new.self.number ≡ c.args.log.now.number = ap (λ (l : LogView). l.number) c.clear.ensures in
-    subst (λ (n : ℕ). Zeroes c.args.array.now c.args.array.now c.args.log.now.number n c.args.on.now.items (g.R.Rack.seen c.args.rack.now) (g.R.Rack.seen c.args.rack.now) (is_ok c.answer.result)) (sym number)
-    (zero_refused c.args.array.now c.args.log.now.number c.args.on.now.items (g.R.Rack.seen c.args.rack.now) (is_ok c.answer.result) c.requires.slices (record { is_array = c.rules.ensures; young = c.requires.young; row = c.requires.row })
-    (not_ok (lacks_two c.args.array.now c.next_row-row.result) c.answer.result c.answer.ensures.served (sym c.lacks_two.ensures ∙ c.if-lacks_two.true)))
+    record {
+      rows = 1;
+      some = omega arith;
+      few = (let some = c.requires.some in omega (arith, some));
+      left = (let left = c.requires.row in omega (arith, left));
+      steps =
+          let number : c.clear.new.self.number ≡ c.args.log.now.number = ap (λ (l : LogView). l.number) c.clear.ensures in
+          subst (λ (n : ℕ). Zeroes c.args.array.now c.args.array.now 1 c.args.log.now.number n c.args.on.now.items (g.R.Rack.seen c.args.rack.now) (g.R.Rack.seen c.args.rack.now) (is_ok c.answer.result)) (sym number)
+          (zero_refused c.args.array.now c.args.log.now.number c.args.on.now.items (g.R.Rack.seen c.args.rack.now) (is_ok c.answer.result) c.requires.slices (record { is_array = c.rules.ensures; young = c.requires.young; row = c.requires.row })
+          (not_ok (lacks_two c.args.array.now c.next_row-row.result) c.answer.result c.answer.ensures.served (sym c.lacks_two.ensures ∙ c.if-lacks_two.true)));
+      answer = c.answer.ensures.rows;
+    }
 
 pub stage_zeros-requires-clause-room : goal.stage_zeros-requires-clause-room
 stage_zeros-requires-clause-room g c =
     let v = c.args.array.now in
     let next = staged_room v c.next_row-row.result c.offset_after.result c.resynced_to-change.result (record { is_array = c.rules.ensures; young = c.requires.young; row = c.requires.row }) c.next_row-row.ensures c.offset_after.ensures c.resynced_to-change.ensures.change in
     let few =
-    staged_few (zeroed v) c.stage.new.log.added (zeroed_array v (record { is_array = c.rules.ensures; young = c.requires.young; row = c.requires.row })) (final_is v c.rules.ensures).count
+    staged_few (zeroed v 1) c.stage.new.log.added (zeroed_array v (record { is_array = c.rules.ensures; young = c.requires.young; row = c.requires.row })) (final_is v c.rules.ensures).count
     (subst (λ (u : View). AddsSupersOf u [] c.stage.new.log.added) next
     (subst (λ (xs : List Target). AddsSupersOf (adopted c.resynced_to-change.result v) xs c.stage.new.log.added) c.requires.empty c.stage.ensures.added)) in
     omega (arith, few)
@@ -68,14 +76,22 @@ note_all-requires g c =
 
 pub returns-clause-zeroes : goal.returns-clause-zeroes
 returns-clause-zeroes g c =
-    zero_steps c.args.array.now c.note_all.new.self c.adopt.new.self (g.R.Rack.seen c.args.rack.now) (g.R.Rack.seen c.commit-lost.new.rack) c.stage_zeros.new.log c.args.on.now.items c.commit-lost.result.items c.args.log.now.number c.commit-lost.new.self.number
-    (staged c.args.array.now c.next_row-row.result c.offset_after.result c.resynced_to-change.result c.args.log.now.added c.stage.new.log.added c.stage_zeros.new.log.added
-    (record { is_array = c.rules.ensures; young = c.requires.young; row = c.requires.row }) c.next_row-row.ensures c.offset_after.ensures c.resynced_to-change.ensures.change
-    (sym c.lacks_two.ensures ∙ c.if-lacks_two.false) c.requires.empty c.stage.ensures.added c.stage_zeros.ensures.added)
-    c.requires.slices c.commit-lost.ensures.commits c.note_all.ensures.same c.note_all.ensures.loses c.rules-2.ensures
-    (c.adopt.ensures ∙ ap (λ (d : Change). adopted d c.note_all.new.self) (c.resynced_to-change.ensures.change ∙ ap (resynced_to c.args.array.now) (c.offset_after.ensures ∙ ap (λ (r : ℕ). offset_after c.args.array.now (r + 1)) c.next_row-row.ensures)))
-    (ap (λ (l : LogView). l.number) c.stage_zeros.ensures.log ∙ ap (λ (l : LogView). l.number) c.stage.ensures.log)
-    (ap (λ (l : LogView). l.number) c.commit-lost.ensures.log) _
+    record {
+      rows = 1;
+      some = omega arith;
+      few = (let some = c.requires.some in omega (arith, some));
+      left = (let left = c.requires.row in omega (arith, left));
+      steps =
+          zero_steps c.args.array.now c.note_all.new.self c.adopt.new.self (g.R.Rack.seen c.args.rack.now) (g.R.Rack.seen c.commit-lost.new.rack) c.stage_zeros.new.log c.args.on.now.items c.commit-lost.result.items c.args.log.now.number c.commit-lost.new.self.number
+          (staged c.args.array.now c.next_row-row.result c.offset_after.result c.resynced_to-change.result c.args.log.now.added c.stage.new.log.added c.stage_zeros.new.log.added
+          (record { is_array = c.rules.ensures; young = c.requires.young; row = c.requires.row }) c.next_row-row.ensures c.offset_after.ensures c.resynced_to-change.ensures.change
+          (sym c.lacks_two.ensures ∙ c.if-lacks_two.false) c.requires.empty c.stage.ensures.added c.stage_zeros.ensures.added)
+          c.requires.slices c.commit-lost.ensures.commits c.note_all.ensures.same c.note_all.ensures.loses c.rules-2.ensures
+          (c.adopt.ensures ∙ ap (λ (d : Change). adopted d c.note_all.new.self) (c.resynced_to-change.ensures.change ∙ ap (resynced_to c.args.array.now) (c.offset_after.ensures ∙ ap (λ (r : ℕ). offset_after c.args.array.now (r + 1)) c.next_row-row.ensures)))
+          (ap (λ (l : LogView). l.number) c.stage_zeros.ensures.log ∙ ap (λ (l : LogView). l.number) c.stage.ensures.log)
+          (ap (λ (l : LogView). l.number) c.commit-lost.ensures.log) _;
+      answer = c.answer-answered.ensures.rows;
+    }
 
 pub returns-clause-elsewhere : goal.returns-clause-elsewhere
 returns-clause-elsewhere g c =

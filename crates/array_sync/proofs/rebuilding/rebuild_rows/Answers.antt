@@ -18,7 +18,7 @@ use Rattle.sync_laws.proofs.Answering.{lacking, not_ok, staged_few}
 use Rattle.sync_laws.proofs.MemberStaged.{change_is, gives_err, gives_none, gives_ok, gives_row, member_apart, member_had, member_leaves, member_some, member_steps, member_valid, row_start, staged}
 use Rattle.sync_laws.proofs.Rebuilt.{next_array, place_found, reach_before, rebuilding, row_inside, stage_is}
 use Rattle.sync_laws.proofs.Stepping.{refused_steps}
-use Rattle.array_sync.proofs.rebuilding.rebuild_row.Goals as goal
+use Rattle.array_sync.proofs.rebuilding.rebuild_rows.Goals as goal
 
 pub position-position-requires : goal.position-position-requires
 position-position-requires g c =
@@ -53,23 +53,31 @@ stage_member-requires-clause-room g c =
     let is = (rebuilding c.args.array.now c.args.place c.position-position.result c.rules.ensures c.requires.row c.position-position.ensures.position c.position-position.ensures.place) in
     let next = ap (λ (d : Change). adopted d v) (change_is v c.args.place c.position-position.result (reach_on c.args.array.now c.args.place) c.next_row-row.result c.next_change-change.result is c.next_row-row.ensures c.next_change-change.ensures.change) ∙ stage_is v c.args.place c.position-position.result (reach_on c.args.array.now c.args.place) is in
     let few =
-    staged_few (rebuilt v c.args.place) c.stage.new.log.added (next_array v c.args.place c.position-position.result (reach_on c.args.array.now c.args.place) is) (final_is v c.rules.ensures).count
+    staged_few (rebuilt v c.args.place 1) c.stage.new.log.added (next_array v c.args.place c.position-position.result (reach_on c.args.array.now c.args.place) is) (final_is v c.rules.ensures).count
     (subst (λ (u : View). AddsSupersOf u [] c.stage.new.log.added) next
     (subst (λ (xs : List Target). AddsSupersOf (adopted c.next_change-change.result v) xs c.stage.new.log.added) c.requires.empty c.stage.ensures.added)) in
     omega (arith, few)
 
 pub returns-then-not-stage_member-clause-steps : goal.returns-then-not-stage_member-clause-steps
 returns-then-not-stage_member-clause-steps g c =
-    let v = c.args.array.now in
-    let u = c.stage_member.new.array in
-    let a = g.R.Rack.seen c.args.rack.now in
-    let b = g.R.Rack.seen c.stage_member.new.rack in
-    let number : c.clear.new.self.number ≡ c.args.log.now.number =
-    ap (λ (l : LogView). l.number) c.clear.ensures ∙ ap (λ (l : LogView). l.number) c.stage_member.ensures.log ∙ ap (λ (l : LogView). l.number) c.stage.ensures.log in
-    subst (λ (n : ℕ). Steps v (rebuilt v c.args.place) u c.args.log.now.number n c.args.on.now.items a b (is_ok c.answer.result)) (sym number)
-    (refused_steps v (rebuilt v c.args.place) u c.args.log.now.number c.args.on.now.items a b (is_ok c.answer.result) c.requires.slices.lasting c.rules.ensures c.stage_member.ensures.reads c.stage_member.ensures.notes
-    (not_ok (row_spent u c.next_row-row.result) c.answer.result c.answer.ensures.served
-    (lacking (row_spent u c.next_row-row.result) (sym c.stage_member.ensures.answer ∙ c.if-not-stage_member.true))))
+    record {
+      rows = 1;
+      some = omega arith;
+      few = (let some = c.requires.some in omega (arith, some));
+      left = (let left = c.requires.row.left in let whole = c.requires.row.whole in let rows = c.rules.ensures.whole_rows in omega (arith, left, whole, rows));
+      steps =
+          let v = c.args.array.now in
+          let u = c.stage_member.new.array in
+          let a = g.R.Rack.seen c.args.rack.now in
+          let b = g.R.Rack.seen c.stage_member.new.rack in
+          let number : c.clear.new.self.number ≡ c.args.log.now.number =
+          ap (λ (l : LogView). l.number) c.clear.ensures ∙ ap (λ (l : LogView). l.number) c.stage_member.ensures.log ∙ ap (λ (l : LogView). l.number) c.stage.ensures.log in
+          subst (λ (n : ℕ). Steps v (rebuilt v c.args.place 1) u c.args.log.now.number n c.args.on.now.items a b (is_ok c.answer.result)) (sym number)
+          (refused_steps v (rebuilt v c.args.place 1) u c.args.log.now.number c.args.on.now.items a b (is_ok c.answer.result) c.requires.slices.lasting c.rules.ensures c.stage_member.ensures.reads c.stage_member.ensures.notes
+          (not_ok (row_spent u c.next_row-row.result) c.answer.result c.answer.ensures.served
+          (lacking (row_spent u c.next_row-row.result) (sym c.stage_member.ensures.answer ∙ c.if-not-stage_member.true))));
+      answer = c.answer.ensures.rows;
+    }
 
 pub returns-then-not-stage_member-clause-goes : goal.returns-then-not-stage_member-clause-goes
 returns-then-not-stage_member-clause-goes g c =
@@ -116,16 +124,24 @@ note_all-requires g c = few_in_order c.commit-lost.result.items c.commit-lost.en
 
 pub returns-clause-steps : goal.returns-clause-steps
 returns-clause-steps g c =
-    member_steps c.args.array.now c.stage_member.new.array c.note_all.new.self c.adopt.new.self (g.R.Rack.seen c.args.rack.now) (g.R.Rack.seen c.stage_member.new.rack) (g.R.Rack.seen c.commit-lost.new.rack)
-    c.stage_member.new.log c.args.on.now.items c.commit-lost.result.items c.args.place c.position-position.result (reach_on c.args.array.now c.args.place) c.args.log.now.number c.commit-lost.new.self.number c.next_row-row.result c.next_change-change.result _
-    (staged c.args.array.now c.stage_member.new.array (g.R.Rack.seen c.args.rack.now) (g.R.Rack.seen c.stage_member.new.rack) c.args.place c.position-position.result (reach_on c.args.array.now c.args.place) c.next_row-row.result c.next_change-change.result c.args.log.now.added c.stage.new.log.added c.stage_member.new.log.added
-    (rebuilding c.args.array.now c.args.place c.position-position.result c.rules.ensures c.requires.row c.position-position.ensures.position c.position-position.ensures.place)
-    c.unsynced_rows.ensures c.next_row-row.ensures c.next_change-change.ensures.change c.requires.empty c.stage.ensures.added
-    (c.stage_member.ensures.added c.if-not-stage_member.false) c.stage_member.ensures.notes (sym c.stage_member.ensures.answer ∙ c.if-not-stage_member.false))
-    c.requires.slices c.stage_member.ensures.reads c.stage_member.ensures.notes c.commit-lost.ensures.commits c.note_all.ensures.same c.note_all.ensures.loses c.rules-2.ensures
-    c.next_row-row.ensures c.next_change-change.ensures.change c.adopt.ensures
-    (ap (λ (l : LogView). l.number) c.stage_member.ensures.log ∙ ap (λ (l : LogView). l.number) c.stage.ensures.log)
-    (ap (λ (l : LogView). l.number) c.commit-lost.ensures.log)
+    record {
+      rows = 1;
+      some = omega arith;
+      few = (let some = c.requires.some in omega (arith, some));
+      left = (let left = c.requires.row.left in let whole = c.requires.row.whole in let rows = c.rules.ensures.whole_rows in omega (arith, left, whole, rows));
+      steps =
+          member_steps c.args.array.now c.stage_member.new.array c.note_all.new.self c.adopt.new.self (g.R.Rack.seen c.args.rack.now) (g.R.Rack.seen c.stage_member.new.rack) (g.R.Rack.seen c.commit-lost.new.rack)
+          c.stage_member.new.log c.args.on.now.items c.commit-lost.result.items c.args.place c.position-position.result (reach_on c.args.array.now c.args.place) c.args.log.now.number c.commit-lost.new.self.number c.next_row-row.result c.next_change-change.result _
+          (staged c.args.array.now c.stage_member.new.array (g.R.Rack.seen c.args.rack.now) (g.R.Rack.seen c.stage_member.new.rack) c.args.place c.position-position.result (reach_on c.args.array.now c.args.place) c.next_row-row.result c.next_change-change.result c.args.log.now.added c.stage.new.log.added c.stage_member.new.log.added
+          (rebuilding c.args.array.now c.args.place c.position-position.result c.rules.ensures c.requires.row c.position-position.ensures.position c.position-position.ensures.place)
+          c.unsynced_rows.ensures c.next_row-row.ensures c.next_change-change.ensures.change c.requires.empty c.stage.ensures.added
+          (c.stage_member.ensures.added c.if-not-stage_member.false) c.stage_member.ensures.notes (sym c.stage_member.ensures.answer ∙ c.if-not-stage_member.false))
+          c.requires.slices c.stage_member.ensures.reads c.stage_member.ensures.notes c.commit-lost.ensures.commits c.note_all.ensures.same c.note_all.ensures.loses c.rules-2.ensures
+          c.next_row-row.ensures c.next_change-change.ensures.change c.adopt.ensures
+          (ap (λ (l : LogView). l.number) c.stage_member.ensures.log ∙ ap (λ (l : LogView). l.number) c.stage.ensures.log)
+          (ap (λ (l : LogView). l.number) c.commit-lost.ensures.log);
+      answer = c.answer-answered.ensures.rows;
+    }
 
 pub returns-clause-elsewhere : goal.returns-clause-elsewhere
 returns-clause-elsewhere g c =
