@@ -116,7 +116,7 @@ pub fn rebuild_rows<R: Rack>(
         log.clear();
         return answer(array, row, rows);
     }
-    // A stop leaves the row past the member's reach, or written and within it: no row is read that isn't there.
+    // A stop leaves the rows past the member's reach, or written and within it: no row is read that isn't there.
     let lost = log.commit(rack, on);
     array.note_all(&lost);
     array.rules();

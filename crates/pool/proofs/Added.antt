@@ -45,7 +45,7 @@ use Rattle.lvm_group.specs.Runs.{Linear}
 use Rattle.pool.specs.Calls.{DriveWent}
 use Rattle.pool.specs.Continuing.{Continues}
 use Rattle.pool.specs.Moment.{moment_of, views_of}
-use Rattle.pool.specs.Replaced.{faults_before, is_vacant}
+use Rattle.pool.specs.Replaced.{is_vacant}
 use Rattle.pool.specs.Taking.{IsOfPlace}
 use Rattle.pool.specs.View.{View, book, slices_shown, volume}
 use Rattle.pool.specs.declared.replacing.GrowFault.{GrowFault}

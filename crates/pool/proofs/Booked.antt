@@ -1,18 +1,18 @@
 -- What calls keep of a pool's book.
 use Rattle.std.specs.Prelude.{unwrap_or}
 use Rattle.std.specs.Option.{option_map_or}
-use Rattle.std.proofs.Common.{◌≡◌, ◌⊎◌, ℕ, ◌*◌, ◌<◌, ◌≤◌, ◌==◌, ◌&&◌, not, Bool, true, false, if◌then◌else◌, List, [], slice_get, Option, Some, None, option_map, refl, sym, ap, ap₂, subst, ◌∙◌, inl, inr, arith, eqb-true, lt-ltb}
+use Rattle.std.proofs.Common.{◌≡◌, ◌⊎◌, ℕ, ◌+◌, ◌*◌, ◌<◌, ◌≤◌, ◌==◌, ◌&&◌, not, Bool, true, false, if◌then◌else◌, List, [], slice_get, Option, Some, None, option_map, Result, refl, sym, ap, ap₂, subst, ◌∙◌, inl, inr, arith, eqb-true, lt-ltb}
 use Rattle.std.proofs.lemmas.Bool.{and_parts, both_ways, cases_Bool, cases_eq}
 use Rattle.arrayvec.specs.ArrayVec.{ArrayVec}
 use Rattle.rack.specs.Seen.{Seen}
 use Rattle.array_image.specs.Arrays.{place_with}
 use Rattle.array_image.specs.States.{is_current}
 use Rattle.array_model.specs.declared.Seat.{Seat}
-use Rattle.array_model.specs.declared.Seat.TheVariants.{Missing}
+use Rattle.array_model.specs.declared.Seat.TheVariants.{Whole, Missing, Rebuilding}
 use Rattle.array_model.specs.View.{View as ArrayView, HasGeometry, has_gone, is_missing_seat, member_on, place_at, seat_reach, seat_unless, IsArray}
 use Rattle.array_core.specs.Seats.{gone, names, seat_of}
-use Rattle.sync_laws.specs.Steps.{reach_on, rebuilt, resynced}
-use Rattle.sync_laws.proofs.Rebuilt.{other_member, own_reach, place_found, reach_before, rebuilding}
+use Rattle.sync_laws.specs.Steps.{reach_on, rebuilt, rebuilt_seat, resynced, rows_left}
+use Rattle.raid_laws.proofs.RowsRebuilt.{other_seat, own, own_before, own_seat}
 use Rattle.pool_state.specs.declared.contents.State.{State}
 use Rattle.pool_state.specs.declared.contents.Work.{Work}
 use Rattle.pool_state.specs.declared.contents.Work.TheVariants.{Resync, Rebuild, TakeOver, Begin, Reshape, Finish, Make, Zero, Ready, Extend, Close}
@@ -80,21 +80,20 @@ array_lost s n u w y seated heeded only = record {
       ];
 }
 
-array_resynced : (s : State) (u : ArrayView) → KeepsArray s u (resynced u)
-array_resynced s u = record {
+array_resynced : (s : State) (u : ArrayView) (rows : ℕ) → KeepsArray s u (resynced u rows)
+array_resynced s u rows = record {
   geometry = record { set = refl; level = refl; size = refl; disks = refl; roles = refl; features = refl; position = refl };
   young = refl;
   rows = omega arith;
   members = λ k low current. omega arith;
 }
 
-array_rebuilt : (s t : State) (n : ℕ) (u : ArrayView) (x : Seen) (place : ℕ) → IsSeated s n u x
-    → option_map_or is_rebuilding_seat (seat_of u place) false ≡ true → KeepsArray t u (rebuilt u place)
-array_rebuilt s t n u x place seated rebuilds =
-    let left = row_left s n u x place seated rebuilds in
-    let found = place_found u place _ seated.is_array left.seat in
-    let p = found.0 in
-    let is = rebuilding u place p seated.is_array left found.1 found.2 in
+array_rebuilt : (s t : State) (n : ℕ) (u : ArrayView) (x : Seen) (place rows : ℕ) → IsSeated s n u x
+    → option_map_or is_rebuilding_seat (seat_of u place) false ≡ true → rows ≤ rows_left u place → KeepsArray t u (rebuilt u place rows)
+array_rebuilt s t n u x place rows seated rebuilds left =
+    let has = row_left s n u x place seated rebuilds in
+    let p = own u place rows seated.is_array has left in
+    let reach : Option Seat → ℕ = λ o. option_map_or (seat_reach u.truth.size) o 0 in
     record {
       geometry = geometry_same u;
       young = refl;
@@ -102,15 +101,22 @@ array_rebuilt s t n u x place seated rebuilds =
       members = λ k low current.
           elim (cases_eq k p) [
             | inl same ↦
-                let before = reach_before u place p (reach_on u place) is in
-                let after = own_reach u place p (reach_on u place) is in
-                let more : (member_on u p).reach ≤ (member_on (rebuilt u place) p).reach = omega (arith, before, after) in
-                subst (λ j. (member_on u j).reach ≤ (member_on (rebuilt u place) j).reach) (sym same) more
+                let before = ap reach (own_before u place rows seated.is_array has left) in
+                let after = ap reach (own_seat u place rows seated.is_array has left) ∙ reach_there u.truth.size (reach_on u place + 128 * rows) in
+                let more : (member_on u p).reach ≤ (member_on (rebuilt u place rows) p).reach = omega (arith, before, after) in
+                subst (λ j. (member_on u j).reach ≤ (member_on (rebuilt u place rows) j).reach) (sym same) more
             | inr other ↦
-                let e = ap (λ m. m.reach) (other_member u place p (reach_on u place) is k low other) in
+                let e = ap reach (other_seat u place rows seated.is_array has left k other) in
                 omega (arith, e)
           ];
     }
+  where
+    reach_there : (size to : ℕ) → seat_reach size (rebuilt_seat size to) ≡ to
+    reach_there size to =
+        elim (cases_Bool (to == size)) [
+          | inl all ↦ ap (λ (b : Bool). seat_reach size (if b then Whole else Rebuilding to)) all ∙ sym (eqb-true to size all)
+          | inr less ↦ ap (λ (b : Bool). seat_reach size (if b then Whole else Rebuilding to)) less
+        ]
 
 -- ---- all arrays
 
@@ -182,25 +188,27 @@ book_stepped v w y m next is_done set heeded made step only n low =
           (subst (λ (u : ArrayView). LosesOnly u (w.arrays n)) (ap (λ b. if b then next else v.arrays n) idle) (only n low))
     ]
 
-pub book_worked : (work : Work) (v w : Raid) (x y : Seen) (answered : Bool) → IsSet v x → IsSet w y → IsHeeded w → is_due v work ≡ true
-    → Does work v w x y answered → KeepsBook v w
-book_worked (Resync m) v w x y answered before set heeded due does =
-    book_stepped v w y m (resynced (v.arrays m)) does.steps.is_done set heeded does.steps.brings.book.same.made (λ low. array_resynced w.state (v.arrays m)) does.steps.arrays
-book_worked (Rebuild m place) v w x y answered before set heeded due does =
+pub book_worked : (work : Work) (most : ℕ) (v w : Raid) (x y : Seen) {E : Type 0} (r : Result ℕ E) → IsSet v x → IsSet w y → IsHeeded w → is_due v work ≡ true
+    → Does work most v w x y r → KeepsBook v w
+book_worked (Resync m) most v w x y r before set heeded due does =
+    book_stepped v w y m (resynced (v.arrays m) does.rows.rows) does.rows.steps.is_done set heeded does.rows.steps.brings.book.same.made
+    (λ low. array_resynced w.state (v.arrays m) does.rows.rows) does.rows.steps.arrays
+book_worked (Rebuild m place) most v w x y r before set heeded due does =
     let u = v.arrays m in
     let rebuilds = option_map_or is_rebuilding_seat (seat_of u place) false in
     let parts = and_parts _ (rebuilds && is_whole_row u.truth.resync_offset) due in
-    book_stepped v w y m (rebuilt u place) does.steps.is_done set heeded does.steps.brings.book.same.made
-    (λ low. array_rebuilt v.state w.state m u x place (before.arrays m low) (and_parts rebuilds (is_whole_row u.truth.resync_offset) parts.1).0) does.steps.arrays
-book_worked (TakeOver m) v w x y answered before set heeded due does = absurd does
-book_worked (Begin m place) v w x y answered before set heeded due does = absurd does
-book_worked (Reshape m) v w x y answered before set heeded due does = absurd does
-book_worked (Finish m) v w x y answered before set heeded due does = absurd does
-book_worked (Make m height) v w x y answered before set heeded due does = absurd does
-book_worked (Zero m) v w x y answered before set heeded due does = absurd does
-book_worked (Ready m) v w x y answered before set heeded due does = absurd does
-book_worked Extend v w x y answered before set heeded due does = absurd does
-book_worked Close v w x y answered before set heeded due does =
+    book_stepped v w y m (rebuilt u place does.rows.rows) does.rows.steps.is_done set heeded does.rows.steps.brings.book.same.made
+    (λ low. array_rebuilt v.state w.state m u x place does.rows.rows (before.arrays m low) (and_parts rebuilds (is_whole_row u.truth.resync_offset) parts.1).0 does.rows.left)
+    does.rows.steps.arrays
+book_worked (TakeOver m) most v w x y r before set heeded due does = absurd does
+book_worked (Begin m place) most v w x y r before set heeded due does = absurd does
+book_worked (Reshape m) most v w x y r before set heeded due does = absurd does
+book_worked (Finish m) most v w x y r before set heeded due does = absurd does
+book_worked (Make m height) most v w x y r before set heeded due does = absurd does
+book_worked (Zero m) most v w x y r before set heeded due does = absurd does
+book_worked (Ready m) most v w x y r before set heeded due does = absurd does
+book_worked Extend most v w x y r before set heeded due does = absurd does
+book_worked Close most v w x y r before set heeded due does =
     book_lost v w y set heeded does.1.brings.book.same.made does.1.arrays
 
 -- ---- numbers

@@ -1,14 +1,13 @@
 -- A plan goes on by works, or ends as the last of them.
 use Rattle.std.specs.Option.{option_map_or}
-use Rattle.std.proofs.Common.{◌≡◌, ℕ, ◌<◌, ◌≤◌, ◌==◌, ◌&&◌, Bool, true, false, nat_lt, if◌then◌else◌, [], ◌∷◌, length, slice_get, Option, Some, option_map, refl, sym, ap, subst, ◌∙◌, inl, inr, ne_eqb}
-use Rattle.std.proofs.lemmas.Bool.{and_parts, both_ways, cases_Bool, cases_eq, cases_lt}
+use Rattle.std.proofs.Common.{◌≡◌, ℕ, ◌<◌, ◌≤◌, ◌==◌, ◌&&◌, Bool, true, false, nat_lt, if◌then◌else◌, [], ◌∷◌, length, slice_get, Option, Some, Result, Err, refl, sym, ap, subst, ◌∙◌, inl, inr, ne_eqb}
+use Rattle.std.proofs.lemmas.Bool.{and_parts, both_ways, cases_Bool, cases_eq}
 use Rattle.rack.specs.Seen.{Seen}
 use Rattle.array_model.specs.declared.Seat.{Seat}
 use Rattle.array_model.specs.View.{View as ArrayView, IsArray}
-use Rattle.array_model.proofs.RowWrites.{places_apart}
 use Rattle.array_core.specs.Seats.{seat_of}
-use Rattle.sync_laws.specs.Steps.{HasRowLeft, reach_on, rebuilt, resynced}
-use Rattle.sync_laws.proofs.Rebuilt.{get_past, next_seat, other_seat, place_found, rebuilding}
+use Rattle.sync_laws.specs.Steps.{HasRowLeft, rebuilt, resynced, rows_left}
+use Rattle.raid_laws.proofs.RowsRebuilt.{other_seat, own, own_before}
 use Rattle.pool_state.specs.declared.contents.Work.{Work}
 use Rattle.pool_state.specs.declared.contents.Work.TheVariants.{Resync, Rebuild, TakeOver, Begin, Reshape, Finish, Make, Zero, Ready, Extend, Close}
 use Rattle.growth_plan.specs.Works.{works_left}
@@ -55,24 +54,16 @@ members_lost u w only = record {
   seats = λ k. elim (only.seats k) [ inl same ↦ inl same | inr lost ↦ inr (inl lost) ];
 }
 
-members_rebuilt : (u : ArrayView) (place : ℕ) → IsArray u → HasRowLeft u place → KeepsMembers u (rebuilt u place)
-members_rebuilt u place is_array left =
-    let found = place_found u place _ is_array left.seat in
-    let p = found.0 in
-    let is = rebuilding u place p is_array left found.1 found.2 in
-    record {
-      devices = refl;
-      seats = λ k.
-          elim (cases_eq k p) [
-            | inl same ↦ inr (inr (ap (is_rebuilt_at u) same ∙ ap (λ (o : Option Seat). option_map_or is_rebuilding_seat o false) is.seat))
-            | inr other ↦ inl (elim (cases_lt k u.truth.raid_disks) [
-              | inl low ↦ other_seat u place p (reach_on u place) is k (λ at. other (places_apart u k p is_array low is.low (at ∙ sym is.at)))
-              | inr past ↦
-                  let none = get_past u.seats k (subst (λ m. m ≤ k) (sym is_array.seats) past) in
-                  next_seat u place p (reach_on u place) is k ∙ ap (option_map _) none ∙ sym none
-            ])
-          ];
-    }
+members_rebuilt : (u : ArrayView) (place rows : ℕ) → IsArray u → HasRowLeft u place → rows ≤ rows_left u place → KeepsMembers u (rebuilt u place rows)
+members_rebuilt u place rows is_array has left = record {
+  devices = refl;
+  seats = λ k.
+      elim (cases_eq k (own u place rows is_array has left)) [
+        | inl same ↦
+            inr (inr (ap (is_rebuilt_at u) same ∙ ap (λ (o : Option Seat). option_map_or is_rebuilding_seat o false) (own_before u place rows is_array has left)))
+        | inr other ↦ inl (other_seat u place rows is_array has left k other)
+      ];
+}
 
 -- ---- arrays
 
@@ -106,41 +97,41 @@ module _ (v w : Raid) (m : ℕ) (next : ArrayView) (is_done : Bool)
         ]
       ]
 
-pub members_worked : (work : Work) (v w : Raid) (x y : Seen) (answered : Bool) → IsSet v x → is_due v work ≡ true → Does work v w x y answered → KeepsAllMembers v w
-members_worked (Resync m) v w x y answered set due does =
-    members_stepped v w m (resynced (v.arrays m)) does.steps.is_done does.steps.arrays (λ low. record { devices = refl; seats = λ k. inl refl })
-members_worked (Rebuild m place) v w x y answered set due does =
+pub members_worked : (work : Work) (most : ℕ) (v w : Raid) (x y : Seen) {E : Type 0} (r : Result ℕ E) → IsSet v x → is_due v work ≡ true → Does work most v w x y r → KeepsAllMembers v w
+members_worked (Resync m) most v w x y r set due does =
+    members_stepped v w m (resynced (v.arrays m) does.rows.rows) does.rows.steps.is_done does.rows.steps.arrays (λ low. record { devices = refl; seats = λ k. inl refl })
+members_worked (Rebuild m place) most v w x y r set due does =
     let u = v.arrays m in
     let rebuilds = option_map_or is_rebuilding_seat (seat_of u place) false in
     let parts = and_parts _ (rebuilds && is_whole_row u.truth.resync_offset) due in
-    members_stepped v w m (rebuilt u place) does.steps.is_done does.steps.arrays
+    members_stepped v w m (rebuilt u place does.rows.rows) does.rows.steps.is_done does.rows.steps.arrays
     (λ low.
-    members_rebuilt u place (set.arrays m low).is_array
-    (row_left v.state m u x place (set.arrays m low) (and_parts rebuilds (is_whole_row u.truth.resync_offset) parts.1).0))
-members_worked (TakeOver m) v w x y answered set due does = absurd does
-members_worked (Begin m place) v w x y answered set due does = absurd does
-members_worked (Reshape m) v w x y answered set due does = absurd does
-members_worked (Finish m) v w x y answered set due does = absurd does
-members_worked (Make m height) v w x y answered set due does = absurd does
-members_worked (Zero m) v w x y answered set due does = absurd does
-members_worked (Ready m) v w x y answered set due does = absurd does
-members_worked Extend v w x y answered set due does = absurd does
-members_worked Close v w x y answered set due does = λ n low. members_lost (v.arrays n) (w.arrays n) (does.1.arrays n low)
+    members_rebuilt u place does.rows.rows (set.arrays m low).is_array
+    (row_left v.state m u x place (set.arrays m low) (and_parts rebuilds (is_whole_row u.truth.resync_offset) parts.1).0) does.rows.left)
+members_worked (TakeOver m) most v w x y r set due does = absurd does
+members_worked (Begin m place) most v w x y r set due does = absurd does
+members_worked (Reshape m) most v w x y r set due does = absurd does
+members_worked (Finish m) most v w x y r set due does = absurd does
+members_worked (Make m height) most v w x y r set due does = absurd does
+members_worked (Zero m) most v w x y r set due does = absurd does
+members_worked (Ready m) most v w x y r set due does = absurd does
+members_worked Extend most v w x y r set due does = absurd does
+members_worked Close most v w x y r set due does = λ n low. members_lost (v.arrays n) (w.arrays n) (does.1.arrays n low)
 
 -- what a refused work leaves of the arrays that it isn't of, and of a plan
-pub others_stuck : (work : Work) (v w : Raid) (x y : Seen) → Does work v w x y false
+pub others_stuck : (work : Work) (most : ℕ) (v w : Raid) (x y : Seen) {E : Type 0} (e : E) → Does work most v w x y (Err e)
     → ((n : ℕ) → n < v.state.made → (n ≡ array_of work → ⊥) → LosesOnly (v.arrays n) (w.arrays n)) × (w.state.plan ≡ v.state.plan)
-others_stuck (Resync m) v w x y does = (only_others v w m (resynced (v.arrays m)) does.steps.is_done does.steps.arrays, does.steps.plan)
-others_stuck (Rebuild m place) v w x y does = (only_others v w m (rebuilt (v.arrays m) place) does.steps.is_done does.steps.arrays, does.steps.plan)
-others_stuck (TakeOver m) v w x y does = absurd does
-others_stuck (Begin m place) v w x y does = absurd does
-others_stuck (Reshape m) v w x y does = absurd does
-others_stuck (Finish m) v w x y does = absurd does
-others_stuck (Make m height) v w x y does = absurd does
-others_stuck (Zero m) v w x y does = absurd does
-others_stuck (Ready m) v w x y does = absurd does
-others_stuck Extend v w x y does = absurd does
-others_stuck Close v w x y does = absurd (both_ways true (sym does.0) refl)
+others_stuck (Resync m) most v w x y e does = (only_others v w m (resynced (v.arrays m) does.rows.rows) does.rows.steps.is_done does.rows.steps.arrays, does.rows.steps.plan)
+others_stuck (Rebuild m place) most v w x y e does = (only_others v w m (rebuilt (v.arrays m) place does.rows.rows) does.rows.steps.is_done does.rows.steps.arrays, does.rows.steps.plan)
+others_stuck (TakeOver m) most v w x y e does = absurd does
+others_stuck (Begin m place) most v w x y e does = absurd does
+others_stuck (Reshape m) most v w x y e does = absurd does
+others_stuck (Finish m) most v w x y e does = absurd does
+others_stuck (Make m height) most v w x y e does = absurd does
+others_stuck (Zero m) most v w x y e does = absurd does
+others_stuck (Ready m) most v w x y e does = absurd does
+others_stuck Extend most v w x y e does = absurd does
+others_stuck Close most v w x y e does = absurd does.0
 
 -- ---- a plan
 
@@ -154,19 +145,19 @@ last_work l v = by (nat_lt 0 (length v.state.drives.items))
     by false first = absurd (cc first)
 
 -- one work
-pub plan_worked : (l : Linear) (work : Work) (v w : Raid) (x y : Seen) (answered : Bool) → IsSet v x → IsHeeded v → slice_get (works_by l v) 0 ≡ Some work
-    → KeepsBook v w → Does work v w x y answered → KeepsPlan l v w
-plan_worked l (Resync m) v w x y answered set heeded first keeps does = inl does.steps.plan
-plan_worked l (Rebuild m place) v w x y answered set heeded first keeps does = inl does.steps.plan
-plan_worked l (TakeOver m) v w x y answered set heeded first keeps does = absurd does
-plan_worked l (Begin m place) v w x y answered set heeded first keeps does = absurd does
-plan_worked l (Reshape m) v w x y answered set heeded first keeps does = absurd does
-plan_worked l (Finish m) v w x y answered set heeded first keeps does = absurd does
-plan_worked l (Make m height) v w x y answered set heeded first keeps does = absurd does
-plan_worked l (Zero m) v w x y answered set heeded first keeps does = absurd does
-plan_worked l (Ready m) v w x y answered set heeded first keeps does = absurd does
-plan_worked l Extend v w x y answered set heeded first keeps does = absurd does
-plan_worked l Close v w x y answered set heeded first keeps does = inr (record {
+pub plan_worked : (l : Linear) (work : Work) (most : ℕ) (v w : Raid) (x y : Seen) {E : Type 0} (r : Result ℕ E) → IsSet v x → IsHeeded v → slice_get (works_by l v) 0 ≡ Some work
+    → KeepsBook v w → Does work most v w x y r → KeepsPlan l v w
+plan_worked l (Resync m) most v w x y r set heeded first keeps does = inl does.rows.steps.plan
+plan_worked l (Rebuild m place) most v w x y r set heeded first keeps does = inl does.rows.steps.plan
+plan_worked l (TakeOver m) most v w x y r set heeded first keeps does = absurd does
+plan_worked l (Begin m place) most v w x y r set heeded first keeps does = absurd does
+plan_worked l (Reshape m) most v w x y r set heeded first keeps does = absurd does
+plan_worked l (Finish m) most v w x y r set heeded first keeps does = absurd does
+plan_worked l (Make m height) most v w x y r set heeded first keeps does = absurd does
+plan_worked l (Zero m) most v w x y r set heeded first keeps does = absurd does
+plan_worked l (Ready m) most v w x y r set heeded first keeps does = absurd does
+plan_worked l Extend most v w x y r set heeded first keeps does = absurd does
+plan_worked l Close most v w x y r set heeded first keeps does = inr (record {
   mid = v;
   marks = after_same v.state;
   done = book_same v;

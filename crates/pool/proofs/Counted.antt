@@ -1,9 +1,11 @@
--- What is left after a work that is done where no drive is lost.
+-- What is left after works that are done where no drive is lost.
 use Rattle.std.specs.List.{range_with_len}
-use Rattle.std.proofs.Common.{◌≡◌, ℕ, ◌-◌, ◌<◌, ◌^◌, ◌==◌, ◌&&◌, nat_lt, Bool, true, false, if◌then◌else◌, List, [], drop, length, map, slice_get, Option, Some, IfSome, option_map, inl, inr, refl, sym, ap, subst, ◌∙◌, arith, eq-eqb, ne_eqb, lt-ltb, eqb-true, ltb-true}
+use Rattle.std.proofs.Common.{◌≡◌, ℕ, ◌+◌, ◌-◌, ◌<◌, ◌≤◌, ◌^◌, ◌==◌, ◌&&◌, nat_lt, Bool, true, false, if◌then◌else◌, List, [], drop, length, map, slice_get, Option, Some, IfSome, option_map, Ok, inl, inr, refl, sym, ap, subst, ◌∙◌, arith, eq-eqb, ne_eqb, lt-ltb, eqb-true, ltb-true}
 use Rattle.std.proofs.lemmas.Bool.{both_ways, and_parts, cases_eq}
 use Rattle.std.proofs.lemmas.List.{length-map}
-use Rattle.std.proofs.lemmas.Option.{slice_get_within}
+use Rattle.std.proofs.lemmas.Option.{slice_get-map, slice_get_within}
+use Rattle.std.specs.Option.{option_map_or}
+use Rattle.array_core.proofs.Rules.{get_range}
 use Rattle.arrayvec.specs.ArrayVec.{ArrayVec}
 use Rattle.shr_base.specs.declared.Id.{Id}
 use Rattle.rack.specs.Seen.{Seen}
@@ -16,24 +18,27 @@ use Rattle.array_image.specs.States.{is_current}
 use Rattle.array_model.specs.declared.Seat.{Seat}
 use Rattle.array_model.specs.declared.Seat.TheVariants.{Missing}
 use Rattle.array_model.specs.View.{View, is_missing_seat, rows_of}
-use Rattle.sync_laws.specs.Steps.{rebuilt, resynced}
+use Rattle.sync_laws.specs.Steps.{rebuilt, resynced, rows_left}
 use Rattle.growth_plan.specs.declared.ArrayNow.{ArrayNow}
 use Rattle.growth_plan.specs.declared.Progress.{Progress}
-use Rattle.growth_plan.specs.Doing.{Book, HasOneLayer, after, change, is_of_layer, row_rebuilt}
+use Rattle.growth_plan.specs.Doing.{HasOneLayer, after, change, is_of_layer, rows_rebuilt, rows_resynced}
 use Rattle.growth_plan.specs.Works.{works_left}
 use Rattle.growth_plan.proofs.Done.{first_done}
+use Rattle.growth_plan.proofs.FirstRows.{first_rebuilds, first_resyncs}
+use Rattle.growth_plan.proofs.OneArray.{put}
 use Rattle.lvm_group.specs.Runs.{Linear, extents_of}
 use Rattle.raid_laws.specs.Book.{IsSameBook, drive_of}
 use Rattle.raid_laws.specs.Moves.{IsHeeded, IsSet, LosesOnly}
 use Rattle.raid_laws.specs.Raid.{Raid}
 use Rattle.raid_rack.specs.RaidRack.{no_super}
-use Rattle.raid_laws.specs.Works.{ClosesPlan, Does, RebuildsOne, ResyncsOne, StepsOne, is_due, is_whole_row, stepped}
+use Rattle.raid_laws.specs.Works.{ClosesPlan, Does, StepsOne, is_due, is_whole_row, stepped}
+use Rattle.raid_rack.specs.declared.works.Stuck.{Stuck}
 use Rattle.raid_rack.proofs.Rebuilt.{next_rebuilt, row_left}
 use Rattle.pool.specs.Works.{array_now, arrays_now, is_rebuilding_on, progress_by, works_by, HasRowsAlone}
 use Rattle.pool.proofs.Books.{is_book}
 use Rattle.pool.proofs.Counting.{none_changed, now_resynced, now_same, one_changed}
 use Rattle.pool.proofs.Quiet.{is_missing, seats_same, state_same}
-use Rattle.pool.proofs.Rebuilding.{now_rebuilt, was_rebuilt}
+use Rattle.pool.proofs.Rebuilding.{now_rebuilt, rows_before, was_rebuilt}
 
 -- ---- members
 
@@ -112,17 +117,16 @@ module _ (l : Linear) (v w : Raid) (a b : Seen) (before : IsSet v a) (after_set 
 
 -- ---- a work that is done
 
--- what it leaves: the other works, and no other kind of work of the arrays
-pub record IsOneLess (l : Linear) (v w : Raid) : Type 0 where
-  pub rest : works_by l w ≡ drop 1 (works_by l v)
+-- what it leaves, or several at once: the other works, and no other kind of work of the arrays
+pub record AreFewer (l : Linear) (count : ℕ) (v w : Raid) : Type 0 where
+  pub rest : works_by l w ≡ drop count (works_by l v)
   pub alone : HasRowsAlone w
 
 -- the book after it has the rest of the works left
-rest_left : (l : Linear) (v w : Raid) (a : Seen) (work : Work) → IsSet v a → 0 < length v.state.drives.items → extents_of l.runs < 2 ^ 52
-    → IsSameBook v.state w.state → slice_get (works_by l v) 0 ≡ Some work → is_of_layer work ≡ false
-    → works_left w.state (progress_by l w) ≡ works_left (after work v.state (progress_by l v)).state (after work v.state (progress_by l v)).progress
-    → works_by l w ≡ drop 1 (works_by l v)
-rest_left l v w a work set some small same first other is =
+rest_left : (l : Linear) (v w : Raid) (count : ℕ) → 0 < length v.state.drives.items → IsSameBook v.state w.state
+    → works_left w.state (progress_by l w) ≡ drop count (works_left v.state (progress_by l v))
+    → works_by l w ≡ drop count (works_by l v)
+rest_left l v w count some same is =
     let p = progress_by l v in
     let listed = lt-ltb 0 (length v.state.drives.items) some in
     let many : length w.state.drives.items ≡ length v.state.drives.items =
@@ -131,11 +135,22 @@ rest_left l v w a work set some small same first other is =
     let new : works_by l w ≡ works_left w.state (progress_by l w) =
     ap (λ n. if nat_lt 0 n then works_left w.state (progress_by l w) else []) many
     ∙ ap (λ b. if b then works_left w.state (progress_by l w) else []) listed in
-    let head : slice_get (works_left v.state p) 0 ≡ Some work = ap (λ (ws : List Work). slice_get ws 0) (sym own) ∙ first in
-    let done = subst (λ (o : Option Work). IfSome o (λ work. (is_of_layer work ≡ true → HasOneLayer v.state p.arrays.items)
-    → works_left (after work v.state p).state (after work v.state p).progress ≡ drop 1 (works_left v.state p)))
-    head (first_done v.state p (is_book l v a set some small)) in
-    new ∙ is ∙ done (λ of. absurd (both_ways (is_of_layer work) other of)) ∙ ap (drop 1) (sym own)
+    new ∙ is ∙ ap (drop count) (sym own)
+
+-- the first work, by the book
+first_by : (l : Linear) (v : Raid) (work : Work) → 0 < length v.state.drives.items → slice_get (works_by l v) 0 ≡ Some work
+    → slice_get (works_left v.state (progress_by l v)) 0 ≡ Some work
+first_by l v work some first =
+    let p = progress_by l v in
+    let own : works_by l v ≡ works_left v.state p = ap (λ b. if b then works_left v.state p else []) (lt-ltb 0 (length v.state.drives.items) some) in
+    ap (λ (ws : List Work). slice_get ws 0) (sym own) ∙ first
+
+-- an array's standing, by its number
+now_at_number : (v : Raid) (m : ℕ) → m < v.state.made → slice_get (arrays_now v) m ≡ Some (array_now v.state.extent (v.arrays m))
+now_at_number v m low =
+    slice_get-map (λ n. array_now v.state.extent (v.arrays n)) (range_with_len 0 v.state.made) m
+    ∙ ap (option_map (λ n. array_now v.state.extent (v.arrays n))) (get_range 0 v.state.made m low)
+    ∙ ap (λ n. Some (array_now v.state.extent (v.arrays n))) (let e : 0 + m ≡ m = omega arith in e)
 
 -- an array of a step, by its number
 stepped_at : (v : Raid) (m : ℕ) (next : View → View) (n : ℕ) → stepped v m (next (v.arrays m)) true n ≡ (if n == m then (next (v.arrays n)) else v.arrays n)
@@ -145,18 +160,17 @@ stepped_at v m next n = by (n == m) refl
     by true is = ap (λ k. next (v.arrays k)) (sym (eqb-true n m is))
     by false is = refl
 
--- A step of array m that makes another of it, which stands by one work less.
-module _ (l : Linear) (v w : Raid) (a b : Seen) (work : Work) (m : ℕ) (next : View → View) (to : ArrayNow → ArrayNow)
+-- A step of array m that makes another of it, which stands by so many works less.
+module _ (l : Linear) (v w : Raid) (a b : Seen) (count : ℕ) (m : ℕ) (next : View → View) (to : ArrayNow → ArrayNow)
     (set : IsSet v a) (heeded : IsHeeded v) (some : 0 < length v.state.drives.items) (small : extents_of l.runs < 2 ^ 52) (alone : HasRowsAlone v)
-    (first : slice_get (works_by l v) 0 ≡ Some work) (marks : (p : ℕ) → is_current w.state p ≡ is_current v.state p)
+    (marks : (p : ℕ) → is_current w.state p ≡ is_current v.state p)
     (inside : m < v.state.made) (steps : StepsOne v w a b m (next (v.arrays m)) true)
     (truth : (u : View) → (next u).truth.roles ≡ u.truth.roles) (disks : (u : View) → (next u).truth.raid_disks ≡ u.truth.raid_disks)
     (young : (u : View) → (next u).young ≡ u.young)
     (missing : (k : ℕ) → slice_get (v.arrays m).seats k ≡ Some Missing → slice_get (next (v.arrays m)).seats k ≡ Some Missing)
     (less : (p : ℕ) → is_rebuilding_on (next (v.arrays m)) p ≡ true → is_rebuilding_on (v.arrays m) p ≡ true)
     (now : array_now v.state.extent (next (v.arrays m)) ≡ to (array_now v.state.extent (v.arrays m)))
-    (plain : is_of_layer work ≡ false)
-    (book : after work v.state (progress_by l v) ≡ record { state = v.state; progress = record (progress_by l v) { arrays = record { items = change m to (arrays_now v) } } }) where
+    (gone : works_left v.state (put (progress_by l v) (change m to (arrays_now v))) ≡ drop count (works_left v.state (progress_by l v))) where
   abbrev made : ℕ → View
   made = stepped v m (next (v.arrays m)) true
 
@@ -191,7 +205,7 @@ module _ (l : Linear) (v w : Raid) (a b : Seen) (work : Work) (m : ℕ) (next : 
         | inr not ↦ sym (ap (λ (u : View). is_rebuilding_on u p) (other n not)) ∙ rebuilds
       ]
 
-  counted : IsOneLess l v w
+  counted : AreFewer l count v w
   counted =
       let same = steps.brings.book.same in
       let f : ℕ → ArrayNow = λ n. array_now v.state.extent (v.arrays n) in
@@ -203,78 +217,92 @@ module _ (l : Linear) (v w : Raid) (a b : Seen) (work : Work) (m : ℕ) (next : 
       (λ n low is. at n low ∙ ap (array_now v.state.extent) (here n is) ∙ now ∙ ap (λ k. to (array_now v.state.extent (v.arrays k))) (sym is))
       (λ n low not. at n low ∙ ap (array_now v.state.extent) (other n not)) in
       record {
-        rest = rest_left l v w a work set some small same first plain
+        rest = rest_left l v w count some same
             (left_as l v w a b set steps.brings.set heeded steps.heeded same marks alone made only roles_at disks_at missing_at less_at young_at
             (change m to (arrays_now v)) v.state.plan steps.plan changed
-            ∙ ap (λ (k : Book). works_left k.state k.progress) (sym book));
+            ∙ gone);
         alone = still_alone l v w a b set steps.brings.set heeded steps.heeded same marks alone made only roles_at disks_at missing_at less_at young_at;
       }
 
--- a row is resynced
-resync_counted : (l : Linear) (v w : Raid) (a b : Seen) (m : ℕ) → IsSet v a → IsHeeded v → 0 < length v.state.drives.items → extents_of l.runs < 2 ^ 52
+-- rows are resynced
+resync_counted : (l : Linear) (v w : Raid) (a b : Seen) (m rows : ℕ) → IsSet v a → IsHeeded v → 0 < length v.state.drives.items → extents_of l.runs < 2 ^ 52
     → HasRowsAlone v → slice_get (works_by l v) 0 ≡ Some (Resync m) → ((p : ℕ) → is_current w.state p ≡ is_current v.state p)
-    → m < v.state.made → ResyncsOne v w a b m true → IsOneLess l v w
-resync_counted l v w a b m set heeded some small alone first marks inside does =
-    counted l v w a b (Resync m) m resynced (λ x. record x { resync = x.resync - 1 }) set heeded some small alone first marks inside does.steps
+    → m < v.state.made → rows ≤ rows_of (v.arrays m) - (v.arrays m).resync → StepsOne v w a b m (resynced (v.arrays m) rows) true → AreFewer l rows v w
+resync_counted l v w a b m rows set heeded some small alone first marks inside few steps =
+    counted l v w a b rows m (λ u. resynced u rows) (rows_resynced rows) set heeded some small alone marks inside steps
     (λ u. refl) (λ u. refl) (λ u. refl) (λ k gone. gone)
-    (λ p is. sym (rebuilding_as (resynced (v.arrays m)) p ∙ sym (rebuilding_as (v.arrays m) p)) ∙ is)
-    (now_resynced v.state.extent (v.arrays m) (alone.grown m inside)) refl refl
+    (λ p is. sym (rebuilding_as (resynced (v.arrays m) rows) p ∙ sym (rebuilding_as (v.arrays m) p)) ∙ is)
+    (now_resynced v.state.extent rows (v.arrays m) (alone.grown m inside))
+    (first_resyncs v.state (progress_by l v) m rows (first_by l v (Resync m) some first)
+    (subst (λ (o : Option ArrayNow). rows ≤ option_map_or (λ (x : ArrayNow). x.resync) o 0) (sym (now_at_number v m inside)) few))
 
--- a row is rebuilt
-rebuild_counted : (l : Linear) (v w : Raid) (a b : Seen) (m place : ℕ) → IsSet v a → IsHeeded v → 0 < length v.state.drives.items → extents_of l.runs < 2 ^ 52
+-- rows are rebuilt
+rebuild_counted : (l : Linear) (v w : Raid) (a b : Seen) (m place rows : ℕ) → IsSet v a → IsHeeded v → 0 < length v.state.drives.items → extents_of l.runs < 2 ^ 52
     → HasRowsAlone v → slice_get (works_by l v) 0 ≡ Some (Rebuild m place) → ((p : ℕ) → is_current w.state p ≡ is_current v.state p)
-    → m < v.state.made → is_rebuilding_on (v.arrays m) place ≡ true → RebuildsOne v w a b m place true → IsOneLess l v w
-rebuild_counted l v w a b m place set heeded some small alone first marks inside rebuilds does =
+    → m < v.state.made → is_rebuilding_on (v.arrays m) place ≡ true → 0 < rows → rows ≤ rows_left (v.arrays m) place
+    → StepsOne v w a b m (rebuilt (v.arrays m) place rows) true → AreFewer l rows v w
+rebuild_counted l v w a b m place rows set heeded some small alone first marks inside rebuilds any few steps =
     let u = v.arrays m in
     let seated = set.arrays m inside in
     let has = row_left v.state m u a place seated rebuilds in
     let one = alone.one m inside in
-    let next = next_rebuilt v.state m u a place seated has in
+    let next = next_rebuilt v.state m u a place rows seated has few in
     let count = seated.is_array.seats in
-    counted l v w a b (Rebuild m place) m (λ u. rebuilt u place) row_rebuilt set heeded some small alone first marks inside does.steps
+    let before = rows_before u place rows seated.is_array has any few one in
+    counted l v w a b rows m (λ u. rebuilt u place rows) (rows_rebuilt rows) set heeded some small alone marks inside steps
     (λ u. refl) (λ u. refl) (λ u. refl)
     (λ k gone.
     let low = slice_get_within u.seats k Missing gone in
-    is_missing (slice_get (rebuilt u place).seats k)
+    is_missing (slice_get (rebuilt u place rows).seats k)
     (next.seated.marks k (omega (arith, low, count)) ∙ sym (seated.marks k (omega (arith, low, count))) ∙ ap (option_map is_missing_seat) gone))
-    (was_rebuilt u place seated.is_array has one)
-    (now_rebuilt u place seated.is_array has one v.state.extent) refl refl
+    (was_rebuilt u place rows seated.is_array has any few one)
+    (now_rebuilt u place rows seated.is_array has any few one v.state.extent)
+    (first_rebuilds v.state (progress_by l v) m place rows (first_by l v (Rebuild m place) some first)
+    (subst (λ (o : Option ArrayNow). rows ≤ option_map_or (λ (x : ArrayNow). x.rebuild) o 0) (sym (now_at_number v m inside)) (omega (arith, few, before))))
 
 -- the plan ends
 close_counted : (l : Linear) (v w : Raid) (a b : Seen) → IsSet v a → IsHeeded v → 0 < length v.state.drives.items → extents_of l.runs < 2 ^ 52
     → HasRowsAlone v → slice_get (works_by l v) 0 ≡ Some Close → ((p : ℕ) → is_current w.state p ≡ is_current v.state p)
-    → ClosesPlan v w a b → IsOneLess l v w
+    → ClosesPlan v w a b → AreFewer l 1 v w
 close_counted l v w a b set heeded some small alone first marks does =
     let same = does.brings.book.same in
     let now = now_at l v w a b set does.brings.set heeded does.heeded same marks alone v.arrays does.arrays (λ n. refl) (λ n. refl) (λ n k low gone. gone) (λ n p low is. is)
     (λ n. refl) in
+    let p = progress_by l v in
+    let ends = subst (λ (o : Option Work). IfSome o (λ work. (is_of_layer work ≡ true → HasOneLayer v.state p.arrays.items)
+    → works_left (after work v.state p).state (after work v.state p).progress ≡ drop 1 (works_left v.state p)))
+    (first_by l v Close some first) (first_done v.state p (is_book l v a set some small)) in
     record {
-      rest = rest_left l v w a Close set some small same first refl
+      rest = rest_left l v w 1 some same
           (left_as l v w a b set does.brings.set heeded does.heeded same marks alone v.arrays does.arrays (λ n. refl) (λ n. refl) (λ n k low gone. gone) (λ n p low is. is)
           (λ n. refl)
           (arrays_now v) Nothing does.plan
-          (none_changed (λ n. array_now v.state.extent (v.arrays n)) (λ n. array_now w.state.extent (w.arrays n)) v.state.made now));
+          (none_changed (λ n. array_now v.state.extent (v.arrays n)) (λ n. array_now w.state.extent (w.arrays n)) v.state.made now)
+          ∙ ends (λ of. absurd (both_ways false refl of)));
       alone = still_alone l v w a b set does.brings.set heeded does.heeded same marks alone v.arrays does.arrays (λ n. refl) (λ n. refl) (λ n k low gone. gone) (λ n p low is. is)
           (λ n. refl);
     }
 
--- Any work: where no drive is lost and it is answered to be done, it is one less.
-pub work_counted : (l : Linear) (v w : Raid) (a b : Seen) (work : Work) → IsSet v a → IsHeeded v → 0 < length v.state.drives.items → extents_of l.runs < 2 ^ 52
+-- Any work, with those after it: where no drive is lost and so many are answered to be done, they are so many less.
+pub work_counted : (l : Linear) (v w : Raid) (a b : Seen) (work : Work) (most count : ℕ) → IsSet v a → IsHeeded v → 0 < length v.state.drives.items → extents_of l.runs < 2 ^ 52
     → HasRowsAlone v → slice_get (works_by l v) 0 ≡ Some work → ((p : ℕ) → is_current w.state p ≡ is_current v.state p)
-    → is_due v work ≡ true → Does work v w a b true → IsOneLess l v w
-work_counted l v w a b (Resync m) set heeded some small alone first marks due does =
+    → is_due v work ≡ true → Does work most v w a b {E = Stuck} (Ok count) → AreFewer l count v w
+work_counted l v w a b (Resync m) most count set heeded some small alone first marks due does =
     let parts = and_parts (nat_lt m v.state.made) (nat_lt (v.arrays m).resync (rows_of (v.arrays m))) due in
-    resync_counted l v w a b m set heeded some small alone first marks (ltb-true m v.state.made parts.0) does
-work_counted l v w a b (Rebuild m place) set heeded some small alone first marks due does =
+    subst (λ n. AreFewer l n v w) (sym does.rows.answer)
+    (resync_counted l v w a b m does.rows.rows set heeded some small alone first marks (ltb-true m v.state.made parts.0) does.rows.left does.rows.steps)
+work_counted l v w a b (Rebuild m place) most count set heeded some small alone first marks due does =
     let parts = and_parts (nat_lt m v.state.made) (is_rebuilding_on (v.arrays m) place && is_whole_row (v.arrays m).truth.resync_offset) due in
     let own = and_parts (is_rebuilding_on (v.arrays m) place) (is_whole_row (v.arrays m).truth.resync_offset) parts.1 in
-    rebuild_counted l v w a b m place set heeded some small alone first marks (ltb-true m v.state.made parts.0) own.0 does
-work_counted l v w a b (TakeOver m) set heeded some small alone first marks due does = absurd does
-work_counted l v w a b (Begin m place) set heeded some small alone first marks due does = absurd does
-work_counted l v w a b (Reshape m) set heeded some small alone first marks due does = absurd does
-work_counted l v w a b (Finish m) set heeded some small alone first marks due does = absurd does
-work_counted l v w a b (Make m height) set heeded some small alone first marks due does = absurd does
-work_counted l v w a b (Zero m) set heeded some small alone first marks due does = absurd does
-work_counted l v w a b (Ready m) set heeded some small alone first marks due does = absurd does
-work_counted l v w a b Extend set heeded some small alone first marks due does = absurd does
-work_counted l v w a b Close set heeded some small alone first marks due does = close_counted l v w a b set heeded some small alone first marks does.1
+    subst (λ n. AreFewer l n v w) (sym does.rows.answer)
+    (rebuild_counted l v w a b m place does.rows.rows set heeded some small alone first marks (ltb-true m v.state.made parts.0) own.0 does.rows.some does.rows.left does.rows.steps)
+work_counted l v w a b (TakeOver m) most count set heeded some small alone first marks due does = absurd does
+work_counted l v w a b (Begin m place) most count set heeded some small alone first marks due does = absurd does
+work_counted l v w a b (Reshape m) most count set heeded some small alone first marks due does = absurd does
+work_counted l v w a b (Finish m) most count set heeded some small alone first marks due does = absurd does
+work_counted l v w a b (Make m height) most count set heeded some small alone first marks due does = absurd does
+work_counted l v w a b (Zero m) most count set heeded some small alone first marks due does = absurd does
+work_counted l v w a b (Ready m) most count set heeded some small alone first marks due does = absurd does
+work_counted l v w a b Extend most count set heeded some small alone first marks due does = absurd does
+work_counted l v w a b Close most count set heeded some small alone first marks due does =
+    subst (λ n. AreFewer l n v w) (sym does.0) (close_counted l v w a b set heeded some small alone first marks does.1)

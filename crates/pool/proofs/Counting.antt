@@ -8,7 +8,7 @@ use Rattle.array_model.specs.declared.Seat.{Seat}
 use Rattle.array_model.specs.View.{View, rows_of}
 use Rattle.sync_laws.specs.Steps.{resynced}
 use Rattle.growth_plan.specs.declared.ArrayNow.{ArrayNow}
-use Rattle.growth_plan.specs.Doing.{change}
+use Rattle.growth_plan.specs.Doing.{change, rows_resynced}
 use Rattle.raid_laws.specs.Moves.{LosesOnly}
 use Rattle.raid_rack.specs.RaidRack.{no_super}
 use Rattle.pool.specs.Works.{array_now, rows_to_zero}
@@ -56,12 +56,12 @@ now_same extent u w only seats grown =
     ∙ alike (stands extent) g.level g.roles g.size g.disks g.features g.position seats only.same.devices only.same.resync
     ∙ sym (is_grown extent u grown ∙ stands_as extent u)
 
--- and once its next row is resynced it has one row less
-pub now_resynced : (extent : ℕ) (v : View) → v.young ≡ false
-    → array_now extent (resynced v) ≡ record (array_now extent v) { resync = (array_now extent v).resync - 1 }
-now_resynced extent v grown =
-    let less : rows_of v - (v.resync + 1) ≡ rows_of v - v.resync - 1 = omega arith in
-    ap₂ (λ (r z : ℕ). record (array_now extent v) { resync = r; zero = z }) less (none_to_zero (resynced v) grown ∙ sym (none_to_zero v grown))
+-- and once its next rows are resynced it has so many rows less
+pub now_resynced : (extent rows : ℕ) (v : View) → v.young ≡ false
+    → array_now extent (resynced v rows) ≡ rows_resynced rows (array_now extent v)
+now_resynced extent rows v grown =
+    let less : rows_of v - (v.resync + rows) ≡ rows_of v - v.resync - rows = omega arith in
+    ap₂ (λ (r z : ℕ). record (array_now extent v) { resync = r; zero = z }) less (none_to_zero (resynced v rows) grown ∙ sym (none_to_zero v grown))
 
 -- ---- all arrays
 

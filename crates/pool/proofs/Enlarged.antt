@@ -1,7 +1,7 @@
 -- A disk of other units takes the place of a drive, or it doesn't.
-use Rattle.std.specs.Prelude.{Result, Ok, Err, IfErr, OnOk}
-use Rattle.std.proofs.Common.{◌≡◌, ◌≢◌, ◌⊎◌, ℕ, ◌<◌, ◌≤◌, ◌==◌, ◌||◌, if◌then◌else◌, true, false, List, length, None, refl, sym, ap, ap₂, subst, ◌∙◌, inl, inr, arith, lt-ltb, le-ltb}
-use Rattle.std.proofs.lemmas.Bool.{both_ways, cases_Bool, cases_eq, cases_lt}
+use Rattle.std.specs.Prelude.{Ok, Err, IfErr, OnOk}
+use Rattle.std.proofs.Common.{◌≡◌, ◌≢◌, ℕ, ◌<◌, ◌≤◌, ◌==◌, ◌||◌, if◌then◌else◌, true, false, List, length, None, refl, sym, ap, subst, ◌∙◌, inl, inr, arith, lt-ltb}
+use Rattle.std.proofs.lemmas.Bool.{both_ways, cases_Bool, cases_eq}
 use Rattle.rack.specs.Joins.{rose_before, rose_since}
 use Rattle.rack.specs.Seen.{Rose, Seen}
 use Rattle.rack.specs.Sequences.{WritesOnly}
@@ -26,7 +26,7 @@ use Rattle.raid_laws.specs.Raid.{Raid}
 use Rattle.raid_rack.proofs.Enlisted.{current_enlisted}
 use Rattle.raid_rack.proofs.Renewing.{AreSameMembers, joins_same, seats_same}
 use Rattle.raid_rack.specs.declared.arrays.Arrays.{Arrays}
-use Rattle.raid_rack.specs.RaidRack.{IsFit, IsRunning, raid_by}
+use Rattle.raid_rack.specs.RaidRack.{IsFit, raid_by}
 use Rattle.shr_base.specs.Units.{units_of}
 use Rattle.transition_laws.specs.Changes.{Change, enlisted, enlists}
 use Rattle.pool.specs.Adding.{IsTakenIn, next_change}
@@ -34,7 +34,7 @@ use Rattle.pool.specs.Calls.{DriveWent}
 use Rattle.pool.specs.Enlarging.{EnlargesBy}
 use Rattle.pool.specs.Entering.{IsVacating}
 use Rattle.pool.specs.Moment.{moment_of, views_of}
-use Rattle.pool.specs.Replaced.{HasMarked, IsDeclined, faults_before}
+use Rattle.pool.specs.Replaced.{IsDeclined, faults_before}
 use Rattle.pool.specs.Replacing.{has_other_missing}
 use Rattle.pool.specs.View.{View, book, slices_shown, volume}
 use Rattle.pool.specs.declared.replacing.GrowFault.{GrowFault}

@@ -1,6 +1,6 @@
 -- The disk of a name takes the place of a drive of other units, by what its parts say.
-use Rattle.std.specs.Prelude.{Result, Ok, Err, OnOk}
-use Rattle.std.proofs.Common.{◌≡◌, ◌≢◌, ◌⊎◌, ℕ, ◌*◌, ◌<◌, ◌&&◌, not, Bool, true, false, List, length, slice_get, None, refl, sym, ap, subst, ◌∙◌, inl, inr, arith}
+use Rattle.std.specs.Prelude.{Ok, Err, OnOk}
+use Rattle.std.proofs.Common.{◌≡◌, ◌≢◌, ℕ, ◌*◌, ◌<◌, ◌&&◌, not, Bool, true, false, List, length, slice_get, None, refl, sym, ap, subst, ◌∙◌, inl, inr, arith}
 use Rattle.std.proofs.lemmas.Bool.{and_from, and_parts, both_ways, cases_Bool}
 use Rattle.rack.specs.Seen.{Rose}
 use Rattle.slice_rack.specs.Slices.{IsOrderly}
@@ -12,7 +12,7 @@ use Rattle.raid_rack.proofs.Raises.{raises_more}
 use Rattle.pool.specs.Adding.{IsTakenIn}
 use Rattle.pool.specs.Enlarging.{Enlarges, EnlargesBy, EnlargesDrive}
 use Rattle.pool.specs.Keeping.{most_raised}
-use Rattle.pool.specs.Moment.{IsNamed, moment_of}
+use Rattle.pool.specs.Moment.{moment_of}
 use Rattle.pool.specs.Replaced.{HasMarked, HasMarkedOther, IsAnswer}
 use Rattle.pool.specs.Replacing.{has_other_missing, has_same, refusal_of}
 use Rattle.pool.specs.Taking.{AttachesDisk}

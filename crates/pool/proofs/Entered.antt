@@ -1,6 +1,6 @@
 -- A disk that is taken in.
 use Rattle.std.specs.Prelude.{Ok, Err, Result}
-use Rattle.std.proofs.Common.{◌≡◌, ◌≢◌, ◌⊎◌, ℕ, ◌+◌, ◌<◌, ◌≤◌, ◌||◌, Bool, true, false, List, Option, Some, None, if◌then◌else◌, length, slice_get, option_map, refl, sym, ap, subst, ◌∙◌, inl, inr, arith, lt-ltb, eq-eqb, unwrap_or}
+use Rattle.std.proofs.Common.{◌≡◌, ◌≢◌, ◌⊎◌, ℕ, ◌+◌, ◌<◌, ◌≤◌, ◌||◌, Bool, true, false, List, Option, Some, if◌then◌else◌, length, slice_get, option_map, refl, sym, ap, subst, ◌∙◌, inl, inr, arith, lt-ltb, eq-eqb, unwrap_or}
 use Rattle.std.proofs.lemmas.Bool.{both_ways, cases_Bool, cases_eq, cases_lt, ne_eqb}
 use Rattle.rack.specs.Values.{Keeps, MayLeave}
 use Rattle.rack.specs.Seen.{Image, IsLive, Rose, Seen}

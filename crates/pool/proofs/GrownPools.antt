@@ -1,6 +1,6 @@
 -- A disk of other units takes the place of a drive: what the call of the arrays asks for and says, reached through the volume.
 use Rattle.std.specs.Prelude.{Ok, Err}
-use Rattle.std.proofs.Common.{◌≡◌, ◌≢◌, ℕ, ◌<◌, ◌==◌, if◌then◌else◌, Bool, true, false, List, length, slice_get, Some, None, refl, sym, ap, subst, ◌∙◌, inl, inr}
+use Rattle.std.proofs.Common.{◌≡◌, ◌≢◌, ℕ, ◌<◌, if◌then◌else◌, true, false, List, length, slice_get, Some, None, refl, sym, ap, subst, ◌∙◌, inl, inr}
 use Rattle.std.proofs.lemmas.Bool.{both_ways, cases_Bool, cases_eq, eq-eqb, ne_eqb}
 use Rattle.rack.specs.Seen.{Rose, Seen}
 use Rattle.rack.specs.Sequences.{WritesOnly}
@@ -25,7 +25,7 @@ use Rattle.pool.specs.declared.Pool.{Pool}
 use Rattle.pool.specs.declared.replacing.GrowFault.TheVariants.{Gone, NotWhole}
 use Rattle.pool.specs.Enlarging.{EnlargesBy}
 use Rattle.pool.specs.Entering.{IsVacating}
-use Rattle.pool.specs.Moment.{moment_of, views_of}
+use Rattle.pool.specs.Moment.{moment_of}
 use Rattle.pool.specs.Replaced.{is_vacant}
 use Rattle.pool.specs.Replacing.{has_other_missing, reaches_own}
 use Rattle.pool.specs.Taking.{IsOfPlace}

@@ -1,29 +1,28 @@
 -- The works of a growth, by what the calls of the arrays and of the volume say.
 use Rattle.std.specs.Prelude.{IfErr, OnOk, Result, is_ok, unwrap_or}
-use Rattle.std.proofs.Common.{◌≡◌, ◌⊎◌, ℕ, suc, ◌+◌, ◌*◌, ◌^◌, ◌<◌, ◌≤◌, ◌==◌, ◌&&◌, if◌then◌else◌, Bool, true, false, List, [], ◌∷◌, slice_get, Some, None, Ok, Err, refl, sym, ap, subst, ◌∙◌, inl, inr, arith}
+use Rattle.std.proofs.Common.{◌≡◌, ◌⊎◌, ℕ, ◌+◌, ◌*◌, ◌^◌, ◌<◌, ◌≤◌, ◌==◌, ◌&&◌, if◌then◌else◌, Bool, true, false, List, [], ◌∷◌, slice_get, Some, None, Ok, Err, refl, sym, ap, subst, ◌∙◌, inl, inr, arith}
 use Rattle.std.proofs.lemmas.Bool.{both_ways, cases_Bool, cases_eq, eq-eqb, ne_eqb}
-use Rattle.rack.specs.Joins.{leaves_same, leaves_weaker, rose_before, rose_since, stays_same, stays_then}
+use Rattle.rack.specs.Joins.{leaves_same, leaves_weaker, rose_before, rose_since, stays_same}
 use Rattle.rack.specs.Sequences.{IsMix, WritesOnly}
 use Rattle.array_core.proofs.LogWrites.{goes_then}
 use Rattle.array_core.specs.Pool.{Goes}
-use Rattle.rack.specs.Seen.{Rose, Seen, Stays}
+use Rattle.rack.specs.Seen.{Rose, Seen}
 use Rattle.rack.specs.Several.{Several}
 use Rattle.rack.specs.Shelf.{KeepsShelf, Shelf, keeps_shelf_same, keeps_shelf_then}
-use Rattle.slice_rack.specs.Slices.{Slices, disk_of, place_of, seat_of}
+use Rattle.slice_rack.specs.Slices.{disk_of, place_of, seat_of}
 use Rattle.slice_rack.specs.SliceRack.{below_of, tables}
 use Rattle.array_image.specs.Places.{log_slice}
 use Rattle.array_image.specs.States.{is_current}
 use Rattle.array_model.specs.View.{View as ArrayView, HasFault as HasDriveFault}
 use Rattle.growth_laws.specs.Losses.{LosesBook}
 use Rattle.transition_laws.specs.Changes.{changed}
-use Rattle.growth_laws.specs.Growing.{GetsLonger, Grows, GrowsBy, Lacks, Turns, change_of, is_due as is_due_to_grow, lacks}
+use Rattle.growth_laws.specs.Growing.{GetsLonger, Grows, GrowsBy, Lacks, Turns, is_due as is_due_to_grow, lacks}
 use Rattle.growth_laws.proofs.Losing.{as_long, longer_then, loses_nothing}
 use Rattle.log_laws.proofs.Kept.{place_of_log}
 use Rattle.lvm_group.specs.Runs.{Linear, extents_of, place_of as place_of_extent}
 use Rattle.lvm_group.specs.Volume.{linear, most_extended}
 use Rattle.growth_plan.specs.Target.{targets}
 use Rattle.growth_plan.specs.declared.Progress.{Progress}
-use Rattle.pool_state.specs.declared.contents.Plan.TheVariants.{Nothing}
 use Rattle.pool_state.specs.declared.contents.State.{State}
 use Rattle.pool_state.specs.declared.contents.Work.{Work}
 use Rattle.pool_state.specs.declared.contents.Work.TheVariants.{Resync, Rebuild, TakeOver, Begin, Reshape, Finish, Make, Zero, Ready, Extend, Close}
@@ -35,12 +34,12 @@ use Rattle.raid_laws.specs.Runs.{RaidRuns}
 use Rattle.raid_laws.specs.Works.{Does, StepsOne, array_of, is_due}
 use Rattle.sync_laws.specs.Steps.{rebuilt, resynced}
 use Rattle.raid_rack.specs.AllRuns.{AreRuns, IsOneCall}
-use Rattle.raid_rack.specs.RaidRack.{IsFit, KeepsRack, SliceRuns, arrays_in, raid_in, raid_seen, slices_in, slices_seen, written_in}
+use Rattle.raid_rack.specs.RaidRack.{IsFit, KeepsRack, SliceRuns, arrays_in, one_done, raid_in, raid_seen, slices_in, slices_seen, written_in}
 use Rattle.raid_rack.specs.declared.arrays.RaidRack.{RaidRack}
 use Rattle.raid_rack.specs.declared.works.Stuck.{Stuck}
 use Rattle.raid_rack.proofs.Raises.{raises_more, raises_none, several_raise}
 use Rattle.pool.specs.declared.Pool.{Pool}
-use Rattle.pool.specs.Calls.{DriveWent, Marks}
+use Rattle.pool.specs.Calls.{DriveWent}
 use Rattle.pool.specs.Growing.{DoesMany, DoesWork, DoesWorks, HasNone, IsDone, IsRefused, IsRefusedGrowth, IsRefusedRow, KeepsGrowing, LacksIn, StopsGrowing, TriesFirst, TriesWork, can_extend, change_in, linear_after, more, most_grown, none, target_of}
 use Rattle.pool.specs.View.{View, arrays_of, bay_in, book, slices_shown, view, volume}
 use Rattle.pool.specs.Works.{progress_by, works_by, works_of}
@@ -247,9 +246,13 @@ step_done work v w a b m next same is steps = record {
     and_true false d is = refl
 
 -- a row of an array, or the end of a plan
-pub row_done : (work : Work) (v w : Raid) (a b : Seen) → is_due v work ≡ true → Does work v w a b true → IsDone work v w
-row_done (Resync m) v w a b due does = step_done (Resync m) v w a b m (resynced (v.arrays m)) refl (λ n. refl) does.steps
-row_done (Rebuild m place) v w a b due does = step_done (Rebuild m place) v w a b m (rebuilt (v.arrays m) place) refl (λ n. refl) does.steps
+pub row_done : (work : Work) (v w : Raid) (a b : Seen) → is_due v work ≡ true → Does work 1 v w a b {E = Stuck} (Ok 1) → IsDone work v w
+row_done (Resync m) v w a b due does =
+    step_done (Resync m) v w a b m (resynced (v.arrays m) 1) refl (λ n. refl)
+    (subst (λ rows. StepsOne v w a b m (resynced (v.arrays m) rows) true) (sym does.rows.answer) does.rows.steps)
+row_done (Rebuild m place) v w a b due does =
+    step_done (Rebuild m place) v w a b m (rebuilt (v.arrays m) place 1) refl (λ n. refl)
+    (subst (λ rows. StepsOne v w a b m (rebuilt (v.arrays m) place rows) true) (sym does.rows.answer) does.rows.steps)
 row_done (TakeOver m) v w a b due does = absurd does
 row_done (Begin m place) v w a b due does = absurd does
 row_done (Reshape m) v w a b due does = absurd does
@@ -300,7 +303,7 @@ module _ {R : Type 0} (seen : R → Seen) (shelf : R → Shelf) (runs : R → R 
   y = view seen shelf (with_arrays p new)
 
   -- a row, or the end of a plan
-  pub row_tried : SaysOf seen work r (arrays_of p) new → KeepsRack (raid_seen seen (arrays_of p)) (raid_seen seen new) → SliceRuns seen runs (slices_in (arrays_of p)) (slices_in new)
+  pub row_tried : SaysOf seen work 1 r (one_done r) (arrays_of p) new → KeepsRack (raid_seen seen (arrays_of p)) (raid_seen seen new) → SliceRuns seen runs (slices_in (arrays_of p)) (slices_in new)
       → RaidRuns (written_in (arrays_of p)) (written_in new) (raid_in (arrays_of p)) (raid_in new) (slices_seen seen (arrays_of p)) (slices_seen seen new)
       → RaisesBy 18 (raid_in (arrays_of p)) (raid_in new)
       → ((w : Raid) (array : ℕ) → array ≡ array_of work → IsRefusedRow work (book x) w → IsRefused seen runs x.slices (bay_in p) x.linear work (book x) w array)
@@ -314,7 +317,7 @@ module _ {R : Type 0} (seen : R → Seen) (shelf : R → Shelf) (runs : R → R 
     stuck = stuck_of r says;
   }
     where
-      done_of : (r : Result (Unit {0}) Stuck) → SaysOf seen work r (arrays_of p) new → OnOk r (IsDone work (book x) (book y) × (y.linear ≡ linear_after work x.linear (book x)))
+      done_of : (r : Result (Unit {0}) Stuck) → SaysOf seen work 1 r (one_done r) (arrays_of p) new → OnOk r (IsDone work (book x) (book y) × (y.linear ≡ linear_after work x.linear (book x)))
       done_of (Err e) says = tt
       done_of (Ok u) says =
           elim (cases_Bool (is_due (book x) work)) [
@@ -322,14 +325,14 @@ module _ {R : Type 0} (seen : R → Seen) (shelf : R → Shelf) (runs : R → R 
             | inr idle ↦ absurd (both_ways true (says.idle idle).0 refl)
           ]
 
-      stuck_of : (r : Result (Unit {0}) Stuck) → SaysOf seen work r (arrays_of p) new
+      stuck_of : (r : Result (Unit {0}) Stuck) → SaysOf seen work 1 r (one_done r) (arrays_of p) new
           → IfErr r (λ e. (y.linear ≡ x.linear) × IsRefused seen runs x.slices (bay_in p) x.linear work (book x) (book y) e.array)
       stuck_of (Ok u) says = tt
       stuck_of (Err e) says = (
         refl,
         refused (book y) e.array says.named
             (elim (cases_Bool (is_due (book x) work)) [
-              | inl due ↦ inr (lacks_row (book x) (book y) (slices_shown x) (slices_shown y) work (says.does due))
+              | inl due ↦ inr (lacks_row (book x) (book y) (slices_shown x) (slices_shown y) work 1 e (says.does due))
               | inr idle ↦ inl (idle, ap raid_in (says.idle idle).1)
             ]),
       )

@@ -1,8 +1,8 @@
--- A member that is being rebuilt, before and after a row of it is done: how its array stands.
+-- A member that is being rebuilt, before and after rows of it are done: how its array stands.
 use Rattle.std.specs.List.{range_with_len, zip}
 use Rattle.std.specs.Option.{option_map_or}
-use Rattle.std.proofs.Common.{◌≡◌, ℕ, zero, suc, ◌+◌, ◌-◌, ◌/◌, ◌<◌, ◌≤◌, nat_lt, ◌==◌, Bool, true, false, if◌then◌else◌, List, [], ◌∷◌, map, filter, find, length, slice_get, Option, Some, None, option_map, unwrap_or, refl, sym, ap, ap₂, ◌∙◌, inl, inr, arith, eq-eqb, eqb-true}
-use Rattle.std.proofs.lemmas.Bool.{both_ways, cases_Bool, cases_eq, cases_lt, eqb-false, ne_eqb}
+use Rattle.std.proofs.Common.{◌≡◌, ℕ, zero, suc, ◌+◌, ◌-◌, ◌*◌, ◌/◌, ◌<◌, ◌≤◌, nat_lt, ◌==◌, Bool, true, false, if◌then◌else◌, List, [], ◌∷◌, map, filter, find, length, slice_get, Option, Some, None, option_map, unwrap_or, refl, sym, ap, ap₂, ◌∙◌, inl, inr, arith, eq-eqb, eqb-true}
+use Rattle.std.proofs.lemmas.Bool.{both_ways, cases_Bool, cases_eq, eqb-false, ne_eqb}
 use Rattle.std.proofs.lemmas.Option.{slice_get_within}
 use Rattle.shr_base.specs.declared.Id.{Id}
 use Rattle.array_image.specs.Supers.{is_named, named_places}
@@ -16,9 +16,9 @@ use Rattle.array_core.specs.declared.slots.Slot.{Slot}
 use Rattle.array_core.specs.Seats.{seat_of, slot_at}
 use Rattle.array_core.specs.Slots.{places_by, slot_with, slots_of}
 use Rattle.sync_laws.proofs.Rebuilt.{place_found}
-use Rattle.sync_laws.specs.Steps.{HasRowLeft, reach_on, rebuilt, rebuilt_seat}
+use Rattle.sync_laws.specs.Steps.{HasRowLeft, reach_on, rebuilt, rebuilt_seat, rows_left}
 use Rattle.growth_plan.specs.declared.ArrayNow.{ArrayNow}
-use Rattle.growth_plan.specs.Doing.{row_rebuilt}
+use Rattle.growth_plan.specs.Doing.{rows_rebuilt}
 use Rattle.raid_laws.specs.Works.{is_rebuilding_seat}
 use Rattle.pool.specs.Works.{IsOneRebuilt, array_now, is_rebuilding_on, rebuilding_in, rows_to_rebuild}
 
@@ -51,10 +51,10 @@ found_among f q (x ∷ slots) = by (x.place == q) refl (found_among f q slots)
     by false other rest = rest
 
 -- what becomes of each seat
-rebuilt_at : (v : View) (place q : ℕ) → seat_of (rebuilt v place) q
-    ≡ option_map (λ (s : Seat). if q == place then rebuilt_seat v.truth.size (reach_on v place + 128) else s) (seat_of v q)
-rebuilt_at v place q =
-    let f : ℕ → Seat → Seat = λ p s. if p == place then rebuilt_seat v.truth.size (reach_on v place + 128) else s in
+rebuilt_at : (v : View) (place rows q : ℕ) → seat_of (rebuilt v place rows) q
+    ≡ option_map (λ (s : Seat). if q == place then rebuilt_seat v.truth.size (reach_on v place + 128 * rows) else s) (seat_of v q)
+rebuilt_at v place rows q =
+    let f : ℕ → Seat → Seat = λ p s. if p == place then rebuilt_seat v.truth.size (reach_on v place + 128 * rows) else s in
     ap (λ (slots : List Slot). option_map (λ (s : Slot). s.seat) (slot_at slots q)) (reseated f (places_by v.truth) v.seats v.devices)
     ∙ found_among f q (slots_of v)
 
@@ -109,9 +109,9 @@ listed v place k is_array low at =
     inside None is named = absurd (both_ways false refl named)
     inside (Some role) is named = slice_get_within v.truth.roles.items place role is
 
--- ---- the next row of a member
+-- ---- the next rows of a member
 
-module _ (v : View) (place : ℕ) (is_array : IsArray v) (has : HasRowLeft v place) (one : IsOneRebuilt v) where
+module _ (v : View) (place rows : ℕ) (is_array : IsArray v) (has : HasRowLeft v place) (some : 0 < rows) (few : rows ≤ rows_left v place) (one : IsOneRebuilt v) where
   is_own : is_rebuilding_on v place ≡ true
   is_own = ap (λ (o : Option Seat). option_map_or is_rebuilding_seat o false) has.seat
 
@@ -125,16 +125,16 @@ module _ (v : View) (place : ℕ) (is_array : IsArray v) (has : HasRowLeft v pla
       found.1 ∙ ap Some (one found.0 place found.2 is_own)
 
   -- what becomes of its seat, and of the others
-  next_own : seat_of (rebuilt v place) place ≡ Some (rebuilt_seat v.truth.size (reach_on v place + 128))
+  next_own : seat_of (rebuilt v place rows) place ≡ Some (rebuilt_seat v.truth.size (reach_on v place + 128 * rows))
   next_own =
-      rebuilt_at v place place
-      ∙ ap (option_map (λ (s : Seat). if place == place then rebuilt_seat v.truth.size (reach_on v place + 128) else s)) has.seat
-      ∙ ap (λ (b : Bool). Some (if b then rebuilt_seat v.truth.size (reach_on v place + 128) else Rebuilding (reach_on v place))) (eq-eqb place place refl)
+      rebuilt_at v place rows place
+      ∙ ap (option_map (λ (s : Seat). if place == place then rebuilt_seat v.truth.size (reach_on v place + 128 * rows) else s)) has.seat
+      ∙ ap (λ (b : Bool). Some (if b then rebuilt_seat v.truth.size (reach_on v place + 128 * rows) else Rebuilding (reach_on v place))) (eq-eqb place place refl)
 
-  next_other : (q : ℕ) → (q ≡ place → ⊥) → seat_of (rebuilt v place) q ≡ seat_of v q
+  next_other : (q : ℕ) → (q ≡ place → ⊥) → seat_of (rebuilt v place rows) q ≡ seat_of v q
   next_other q other =
-      rebuilt_at v place q
-      ∙ ap (λ (b : Bool). option_map (λ (s : Seat). if b then rebuilt_seat v.truth.size (reach_on v place + 128) else s) (seat_of v q)) (ne_eqb q place other)
+      rebuilt_at v place rows q
+      ∙ ap (λ (b : Bool). option_map (λ (s : Seat). if b then rebuilt_seat v.truth.size (reach_on v place + 128 * rows) else s) (seat_of v q)) (ne_eqb q place other)
       ∙ option_same (seat_of v q)
     where
       option_same : (o : Option Seat) → option_map (λ s. s) o ≡ o
@@ -142,23 +142,23 @@ module _ (v : View) (place : ℕ) (is_array : IsArray v) (has : HasRowLeft v pla
       option_same (Some s) = refl
 
   -- one that is being rebuilt then was so before
-  pub was_rebuilt : (q : ℕ) → is_rebuilding_on (rebuilt v place) q ≡ true → is_rebuilding_on v q ≡ true
+  pub was_rebuilt : (q : ℕ) → is_rebuilding_on (rebuilt v place rows) q ≡ true → is_rebuilding_on v q ≡ true
   was_rebuilt q is =
       elim (cases_eq q place) [
         | inl same ↦ ap (is_rebuilding_on v) same ∙ is_own
         | inr other ↦ sym (ap (λ (o : Option Seat). option_map_or is_rebuilding_seat o false) (next_other q other)) ∙ is
       ]
 
-  -- the last row ends the rebuild
-  none_after : (reach_on v place + 128 == v.truth.size) ≡ true → rebuilding_in (rebuilt v place) ≡ None
+  -- the last of all rows ends the rebuild
+  none_after : (reach_on v place + 128 * rows == v.truth.size) ≡ true → rebuilding_in (rebuilt v place rows) ≡ None
   none_after last =
-      find_none (is_rebuilding_on (rebuilt v place)) (named_places v.truth)
+      find_none (is_rebuilding_on (rebuilt v place rows)) (named_places v.truth)
       (λ q.
       elim (cases_eq q place) [
         | inl same ↦
-            ap (is_rebuilding_on (rebuilt v place)) same
+            ap (is_rebuilding_on (rebuilt v place rows)) same
             ∙ ap (λ (o : Option Seat). option_map_or is_rebuilding_seat o false) next_own
-            ∙ ap (λ (b : Bool). is_rebuilding_seat (if b then Whole else Rebuilding (reach_on v place + 128))) last
+            ∙ ap (λ (b : Bool). is_rebuilding_seat (if b then Whole else Rebuilding (reach_on v place + 128 * rows))) last
         | inr other ↦
             elim (cases_Bool (is_rebuilding_on v q)) [
               | inl is ↦ absurd (other (one q place is is_own))
@@ -166,68 +166,63 @@ module _ (v : View) (place : ℕ) (is_array : IsArray v) (has : HasRowLeft v pla
             ]
       ])
 
-  same_after : (reach_on v place + 128 == v.truth.size) ≡ false → rebuilding_in (rebuilt v place) ≡ Some place
+  same_after : (reach_on v place + 128 * rows == v.truth.size) ≡ false → rebuilding_in (rebuilt v place rows) ≡ Some place
   same_after more =
-      find_same (is_rebuilding_on (rebuilt v place)) (is_rebuilding_on v) (named_places v.truth)
+      find_same (is_rebuilding_on (rebuilt v place rows)) (is_rebuilding_on v) (named_places v.truth)
       (λ q.
       elim (cases_eq q place) [
         | inl same ↦
-            ap (is_rebuilding_on (rebuilt v place)) same
+            ap (is_rebuilding_on (rebuilt v place rows)) same
             ∙ ap (λ (o : Option Seat). option_map_or is_rebuilding_seat o false) next_own
-            ∙ ap (λ (b : Bool). is_rebuilding_seat (if b then Whole else Rebuilding (reach_on v place + 128))) more
+            ∙ ap (λ (b : Bool). is_rebuilding_seat (if b then Whole else Rebuilding (reach_on v place + 128 * rows))) more
             ∙ sym (ap (is_rebuilding_on v) same ∙ is_own)
         | inr other ↦ ap (λ (o : Option Seat). option_map_or is_rebuilding_seat o false) (next_other q other)
       ])
       ∙ is_first
 
-  reach_after : reach_on (rebuilt v place) place ≡ reach_on v place + 128
+  reach_after : reach_on (rebuilt v place rows) place ≡ reach_on v place + 128 * rows
   reach_after =
       ap (λ (o : Option Seat). option_map_or (seat_reach v.truth.size) o 0) next_own
-      ∙ by (reach_on v place + 128 == v.truth.size) refl
+      ∙ by (reach_on v place + 128 * rows == v.truth.size) refl
     where
-      by : (b : Bool) → (reach_on v place + 128 == v.truth.size) ≡ b
-          → seat_reach v.truth.size (if b then Whole else Rebuilding (reach_on v place + 128)) ≡ reach_on v place + 128
-      by true is = sym (eqb-true (reach_on v place + 128) v.truth.size is)
+      by : (b : Bool) → (reach_on v place + 128 * rows == v.truth.size) ≡ b
+          → seat_reach v.truth.size (if b then Whole else Rebuilding (reach_on v place + 128 * rows)) ≡ reach_on v place + 128 * rows
+      by true is = sym (eqb-true (reach_on v place + 128 * rows) v.truth.size is)
       by false other = refl
 
-  rows_before : option_map_or (rows_to_rebuild v) (rebuilding_in v) 0 ≡ rows_of v - reach_on v place / 128
-  rows_before = ap (λ (o : Option ℕ). option_map_or (rows_to_rebuild v) o 0) is_first
+  -- the rows that it has left
+  pub rows_before : option_map_or (rows_to_rebuild v) (rebuilding_in v) 0 ≡ rows_left v place
+  rows_before =
+      let whole = has.whole in
+      let size = is_array.whole_rows in
+      ap (λ (o : Option ℕ). option_map_or (rows_to_rebuild v) o 0) is_first ∙ (omega (arith, whole, size))
 
-  -- the array has one row less to rebuild
-  pub now_rebuilt : (extent : ℕ) → array_now extent (rebuilt v place) ≡ row_rebuilt (array_now extent v)
+  -- the array has so many rows less to rebuild
+  pub now_rebuilt : (extent : ℕ) → array_now extent (rebuilt v place rows) ≡ rows_rebuilt rows (array_now extent v)
   now_rebuilt extent =
-      let with : ℕ → ℕ → ArrayNow = λ rows on. record (array_now extent v) { rebuild = rows; rebuilding = on } in
-      let w = rebuilt v place in
+      let with : ℕ → ℕ → ArrayNow = λ left on. record (array_now extent v) { rebuild = left; rebuilding = on } in
+      let w = rebuilt v place rows in
       let before = rows_before in
       let left = has.left in
       let whole = has.whole in
       let size = is_array.whole_rows in
       let on_before : option_map_or (λ p. p) (rebuilding_in v) 0 ≡ place = ap (λ (o : Option ℕ). option_map_or (λ p. p) o 0) is_first in
-      elim (cases_Bool (reach_on v place + 128 == v.truth.size)) [
+      elim (cases_Bool (reach_on v place + 128 * rows == v.truth.size)) [
         | inl last ↦
-            let end = eqb-true (reach_on v place + 128) v.truth.size last in
-            let rows : option_map_or (rows_to_rebuild v) (rebuilding_in v) 0 ≡ 1 = before ∙ (omega (arith, end, whole, size)) in
+            let end = eqb-true (reach_on v place + 128 * rows) v.truth.size last in
+            let all : option_map_or (rows_to_rebuild v) (rebuilding_in v) 0 ≡ rows = before ∙ (omega (arith, end, whole, size)) in
+            let none : option_map_or (rows_to_rebuild v) (rebuilding_in v) 0 - rows ≡ 0 = omega (arith, all) in
             ap₂ with
-            (ap (λ (o : Option ℕ). option_map_or (rows_to_rebuild w) o 0) (none_after last) ∙ sym (ap (λ n. n - 1) rows))
+            (ap (λ (o : Option ℕ). option_map_or (rows_to_rebuild w) o 0) (none_after last) ∙ sym none)
             (ap (λ (o : Option ℕ). option_map_or (λ p. p) o 0) (none_after last)
-            ∙ sym (ap (λ n. if n == 1 then 0 else option_map_or (λ p. p) (rebuilding_in v) 0) rows))
+            ∙ sym (ap (λ b. if b then 0 else option_map_or (λ p. p) (rebuilding_in v) 0) (eq-eqb (option_map_or (rows_to_rebuild v) (rebuilding_in v) 0) rows all)))
         | inr more ↦
-            let less = not_last (eqb-false (reach_on v place + 128) v.truth.size more) in
-            let some : 2 ≤ rows_of v - reach_on v place / 128 = omega (arith, less, whole, size) in
-            let many : (option_map_or (rows_to_rebuild v) (rebuilding_in v) 0 ≡ 1) → ⊥ = λ one. omega (arith, one, before, some) in
+            let other = eqb-false (reach_on v place + 128 * rows) v.truth.size more in
+            let many : (option_map_or (rows_to_rebuild v) (rebuilding_in v) 0 ≡ rows) → ⊥ = λ all. other (omega (arith, all, before, whole, size, left)) in
+            let fewer : rows_of v - (reach_on v place + 128 * rows) / 128 ≡ rows_left v place - rows = omega (arith, whole, size) in
             ap₂ with
             (ap (λ (o : Option ℕ). option_map_or (rows_to_rebuild w) o 0) (same_after more)
-            ∙ ap (λ n. rows_of v - n / 128) reach_after ∙ (omega arith) ∙ sym (ap (λ n. n - 1) before))
+            ∙ ap (λ n. rows_of v - n / 128) reach_after ∙ fewer ∙ sym (ap (λ n. n - rows) before))
             (ap (λ (o : Option ℕ). option_map_or (λ p. p) o 0) (same_after more)
-            ∙ sym (ap (λ b. if b then 0 else option_map_or (λ p. p) (rebuilding_in v) 0) (ne_eqb (option_map_or (rows_to_rebuild v) (rebuilding_in v) 0) 1 many) ∙ on_before))
+            ∙ sym (ap (λ b. if b then 0 else option_map_or (λ p. p) (rebuilding_in v) 0) (ne_eqb (option_map_or (rows_to_rebuild v) (rebuilding_in v) 0) rows many) ∙ on_before))
       ]
-    where
-      not_last : (reach_on v place + 128 ≡ v.truth.size → ⊥) → reach_on v place + 128 < v.truth.size
-      not_last other =
-          let left = has.left in
-          let whole = has.whole in
-          let size = is_array.whole_rows in
-          elim (cases_lt (reach_on v place + 128) v.truth.size) [
-            | inl less ↦ less
-            | inr most ↦ absurd (other (omega (arith, most, left, whole, size)))
-          ]

@@ -1,6 +1,6 @@
 -- A work is tried: what the call of the arrays says, reached through the volume.
 use Rattle.std.specs.Prelude.{IfErr, Result, is_ok}
-use Rattle.std.proofs.Common.{◌≡◌, ◌⊎◌, ℕ, ◌^◌, ◌≤◌, true, false, sym, ap, subst, inl}
+use Rattle.std.proofs.Common.{◌≡◌, ℕ, ◌^◌, ◌≤◌, true, false, sym, ap, subst}
 use Rattle.rack.specs.Seen.{Seen}
 use Rattle.rack.specs.Shelf.{Shelf}
 use Rattle.slice_rack.specs.Slices.{seat_of}
@@ -13,12 +13,12 @@ use Rattle.raid_laws.specs.Moves.{RaisesBy}
 use Rattle.raid_laws.specs.Raid.{Raid}
 use Rattle.raid_laws.specs.Runs.{RaidRuns}
 use Rattle.raid_laws.specs.Works.{array_of}
-use Rattle.raid_rack.specs.RaidRack.{IsFit, KeepsRack, SliceRuns, arrays_in, raid_in, raid_seen, slices_in, slices_seen, written_in}
+use Rattle.raid_rack.specs.RaidRack.{IsFit, KeepsRack, SliceRuns, arrays_in, one_done, raid_in, raid_seen, slices_in, slices_seen, written_in}
 use Rattle.raid_rack.specs.declared.arrays.RaidRack.{RaidRack}
 use Rattle.raid_rack.specs.declared.works.Stuck.{Stuck}
 use Rattle.pool.specs.declared.Pool.{Pool}
 use Rattle.pool.specs.Growing.{IsRefused, IsRefusedGrowth, IsRefusedRow, LacksIn, TriesWork, change_in, linear_after}
-use Rattle.pool.specs.View.{arrays_of, bay_in, book, view, volume}
+use Rattle.pool.specs.View.{arrays_of, bay_in, view, volume}
 use Rattle.pool.proofs.Grows.{goes_of, growth_tried, row_tried}
 use Rattle.pool.proofs.Reached.{with_arrays}
 use Rattle.pool.proofs.Serving.{KeepNames}
@@ -26,7 +26,7 @@ use Rattle.pool.proofs.Stepping.{SaysOf}
 
 -- what the call of a row, or of the end of a plan, says
 pub record RowSays {R : Type 0} (seen : R → Seen) (runs : R → R → Type 0) (work : Work) (r : Result (Unit {0}) Stuck) (old new : RaidRack R) : Type 0 where
-  pub says : SaysOf seen work r old new
+  pub says : SaysOf seen work 1 r (one_done r) old new
   pub keeps : KeepsRack (raid_seen seen old) (raid_seen seen new)
   pub ran : SliceRuns seen runs (slices_in old) (slices_in new)
   pub book : RaidRuns (written_in old) (written_in new) (raid_in old) (raid_in new) (slices_seen seen old) (slices_seen seen new)

@@ -1,5 +1,5 @@
 -- Works of maintenance in a row, and what they are to the volume.
-use Rattle.std.proofs.Common.{◌≡◌, ℕ, ◌+◌, ◌*◌, refl, sym, subst, ◌∙◌, inl, arith}
+use Rattle.std.proofs.Common.{◌≡◌, ℕ, ◌+◌, ◌*◌, ◌≤◌, refl, sym, subst, ◌∙◌, inl, arith}
 use Rattle.rack.proofs.Writing.{only_quiet}
 use Rattle.rack.specs.Seen.{IsPick, Seen, Stays}
 use Rattle.rack.specs.Shelf.{Shelf}
@@ -44,19 +44,6 @@ module _ {R : Type 0} (seen : R → Seen) (shelf : R → Shelf) (runs : R → R 
         raises = raises_none (raid_in raid);
       }
 
-  -- more than were done
-  pub worked_more : (count : ℕ) (p q : Pool R) → IsWorked seen runs 0 p q → IsWorked seen runs count p q
-  worked_more count p q worked = record {
-    linear = worked.linear;
-    keeps = worked.keeps;
-    ran = worked.ran;
-    book = worked.book;
-    arrays = worked.arrays;
-    members = worked.members;
-    plan = worked.plan;
-    raises = raises_more 0 (most_raised * count) (raid_in (arrays_of p)) (raid_in (arrays_of q)) (omega arith) worked.raises;
-  }
-
   -- a work of the arrays, reached through the volume
   pub worked_by : (p : Pool R) (old new : RaidRack R) → old ≡ arrays_of p → KeepsRack (raid_seen seen old) (raid_seen seen new)
       → SliceRuns seen runs (slices_in old) (slices_in new)
@@ -74,6 +61,19 @@ module _ {R : Type 0} (seen : R → Seen) (shelf : R → Shelf) (runs : R → R 
     plan = plan;
     raises = raises_more 18 most_raised (raid_in (arrays_of p)) (raid_in new) (omega arith)
         (subst (λ (r : RaidRack R). RaisesBy 18 (raid_in r) (raid_in new)) same raises);
+  }
+
+  -- as many calls of the arrays, and more works
+  pub worked_many : (least most : ℕ) (p q : Pool R) → least ≤ most → IsWorked seen runs least p q → IsWorked seen runs most p q
+  worked_many least most p q fewer worked = record {
+    linear = worked.linear;
+    keeps = worked.keeps;
+    ran = worked.ran;
+    book = worked.book;
+    arrays = worked.arrays;
+    members = worked.members;
+    plan = worked.plan;
+    raises = raises_more (most_raised * least) (most_raised * most) (raid_in (arrays_of p)) (raid_in (arrays_of q)) (omega (arith, fewer)) worked.raises;
   }
 
   -- works in a row

@@ -1,5 +1,5 @@
 -- The drive of a place is replaced by a disk of other units, so that the pool's plan is to grow by it.
-use Rattle.std.specs.Prelude.{◌≡◌, ◌⊎◌, ℕ, ◌<◌, false, List, length, Some, None, Result, Ok, Err, IfErr, OnOk}
+use Rattle.std.specs.Prelude.{◌≡◌, ℕ, ◌<◌, false, List, length, None, Result, Ok, Err, IfErr, OnOk}
 use Rattle.rack.specs.Seen.{Rose}
 use Rattle.pool_state.specs.declared.contents.Plan.TheVariants.{Replace}
 use Rattle.pool.specs.declared.replacing.GrowFault.{GrowFault}

@@ -1,5 +1,5 @@
 -- The parts of a replacing: a disk is attached, and then takes the place of a drive.
-use Rattle.std.specs.Prelude.{◌≡◌, ◌≢◌, ◌⊎◌, ◌↔◌, ℕ, ◌<◌, false, List, length, Some, None, Result, Ok, Err, IfErr, IfOk, OnOk}
+use Rattle.std.specs.Prelude.{◌≡◌, ◌≢◌, ◌⊎◌, ◌↔◌, ℕ, ◌<◌, false, List, length, Some, Result, Ok, Err, IfErr, IfOk, OnOk}
 use Rattle.rack.specs.Values.{Keeps, MayLeave, Values}
 use Rattle.rack.specs.Seen.{Rose}
 use Rattle.flat_array.specs.Array.{FlatArray}

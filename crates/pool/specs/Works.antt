@@ -177,7 +177,7 @@ pub record StopsStuck (Quiet : Type 0) (l : Linear) (count : ℕ) (v w : Raid) (
 
 -- ---- works that are done
 
--- So many works in a row: the volume lies where it lay, its arrays keep their values and their members, they run on the slices below, and a plan goes on, or has ended as
+-- Works in a row, by so many calls of the arrays at most: the volume lies where it lay, its arrays keep their values and their members, they run on the slices below, and a plan goes on, or has ended as
 -- the last work.
 pub record IsWorked {R : Type 0} (seen : R → Seen) (runs : R → R → Type 0) (count : ℕ) (p q : Pool R) : Type 0 where
   pub linear : linear_of q.volume ≡ linear_of p.volume

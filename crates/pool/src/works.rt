@@ -1,6 +1,6 @@
 //! The works of maintenance of an opened pool.
 
-ghost use Rattle.std.specs.Prelude.{◌≡◌, ◌<◌, nat_lt, length, slice_get, IfErr, OnOk};
+ghost use Rattle.std.specs.Prelude.{◌≡◌, ◌<◌, ◌≤◌, nat_lt, length, slice_get, IfErr, IfOk};
 ghost use Rattle.growth_plan.specs.Book.{IsBook};
 ghost use Rattle.pool.specs.View.{bay_in, book, view, volume};
 ghost use Rattle.pool.specs.Proceeding as proceeding;
@@ -80,30 +80,35 @@ impl<R: Bay> Pool<R> {
         }
     }
 
-    /// Does the first of the works that are left, where one is.
-    fn advance(&mut self) -> Result<(), Stuck>
-        requires { (volume (view R.seen R.shelf self.old)).fit }
+    /// Does the first of the works that are left, and those after it of its kind that one commit takes, at most so many. It answers how
+    /// many are done: as many as were asked for where none is left.
+    fn advance(&mut self, most: u64) -> Result<u64, Stuck>
+        requires fit { (volume (view R.seen R.shelf self.old)).fit }
+        requires some { 0 < most }
         ensures worked { IsWorked R.seen R.runs 1 self.old self.new }
-        ensures done { OnOk result (DoesFirst 1 (view R.seen R.shelf self.old) (view R.seen R.shelf self.new)) }
+        ensures some { IfOk result (λ count. (0 < count) × (count ≤ most)) }
+        ensures done { IfOk result (λ count. DoesFirst count (view R.seen R.shelf self.old) (view R.seen R.shelf self.new)) }
         ensures stuck { IfErr result
             (λ e. IsStuck (view R.seen R.shelf self.new).linear (book (view R.seen R.shelf self.old)) (book (view R.seen R.shelf self.new)) e.array) }
     {
         match self.next_work() {
-            Some(work) => self.volume.inner().work(&work),
-            None => Ok(()),
+            Some(work) => self.volume.inner().works(&work, most),
+            None => Ok(most),
         }
     }
 
     /// Does the first of the works that are left, so many times or until none is left, and answers how many are left then. No value
     /// moves. A drive that is lost meanwhile changes what is left, and the steps go on. They end where a work can't be done, which
-    /// names its array; those before it are done.
+    /// names its array; those before it are done. Rows of one array that follow each other are done several by one commit.
     pub fn step(&mut self, count: u64) -> Result<u64, Stuck>
         requires { (volume (view R.seen R.shelf self.old)).fit }
         ensures steps { Steps (view R.seen R.shelf self.old) (view R.seen R.shelf self.new) count result }
         ensures runs { R.runs (bay_in self.old) (bay_in self.new) }
     {
-        for _turn in 0..count.min(self.left()) {
-            self.advance()?;
+        let most = count.min(self.left());
+        let mut done = 0;
+        while done < most {
+            done += self.advance(most - done)?;
         }
         Ok(self.left())
     }

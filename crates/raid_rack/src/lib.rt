@@ -48,10 +48,10 @@
 //! **Works of maintenance.** A step of an array makes another array of it, by one commit: more rows that agree, or members that count
 //! further. It is a part of a call that writes no value (`Brings`): each array gives its values, by the array before the step or after
 //! it. One lemma (`step_brings`) carries any step of `array_sync` along (`Steps`), where what it makes is an array of the pool
-//! (`IsNext`). A row is resynced (`ResyncsOne`) exactly where it can be once losses are mended, and where that is answered no image
-//! leaves it any more. A row of a member is rebuilt (`RebuildsOne`) where that is answered, and refused only where it can't be. The
-//! end of a plan (`ClosesPlan`) is a commit of the state's copies alone. A work is one of these three (`Does`), where it is due
-//! (`is_due`).
+//! (`IsNext`). Rows are resynced (`Resyncs`), as many as are answered, exactly where the first can be once losses are mended, and where
+//! that is answered no image leaves them any more. Rows of a member are rebuilt (`Rebuilds`) where that is answered, and refused only where
+//! the first can't be. The end of a plan (`ClosesPlan`) is a commit of the state's copies alone. A work is one of these three (`Does`), where
+//! it is due (`is_due`).
 //!
 //! **A new drive** at a place ([`RaidRack::enlist`]), whose drive is missing or gives way to it, gets its table, zeros in the place of a state and the closed gate
 //! with number 0 (`LaysDrive`), and slices for the log and for each array that it is a member of and reaches (`SeatsDrive`). Calls on a

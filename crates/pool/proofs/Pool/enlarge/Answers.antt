@@ -1,6 +1,5 @@
 use Rattle.std.specs.Prelude.{Ok, Err}
-use Rattle.std.proofs.Common.{◌≡◌, ◌<◌, false, true, length, sym, ap, subst, ◌∙◌, inl, arith}
-use Rattle.array_image.specs.States.{is_current}
+use Rattle.std.proofs.Common.{◌≡◌, ◌<◌, true, sym, subst, ◌∙◌, inl, arith}
 use Rattle.raid_rack.proofs.Raises.{raises_then}
 use Rattle.raid_rack.specs.RaidRack.{slices_in}
 use Rattle.shr_base.specs.Units.{units_of}

@@ -1,7 +1,7 @@
-use Rattle.std.proofs.Common.{◌≡◌, Some, None, sym, ap, subst, ◌∙◌, inl, inr}
+use Rattle.std.proofs.Common.{◌≡◌, Some, sym, ap, subst, ◌∙◌, inl}
 use Rattle.raid_rack.specs.RaidRack.{slices_in}
 use Rattle.slice_rack.specs.SliceRack.{below_of}
-use Rattle.pool.specs.Replacing.{IsAdmissible, has_same, refusal_of}
+use Rattle.pool.specs.Replacing.{refusal_of}
 use Rattle.pool.specs.View.{book, view}
 use Rattle.pool.proofs.Composed.{nothing_done}
 use Rattle.pool.proofs.Pool.replace_by.Goals as goal

@@ -1,8 +1,8 @@
 use Rattle.std.specs.Prelude.{Err}
-use Rattle.std.proofs.Common.{◌≡◌, ◌≢◌, ◌<◌, ◌^◌, ◌==◌, length, sym, ap, subst, ◌∙◌, arith}
-use Rattle.std.proofs.lemmas.Bool.{and_parts, both_ways, eq-eqb}
+use Rattle.std.proofs.Common.{◌≡◌, ◌<◌, ◌^◌, sym, ap, subst, ◌∙◌, arith}
+use Rattle.std.proofs.lemmas.Bool.{and_parts}
 use Rattle.lvm_group.specs.Volume.{linear}
-use Rattle.pool_format.proofs.Units.{units_room, units_small}
+use Rattle.pool_format.proofs.Units.{units_small}
 use Rattle.pool_state.specs.declared.contents.State.{State}
 use Rattle.raid_rack.specs.declared.arrays.RaidRack.{RaidRack}
 use Rattle.raid_rack.specs.RaidRack.{IsFit, arrays_in, slices_in, slices_seen}
