@@ -1,16 +1,18 @@
 -- Lemmas on words, numbers and sectors in a line.
-use Rattle.std.proofs.Common.{◌≡◌, ℕ, ◌+◌, ◌-◌, ◌*◌, ◌<◌, ◌≤◌, ◌^◌, Bool, true, false, cond, List, [], ◌∷◌, ◌++◌, length, take, drop, replicate, position, Some, None, Ok, refl, sym, ap, subst, arith}
+use Rattle.std.proofs.Common.{◌≡◌, ℕ, ◌+◌, ◌-◌, ◌*◌, ◌<◌, ◌≤◌, ◌^◌, Bool, true, false, cond, List, [], ◌∷◌, ◌++◌, length, take, drop, replicate, get_or, position, Option, Some, None, Ok, refl, sym, ap, subst, arith}
 use Rattle.std.proofs.Math.Nat.{pow-succ'}
 use Rattle.std.proofs.lemmas.Bool.Decides.{nat_tests}
 use Rattle.std.proofs.lemmas.Int.Digits.{digits_value_more}
 use Rattle.std.proofs.lemmas.List.{take_all, drop-replicate}
 use Rattle.std.proofs.lemmas.List.Splits.{slice_split_first, slice_split_none}
-use Rattle.std.proofs.lemmas.List.Sums.{fails_before_first, AllPass-from_list_all}
+use Rattle.std.proofs.lemmas.List.Sums.{fails_before_first, position_or_len_is, AllPass-from_list_all}
 use Rattle.std.proofs.Common.{length-drop, get_or, add-one, nat_le, ◌&&◌, ◌==◌, if◌then◌else◌, ◌∙◌}
 use Rattle.std.specs.Char.{digit_value, is_ascii_digit}
 use Rattle.std.specs.Str.Parse.{digits_value}
 use Rattle.hex.specs.Hex.{decode_of}
 use Rattle.std.specs.List.{list_all, slice_split, onto_first, position_or_len}
+use Rattle.memchr.specs.Find.{IsFirstByte, is_byte}
+use Rattle.shr_script.proofs.ReadingLemmas.{not_true}
 use Rattle.shr_script.specs.declared.Command.{Command}
 use Rattle.shr_script.specs.Line.{wrong, is_space, alone, only_number, write_words, fill_words, replace_words, add_words, sector_of, byte_if, byte_of}
 
@@ -24,6 +26,18 @@ position-found p xs i found = grind arith
 -- where none is found, none passes
 pub position-none : (p : ℕ → Bool) (xs : List ℕ) → position p xs ≡ None → length xs ≤ position_or_len p xs
 position-none p xs none = grind arith
+
+-- the place of the first space, as a search gives it
+pub first_place : (xs : List ℕ) (found : Option ℕ) → IsFirstByte (is_byte 32) xs found → found ≡ position is_space xs
+first_place xs None none =
+    let at : position_or_len is_space xs ≡ length xs =
+    position_or_len_is is_space xs (length xs) 0 (omega arith) (λ k below. not_true (is_space (get_or xs k 0)) (none k (omega arith) below)) (λ below. absurd (omega arith)) in
+    grind arith
+first_place xs (Some i) first =
+    let inside : i < length xs = first.0.high in
+    let at : position_or_len is_space xs ≡ i =
+    position_or_len_is is_space xs i 0 (omega arith) (λ k below. not_true (is_space (get_or xs k 0)) (first.0.before k (omega arith) below)) (λ below. first.1) in
+    grind arith
 
 -- a line that is cut at its first space
 pub cut_at_space :

@@ -131,7 +131,7 @@ from_start piece start end count order inside =
     sym (take-take count (end - start) (drop start piece) inside) ∙ ap (take count) (at_hand piece start end order)
 
 -- what isn't true is false
-not_true : (b : Bool) → (b ≡ true → ⊥) → b ≡ false
+pub not_true : (b : Bool) → (b ≡ true → ⊥) → b ≡ false
 not_true true none = absurd (none refl)
 not_true false none = refl
 

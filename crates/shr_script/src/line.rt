@@ -13,6 +13,7 @@ ghost use Rattle.shr_script.specs.Script.{without_return as line_without_return}
 ghost use Rattle.shr_script.specs.Words.{words_after};
 
 use crate::{Command, ImageName, LineFault};
+use memchr::memchr;
 
 /// The longest line that is read as a command, in bytes.
 pub const LONGEST: usize = 1100;
@@ -66,7 +67,7 @@ fn cut_word(bytes: &[u8]) -> (&[u8], Option<&[u8]>)
 fn first_space(bytes: &[u8]) -> Option<usize>
     ensures { result ≡ position is_space bytes.now }
 {
-    bytes.iter().position(|byte| *byte == b' ')
+    memchr(b' ', bytes)
 }
 
 // The command of a line that isn't too long, by its first word.
