@@ -8,7 +8,7 @@ use Rattle.std.proofs.lemmas.Option.{slice_get-get_or}
 use Rattle.rack.specs.declared.AttachFault.{AttachFault}
 use Rattle.rack.specs.declared.AttachFault.TheVariants.{Failed, Twice, Memory as NoRoomLeft}
 use Rattle.rack.specs.Seen.{Image, Seen, Rose}
-use Rattle.rack.specs.Shelf.{Differ, Shelf}
+use Rattle.rack.specs.Shelf.{Differ, KeepsShelf, Shelf}
 use Rattle.flat_array.specs.Array.{FlatArray, fresh}
 use Rattle.layer_plan.specs.declared.Layers.{Layers}
 use Rattle.layer_plan.specs.declared.PlanError.{PlanError}
@@ -309,7 +309,7 @@ module _ {B : Type 0} (seen : B → Seen) (runs : B → B → Type 0) (lasting :
 
 -- so it is of `serve`, `import`, `export`, `status` and `trial`
 module _ {B : Type 0} (seen : B → Seen) (shelf : B → Shelf) (runs : B → B → Type 0) (lasting : (b : B) → (seen b).lasting) (unspent : (b : B) (d s : ℕ) → (seen b).spent d s ≡ false)
-    (bay after : B) (task : Task) (names : List (List ℕ)) (text rest out out' : List ℕ) (status : Status)
+    (shelves : (x y : B) → runs x y → KeepsShelf (shelf x) (shelf y)) (bay after : B) (task : Task) (names : List (List ℕ)) (text rest out out' : List ℕ) (status : Status)
     (source source' sink sink' : ℕ) (cause : HasStatusCause status source source' sink sink') (none : Rose source source' → ⊥) (ok : Rose sink sink' → ⊥)
     (differ : Differ names) (attaching : Rose (shelf bay).faults (shelf after).faults → ⊥) (limit : (size : ℕ) → IsTakenWhole task text size → status ≡ Limit → ⊥) where
   sound : status ≡ Sink → ⊥
@@ -343,7 +343,7 @@ module _ {B : Type 0} (seen : B → Seen) (shelf : B → Shelf) (runs : B → B 
       → IsCarriedOut seen shelf runs bay attached after task names text rest out out' status
   carried attached are online = record {
     online = online;
-    meant = λ size well. (_, (pool attached are online size well).size_is, meant_then attached are online size well);
+    meant = λ size well. ((shelves attached online.asked.bay online.asks.kept).told (are.told well.told), _, (pool attached are online size well).size_is, meant_then attached are online size well);
     complete = λ size well whole. carried_then attached are online size well whole;
   }
 
@@ -454,10 +454,10 @@ serve_limit status text rest keeps size whole is = let longer = (keeps.exact.0 i
 -- A task is carried out on the disks of names that were read of the words.
 pub task_carried :
     {B : Type 0} (seen : B → Seen) (shelf : B → Shelf) (runs : B → B → Type 0) (lasting : (b : B) → (seen b).lasting) (unspent : (b : B) (d s : ℕ) → (seen b).spent d s ≡ false)
-    (bay after : B) (task : Task) (names read : List (List ℕ)) (text rest out out' : List ℕ) (source source' sink sink' : ℕ) (status : Status) (form : Form)
+    (shelves : (x y : B) → runs x y → KeepsShelf (shelf x) (shelf y)) (bay after : B) (task : Task) (names read : List (List ℕ)) (text rest out out' : List ℕ) (source source' sink sink' : ℕ) (status : Status) (form : Form)
     → uses_disks (Some form) ≡ true → HasStatusCause status source source' sink sink' → ((size : ℕ) → IsTakenWhole task text size → status ≡ Limit → ⊥)
     → NothingFails form names (shelf bay) (shelf after) source source' sink sink' → read ≡ names
     → PoolOutcome seen shelf runs bay after task read text rest out out' status → CarriesOut seen shelf runs bay after task names text rest out out' status
-task_carried seen shelf runs lasting unspent bay after task names read text rest out out' source source' sink sink' status form uses cause limit calm same came =
-    task_done seen shelf runs lasting unspent bay after task names text rest out out' status source source' sink sink' cause calm.taking calm.putting (calm.differ uses) calm.attaching limit
+task_carried seen shelf runs lasting unspent shelves bay after task names read text rest out out' source source' sink sink' status form uses cause limit calm same came =
+    task_done seen shelf runs lasting unspent shelves bay after task names text rest out out' status source source' sink sink' cause calm.taking calm.putting (calm.differ uses) calm.attaching limit
     (subst (λ ns. PoolOutcome seen shelf runs bay after task ns text rest out out' status) same came)

@@ -140,15 +140,15 @@ abbrev pub IsOnlineOpened :
 IsOnlineOpened seen shelf runs attached after task text rest out out' status online =
     IsOpened (online_seen seen) (online_shelf shelf) (online_runs runs) online.asked (record { bay = after; offline = online.offline }) task text rest out out' status online.outcome
 
--- How a task on the disks of some names came out. Where what waited is a sound pool and no disk refused a call until it was opened, what it was opened on meant an array of
--- the volume's size. And where the task takes its input whole it was opened, and all was done, or a sector or a work was refused as spent; or memory was wanting, before it was
+-- How a task on the disks of some names came out. Where what waited is a sound pool and no disk refused a call until it was opened, what it was opened on is told and meant an
+-- array of the volume's size. And where the task takes its input whole it was opened, and all was done, or a sector or a work was refused as spent; or memory was wanting, before it was
 -- open or for a line that names an image.
 pub record IsCarriedOut {B : Type 0} (seen : B → Seen) (shelf : B → Shelf) (runs : B → B → Type 0) (bay attached after : B) (task : Task) (names : List (List ℕ)) (text rest out out' : List ℕ)
     (status : Status) : Type 0 where
   pub online : OnlineOutcome seen shelf runs attached after task text rest out out' status
   pub meant :
       (size : ℕ) → IsUndisturbed (shelf bay) names (seen (online_opening seen shelf runs attached after task text rest out out' status online).bay) size
-      → (a : FlatArray) × (a.size ≡ size) × IsMeant (online_seen seen online.asked) (online_seen seen (online_opening seen shelf runs attached after task text rest out out' status online)) a
+      → (online_shelf shelf online.asked).told × (a : FlatArray) × (a.size ≡ size) × IsMeant (online_seen seen online.asked) (online_seen seen (online_opening seen shelf runs attached after task text rest out out' status online)) a
   pub complete :
       (size : ℕ) → IsUndisturbed (shelf bay) names (seen (online_opening seen shelf runs attached after task text rest out out' status online).bay) size → IsTakenWhole task text size
       → ((status ≡ Memory) × (IsOnlineOpened seen shelf runs attached after task text rest out out' status online → NamesImage task text))

@@ -1,5 +1,5 @@
 -- The disks of some names as they wait to be attached, before a run.
-use Rattle.std.specs.Prelude.{◌≡◌, ℕ, ◌<◌, List, [], length, slice_get, Option, Some, None, IsSome, false}
+use Rattle.std.specs.Prelude.{◌≡◌, ℕ, ◌<◌, List, [], length, slice_get, Option, Some, None, IsSome}
 use Rattle.std.specs.Option.{option_and_then}
 use Rattle.rack.specs.Values.{only}
 use Rattle.rack.specs.Seen.{Image, Seen}
@@ -29,24 +29,6 @@ IsEntryImage ready names image =
     → d < length names
     → s < sectors_in (waiting_at ready names d)
     → image d s ≡ entry_image ready names d s
-
--- the disks before the run, as a rack: one value in each sector, told, and no fault
-abbrev pub entry_seen : (List ℕ → Option Waiting) → List (List ℕ) → Seen
-entry_seen ready names =
-    record {
-      disks = length names;
-      sectors = λ d. sectors_in (waiting_at ready names d);
-      held = λ d s. only (entry_image ready names d s);
-      clock = 0;
-      stops = λ k image. ⊥;
-      faults = λ d. 0;
-      spent = λ d s. false;
-      lasting = Unit {0};
-      steady = ⊥;
-      fit = Unit {0};
-      told = λ d. Unit {0};
-      traced = ⊥;
-    }
 
 -- a disk of a rack is one that waited: one value in each sector, told
 pub record IsWaiting (y : Seen) (d : ℕ) (waited : Option Waiting) : Type 0 where

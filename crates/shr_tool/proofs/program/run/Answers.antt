@@ -145,7 +145,7 @@ returns-in-Serve-clause-complete g c =
     (λ reads calm. (
       run.result,
       c.code-in-Serve.ensures,
-      task_carried g.B.Rack.seen g.B.Bay.shelf g.B.Rack.runs g.met.B.Bay.lasting g.met.B.Bay.unspent c.args.bay.now run.new.bay tasks.Serve
+      task_carried g.B.Rack.seen g.B.Bay.shelf g.B.Rack.runs g.met.B.Bay.lasting g.met.B.Bay.unspent g.met.B.Bay.runs_shelf c.args.bay.now run.new.bay tasks.Serve
           (map string_bytes (drop 1 c.args.words.now)) (map string_bytes c.behind-names.result.now) _ _ _ _ _ _ _ _ run.result Serve refl run.ensures.cause
           (serve_limit run.result _ _ (run.ensures.limit refl (reads refl))) calm (ap (map string_bytes) c.behind-names.ensures) (run.ensures.outcome (reads refl) out),
     ))
@@ -162,7 +162,7 @@ returns-in-Import-clause-complete g c =
     (λ reads calm. (
       run.result,
       c.code-in-Import.ensures,
-      task_carried g.B.Rack.seen g.B.Bay.shelf g.B.Rack.runs g.met.B.Bay.lasting g.met.B.Bay.unspent c.args.bay.now run.new.bay tasks.Import
+      task_carried g.B.Rack.seen g.B.Bay.shelf g.B.Rack.runs g.met.B.Bay.lasting g.met.B.Bay.unspent g.met.B.Bay.runs_shelf c.args.bay.now run.new.bay tasks.Import
           (map string_bytes (drop 1 c.args.words.now)) (map string_bytes c.behind-names.result.now) _ _ _ _ _ _ _ _ run.result Import refl run.ensures.cause
           (λ size whole. run.ensures.other (λ e. cc e)) calm (ap (map string_bytes) c.behind-names.ensures) (run.ensures.outcome (reads refl) out),
     ))
@@ -179,7 +179,7 @@ returns-in-Export-clause-complete g c =
     (λ reads calm. (
       run.result,
       c.code-in-Export.ensures,
-      task_carried g.B.Rack.seen g.B.Bay.shelf g.B.Rack.runs g.met.B.Bay.lasting g.met.B.Bay.unspent c.args.bay.now run.new.bay tasks.Export
+      task_carried g.B.Rack.seen g.B.Bay.shelf g.B.Rack.runs g.met.B.Bay.lasting g.met.B.Bay.unspent g.met.B.Bay.runs_shelf c.args.bay.now run.new.bay tasks.Export
           (map string_bytes (drop 1 c.args.words.now)) (map string_bytes c.behind-names.result.now) _ _ _ _ _ _ _ _ run.result Export refl run.ensures.cause
           (λ size whole. run.ensures.other (λ e. cc e)) calm (ap (map string_bytes) c.behind-names.ensures) (run.ensures.outcome tt out),
     ))
@@ -196,7 +196,7 @@ returns-in-Status-clause-complete g c =
     (λ reads calm. (
       run.result,
       c.code-in-Status.ensures,
-      task_carried g.B.Rack.seen g.B.Bay.shelf g.B.Rack.runs g.met.B.Bay.lasting g.met.B.Bay.unspent c.args.bay.now run.new.bay tasks.Show
+      task_carried g.B.Rack.seen g.B.Bay.shelf g.B.Rack.runs g.met.B.Bay.lasting g.met.B.Bay.unspent g.met.B.Bay.runs_shelf c.args.bay.now run.new.bay tasks.Show
           (map string_bytes (drop 1 c.args.words.now)) (map string_bytes c.behind-names.result.now) _ _ _ _ _ _ _ _ run.result Status refl run.ensures.cause
           (λ size whole. run.ensures.other (λ e. cc e)) calm (ap (map string_bytes) c.behind-names.ensures) (run.ensures.outcome tt out),
     ))
@@ -213,7 +213,7 @@ returns-in-Trial-clause-complete g c =
     (λ reads calm. (
       run.result,
       c.code-in-Trial.ensures,
-      task_carried g.B.Rack.seen g.B.Bay.shelf g.B.Rack.runs g.met.B.Bay.lasting g.met.B.Bay.unspent c.args.bay.now run.new.bay (tasks.Trial c.in-Trial.seed)
+      task_carried g.B.Rack.seen g.B.Bay.shelf g.B.Rack.runs g.met.B.Bay.lasting g.met.B.Bay.unspent g.met.B.Bay.runs_shelf c.args.bay.now run.new.bay (tasks.Trial c.in-Trial.seed)
           (map string_bytes (drop 2 c.args.words.now)) (map string_bytes c.behind-in-Trial.result.now) _ _ _ _ _ _ _ _ run.result (Trial c.in-Trial.seed) refl run.ensures.cause
           (λ size whole. run.ensures.other (λ e. cc e)) calm (ap (map string_bytes) c.behind-in-Trial.ensures) (run.ensures.outcome tt out),
     ))
