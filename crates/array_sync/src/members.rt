@@ -1,6 +1,6 @@
 //! The sectors of a member's row that the others of the row give.
 
-ghost use Rattle.std.specs.Prelude.{◌≡◌, ◌<◌, ◌≤◌, ◌+◌, ◌*◌, ℕ, List, length, true, false, not, nat_lt};
+ghost use Rattle.std.specs.Prelude.{◌≡◌, ◌<◌, ◌≤◌, ◌+◌, ◌-◌, ◌*◌, ℕ, List, length, true, false, not, nat_lt};
 ghost use Rattle.rack.specs.Sequences.{OnlyReads};
 ghost use Rattle.raid_map.specs.LeftSymmetric.{row_at};
 ghost use Rattle.array_image.specs.Stripes.{width};
@@ -90,28 +90,30 @@ fn stage_sector<R: Rack>(
     true
 }
 
-/// Adds the sectors of a member's row to the log, as the others give them. The answer is false where one can't be had.
+/// Adds the sectors of so many of a member's rows to the log, as the others give them. The answer is false where one can't be had.
 fn stage_sectors<R: Rack>(
     array: &mut Array,
     rack: &mut R,
     log: &mut Log,
     position: u32,
     row: u64,
+    rows: u64,
 ) -> bool
     requires slices { HasSlices array.old (R.seen rack.old) }
-    requires row { row < rows_of array.old }
+    requires some { 0 < rows }
+    requires row { row + rows ≤ rows_of array.old }
     requires position { position < array.old.truth.raid_disks }
     requires lacking { (member_on array.old position).reach ≤ row * 128 }
-    requires room { length log.old.added + 128 ≤ most_sectors }
+    requires room { length log.old.added + 128 * rows ≤ most_sectors }
     ensures reads { OnlyReads (R.seen rack.old) (R.seen rack.new) }
     ensures notes { Notes array.old array.new (R.seen rack.old) (R.seen rack.new) }
     ensures runs { R.runs rack.old rack.new }
-    ensures added { result ≡ true → AddsCopies array.old (OfMember position (row * 128) 128) (IsGiven array.old (R.seen rack.old) position) 128 log.old.added log.new.added }
-    ensures lost { result ≡ false → row_spent array.new row ≡ true }
+    ensures added { result ≡ true → AddsCopies array.old (OfMember position (row * 128) (128 * rows)) (IsGiven array.old (R.seen rack.old) position) (128 * rows) log.old.added log.new.added }
+    ensures lost { result ≡ false → row_spent array.new (row + (rows - 1)) ≡ true }
     ensures log { log.new ≡ record log.old { added = log.new.added } }
 {
     array.rules();
-    for sector in row * CHUNK_SECTORS..row * CHUNK_SECTORS + CHUNK_SECTORS {
+    for sector in row * CHUNK_SECTORS..(row + rows) * CHUNK_SECTORS {
         if !stage_sector(array, rack, log, position, sector) {
             return false;
         }
@@ -119,28 +121,31 @@ fn stage_sectors<R: Rack>(
     true
 }
 
-/// Adds a member's row to the log, as the others give it. The answer is false where the row can't be had.
+/// Adds so many of a member's rows to the log, as the others give them. The answer is false where the last can't be had.
 pub(crate) fn stage_member<R: Rack>(
     array: &mut Array,
     rack: &mut R,
     log: &mut Log,
     position: u32,
     row: u64,
+    rows: u64,
 ) -> bool
     requires slices { HasSlices array.old (R.seen rack.old) }
-    requires row { row < rows_of array.old }
+    requires some { 0 < rows }
+    requires row { row + rows ≤ rows_of array.old }
     requires position { position < array.old.truth.raid_disks }
     requires lacking { (member_on array.old position).reach ≤ row * 128 }
-    requires room { length log.old.added + 128 ≤ most_sectors }
+    requires room { length log.old.added + 128 * rows ≤ most_sectors }
     ensures reads { OnlyReads (R.seen rack.old) (R.seen rack.new) }
     ensures notes { Notes array.old array.new (R.seen rack.old) (R.seen rack.new) }
     ensures runs { R.runs rack.old rack.new }
-    ensures added { result ≡ true → AddsCopies array.old (OfMember position (row * 128) 128) (IsGiven array.old (R.seen rack.old) position) 128 log.old.added log.new.added }
-    ensures answer { result ≡ not (row_spent array.new row) }
+    ensures added { result ≡ true → AddsCopies array.old (OfMember position (row * 128) (128 * rows)) (IsGiven array.old (R.seen rack.old) position) (128 * rows) log.old.added log.new.added }
+    ensures answer { result ≡ not (row_spent array.new (row + (rows - 1))) }
     ensures log { log.new ≡ record log.old { added = log.new.added } }
 {
-    if !stage_sectors(array, rack, log, position, row) {
+    array.rules();
+    if !stage_sectors(array, rack, log, position, row, rows) {
         return false;
     }
-    !is_row_spent(array, row)
+    !is_row_spent(array, row + (rows - 1))
 }

@@ -1,9 +1,9 @@
 //! Rows of a member that are left to rebuild.
 
-ghost use Rattle.std.specs.Prelude.{◌≡◌, ◌⊎◌, ◌<◌, ◌+◌, ◌/◌, ◌*◌, ℕ, List, [], true, false, is_ok, OnOk, IfOk, IfErr};
+ghost use Rattle.std.specs.Prelude.{◌≡◌, ◌⊎◌, ◌<◌, ◌≤◌, ◌+◌, ◌-◌, ◌/◌, ◌*◌, ℕ, List, [], true, false, is_ok, OnOk, IfOk, IfErr};
 ghost use Rattle.array_model.specs.View.{View, rows_of};
 ghost use Rattle.array_model.specs.Members.{HasSlices, first_of_row, row_layout};
-ghost use Rattle.log_laws.specs.View.{committed, emptied};
+ghost use Rattle.log_laws.specs.View.{committed, emptied, most_sectors};
 ghost use Rattle.log_laws.specs.Phases.{AreLogs};
 ghost use Rattle.array_core.specs.Model.{is_truth};
 ghost use Rattle.array_core.specs.Pool.{Goes};
@@ -13,6 +13,7 @@ ghost use Rattle.sync_laws.specs.Rows.{others_give, row_spent};
 ghost use Rattle.sync_laws.specs.Steps.{HasRowLeft, Steps, StepsRows, reach_on, rebuilt, rows_left};
 
 use crate::members::{is_row_spent, stage_member};
+use crate::rows::rows_of_record;
 use array_core::{Array, Change, Seat, Spent};
 use commit_log::Log;
 use rack::{Places, Rack};
@@ -29,14 +30,34 @@ fn next_row(array: &Array, place: u32) -> u64
     }
 }
 
-/// The change by which a row of a place's member is rebuilt: all rows before it are, and it ends the rebuild where it is the last.
+/// How many rows to rebuild by one commit: as many as a record of the log has, where the last of them can be had, and else one.
+fn rows_at_once(array: &Array, log: &Log, row: u64, most: u64) -> u64
+    requires row { row < rows_of array.now }
+    requires empty { log.now.added ≡ [] }
+    requires some { 0 < most }
+    ensures some { 0 < result }
+    ensures few { result ≤ most }
+    ensures left { row + result ≤ rows_of array.now }
+    ensures room { array.now.truth.raid_disks + 128 * result ≤ most_sectors }
+    ensures had { 1 < result → row_spent array.now (row + (result - 1)) ≡ false }
+{
+    array.rules();
+    let rows = rows_of_record(array, log, 1, array.rows() - row, most);
+    if is_row_spent(array, row + (rows - 1)) {
+        1
+    } else {
+        rows
+    }
+}
+
+/// The change by which a place's member is rebuilt up to a row: it ends the rebuild where none is left.
 fn next_change(array: &Array, place: u32, row: u64) -> Change
-    requires { row < rows_of array.now }
-    ensures change { result ≡ rebuilt_by array.now place ((row + 1) * 128) }
+    requires { row ≤ rows_of array.now }
+    ensures change { result ≡ rebuilt_by array.now place (row * 128) }
     ensures truth { is_truth result.truth ≡ true }
 {
     array.rules();
-    array.rebuilt_to(place, (row + 1) * CHUNK_SECTORS)
+    array.rebuilt_to(place, row * CHUNK_SECTORS)
 }
 
 /// The answer to so many rows of a rebuild: they are refused where the first can't be had.
@@ -88,10 +109,10 @@ pub fn rebuild_rows<R: Rack>(
     array.unsynced_rows();
     let position = array.position(place);
     let row = next_row(array, place);
-    let rows = 1;
-    let change = next_change(array, place, row);
+    let rows = rows_at_once(array, log, row, most);
+    let change = next_change(array, place, row + rows);
     array.stage(log, &change);
-    if !stage_member(array, rack, log, position, row) {
+    if !stage_member(array, rack, log, position, row, rows) {
         log.clear();
         return answer(array, row, rows);
     }

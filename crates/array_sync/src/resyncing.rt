@@ -3,14 +3,14 @@
 ghost use Rattle.std.specs.Prelude.{◌≡◌, ◌⊎◌, ◌<◌, ◌≤◌, ◌+◌, ◌-◌, ◌*◌, ℕ, List, [], length, true, false, is_ok, OnOk, IfOk, IfErr};
 ghost use Rattle.array_model.specs.View.{View, rows_of};
 ghost use Rattle.array_model.specs.Members.{HasSlices, first_of_row, row_layout};
-ghost use Rattle.log_laws.specs.View.{committed, emptied};
+ghost use Rattle.log_laws.specs.View.{committed, emptied, most_sectors};
 ghost use Rattle.log_laws.specs.Phases.{AreLogs};
 ghost use Rattle.array_core.specs.Pool.{Goes};
 ghost use Rattle.array_core.specs.Writing.{KeepsElsewhere};
 ghost use Rattle.sync_laws.specs.Rows.{lacks_row};
 ghost use Rattle.sync_laws.specs.Steps.{Steps, StepsRows, offset_after, resynced};
 
-use crate::rows::{lacks_row, stage_row};
+use crate::rows::{lacks_row, rows_of_record, stage_rows};
 use array_core::{Array, Spent};
 use commit_log::Log;
 use rack::{Places, Rack};
@@ -46,6 +46,27 @@ fn answer(array: &Array, row: u64, rows: u64) -> Result<u64, Spent>
     }
 }
 
+/// How many rows to resync by one commit: as many as a record of the log has, where each member counts in the last of them, and else
+/// one.
+fn rows_at_once(array: &Array, log: &Log, row: u64, most: u64) -> u64
+    requires row { row < rows_of array.now }
+    requires empty { log.now.added ≡ [] }
+    requires some { 0 < most }
+    ensures some { 0 < result }
+    ensures few { result ≤ most }
+    ensures left { row + result ≤ rows_of array.now }
+    ensures room { array.now.truth.raid_disks + 128 * result ≤ most_sectors }
+    ensures had { 1 < result → lacks_row array.now (row + (result - 1)) ≡ false }
+{
+    array.rules();
+    let rows = rows_of_record(array, log, 1, array.rows() - row, most);
+    if lacks_row(array, row + (rows - 1)) {
+        1
+    } else {
+        rows
+    }
+}
+
 /// Resyncs the next rows that are left, at least one and at most so many: a mirror's other members get the chunk of its first one, and of RAID-5 the parity is
 /// computed from the data. One commit of the log has the sectors of each member that is changed and the superblocks that leave the
 /// rows after them; those after the last row say that none is left. It is durable when the call returns, which answers how many rows
@@ -77,10 +98,10 @@ pub fn resync_rows<R: Rack>(
     array.rules();
     array.unsynced_rows();
     let row = array.resync_from();
-    let rows = 1;
+    let rows = rows_at_once(array, log, row, most);
     let change = array.resynced_to(offset_after(array, row + rows));
     array.stage(log, &change);
-    if !stage_row(array, rack, log, row) {
+    if !stage_rows(array, rack, log, row, rows) {
         log.clear();
         return answer(array, row, rows);
     }

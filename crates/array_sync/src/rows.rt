@@ -1,6 +1,6 @@
 //! The sectors of a row that are made of the others.
 
-ghost use Rattle.std.specs.Prelude.{◌≡◌, ◌<◌, ◌≤◌, ◌+◌, ◌*◌, ℕ, List, length, true, false, not, nat_lt};
+ghost use Rattle.std.specs.Prelude.{◌≡◌, ◌<◌, ◌≤◌, ◌+◌, ◌-◌, ◌*◌, ℕ, List, [], length, true, false, not, nat_lt};
 ghost use Rattle.rack.specs.Sequences.{OnlyReads};
 ghost use Rattle.raid_map.specs.LeftSymmetric.{row_at};
 ghost use Rattle.array_image.specs.Stripes.{width};
@@ -29,6 +29,25 @@ pub fn lacks_row(array: &Array, row: u64) -> bool
 {
     array.rules();
     array.wanting(row * CHUNK_SECTORS + (CHUNK_SECTORS - 1)) > 0
+}
+
+/// How many rows one commit can do: at least one, and at most as many as are left and as the caller says. A record of the log has so
+/// many members' rows beside the superblocks.
+pub(crate) fn rows_of_record(array: &Array, log: &Log, members: u32, left: u64, most: u64) -> u64
+    requires empty { log.now.added ≡ [] }
+    requires least { 0 < members }
+    requires members { members ≤ 16 }
+    requires left { 0 < left }
+    requires some { 0 < most }
+    ensures some { 0 < result }
+    ensures few { result ≤ most }
+    ensures left { result ≤ left }
+    ensures room { array.now.truth.raid_disks + members * 128 * result ≤ most_sectors }
+{
+    array.rules();
+    let room = u64::from(log.room() - array.truth().raid_disks);
+    let rows = room / (u64::from(members) * CHUNK_SECTORS);
+    rows.min(left).min(most)
 }
 
 /// Whether a member's sector is one of those that make the others of its row.
@@ -142,45 +161,38 @@ fn sum_sources<R: Rack>(
     true
 }
 
-/// Adds a member's sector to the log, unless it is one of those that make the others.
-fn stage_if(
-    array: &Array,
-    log: &mut Log,
-    sector: u64,
-    members: u32,
-    position: u32,
-    from: &[u8; 512],
-)
+/// The member whose sector is made of the others: one of each row is.
+fn made_at(array: &Array, sector: u64, members: u32) -> u32
     requires sector { sector < array.now.truth.size }
     requires members { members ≡ width (row_layout array.now sector) }
-    requires position { position < members }
+    ensures low { result < members }
+    ensures made { is_source array.now sector result ≡ false }
+    ensures only { (j : ℕ) → j < members → is_source array.now sector j ≡ false → j ≡ result }
+{
+    array.rules();
+    let mut made = 0;
+    for position in 0..members {
+        if !is_source(array, sector, members, position) {
+            made = position;
+        }
+    }
+    made
+}
+
+/// Adds the member's sector that is made of others to the log.
+fn stage_made(array: &Array, log: &mut Log, sector: u64, members: u32, from: &[u8; 512])
+    requires sector { sector < array.now.truth.size }
+    requires members { members ≡ width (row_layout array.now sector) }
     requires room { length log.old.added < most_sectors }
-    ensures added { AddsCopies array.now (λ t j. (t ≡ sector) × (j ≡ position) × (is_source array.now t j ≡ false)) (λ t u. u ≡ from.now) 1 log.old.added log.new.added }
+    ensures added { AddsCopies array.now (OfSector array.now sector members) (λ t u. u ≡ from.now) 1 log.old.added log.new.added }
     ensures log { log.new ≡ record log.old { added = log.new.added } }
 {
     array.rules();
-    if is_source(array, sector, members, position) {
-        return;
-    }
     let at = Target {
-        disk: array.slice_at(position),
+        disk: array.slice_at(made_at(array, sector, members)),
         sector: DATA_SECTOR + sector,
     };
     log.add(at, from);
-}
-
-/// Adds the members' sectors that are made of others to the log.
-fn stage_copies(array: &Array, log: &mut Log, sector: u64, members: u32, from: &[u8; 512])
-    requires sector { sector < array.now.truth.size }
-    requires members { members ≡ width (row_layout array.now sector) }
-    requires room { length log.old.added + 16 ≤ most_sectors }
-    ensures added { AddsCopies array.now (OfSector array.now sector members) (λ t u. u ≡ from.now) 16 log.old.added log.new.added }
-    ensures log { log.new ≡ record log.old { added = log.new.added } }
-{
-    array.rules();
-    for position in 0..members {
-        stage_if(array, log, sector, members, position, from);
-    }
 }
 
 /// Adds to the log what a resync changes of one sector of a row. The answer is false where a member can't be had.
@@ -188,11 +200,11 @@ fn stage_sector<R: Rack>(array: &mut Array, rack: &mut R, log: &mut Log, sector:
     requires slices { HasSlices array.old (R.seen rack.old) }
     requires sector { sector < array.old.truth.size }
     requires left { array.old.resync ≤ row_at sector }
-    requires room { length log.old.added + 16 ≤ most_sectors }
+    requires room { length log.old.added < most_sectors }
     ensures reads { OnlyReads (R.seen rack.old) (R.seen rack.new) }
     ensures notes { Notes array.old array.new (R.seen rack.old) (R.seen rack.new) }
     ensures runs { R.runs rack.old rack.new }
-    ensures added { result ≡ true → AddsCopies array.old (OfSector array.old sector (width (row_layout array.old sector))) (IsRowSum array.old (R.seen rack.old)) 16 log.old.added log.new.added }
+    ensures added { result ≡ true → AddsCopies array.old (OfSector array.old sector (width (row_layout array.old sector))) (IsRowSum array.old (R.seen rack.old)) 1 log.old.added log.new.added }
     ensures counts { result ≡ true → SourcesCount array.old sector (width (row_layout array.old sector)) }
     ensures lost { result ≡ false → 0 < wanting sector (members_of array.new) }
     ensures log { log.new ≡ record log.old { added = log.new.added } }
@@ -202,25 +214,32 @@ fn stage_sector<R: Rack>(array: &mut Array, rack: &mut R, log: &mut Log, sector:
     if !sum_sources(array, rack, sector, members, &mut sum) {
         return false;
     }
-    stage_copies(array, log, sector, members, &sum);
+    stage_made(array, log, sector, members, &sum);
     true
 }
 
-/// Adds to the log what a resync changes of the sectors of a row. The answer is false where a member can't be had.
-fn stage_sectors<R: Rack>(array: &mut Array, rack: &mut R, log: &mut Log, row: u64) -> bool
+/// Adds to the log what a resync changes of the sectors of so many rows. The answer is false where a member can't be had.
+fn stage_sectors<R: Rack>(
+    array: &mut Array,
+    rack: &mut R,
+    log: &mut Log,
+    row: u64,
+    rows: u64,
+) -> bool
     requires slices { HasSlices array.old (R.seen rack.old) }
-    requires row { row < rows_of array.old }
+    requires some { 0 < rows }
+    requires row { row + rows ≤ rows_of array.old }
     requires left { array.old.resync ≤ row }
-    requires room { length log.old.added + 2048 ≤ most_sectors }
+    requires room { length log.old.added + 128 * rows ≤ most_sectors }
     ensures reads { OnlyReads (R.seen rack.old) (R.seen rack.new) }
     ensures notes { Notes array.old array.new (R.seen rack.old) (R.seen rack.new) }
     ensures runs { R.runs rack.old rack.new }
-    ensures added { result ≡ true → AddsCopies array.old (OfRow array.old (row * 128) 128) (IsRowSum array.old (R.seen rack.old)) 2048 log.old.added log.new.added }
-    ensures lost { result ≡ false → lacks_row array.new row ≡ true }
+    ensures added { result ≡ true → AddsCopies array.old (OfRow array.old (row * 128) (128 * rows)) (IsRowSum array.old (R.seen rack.old)) (128 * rows) log.old.added log.new.added }
+    ensures lost { result ≡ false → lacks_row array.new (row + (rows - 1)) ≡ true }
     ensures log { log.new ≡ record log.old { added = log.new.added } }
 {
     array.rules();
-    for sector in row * CHUNK_SECTORS..row * CHUNK_SECTORS + CHUNK_SECTORS {
+    for sector in row * CHUNK_SECTORS..(row + rows) * CHUNK_SECTORS {
         if !stage_sector(array, rack, log, sector) {
             return false;
         }
@@ -228,21 +247,29 @@ fn stage_sectors<R: Rack>(array: &mut Array, rack: &mut R, log: &mut Log, row: u
     true
 }
 
-/// Adds to the log what a resync changes of a row. The answer is false where a member is missing, or not rebuilt past the row.
-pub(crate) fn stage_row<R: Rack>(array: &mut Array, rack: &mut R, log: &mut Log, row: u64) -> bool
+/// Adds to the log what a resync changes of so many rows. The answer is false where a member is missing, or not rebuilt past the last.
+pub(crate) fn stage_rows<R: Rack>(
+    array: &mut Array,
+    rack: &mut R,
+    log: &mut Log,
+    row: u64,
+    rows: u64,
+) -> bool
     requires slices { HasSlices array.old (R.seen rack.old) }
-    requires row { row < rows_of array.old }
+    requires some { 0 < rows }
+    requires row { row + rows ≤ rows_of array.old }
     requires left { array.old.resync ≤ row }
-    requires room { length log.old.added + 2048 ≤ most_sectors }
+    requires room { length log.old.added + 128 * rows ≤ most_sectors }
     ensures reads { OnlyReads (R.seen rack.old) (R.seen rack.new) }
     ensures notes { Notes array.old array.new (R.seen rack.old) (R.seen rack.new) }
     ensures runs { R.runs rack.old rack.new }
-    ensures added { result ≡ true → AddsCopies array.old (OfRow array.old (row * 128) 128) (IsRowSum array.old (R.seen rack.old)) 2048 log.old.added log.new.added }
-    ensures answer { result ≡ not (lacks_row array.new row) }
+    ensures added { result ≡ true → AddsCopies array.old (OfRow array.old (row * 128) (128 * rows)) (IsRowSum array.old (R.seen rack.old)) (128 * rows) log.old.added log.new.added }
+    ensures answer { result ≡ not (lacks_row array.new (row + (rows - 1))) }
     ensures log { log.new ≡ record log.old { added = log.new.added } }
 {
-    if !stage_sectors(array, rack, log, row) {
+    array.rules();
+    if !stage_sectors(array, rack, log, row, rows) {
         return false;
     }
-    !lacks_row(array, row)
+    !lacks_row(array, row + (rows - 1))
 }

@@ -1,10 +1,10 @@
 //! Rows of a young array that are left to zero.
 
-ghost use Rattle.std.specs.Prelude.{◌≡◌, ◌⊎◌, ◌<◌, ◌-◌, ◌*◌, ℕ, List, [], true, false, is_ok, OnOk, IfOk, IfErr};
+ghost use Rattle.std.specs.Prelude.{◌≡◌, ◌⊎◌, ◌<◌, ◌≤◌, ◌+◌, ◌-◌, ◌*◌, ℕ, List, [], true, false, is_ok, OnOk, IfOk, IfErr};
 ghost use Rattle.array_image.specs.SoundArray.{first_unsynced};
 ghost use Rattle.array_model.specs.View.{View, rows_of};
 ghost use Rattle.array_model.specs.Members.{HasSlices, first_of_row, row_layout};
-ghost use Rattle.log_laws.specs.View.{committed, emptied};
+ghost use Rattle.log_laws.specs.View.{committed, emptied, most_sectors};
 ghost use Rattle.log_laws.specs.Phases.{AreLogs};
 ghost use Rattle.array_core.specs.Pool.{Goes};
 ghost use Rattle.array_core.specs.Writing.{KeepsElsewhere};
@@ -12,6 +12,7 @@ ghost use Rattle.sync_laws.specs.Rows.{lacks_two};
 ghost use Rattle.sync_laws.specs.Steps.{Zeroes, ZeroesRows};
 
 use crate::resyncing::offset_after;
+use crate::rows::rows_of_record;
 use crate::zeros::{lacks_two, stage_zeros};
 use array_core::{Array, Spent};
 use commit_log::Log;
@@ -40,6 +41,27 @@ fn answer(array: &Array, row: u64, rows: u64) -> Result<u64, Spent>
         })
     } else {
         Ok(rows)
+    }
+}
+
+/// How many rows to zero by one commit: as many as a record of the log has, where at most one member doesn't count in the last of them,
+/// and else one.
+fn rows_at_once(array: &Array, log: &Log, row: u64, most: u64) -> u64
+    requires row { row < rows_of array.now }
+    requires empty { log.now.added ≡ [] }
+    requires some { 0 < most }
+    ensures some { 0 < result }
+    ensures few { result ≤ most }
+    ensures left { row + result ≤ rows_of array.now }
+    ensures room { array.now.truth.raid_disks + array.now.truth.raid_disks * 128 * result ≤ most_sectors }
+{
+    array.rules();
+    let members = array.truth().raid_disks;
+    let rows = rows_of_record(array, log, members, array.rows() - row, most);
+    if lacks_two(array, row + (rows - 1)) {
+        1
+    } else {
+        rows
     }
 }
 
@@ -73,14 +95,14 @@ pub fn zero_rows<R: Rack>(
 {
     array.rules();
     let row = next_row(array);
-    let rows = 1;
+    let rows = rows_at_once(array, log, row, most);
     if lacks_two(array, row) {
         log.clear();
         return answer(array, row, rows);
     }
     let change = array.resynced_to(offset_after(array, row + rows));
     array.stage(log, &change);
-    stage_zeros(array, log, row);
+    stage_zeros(array, log, row, rows);
     let lost = log.commit(rack, on);
     array.note_all(&lost);
     array.rules();

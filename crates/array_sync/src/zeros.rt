@@ -77,14 +77,27 @@ fn stage_if_counts(array: &Array, log: &mut Log, position: u32, row: u64)
 }
 
 /// Adds zeros for a row of each member that counts in it to the log.
-pub(crate) fn stage_zeros(array: &Array, log: &mut Log, row: u64)
+fn stage_row(array: &Array, log: &mut Log, row: u64)
     requires row { row < rows_of array.now }
-    requires room { length log.old.added + 2048 ≤ most_sectors }
-    ensures added { AddsCopies array.now (OfCounting array.now row array.now.truth.raid_disks) AreZeros 2048 log.old.added log.new.added }
+    requires room { length log.old.added + array.now.truth.raid_disks * 128 ≤ most_sectors }
+    ensures added { AddsCopies array.now (OfCounting array.now (row * 128) 128 array.now.truth.raid_disks) AreZeros (array.now.truth.raid_disks * 128) log.old.added log.new.added }
     ensures log { log.new ≡ record log.old { added = log.new.added } }
 {
     array.rules();
     for position in 0..array.truth().raid_disks {
         stage_if_counts(array, log, position, row);
+    }
+}
+
+/// Adds zeros for so many rows of each member that counts in them to the log.
+pub(crate) fn stage_zeros(array: &Array, log: &mut Log, first: u64, rows: u64)
+    requires rows { first + rows ≤ rows_of array.now }
+    requires room { length log.old.added + array.now.truth.raid_disks * 128 * rows ≤ most_sectors }
+    ensures added { AddsCopies array.now (OfCounting array.now (first * 128) (128 * rows) array.now.truth.raid_disks) AreZeros (array.now.truth.raid_disks * 128 * rows) log.old.added log.new.added }
+    ensures log { log.new ≡ record log.old { added = log.new.added } }
+{
+    array.rules();
+    for row in first..first + rows {
+        stage_row(array, log, row);
     }
 }

@@ -77,11 +77,14 @@ row_elsewhere v l on lost a b c few reads members commit =
 
 -- ---- the log's room
 
-pub staged_few : (u : View) (added : List Target) → IsArray u → u.truth.raid_disks ≤ 16 → AddsSupersOf u [] added → length added ≤ 16
-staged_few u added is_array most adds =
+pub staged_length : (u : View) (added : List Target) → IsArray u → AddsSupersOf u [] added → length added ≤ u.truth.raid_disks
+staged_length u added is_array adds =
     let few = supers_few u [] added is_array adds in
     let long : length added ≡ length adds.targets = ap length adds.appended in
-    omega (arith, few, long, most)
+    omega (arith, few, long)
+
+pub staged_few : (u : View) (added : List Target) → IsArray u → u.truth.raid_disks ≤ 16 → AddsSupersOf u [] added → length added ≤ 16
+staged_few u added is_array most adds = let few = staged_length u added is_array adds in omega (arith, few, most)
 
 pub some_added : (supers data_targets : List Target) → 0 < length supers → 0 < length (supers ++ data_targets)
 some_added supers data_targets some = let sum = length-append supers data_targets in omega (arith, some, sum)

@@ -1,5 +1,5 @@
 -- The targets of a row that are made of the others, one after the other.
-use Rattle.std.proofs.Common.{◌≡◌, ◌⊎◌, ℕ, ◌+◌, ◌-◌, ◌*◌, ◌<◌, ◌≤◌, Bool, true, false, ◌&&◌, ◌||◌, not, List, [], ◌∷◌, ◌++◌, length, refl, sym, ap, subst, ◌∙◌, inl, inr, append_assoc, append-nil, arith}
+use Rattle.std.proofs.Common.{◌≡◌, ◌⊎◌, ℕ, ◌+◌, ◌-◌, ◌<◌, ◌≤◌, Bool, true, false, ◌&&◌, ◌||◌, not, List, [], ◌∷◌, ◌++◌, length, refl, sym, ap, subst, ◌∙◌, inl, inr, append_assoc, append-nil, arith}
 use Rattle.std.proofs.lemmas.Bool.{both_ways, and_parts, cases_lt}
 use Rattle.std.proofs.lemmas.List.{length-append}
 use Rattle.std.specs.List.{list_any}
@@ -201,43 +201,40 @@ copies_by v u one two here there m n xs ys same fewer onto back bytes adds =
 source_then : (v u : View) (t j : ℕ) → IsSameButSeats v u → is_source u t j ≡ is_source v t j
 source_then v u t j same = ap (λ (l : Layout). makes_others l t j) (row_layout_then v u t same.truth)
 
--- one member more at a sector
-pub copies_next : (v : View) (sector k : ℕ) (from : List ℕ) (xs ys zs : List Target) → IsArray v
-    → AddsCopies v (OfSector v sector k) (λ t u. u ≡ from) k xs ys
-    → AddsCopies v (λ t j. (t ≡ sector) × (j ≡ k) × (is_source v t j ≡ false)) (λ t u. u ≡ from) 1 ys zs
-    → AddsCopies v (OfSector v sector (k + 1)) (λ t u. u ≡ from) (k + 1) xs zs
-copies_next v sector k from xs ys zs is_array =
-    copies_then v (OfSector v sector k) (λ t j. (t ≡ sector) × (j ≡ k) × (is_source v t j ≡ false)) (OfSector v sector (k + 1)) (λ t u. u ≡ from) k 1 xs ys zs is_array
-    (λ t j is. let low = is.1 in (is.0, omega (arith, low), is.2))
-    (λ t j is. let low = is.1 in (is.0, omega (arith, low), is.2))
-    (λ t j is. elim (cases_lt j k) [ inl less ↦ inl (is.0, less, is.2) | inr more ↦ (let low = is.1 in inr (is.0, omega (arith, low, more), is.2)) ])
-    (λ t j one two. let low = one.1 in let at = two.1 in omega (arith, low, at))
+-- the member of a sector that is made of others
+pub copy_made : (v : View) (sector members made : ℕ) (from : List ℕ) (xs ys : List Target) → IsArray v → members ≡ width (row_layout v sector) → made < members → is_source v sector made ≡ false
+    → ((j : ℕ) → j < members → is_source v sector j ≡ false → j ≡ made) → length from ≡ 512 → ys ≡ xs ++ target (slice_on v made) (data_sector + sector) from ∷ []
+    → AddsCopies v (OfSector v sector members) (λ t u. u ≡ from) 1 xs ys
+copy_made v sector members made from xs ys is_array members_is low is only long added =
+    let most = (row_layout_is v sector is_array).most in
+    one_target v (OfSector v sector members) (λ t u. u ≡ from) sector made from xs ys (omega (arith, members_is, low, most)) long (refl, low, is)
+    (λ t j inside. (inside.0, only j inside.1 (ap (λ s. is_source v s j) (sym inside.0) ∙ inside.2))) refl added
 
 -- the sector of a view before losses, with what its members held then
 pub sector_copies : (v u : View) (a b : Seen) (sector : ℕ) (from : List ℕ) (xs ys : List Target) → Notes v u a b → IsRowSum v a sector from
-    → AddsCopies u (OfSector u sector (width (row_layout u sector))) (λ t w. w ≡ from) 16 xs ys
-    → AddsCopies v (OfSector v sector (width (row_layout v sector))) (IsRowSum v a) 16 xs ys
+    → AddsCopies u (OfSector u sector (width (row_layout u sector))) (λ t w. w ≡ from) 1 xs ys
+    → AddsCopies v (OfSector v sector (width (row_layout v sector))) (IsRowSum v a) 1 xs ys
 sector_copies v u a b sector from xs ys notes sum =
     let same = notes.same in
     let layout = row_layout_then v u sector same.truth in
-    copies_by v u (OfSector u sector (width (row_layout u sector))) (OfSector v sector (width (row_layout v sector))) (λ t w. w ≡ from) (IsRowSum v a) 16 16 xs ys same (omega arith)
+    copies_by v u (OfSector u sector (width (row_layout u sector))) (OfSector v sector (width (row_layout v sector))) (λ t w. w ≡ from) (IsRowSum v a) 1 1 xs ys same (omega arith)
     (λ t j is. (is.0, subst (λ (l : Layout). j < width l) layout is.1, sym (source_then v u t j same) ∙ is.2))
     (λ t j is. (is.0, subst (λ (l : Layout). j < width l) (sym layout) is.1, source_then v u t j same ∙ is.2))
     (λ t j w is bytes. subst (λ i. IsRowSum v a i w) (sym is.0) (subst (λ x. IsRowSum v a sector x) (sym bytes) sum))
 
 -- one sector more of a row, read by a view after losses
 pub row_next : (v u : View) (a b : Seen) (first many : ℕ) (xs ys zs : List Target) → IsArray v → a.lasting → OnlyReads a b → Notes v u a b
-    → AddsCopies v (OfRow v first many) (IsRowSum v a) (many * 16) xs ys
-    → AddsCopies u (OfSector u (first + many) (width (row_layout u (first + many)))) (IsRowSum u b) 16 ys zs
+    → AddsCopies v (OfRow v first many) (IsRowSum v a) many xs ys
+    → AddsCopies u (OfSector u (first + many) (width (row_layout u (first + many)))) (IsRowSum u b) 1 ys zs
     → SourcesCount v (first + many) (width (row_layout v (first + many)))
-    → AddsCopies v (OfRow v first (many + 1)) (IsRowSum v a) ((many + 1) * 16) xs zs
+    → AddsCopies v (OfRow v first (many + 1)) (IsRowSum v a) (many + 1) xs zs
 row_next v u a b first many xs ys zs is_array lasting reads notes so_far one counts =
     let same = notes.same in
     let sector = first + many in
     let layout = row_layout_then v u sector same.truth in
     let most = (row_layout_is v sector is_array).most in
-    let here : AddsCopies v (OfSector v sector (width (row_layout v sector))) (IsRowSum v a) 16 ys zs =
-    copies_by v u (OfSector u sector (width (row_layout u sector))) (OfSector v sector (width (row_layout v sector))) (IsRowSum u b) (IsRowSum v a) 16 16 ys zs same (omega arith)
+    let here : AddsCopies v (OfSector v sector (width (row_layout v sector))) (IsRowSum v a) 1 ys zs =
+    copies_by v u (OfSector u sector (width (row_layout u sector))) (OfSector v sector (width (row_layout v sector))) (IsRowSum u b) (IsRowSum v a) 1 1 ys zs same (omega arith)
     (λ t j is. (is.0, subst (λ (l : Layout). j < width l) layout is.1, sym (source_then v u t j same) ∙ is.2))
     (λ t j is. (is.0, subst (λ (l : Layout). j < width l) (sym layout) is.1, source_then v u t j same ∙ is.2))
     (λ t j w is bytes.
@@ -247,7 +244,7 @@ row_next v u a b first many xs ys zs is_array lasting reads notes so_far one cou
     ∙ ap (λ (l : Layout). row_sum u (current_in b.held) sector (width l)) layout
     ∙ sum_kept v u a b sector (width (row_layout v sector)) lasting reads notes most counts opened))
     one in
-    let joined = copies_then v (OfRow v first many) (OfSector v sector (width (row_layout v sector))) (OfRow v first (many + 1)) (IsRowSum v a) (many * 16) 16 xs ys zs is_array
+    copies_then v (OfRow v first many) (OfSector v sector (width (row_layout v sector))) (OfRow v first (many + 1)) (IsRowSum v a) many 1 xs ys zs is_array
     (λ t j is. let low = is.1 in (is.0, omega (arith, low), is.2, is.3))
     (λ t j is. let at = is.0 in (omega (arith, at), omega (arith, at), subst (λ i. j < width (row_layout v i)) (sym is.0) is.1, is.2))
     (λ t j is. elim (cases_lt t (first + many)) [
@@ -258,8 +255,7 @@ row_next v u a b first many xs ys zs is_array lasting reads notes so_far one cou
           inr (at, subst (λ i. j < width (row_layout v i)) at is.2, is.3)
     ])
     (λ t j before now. let low = before.1 in let at = now.0 in omega (arith, low, at))
-    so_far here in
-    subst (λ n. AddsCopies v (OfRow v first (many + 1)) (IsRowSum v a) n xs zs) (let e : many * 16 + 16 ≡ (many + 1) * 16 = omega arith in e) joined
+    so_far here
 
 -- how many there are
 pub added_length : (v : View) (within : ℕ → ℕ → Type 0) (bytes : ℕ → List ℕ → Type 0) (many : ℕ) (xs ys : List Target) → AddsCopies v within bytes many xs ys
@@ -271,10 +267,10 @@ added_length v within bytes many xs ys adds =
 
 -- the same, by the sector that comes next
 pub row_step : (v u : View) (a b : Seen) (first sector : ℕ) (xs ys zs : List Target) → IsArray v → a.lasting → OnlyReads a b → Notes v u a b → first ≤ sector
-    → AddsCopies v (OfRow v first (sector - first)) (IsRowSum v a) ((sector - first) * 16) xs ys
-    → AddsCopies u (OfSector u sector (width (row_layout u sector))) (IsRowSum u b) 16 ys zs
+    → AddsCopies v (OfRow v first (sector - first)) (IsRowSum v a) (sector - first) xs ys
+    → AddsCopies u (OfSector u sector (width (row_layout u sector))) (IsRowSum u b) 1 ys zs
     → SourcesCount u sector (width (row_layout u sector))
-    → AddsCopies v (OfRow v first (sector + 1 - first)) (IsRowSum v a) ((sector + 1 - first) * 16) xs zs
+    → AddsCopies v (OfRow v first (sector + 1 - first)) (IsRowSum v a) (sector + 1 - first) xs zs
 row_step v u a b first sector xs ys zs is_array lasting reads notes least so_far one counts =
     let many = sector - first in
     let at : first + many ≡ sector = omega (arith, least) in
@@ -283,7 +279,7 @@ row_step v u a b first sector xs ys zs is_array lasting reads notes least so_far
     let counted : SourcesCount v sector (width (row_layout v sector)) =
     λ j low is.
     counted_before v u a b j sector notes (counts j (subst (λ (l : Layout). j < width l) (sym layout) low) (source_then v u sector j notes.same ∙ is)) in
-    subst (λ n. AddsCopies v (OfRow v first n) (IsRowSum v a) (n * 16) xs zs) next
+    subst (λ n. AddsCopies v (OfRow v first n) (IsRowSum v a) n xs zs) next
     (row_next v u a b first many xs ys zs is_array lasting reads notes so_far
-    (subst (λ s. AddsCopies u (OfSector u s (width (row_layout u s))) (IsRowSum u b) 16 ys zs) (sym at) one)
+    (subst (λ s. AddsCopies u (OfSector u s (width (row_layout u s))) (IsRowSum u b) 1 ys zs) (sym at) one)
     (subst (λ s. SourcesCount v s (width (row_layout v s))) (sym at) counted))

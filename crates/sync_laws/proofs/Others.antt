@@ -15,7 +15,8 @@ use Rattle.array_model.proofs.RowWrites.{part_on}
 use Rattle.array_model.proofs.Spared.{at_most_one, synced_row}
 use Rattle.array_model.proofs.Views.{member_then, shape_members}
 use Rattle.array_core.specs.Superblocks.{adopted}
-use Rattle.sync_laws.specs.Rows.{others_give, row_spent}
+use Rattle.sync_laws.specs.Rows.{lacks_row, others_give, row_spent}
+use Rattle.sync_laws.proofs.Agreeing.{all_counts}
 use Rattle.sync_laws.proofs.Rebuilt.{IsRebuilding, next_same, other_kept, place_of_other, reach_before, row_change}
 use Rattle.sync_laws.proofs.Summing.{lacks_one}
 
@@ -173,6 +174,36 @@ give_unless v place p row at apart low lacks =
 
 -- ---- before and after losses and the change
 
+-- a member that counts anywhere has lost nothing
+pub reach_kept : (v z : View) (lost : ℕ → Bool) (k t : ℕ) → z.truth ≡ v.truth → LosesPlaces v z lost → t < (member_on z k).reach → (member_on z k).reach ≡ (member_on v k).reach
+reach_kept v z lost k t truth loses counts =
+    let is = member_then v z lost k truth loses in
+    ap (λ (m : Member). m.reach) is ∙ kept (lost (place_at v k)) (subst (λ (m : Member). t < m.reach) is counts)
+  where
+    kept : (b : Bool) → t < (if b then 0 else (member_on v k).reach) → (if b then 0 else (member_on v k).reach) ≡ (member_on v k).reach
+    kept true less = absurd (omega (arith, less))
+    kept false less = refl
+
+-- where all members counted in a later row, a row that lacks one now lacks it from an earlier one on
+pub lacks_first : (v z : View) (lost : ℕ → Bool) (first last : ℕ) → z.truth ≡ v.truth → LosesPlaces v z lost → lacks_row v last ≡ false → lacks_row z last ≡ true → lacks_row z first ≡ true
+lacks_first v z lost first last truth loses counted lacks = by (lacks_row z first) refl
+  where
+    count : z.truth.raid_disks ≡ v.truth.raid_disks
+    count = ap (λ (t : Super). t.raid_disks) truth
+
+    each : lacks_row z first ≡ false → (j : ℕ) → j < z.truth.raid_disks → last * 128 + 127 < (member_on z j).reach
+    each whole j low =
+        let here = all_counts z first j (first * 128) whole low (omega arith) in
+        let same = reach_kept v z lost j (first * 128) truth loses here in
+        let disks = count in
+        let before = all_counts v last j (last * 128 + 127) counted (omega (arith, low, disks)) (omega arith) in
+        omega (arith, same, before)
+
+    by : (b : Bool) → lacks_row z first ≡ b → lacks_row z first ≡ true
+    by true is = is
+    by false is =
+        absurd (both_ways (lacks_row z last) (ap (nat_lt 0) (none_wants (member_on z) (last * 128 + 127) 0 z.truth.raid_disks (λ j least most. each is j (omega (arith, most))))) lacks)
+
 -- a member that doesn't count never does again
 pub stays_lacking : (v z : View) (lost : ℕ → Bool) (k t : ℕ) → z.truth ≡ v.truth → LosesPlaces v z lost → nat_lt t (member_on v k).reach ≡ false → nat_lt t (member_on z k).reach ≡ false
 stays_lacking v z lost k t truth loses none =
@@ -182,7 +213,7 @@ stays_lacking v z lost k t truth loses none =
     by true = le-ltb t 0 (omega arith)
     by false = none
 
-module _ (v : View) (place p to : ℕ) (is : IsRebuilding v place p to) (z : View) (same : IsSameButSeats v z) (lost : ℕ → Bool) (loses : LosesPlaces v z lost) where
+module _ (v : View) (place p to rows : ℕ) (is : IsRebuilding v place p to rows) (z : View) (same : IsSameButSeats v z) (lost : ℕ → Bool) (loses : LosesPlaces v z lost) where
   place_now : (k : ℕ) → place_at z k ≡ place_at v k
   place_now k = ap (λ (t : Super). place_at (record z { truth = t }) k) same.truth
 
@@ -192,7 +223,7 @@ module _ (v : View) (place p to : ℕ) (is : IsRebuilding v place p to) (z : Vie
   -- the row that is rebuilt
   pub lacks_now : (row : ℕ) → to ≤ row * 128 → nat_lt (row * 128 + 127) (member_on z p).reach ≡ false
   lacks_now row past =
-      let reach = reach_before v place p to is in
+      let reach = reach_before v place p to rows is in
       stays_lacking v z lost p (row * 128 + 127) same.truth loses (le-ltb (row * 128 + 127) (member_on v p).reach (omega (arith, reach, past)))
 
   pub give_now : (row : ℕ) → to ≤ row * 128 → others_give z place row ≡ not (row_spent z row)
@@ -200,15 +231,39 @@ module _ (v : View) (place p to : ℕ) (is : IsRebuilding v place p to) (z : Vie
       let low = is.low in
       let disks = count in
       give_unless z place p row (place_now p ∙ is.at)
-      (λ j inside other at. place_of_other v place p to is j (omega (arith, inside, disks)) other (sym (place_now j) ∙ at))
+      (λ j inside other at. place_of_other v place p to rows is j (omega (arith, inside, disks)) other (sym (place_now j) ∙ at))
       (omega (arith, low, disks)) (lacks_now row past)
 
+  -- where the others gave a later row, a row that is spent now is so from an earlier one on
+  pub spent_first : (first last : ℕ) → to ≤ first * 128 → first ≤ last → row_spent v last ≡ false → row_spent z last ≡ true → row_spent z first ≡ true
+  spent_first first last past order given spent = by (row_spent z first) refl
+    where
+      others : row_spent z first ≡ false → OthersGive z p last
+      others unspent =
+          let low = is.low in
+          let disks = count in
+          let reach = reach_before v place p to rows is in
+          let now = unspent_others z p first (omega (arith, low, disks)) (lacks_now first past) unspent in
+          let before = unspent_others v p last is.low (le-ltb (last * 128 + 127) (member_on v p).reach (omega (arith, reach, past, order))) given in
+          record {
+            counts = λ j inside other.
+                let here = now.counts j inside other in
+                let same_reach = reach_kept v z lost j (first * 128 + 127) same.truth loses here in
+                let there = before.counts j (omega (arith, inside, disks)) other in
+                omega (arith, same_reach, there);
+            synced = (let synced = before.synced in let kept = same.resync in omega (arith, synced, kept));
+          }
+
+      by : (b : Bool) → row_spent z first ≡ b → row_spent z first ≡ true
+      by true is_spent = is_spent
+      by false unspent = absurd (both_ways (row_spent z last) (others_unspent z p last (others unspent)) spent)
+
   -- the change leaves the others
-  pub give_after : IsArray z → (row : ℕ) → others_give (adopted (row_change v place) z) place row ≡ others_give z place row
+  pub give_after : IsArray z → (row : ℕ) → others_give (adopted (row_change v place rows) z) place row ≡ others_give z place row
   give_after z_array row =
       let t = row * 128 + 127 in
-      let w = adopted (row_change v place) z in
-      let kept = next_same v place p to is z z_array same in
+      let w = adopted (row_change v place rows) z in
+      let kept = next_same v place p to rows is z z_array same in
       ap₂ (λ (b c : Bool). b && c)
       (same_tests (member_on w) (member_on z) (gives place t) 0 v.truth.raid_disks (λ j least most. test z_array t j)
       ∙ ap (λ (n : ℕ). list_all (gives place t) (map (member_on z) (range_with_len 0 n))) (sym count))
@@ -218,10 +273,10 @@ module _ (v : View) (place p to : ℕ) (is : IsRebuilding v place p to) (z : Vie
       by_place t q true n m here kept = ap (λ (b : Bool). b || nat_lt t n) here ∙ sym (ap (λ (b : Bool). b || nat_lt t m) here)
       by_place t q false n m here kept = ap (λ (k : ℕ). (q == place) || nat_lt t k) (kept refl)
 
-      test : IsArray z → (t j : ℕ) → gives place t (member_on (adopted (row_change v place) z) j) ≡ gives place t (member_on z j)
+      test : IsArray z → (t j : ℕ) → gives place t (member_on (adopted (row_change v place rows) z) j) ≡ gives place t (member_on z j)
       test z_array t j =
-          by_place t (place_at v j) (place_at v j == place) (member_on (adopted (row_change v place) z) j).reach (member_on z j).reach refl
+          by_place t (place_at v j) (place_at v j == place) (member_on (adopted (row_change v place rows) z) j).reach (member_on z j).reach refl
           (λ other.
-          ap (λ (o : Option Seat). option_map_or (seat_reach v.truth.size) o 0) (other_kept v place p to is z z_array same j (λ at. both_ways (place_at v j == place) other (eq-eqb (place_at v j) place at)))
+          ap (λ (o : Option Seat). option_map_or (seat_reach v.truth.size) o 0) (other_kept v place p to rows is z z_array same j (λ at. both_ways (place_at v j == place) other (eq-eqb (place_at v j) place at)))
           ∙ ap (λ (u : Super). option_map_or (seat_reach u.size) (slice_get z.seats j) 0) (sym same.truth))
           ∙ ap (λ (q : ℕ). (q == place) || nat_lt t (member_on z j).reach) (sym (place_now j))

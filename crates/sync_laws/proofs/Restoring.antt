@@ -1,5 +1,5 @@
 -- A member's row that the others give: what is read, and the targets that are made of it.
-use Rattle.std.proofs.Common.{◌≡◌, ℕ, zero, suc, ◌+◌, ◌-◌, ◌*◌, ◌<◌, ◌≤◌, Bool, true, false, ◌&&◌, ◌||◌, not, nat_lt, if◌then◌else◌, List, [], ◌∷◌, ◌++◌, map, take, length, refl, sym, ap, ap₂, subst, ◌∙◌, inl, inr, lt-ltb, arith}
+use Rattle.std.proofs.Common.{◌≡◌, ℕ, zero, suc, ◌+◌, ◌-◌, ◌*◌, ◌<◌, ◌≤◌, Bool, true, false, ◌&&◌, ◌||◌, not, nat_lt, if◌then◌else◌, List, [], ◌∷◌, ◌++◌, map, take, length, refl, sym, ap, ap₂, subst, ◌∙◌, inl, inr, lt-ltb, ltb-true, arith}
 use Rattle.std.proofs.lemmas.Bool.{both_ways, cases_eq, cases_lt}
 use Rattle.std.specs.List.{range_with_len}
 use Rattle.rack.specs.Seen.{Image, Seen}
@@ -124,19 +124,31 @@ given_before v u a b p t x is_array lasting reads notes low lacks few is opened 
     ∙ given_kept v u a b (row_layout u t) t p lasting reads notes.same notes.lost notes.loses opened
     ∙ given_left v u (current_in a.held) notes.lost p t is_array notes.same notes.loses low lacks (few inside)
 
--- a row of which a sector can't be had
-pub spent_at_last : (w : View) (row t : ℕ) → row * 128 ≤ t → t < row * 128 + 128 → spent_with (wanting t (members_of w)) (nat_lt (row_at t) w.resync) ≡ true → row_spent w row ≡ true
-spent_at_last w row t least most is =
-    let here : row_at t ≡ row = omega (arith, least, most) in
+-- a row of which a sector can't be had, or one of a row before it
+pub spent_at_last : (w : View) (row t : ℕ) → t < row * 128 + 128 → spent_with (wanting t (members_of w)) (nat_lt (row_at t) w.resync) ≡ true → row_spent w row ≡ true
+spent_at_last w row t most is =
     let later = wanting_later t (row * 128 + 127) (members_of w) (omega (arith, most)) in
-    more (wanting t (members_of w)) (wanting (row * 128 + 127) (members_of w)) (nat_lt row w.resync) later
-    (subst (λ (r : ℕ). spent_with (wanting t (members_of w)) (nat_lt r w.resync) ≡ true) here is)
+    by (nat_lt row w.resync) refl later
   where
     more : (n m : ℕ) (synced : Bool) → n ≤ m → spent_with n synced ≡ true → spent_with m synced ≡ true
     more n zero synced low is = let none : n ≡ 0 = omega (arith, low) in absurd (both_ways true (sym is ∙ ap (λ (k : ℕ). spent_with k synced) none) refl)
     more zero (suc m) synced low is = absurd (both_ways false refl is)
     more (suc n) (suc zero) synced low is = let none : n ≡ 0 = omega (arith, low) in subst (λ (k : ℕ). spent_with (suc k) synced ≡ true) none is
     more (suc n) (suc (suc m)) synced low is = ap (λ (b : Bool). b || (nat_lt 0 (suc (suc m)) && not synced)) (lt-ltb 1 (suc (suc m)) (omega arith))
+
+    left : (n : ℕ) (synced : Bool) → spent_with n synced ≡ true → spent_with n false ≡ true
+    left zero synced is = absurd (both_ways false refl is)
+    left (suc zero) synced is = refl
+    left (suc (suc n)) synced is = ap (λ (b : Bool). b || (nat_lt 0 (suc (suc n)) && not false)) (lt-ltb 1 (suc (suc n)) (omega arith))
+
+    by : (b : Bool) → nat_lt row w.resync ≡ b → wanting t (members_of w) ≤ wanting (row * 128 + 127) (members_of w) → row_spent w row ≡ true
+    by true synced later =
+        let low = ltb-true row w.resync synced in
+        more (wanting t (members_of w)) (wanting (row * 128 + 127) (members_of w)) (nat_lt row w.resync) later
+        (subst (λ (b : Bool). spent_with (wanting t (members_of w)) b ≡ true) (lt-ltb (row_at t) w.resync (omega (arith, most, low)) ∙ sym synced) is)
+    by false synced later =
+        more (wanting t (members_of w)) (wanting (row * 128 + 127) (members_of w)) (nat_lt row w.resync) later
+        (subst (λ (b : Bool). spent_with (wanting t (members_of w)) b ≡ true) (sym synced) (left (wanting t (members_of w)) (nat_lt (row_at t) w.resync) is))
 
 -- ---- its targets
 

@@ -1,4 +1,4 @@
--- What the targets of a resynced row owe.
+-- What the targets of resynced rows owe.
 use Rattle.std.proofs.Common.{◌≡◌, ℕ, ◌+◌, ◌*◌, ◌<◌, ◌≤◌, Bool, true, false, not, if◌then◌else◌, List, map, take, length, Option, Some, None, unwrap_or, refl, sym, ap, subst, ◌∙◌, inl, inr, eq-eqb, lt-ltb, arith}
 use Rattle.std.proofs.lemmas.Bool.{both_ways, cases_lt, ne_eqb}
 use Rattle.std.specs.List.{range_with_len}
@@ -39,19 +39,20 @@ use Rattle.sync_laws.specs.Rows.{AreCopies, IsRowSum, OfRow, is_source, lacks_ro
 use Rattle.sync_laws.proofs.Agreeing.{all_counts, first_alone, row_layout_at, source_at_position, sum_put, taken}
 use Rattle.sync_laws.proofs.Owed.{RowMoves, none_or, source_wants}
 use Rattle.sync_laws.proofs.Summing.{sum_kept, wanting_later}
+use Rattle.sync_laws.proofs.Views.{last_row}
 
 -- where a target is
-record IsMade (v : View) (d t : ℕ) : Type 0 where
+record IsMade (v : View) (rows d t : ℕ) : Type 0 where
   position : ℕ
   disk : d ≡ slice_on v position
   first : v.resync * 128 ≤ t
-  last : t < v.resync * 128 + 128
+  last : t < v.resync * 128 + 128 * rows
   low : position < width (row_layout v t)
   made : is_source v t position ≡ false
 
-module _ (v : View) (a b : Seen) (xs : List Target) (is_array : IsArray v) (lasting : a.lasting) (reads : OnlyReads a b)
-    (lacks : lacks_row v v.resync ≡ false)
-    (copies : AreCopies v (OfRow v (v.resync * 128) 128) (IsRowSum v a) xs)
+module _ (v : View) (rows : ℕ) (some : 0 < rows) (a b : Seen) (xs : List Target) (is_array : IsArray v) (lasting : a.lasting) (reads : OnlyReads a b)
+    (lacks : lacks_row v (last_row v rows) ≡ false)
+    (copies : AreCopies v (OfRow v (v.resync * 128) (128 * rows)) (IsRowSum v a) xs)
     (opened : IsOpen (shape_of v) v.number a)
     (sized : (m : Member) (t : ℕ) → Among m (shape_of v).members → t < m.reach → length (current_in b.held (member_slice m.place v.number) (data_sector + t)) ≡ 512) where
   abbrev n : ℕ
@@ -63,22 +64,22 @@ module _ (v : View) (a b : Seen) (xs : List Target) (is_array : IsArray v) (last
   abbrev now : Image
   now = written xs (current_in b.held)
 
-  counts_in : (j t : ℕ) → j < v.truth.raid_disks → t < v.resync * 128 + 128 → t < (member_on v j).reach
-  counts_in j t low inside = all_counts v v.resync j t lacks low inside
+  counts_in : (j t : ℕ) → j < v.truth.raid_disks → t < v.resync * 128 + 128 * rows → t < (member_on v j).reach
+  counts_in j t low inside = all_counts v (last_row v rows) j t lacks low (omega (arith, inside, some))
 
   -- of the row's layout
   in_layout : (y j : ℕ) → j < width (layout_at (shape_of v) y) → j < v.truth.raid_disks
   in_layout y j low = let most = (layout_is v y is_array).most in omega (arith, low, most)
 
-  made_at : (d t : ℕ) (u : List ℕ) → look xs d (data_sector + t) ≡ Some u → IsMade v d t
+  made_at : (d t : ℕ) (u : List ℕ) → look xs d (data_sector + t) ≡ Some u → IsMade v rows d t
   made_at d t u is =
       let at = copies.on d (data_sector + t) u (look_payload xs d (data_sector + t) u is) in
       let same : at.sector ≡ t = (let sector = at.at in omega (arith, sector)) in
-      let inside : OfRow v (v.resync * 128) 128 t at.position = subst (λ i. OfRow v (v.resync * 128) 128 i at.position) same at.inside in
+      let inside : OfRow v (v.resync * 128) (128 * rows) t at.position = subst (λ i. OfRow v (v.resync * 128) (128 * rows) i at.position) same at.inside in
       record { position = at.position; disk = at.disk; first = inside.0; last = inside.1; low = inside.2; made = inside.3 }
 
   -- a member that is made of the others has their sum
-  target_is : (y j : ℕ) → v.resync * 128 ≤ sector_at (shape_of v) y → sector_at (shape_of v) y < v.resync * 128 + 128 → j < width (layout_at (shape_of v) y)
+  target_is : (y j : ℕ) → v.resync * 128 ≤ sector_at (shape_of v) y → sector_at (shape_of v) y < v.resync * 128 + 128 * rows → j < width (layout_at (shape_of v) y)
       → makes_others (layout_at (shape_of v) y) (sector_at (shape_of v) y) j ≡ false
       → look xs (slice_on v j) (data_sector + sector_at (shape_of v) y) ≡ Some (row_sum v (current_in b.held) (sector_at (shape_of v) y) (width (layout_at (shape_of v) y)))
   target_is y j first last low made =
@@ -141,8 +142,9 @@ module _ (v : View) (a b : Seen) (xs : List Target) (is_array : IsArray v) (last
             let more = wanting_take (width layout) t shape.members in
             let all : wanting t shape.members ≡ wanting t (members_of v) = ap (wanting t) (shape_members v) in
             let last = made.last in
-            let later = wanting_later t (v.resync * 128 + 127) (members_of v) (omega (arith, last)) in
-            both_ways (lacks_row v v.resync) lacks (lt-ltb 0 (wanting (v.resync * 128 + 127) (members_of v)) (omega (arith, wants, more, all, later))))))
+            let end = last_row v rows in
+            let later = wanting_later t (end * 128 + 127) (members_of v) (omega (arith, last, some)) in
+            both_ways (lacks_row v end) lacks (lt-ltb 0 (wanting (end * 128 + 127) (members_of v)) (omega (arith, wants, more, all, later))))))
       ] in
       goal refl
 
@@ -151,11 +153,11 @@ module _ (v : View) (a b : Seen) (xs : List Target) (is_array : IsArray v) (last
   abbrev piece : ℕ → ℕ → List ℕ
   piece t j = now (slice_on v j) (data_sector + t)
 
-  member_sized : (t j : ℕ) → j < v.truth.raid_disks → t < v.resync * 128 + 128 → length (cur (slice_on v j) (data_sector + t)) ≡ 512
+  member_sized : (t j : ℕ) → j < v.truth.raid_disks → t < v.resync * 128 + 128 * rows → length (cur (slice_on v j) (data_sector + t)) ≡ 512
   member_sized t j low last =
       sized (member_on v j) t (subst (λ (ms : List Member). Among (member_on v j) ms) (sym (shape_members v)) (member_among v j v.truth.raid_disks low)) (counts_in j t low last)
 
-  source_sized : (y j : ℕ) → j < width (layout_at (shape_of v) y) → sector_at (shape_of v) y < v.resync * 128 + 128
+  source_sized : (y j : ℕ) → j < width (layout_at (shape_of v) y) → sector_at (shape_of v) y < v.resync * 128 + 128 * rows
       → length (source_sector v cur (sector_at (shape_of v) y) j) ≡ 512
   source_sized y j low last =
       let t = sector_at (shape_of v) y in
@@ -183,7 +185,7 @@ module _ (v : View) (a b : Seen) (xs : List Target) (is_array : IsArray v) (last
       both_ways (is_source v t made.position) made.made (subst (λ k. is_source v t k ≡ true) same source)))
       ∙ sym (ap (λ (s : Bool). if s then cur (slice_on v j) (data_sector + t) else zeros 512) source)
 
-  piece_made : (y j : ℕ) → v.resync * 128 ≤ sector_at (shape_of v) y → sector_at (shape_of v) y < v.resync * 128 + 128 → j < width (layout_at (shape_of v) y)
+  piece_made : (y j : ℕ) → v.resync * 128 ≤ sector_at (shape_of v) y → sector_at (shape_of v) y < v.resync * 128 + 128 * rows → j < width (layout_at (shape_of v) y)
       → makes_others (layout_at (shape_of v) y) (sector_at (shape_of v) y) j ≡ false
       → piece (sector_at (shape_of v) y) j ≡ row_sum v cur (sector_at (shape_of v) y) (width (layout_at (shape_of v) y))
   piece_made y j first last low made =
@@ -196,7 +198,7 @@ module _ (v : View) (a b : Seen) (xs : List Target) (is_array : IsArray v) (last
   unfolding row_sum
   sum_is t k = refl
 
-  row_agrees : (y : ℕ) (layout : Layout) → layout_at (shape_of v) y ≡ layout → v.resync * 128 ≤ sector_at (shape_of v) y → sector_at (shape_of v) y < v.resync * 128 + 128
+  row_agrees : (y : ℕ) (layout : Layout) → layout_at (shape_of v) y ≡ layout → v.resync * 128 ≤ sector_at (shape_of v) y → sector_at (shape_of v) y < v.resync * 128 + 128 * rows
       → AgreeIn layout (map (data_of now v.number (sector_at (shape_of v) y)) (firsts v (width layout)))
   row_agrees y (mirror k) is first last =
       let t = sector_at (shape_of v) y in
@@ -238,7 +240,7 @@ module _ (v : View) (a b : Seen) (xs : List Target) (is_array : IsArray v) (last
       (λ j less other. piece_kept y j (low j less) (ap (λ (l : Layout). makes_others l t j) is ∙ ap not (ne_eqb j q other)))
       (piece_made y q first last (low q inside) (ap (λ (l : Layout). makes_others l t q) is ∙ own) ∙ ap (λ (l : Layout). row_sum v cur t (width l)) is ∙ sum_is t k)
 
-  even_kept : AreEven (shape_of v) v.number v.resync cur → AreEven (shape_of v) v.number (v.resync + 1) now
+  even_kept : AreEven (shape_of v) v.number v.resync cur → AreEven (shape_of v) v.number (v.resync + rows) now
   even_kept even y inside synced counts =
       let shape = shape_of v in
       let layout = layout_at shape y in
@@ -254,14 +256,14 @@ module _ (v : View) (a b : Seen) (xs : List Target) (is_array : IsArray v) (last
             (even y inside less counts)
         | inr more ↦
             let first : v.resync * 128 ≤ t = omega (arith, more) in
-            let last : t < v.resync * 128 + 128 = omega (arith, synced) in
+            let last : t < v.resync * 128 + 128 * rows = omega (arith, synced) in
             subst (λ stripe. AgreeIn layout (there stripe)) (sym (columns_all now n t (take (width layout) shape.members) (λ m among. counts m among)))
             (subst (λ vs. AgreeIn layout vs) (sym (there_all (map (data_of now n t) (take (width layout) shape.members))))
             (subst (λ ms. AgreeIn layout (map (data_of now n t) ms)) (sym (taken v y is_array))
             (row_agrees y layout refl first last)))
       ]
 
-  pub row_moves : (spent : ℕ → Bool) → RowMoves v (shape_of v) (v.resync + 1) spent cur xs
+  pub row_moves : (spent : ℕ → Bool) → RowMoves v (shape_of v) (v.resync + rows) spent cur xs
   row_moves spent = record {
     counted = λ m t among counts. inl (m, among, refl, counts);
     value = λ y alive. value_kept y;

@@ -1,42 +1,39 @@
 -- What is added to the log for a row that is resynced, as a whole.
-use Rattle.std.proofs.Common.{◌≡◌, ℕ, ◌+◌, ◌*◌, ◌<◌, ◌≤◌, ◌^◌, ◌-◌, nat_lt, if◌then◌else◌, Bool, true, false, not, List, [], ◌++◌, length, Some, refl, sym, ap, subst, ◌∙◌, eq-eqb, arith}
-use Rattle.std.proofs.lemmas.Bool.{both_ways}
+use Rattle.std.proofs.Common.{◌≡◌, ℕ, ◌+◌, ◌*◌, ◌<◌, ◌≤◌, ◌^◌, ◌-◌, nat_lt, if◌then◌else◌, Bool, true, false, not, List, [], ◌++◌, length, Some, refl, sym, ap, subst, ◌∙◌, inl, inr, arith}
+use Rattle.std.proofs.lemmas.Bool.{both_ways, cases_lt}
 use Rattle.std.proofs.lemmas.List.{length-append}
 use Rattle.std.specs.List.{list_all}
 use Rattle.rack.specs.Seen.{Seen, IsLive}
 use Rattle.rack.specs.Targets.{Target, look}
 use Rattle.rack.specs.Sequences.{IsPayload, OnlyReads}
-use Rattle.raid_map.specs.LeftSymmetric.{IsMemberCount, parity_at}
-use Rattle.raid_map.proofs.Rows.{row_members_differ}
 use Rattle.array_image.specs.Places.{data_sector}
 use Rattle.array_image.specs.Record.{are_apart, is_target}
 use Rattle.array_image.specs.Arrays.{Member, Shape}
 use Rattle.array_image.specs.Held.{Among, current_in}
-use Rattle.array_image.specs.Stripes.{Layout, mirror, parity, width}
 use Rattle.log_laws.specs.View.{LogView, names, next_number}
 use Rattle.log_laws.specs.Commits.{CommitCall}
 use Rattle.log_laws.specs.Phases.{IsHad}
 use Rattle.array_model.specs.View.{View, IsArray, LosesPlaces, member_on, shape_of}
 use Rattle.array_model.specs.Says.{IsOpen}
-use Rattle.array_model.specs.Members.{HasSlices, IsSameButSeats, Notes, row_layout, slice_on}
+use Rattle.array_model.specs.Members.{HasSlices, IsSameButSeats, Notes, slice_on}
 use Rattle.array_model.proofs.Firsts.{member_among}
-use Rattle.array_model.proofs.Layouts.{row_layout_is}
 use Rattle.array_model.proofs.Views.{same_view_then, shape_members}
 use Rattle.array_core.specs.declared.Change.{Change}
 use Rattle.array_core.specs.Staging.{AddsSupersOf}
 use Rattle.array_core.specs.Superblocks.{adopted, raised, resynced_to}
 use Rattle.array_core.specs.Writing.{KeepsElsewhere}
 use Rattle.array_core.proofs.RowLists.{some_payload}
-use Rattle.sync_laws.specs.Rows.{AddsCopies, AreCopies, IsRowSum, OfRow, lacks_row, makes_others}
+use Rattle.sync_laws.specs.Rows.{AddsCopies, AreCopies, IsRowSum, OfRow, lacks_row}
 use Rattle.sync_laws.specs.Steps.{Steps, offset_after, resynced}
 use Rattle.sync_laws.proofs.Agreeing.{all_counts}
 use Rattle.sync_laws.proofs.Answering.{row_elsewhere}
 use Rattle.sync_laws.proofs.Logged.{AreOnMembers, all_had, all_valid}
+use Rattle.sync_laws.proofs.Sources.{one_made}
+use Rattle.sync_laws.proofs.Others.{lacks_first}
 use Rattle.sync_laws.proofs.Stepping.{IsDataOn, Step, all_apart, committed_steps, lacks_before, on_members}
 use Rattle.sync_laws.proofs.Owed.{RowMoves}
 use Rattle.sync_laws.proofs.Resynced.{row_moves}
-use Rattle.sync_laws.proofs.Summing.{sector_in_row}
-use Rattle.sync_laws.proofs.Views.{IsUnsynced, all_there, is_steady, next_array, next_lacks, next_loses, next_rows, next_same, next_shape, next_state, next_unsynced, slot_there, stage_is, unspent_before}
+use Rattle.sync_laws.proofs.Views.{IsUnsynced, all_there, is_steady, last_row, next_array, next_lacks, next_loses, next_rows, next_same, next_shape, next_state, next_unsynced, slot_there, stage_is, unspent_before}
 
 raised_least : (n : ℕ) → n ≤ raised n
 raised_least n = by (nat_lt n (2 ^ 63 - 1))
@@ -45,36 +42,36 @@ raised_least n = by (nat_lt n (2 ^ 63 - 1))
     by true = omega arith
     by false = omega arith
 
--- the superblocks that leave the next row, and the sectors that are made of others
-pub record RowStaged (v : View) (a : Seen) (xs : List Target) : Type 0 where
-  pub is : IsUnsynced v
-  pub lacks : lacks_row v v.resync ≡ false
+-- the superblocks that leave the rows after so many, and the sectors of these that are made of others
+pub record RowStaged (v : View) (rows : ℕ) (a : Seen) (xs : List Target) : Type 0 where
+  pub is : IsUnsynced v rows
+  pub lacks : lacks_row v (last_row v rows) ≡ false
   pub supers : List Target
   pub own_data : List Target
   pub added : xs ≡ supers ++ own_data
-  pub adds : AddsSupersOf (resynced v 1) [] supers
-  pub copies : AreCopies v (OfRow v (v.resync * 128) 128) (IsRowSum v a) own_data
+  pub adds : AddsSupersOf (resynced v rows) [] supers
+  pub copies : AreCopies v (OfRow v (v.resync * 128) (128 * rows)) (IsRowSum v a) own_data
 
-pub staged : (v u : View) (a b : Seen) (row offset : ℕ) (c : Change) (x y z : List Target) → IsUnsynced v → row ≡ v.resync → offset ≡ offset_after v (row + 1) → c ≡ resynced_to v offset
-    → x ≡ [] → AddsSupersOf (adopted c v) x y → AddsCopies v (OfRow v (row * 128) 128) (IsRowSum v a) 2048 y z → Notes v u a b → not (lacks_row u row) ≡ true
-    → RowStaged v a z
-staged v u a b row offset c x y z is row_is offset_is change empty adds copies notes whole =
-    let next : adopted c v ≡ resynced v 1 = stage_is v c offset is (offset_is ∙ ap (λ (r : ℕ). offset_after v (r + 1)) row_is) change in
+pub staged : (v u : View) (a b : Seen) (rows row offset : ℕ) (c : Change) (x y z : List Target) → IsUnsynced v rows → row ≡ v.resync → offset ≡ offset_after v (row + rows) → c ≡ resynced_to v offset
+    → x ≡ [] → AddsSupersOf (adopted c v) x y → AddsCopies v (OfRow v (row * 128) (128 * rows)) (IsRowSum v a) (128 * rows) y z → Notes v u a b → not (lacks_row u (row + (rows - 1))) ≡ true
+    → RowStaged v rows a z
+staged v u a b rows row offset c x y z is row_is offset_is change empty adds copies notes whole =
+    let next : adopted c v ≡ resynced v rows = stage_is v rows c offset is (offset_is ∙ ap (λ (r : ℕ). offset_after v (r + rows)) row_is) change in
     record {
       is = is;
-      lacks = lacks_before v u a b v.resync notes (subst (λ (r : ℕ). lacks_row u r ≡ false) row_is (not_true (lacks_row u row) whole));
+      lacks = lacks_before v u a b (last_row v rows) notes (subst (λ (r : ℕ). lacks_row u (r + (rows - 1)) ≡ false) row_is (not_true (lacks_row u (row + (rows - 1))) whole));
       supers = y;
       own_data = copies.targets;
       added = copies.appended;
       adds = subst (λ (g : View). AddsSupersOf g [] y) next (subst (λ xs. AddsSupersOf (adopted c v) xs y) empty adds);
-      copies = subst (λ (r : ℕ). AreCopies v (OfRow v (r * 128) 128) (IsRowSum v a) copies.targets) row_is copies.copies;
+      copies = subst (λ (r : ℕ). AreCopies v (OfRow v (r * 128) (128 * rows)) (IsRowSum v a) copies.targets) row_is copies.copies;
     }
   where
     not_true : (b : Bool) → not b ≡ true → b ≡ false
     not_true true is = absurd (both_ways false refl is)
     not_true false is = refl
 
-module _ (v : View) (a b : Seen) (xs : List Target) (row : RowStaged v a xs) (lasting : a.lasting) (reads : OnlyReads a b) where
+module _ (v : View) (rows : ℕ) (a b : Seen) (xs : List Target) (row : RowStaged v rows a xs) (lasting : a.lasting) (reads : OnlyReads a b) where
   -- a sector that is made of others is one of a member's data
   data_on : (d t : ℕ) (u : List ℕ) → IsPayload row.own_data d t u → IsDataOn v d t u
   data_on d t u pay =
@@ -82,11 +79,11 @@ module _ (v : View) (a b : Seen) (xs : List Target) (row : RowStaged v a xs) (la
       record {
         position = at.position;
         low = at.low;
-        there = all_there v at.position row.lacks at.low;
+        there = all_there v (last_row v rows) at.position row.lacks at.low;
         disk = at.disk;
         sector = at.sector;
         at = at.at;
-        inside = sector_in_row v v.resync at.sector row.is.is_array row.is.row at.inside.1;
+        inside = (let last = at.inside.1 in let left = row.is.rows_left in let whole = row.is.is_array.whole_rows in omega (arith, last, left, whole));
         long = at.long;
       }
 
@@ -97,37 +94,37 @@ module _ (v : View) (a b : Seen) (xs : List Target) (row : RowStaged v a xs) (la
       subst (λ (ms : List Member). Among (member_on v at.position) ms) (sym (shape_members v)) (member_among v at.position v.truth.raid_disks at.low) in
       subst (λ e. IsLive a a e t) (sym at.disk)
       (subst (λ e. IsLive a a (slice_on v at.position) e) (sym at.at)
-      (opened (member_on v at.position) at.sector among (all_counts v v.resync at.position at.sector row.lacks at.low at.inside.1)))
+      (opened (member_on v at.position) at.sector among (all_counts v (last_row v rows) at.position at.sector row.lacks at.low (let last = at.inside.1 in let some = row.is.some in omega (arith, last, some)))))
 
   low : 0 < v.truth.raid_disks
   low = let least = row.is.is_array.least in omega (arith, least)
 
-  pub row_step : Step v (raised v.truth.events) (offset_after v (v.resync + 1)) (v.resync + 1) v.seats false row.own_data a b (λ spent. Unit {0})
+  pub row_step : Step v (raised v.truth.events) (offset_after v (v.resync + rows)) (v.resync + rows) v.seats false row.own_data a b (λ spent. Unit {0})
   row_step = record {
     is_array = row.is.is_array;
-    next = next_array v row.is;
+    next = next_array v rows row.is;
     on = data_on;
     apart = row.copies.apart;
     present = λ k there. there;
     more = raised_least v.truth.events;
-    unsynced = let first = next_unsynced v row.is in omega (arith, first);
+    unsynced = let first = next_unsynced v rows row.is in omega (arith, first);
     some = 0;
     some_low = low;
-    some_there = slot_there v 0 row.is.is_array low (all_there v 0 row.lacks low);
-    settled = λ steady s vals spent meets holds. holds.shape.settled (is_steady v row.is.is_array row.lacks row.is.row steady);
+    some_there = slot_there v 0 row.is.is_array low (all_there v (last_row v rows) 0 row.lacks low);
+    settled = λ steady s vals spent meets holds. holds.shape.settled (is_steady v (last_row v rows) row.is.is_array row.lacks (let some = row.is.some in let left = row.is.rows_left in omega (arith, some, left)) steady);
     unmarked = λ steady. refl;
-    state = λ s. next_state s v;
-    rows = next_rows v;
-    live = λ rows opened also. live_on opened;
-    moves = λ rows opened sized even spent meets.
-        subst (λ (f : Shape). RowMoves v f (v.resync + 1) spent (current_in b.held) row.own_data) (sym (next_shape v))
-        (row_moves v a b row.own_data row.is.is_array lasting reads row.lacks row.copies opened sized spent);
+    state = λ s. next_state s v rows;
+    rows = next_rows v rows;
+    live = λ whole opened also. live_on opened;
+    moves = λ whole opened sized even spent meets.
+        subst (λ (f : Shape). RowMoves v f (v.resync + rows) spent (current_in b.held) row.own_data) (sym (next_shape v rows))
+        (row_moves v rows row.is.some a b row.own_data row.is.is_array lasting reads row.lacks row.copies opened sized spent);
   }
 
   pub row_members_on : AreOnMembers v xs
   row_members_on =
       subst (AreOnMembers v) (sym row.added)
-      (on_members v (raised v.truth.events) (offset_after v (v.resync + 1)) (v.resync + 1) v.seats false row.supers row.own_data a b row_step row.adds)
+      (on_members v (raised v.truth.events) (offset_after v (v.resync + rows)) (v.resync + rows) v.seats false row.supers row.own_data a b row_step row.adds)
 
   pub row_valid : list_all is_target xs ≡ true
   row_valid = all_valid v xs row.is.is_array row_members_on
@@ -135,20 +132,12 @@ module _ (v : View) (a b : Seen) (xs : List Target) (row : RowStaged v a xs) (la
   pub row_apart : are_apart xs ≡ true
   row_apart =
       ap are_apart row.added
-      ∙ all_apart v (raised v.truth.events) (offset_after v (v.resync + 1)) (v.resync + 1) v.seats false row.supers row.own_data a b row_step row.adds
-
-  -- one of the row's sectors is made of the others
-  one_made : (layout : Layout) → IsMemberCount (width layout) → (j : ℕ) × (j < width layout) × (makes_others layout (v.resync * 128) j ≡ false)
-  one_made (mirror n) count = (1, (let least = count.least in omega (arith, least)), refl)
-  one_made (parity n) count =
-      (parity_at n (v.resync * 128), (row_members_differ n count).parity_is_member (v.resync * 128), ap not (eq-eqb (parity_at n (v.resync * 128)) (parity_at n (v.resync * 128)) refl))
+      ∙ all_apart v (raised v.truth.events) (offset_after v (v.resync + rows)) (v.resync + rows) v.seats false row.supers row.own_data a b row_step row.adds
 
   pub row_some : 0 < length xs
   row_some =
-      let layout = row_layout_is v (v.resync * 128) row.is.is_array in
-      let count : IsMemberCount (width (row_layout v (v.resync * 128))) = record { least = layout.least; most = (let most = layout.most in let few = layout.count in omega (arith, most, few)) } in
-      let one = one_made (row_layout v (v.resync * 128)) count in
-      let has = row.copies.has (v.resync * 128) one.0 (omega arith, omega arith, one.1, one.2) in
+      let one = one_made v (v.resync * 128) row.is.is_array in
+      let has = row.copies.has (v.resync * 128) one.0 (omega arith, (let some = row.is.some in omega (arith, some)), one.1, one.2) in
       let some = some_payload row.own_data (slice_on v one.0) (data_sector + v.resync * 128) has.0 has.1 in
       let sum : length xs ≡ length row.supers + length row.own_data = ap length row.added ∙ length-append row.supers row.own_data in
       omega (arith, some, sum)
@@ -157,28 +146,37 @@ module _ (v : View) (a b : Seen) (xs : List Target) (row : RowStaged v a xs) (la
   row_had slices = all_had v a b xs slices reads.stays row_members_on
 
 -- the whole step
-pub row_steps : (v u z w : View) (a b c : Seen) (l : LogView) (on lost : List ℕ) (number after row offset : ℕ) (change : Change) (answered : Bool)
-    → RowStaged v a l.added → HasSlices v a → OnlyReads a b → Notes v u a b → CommitCall l on lost b c → IsSameButSeats u z → LosesPlaces u z (names lost) → IsArray z
-    → row ≡ v.resync → offset ≡ offset_after v (row + 1) → change ≡ resynced_to v offset → w ≡ adopted change z → l.number ≡ number → after ≡ next_number l.number
-    → Steps v (resynced v 1) w number after on a c answered
-row_steps v u z w a b c l on lost number after row offset change answered staged_row slices reads notes commit same loses z_array row_is offset_is change_is adopts number_is after_is =
+pub row_steps : (v u z w : View) (a b c : Seen) (l : LogView) (on lost : List ℕ) (rows number after row offset : ℕ) (change : Change) (answered : Bool)
+    → RowStaged v rows a l.added → HasSlices v a → OnlyReads a b → Notes v u a b → CommitCall l on lost b c → IsSameButSeats u z → LosesPlaces u z (names lost) → IsArray z
+    → row ≡ v.resync → offset ≡ offset_after v (row + rows) → change ≡ resynced_to v offset → w ≡ adopted change z → l.number ≡ number → after ≡ next_number l.number
+    → Steps v (resynced v rows) w number after on a c answered
+row_steps v u z w a b c l on lost rows number after row offset change answered staged_row slices reads notes commit same loses z_array row_is offset_is change_is adopts number_is after_is =
     let row_s = staged_row in
-    let adopted_w = adopts ∙ ap (λ (x : Change). adopted x z) (change_is ∙ ap (resynced_to v) (offset_is ∙ ap (λ (r : ℕ). offset_after v (r + 1)) row_is)) in
+    let adopted_w = adopts ∙ ap (λ (x : Change). adopted x z) (change_is ∙ ap (resynced_to v) (offset_is ∙ ap (λ (r : ℕ). offset_after v (r + rows)) row_is)) in
     let same_v = same_view_then v u z notes.same same in
-    committed_steps v u z w (raised v.truth.events) (offset_after v (v.resync + 1)) (v.resync + 1) v.seats false a b c l on lost row_s.supers row_s.own_data number after
-    (row_step v a b l.added row_s slices.lasting reads) row_s.adds row_s.added slices reads notes commit same loses
-    (next_same v z w row_s.is z_array same_v adopted_w) (next_loses v z w row_s.is z_array same_v adopted_w)
-    number_is after_is answered (λ spent. tt) (λ rows. unspent_before v row_s.lacks)
+    committed_steps v u z w (raised v.truth.events) (offset_after v (v.resync + rows)) (v.resync + rows) v.seats false a b c l on lost row_s.supers row_s.own_data number after
+    (row_step v rows a b l.added row_s slices.lasting reads) row_s.adds row_s.added slices reads notes commit same loses
+    (next_same v z w rows row_s.is z_array same_v adopted_w) (next_loses v z w rows row_s.is z_array same_v adopted_w)
+    number_is after_is answered (λ spent. tt) (λ whole. unspent_before v rows row_s.is.some row_s.lacks)
 
-pub row_leaves : (v : View) (a b c : Seen) (l : LogView) (on lost : List ℕ) → RowStaged v a l.added → a.lasting → OnlyReads a b → CommitCall l on lost b c → KeepsElsewhere false v on a c
-row_leaves v a b c l on lost staged_row lasting reads commit =
-    row_elsewhere v l on lost a b c staged_row.is.is_array.few reads (row_members_on v a b l.added staged_row lasting reads) commit
+pub row_leaves : (v : View) (rows : ℕ) (a b c : Seen) (l : LogView) (on lost : List ℕ) → RowStaged v rows a l.added → a.lasting → OnlyReads a b → CommitCall l on lost b c → KeepsElsewhere false v on a c
+row_leaves v rows a b c l on lost staged_row lasting reads commit =
+    row_elsewhere v l on lost a b c staged_row.is.is_array.few reads (row_members_on v rows a b l.added staged_row lasting reads) commit
+
+-- rows that weren't begun: the first lacks a member where the last does
+pub refused_lacks : (v u : View) (rows row : ℕ) (lost : ℕ → Bool) → 0 < rows → IsSameButSeats v u → LosesPlaces v u lost
+    → (1 < rows → lacks_row v (row + (rows - 1)) ≡ false) → lacks_row u (row + (rows - 1)) ≡ true → lacks_row u row ≡ true
+refused_lacks v u rows row lost some same loses had lacks =
+    elim (cases_lt 1 rows) [
+      | inl more ↦ lacks_first v u lost row (row + (rows - 1)) same.truth loses (had more) lacks
+      | inr one ↦ (let e : row + (rows - 1) ≡ row = omega (arith, one) in subst (λ (r : ℕ). lacks_row u r ≡ true) e lacks)
+    ]
 
 -- whom the row lacks is whom it lacked before the change
-pub row_lacks : (v z w : View) (row offset : ℕ) (change : Change) → IsUnsynced v → IsArray z → IsSameButSeats v z → row ≡ v.resync → offset ≡ offset_after v (row + 1) → change ≡ resynced_to v offset
+pub row_lacks : (v z w : View) (rows row offset : ℕ) (change : Change) → IsUnsynced v rows → IsArray z → IsSameButSeats v z → row ≡ v.resync → offset ≡ offset_after v (row + rows) → change ≡ resynced_to v offset
     → w ≡ adopted change z → lacks_row w v.resync ≡ lacks_row z row
-row_lacks v z w row offset change is z_array same row_is offset_is change_is adopts =
-    next_lacks v z w is z_array same
-    (adopts ∙ ap (λ (x : Change). adopted x z) (change_is ∙ ap (resynced_to v) (offset_is ∙ ap (λ (r : ℕ). offset_after v (r + 1)) row_is)))
+row_lacks v z w rows row offset change is z_array same row_is offset_is change_is adopts =
+    next_lacks v z w rows is z_array same
+    (adopts ∙ ap (λ (x : Change). adopted x z) (change_is ∙ ap (resynced_to v) (offset_is ∙ ap (λ (r : ℕ). offset_after v (r + rows)) row_is)))
     v.resync
     ∙ ap (lacks_row z) (sym row_is)

@@ -1,18 +1,22 @@
 -- Which member a sector of the array comes from.
-use Rattle.std.proofs.Common.{◌≡◌, ℕ, zero, suc, ◌+◌, ◌-◌, ◌<◌, ◌≤◌, Bool, true, false, nat_lt, if◌then◌else◌, map, Option, Some, None, unwrap_or, refl, sym, ap, subst, ◌∙◌, lt-ltb, arith}
+use Rattle.std.proofs.Common.{◌≡◌, ℕ, zero, suc, ◌+◌, ◌-◌, ◌*◌, ◌<◌, ◌≤◌, Bool, true, false, ◌==◌, not, nat_lt, if◌then◌else◌, map, Option, Some, None, unwrap_or, refl, sym, ap, subst, ◌∙◌, inl, inr, eq-eqb, eqb-true, lt-ltb, arith}
+use Rattle.std.proofs.lemmas.Bool.{both_ways, cases_eq, eqb-false}
 use Rattle.std.specs.List.{range_with_len}
+use Rattle.raid_map.specs.LeftSymmetric.{IsMemberCount, parity_at, row_at}
+use Rattle.raid_map.proofs.Rows.{row_members_differ}
 use Rattle.md_super.specs.Profile.{is_mirror}
 use Rattle.array_image.specs.Arrays.{Member, layout_at, final_layout}
 use Rattle.array_image.specs.Held.{first_counting, member_at, source_in}
 use Rattle.array_image.specs.Stripes.{Layout, mirror, parity, width, position_in, sector_in}
-use Rattle.array_image.specs.Supers.{is_reshaping}
+use Rattle.array_image.specs.Supers.{is_reshaping, new_row}
 use Rattle.array_model.specs.View.{View, IsArray, member_on, shape_of}
-use Rattle.array_model.specs.Members.{members_of}
+use Rattle.array_model.specs.Members.{members_of, row_layout}
 use Rattle.array_model.specs.Rows.{source_at, sector_at}
 use Rattle.array_model.proofs.Firsts.{first_found, first_none, parity_source, take_firsts}
-use Rattle.array_model.proofs.Layouts.{final_by, layout_by}
+use Rattle.array_model.proofs.Layouts.{final_by, layout_by, row_by, row_layout_is}
 use Rattle.array_model.proofs.Noting.{layout_is, low_position}
 use Rattle.array_model.proofs.Views.{shape_members}
+use Rattle.sync_laws.specs.Rows.{is_source, makes_others}
 
 -- a member's own sector is an array's where it counts there
 pub source_on : (w : View) (layout : Layout) (y : ℕ) → width layout ≤ w.truth.raid_disks → position_in layout y < width layout
@@ -99,10 +103,8 @@ source_alike v w (parity n) t q m most disks same is =
 -- ---- mirrors
 
 -- a mirror has two members at most
-pub mirror_two : (v : View) (y k : ℕ) → IsArray v → layout_at (shape_of v) y ≡ mirror k → k ≤ 2
-mirror_two v y k is_array is =
-    by (is_reshaping v.truth) (nat_lt y v.truth.reshape_position) refl (is_mirror v.truth) refl
-    (sym (layout_by v y (is_reshaping v.truth) (nat_lt y v.truth.reshape_position) refl refl) ∙ is)
+mirror_by : (v : View) (k : ℕ) (reshaping moved : Bool) → IsArray v → (if reshaping then if moved then final_layout v.truth else parity (v.truth.raid_disks - 1) else final_layout v.truth) ≡ mirror k → k ≤ 2
+mirror_by v k reshaping moved is_array = by reshaping moved (is_mirror v.truth) refl
   where
     apart : {n m : ℕ} → parity n ≡ mirror m → ⊥
     apart same = cc
@@ -117,8 +119,43 @@ mirror_two v y k is_array is =
         omega (arith, most, same)
     final false mirrors layout = absurd (apart (sym (final_by v false mirrors) ∙ layout))
 
-    by : (reshaping moved : Bool) → is_reshaping v.truth ≡ reshaping → (b : Bool) → is_mirror v.truth ≡ b
+    by : (reshaping moved : Bool) (b : Bool) → is_mirror v.truth ≡ b
         → (if reshaping then if moved then final_layout v.truth else parity (v.truth.raid_disks - 1) else final_layout v.truth) ≡ mirror k → k ≤ 2
-    by true true is_r b is_m layout = final b is_m layout
-    by true false is_r b is_m layout = absurd (apart layout)
-    by false moved is_r b is_m layout = final b is_m layout
+    by true true b is_m layout = final b is_m layout
+    by true false b is_m layout = absurd (apart layout)
+    by false moved b is_m layout = final b is_m layout
+
+pub mirror_two : (v : View) (y k : ℕ) → IsArray v → layout_at (shape_of v) y ≡ mirror k → k ≤ 2
+mirror_two v y k is_array is =
+    mirror_by v k (is_reshaping v.truth) (nat_lt y v.truth.reshape_position) is_array
+    (sym (layout_by v y (is_reshaping v.truth) (nat_lt y v.truth.reshape_position) refl refl) ∙ is)
+
+-- ---- the member that is made of others
+
+-- one is
+pub one_made : (v : View) (sector : ℕ) → IsArray v → (j : ℕ) × (j < width (row_layout v sector)) × (is_source v sector j ≡ false)
+one_made v sector is_array =
+    let layout = row_layout_is v sector is_array in
+    by (row_layout v sector) (record { least = layout.least; most = (let most = layout.most in let few = layout.count in omega (arith, most, few)) })
+  where
+    by : (layout : Layout) → IsMemberCount (width layout) → (j : ℕ) × (j < width layout) × (makes_others layout sector j ≡ false)
+    by (mirror n) count = (1, (let least = count.least in omega (arith, least)), refl)
+    by (parity n) count = (parity_at n sector, (row_members_differ n count).parity_is_member sector, ap not (eq-eqb (parity_at n sector) (parity_at n sector) refl))
+
+-- and no other
+pub made_alone : (v : View) (sector i j : ℕ) → IsArray v → i < width (row_layout v sector) → j < width (row_layout v sector) → is_source v sector i ≡ false → is_source v sector j ≡ false → i ≡ j
+made_alone v sector i j is_array = by (row_layout v sector) refl
+  where
+    not_true : (b : Bool) → not b ≡ false → b ≡ true
+    not_true true is = refl
+    not_true false is = absurd (both_ways true is refl)
+
+    by : (layout : Layout) → row_layout v sector ≡ layout → i < width layout → j < width layout → makes_others layout sector i ≡ false → makes_others layout sector j ≡ false → i ≡ j
+    by (mirror n) is low_i low_j made_i made_j =
+        let two =
+        mirror_by v n (is_reshaping v.truth) (nat_lt (row_at sector * new_row v.truth) v.truth.reshape_position) is_array
+        (sym (row_by v sector (is_reshaping v.truth) (nat_lt (row_at sector * new_row v.truth) v.truth.reshape_position) refl refl) ∙ is) in
+        let other_i = eqb-false i 0 made_i in
+        let other_j = eqb-false j 0 made_j in
+        elim (cases_eq i j) [ inl same ↦ same | inr differs ↦ absurd (elim (cases_eq i 0) [ inl zero_i ↦ other_i zero_i | inr some_i ↦ elim (cases_eq j 0) [ inl zero_j ↦ other_j zero_j | inr some_j ↦ omega (arith, two, low_i, low_j, some_i, some_j, differs) ] ]) ]
+    by (parity n) is low_i low_j made_i made_j = eqb-true i (parity_at n sector) (not_true (i == parity_at n sector) made_i) ∙ sym (eqb-true j (parity_at n sector) (not_true (j == parity_at n sector) made_j))

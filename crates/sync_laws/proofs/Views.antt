@@ -31,76 +31,81 @@ use Rattle.array_image.specs.Stripes.{sector_in}
 use Rattle.array_image.specs.Spent.{wanting, spent_with}
 use Rattle.sync_laws.proofs.Summing.{wanting_later}
 
--- what a row call needs of an array, and what holds of it
-pub record IsUnsynced (v : View) : Type 0 where
+-- what a call of so many rows needs of an array, and what holds of it
+pub record IsUnsynced (v : View) (rows : ℕ) : Type 0 where
   pub is_array : IsArray v
   pub grown : v.young ≡ false
-  pub row : v.resync < v.truth.size / 128
+  pub some : 0 < rows
+  pub rows_left : v.resync + rows ≤ v.truth.size / 128
   pub unsynced : first_unsynced v.truth ≤ v.resync
 
--- the truth once the row is resynced
-abbrev pub next_truth : View → Super
-next_truth v = record v.truth { events = raised v.truth.events; resync_offset = offset_after v (v.resync + 1) }
+-- the last of so many rows left to resync
+abbrev pub last_row : View → (rows : ℕ) → ℕ
+last_row v rows = v.resync + (rows - 1)
+
+-- the truth once they are resynced
+abbrev pub next_truth : View → (rows : ℕ) → Super
+next_truth v rows = record v.truth { events = raised v.truth.events; resync_offset = offset_after v (v.resync + rows) }
 
 -- ---- its offset
 
-offset_by : (v : View) (b : Bool) → nat_lt (v.resync + 1) (rows_of v) ≡ b → offset_after v (v.resync + 1) ≡ (if b then (v.resync + 1) * 128 else 2 ^ 64 - 1)
-offset_by v b is = ap (λ (t : Bool). if t then (v.resync + 1) * 128 else 2 ^ 64 - 1) is
+offset_by : (v : View) (rows : ℕ) (b : Bool) → nat_lt (v.resync + rows) (rows_of v) ≡ b → offset_after v (v.resync + rows) ≡ (if b then (v.resync + rows) * 128 else 2 ^ 64 - 1)
+offset_by v rows b is = ap (λ (t : Bool). if t then (v.resync + rows) * 128 else 2 ^ 64 - 1) is
 
-pub whole_offset : (v : View) → (offset_after v (v.resync + 1) ≡ 2 ^ 64 - 1) ⊎ (offset_after v (v.resync + 1) % 128 ≡ 0)
-whole_offset v = by (nat_lt (v.resync + 1) (rows_of v)) refl
+pub whole_offset : (v : View) (rows : ℕ) → (offset_after v (v.resync + rows) ≡ 2 ^ 64 - 1) ⊎ (offset_after v (v.resync + rows) % 128 ≡ 0)
+whole_offset v rows = by (nat_lt (v.resync + rows) (rows_of v)) refl
   where
-    by : (b : Bool) → nat_lt (v.resync + 1) (rows_of v) ≡ b → (offset_after v (v.resync + 1) ≡ 2 ^ 64 - 1) ⊎ (offset_after v (v.resync + 1) % 128 ≡ 0)
-    by true is = let at = offset_by v true is in inr (omega (arith, at))
-    by false is = inl (offset_by v false is)
+    by : (b : Bool) → nat_lt (v.resync + rows) (rows_of v) ≡ b → (offset_after v (v.resync + rows) ≡ 2 ^ 64 - 1) ⊎ (offset_after v (v.resync + rows) % 128 ≡ 0)
+    by true is = let at = offset_by v rows true is in inr (omega (arith, at))
+    by false is = inl (offset_by v rows false is)
 
 -- what it leaves
-pub next_unsynced : (v : View) → IsUnsynced v → first_unsynced (next_truth v) ≡ v.resync + 1
-next_unsynced v is = by (nat_lt (v.resync + 1) (rows_of v)) refl
+pub next_unsynced : (v : View) (rows : ℕ) → IsUnsynced v rows → first_unsynced (next_truth v rows) ≡ v.resync + rows
+next_unsynced v rows is = by (nat_lt (v.resync + rows) (rows_of v)) refl
   where
-    first_by : (b : Bool) → nat_lt (offset_after v (v.resync + 1)) v.truth.size ≡ b → first_unsynced (next_truth v) ≡ (if b then offset_after v (v.resync + 1) / 128 else v.truth.size / 128)
-    first_by b at = ap (λ (t : Bool). if t then offset_after v (v.resync + 1) / 128 else v.truth.size / 128) at
+    first_by : (b : Bool) → nat_lt (offset_after v (v.resync + rows)) v.truth.size ≡ b → first_unsynced (next_truth v rows) ≡ (if b then offset_after v (v.resync + rows) / 128 else v.truth.size / 128)
+    first_by b at = ap (λ (t : Bool). if t then offset_after v (v.resync + rows) / 128 else v.truth.size / 128) at
 
-    by : (b : Bool) → nat_lt (v.resync + 1) (rows_of v) ≡ b → first_unsynced (next_truth v) ≡ v.resync + 1
+    by : (b : Bool) → nat_lt (v.resync + rows) (rows_of v) ≡ b → first_unsynced (next_truth v rows) ≡ v.resync + rows
     by true more =
-        let at = offset_by v true more in
-        let low : v.resync + 1 < v.truth.size / 128 = ltb-true (v.resync + 1) (v.truth.size / 128) more in
+        let at = offset_by v rows true more in
+        let low : v.resync + rows < v.truth.size / 128 = ltb-true (v.resync + rows) (v.truth.size / 128) more in
         let whole = is.is_array.whole_rows in
-        first_by true (lt-ltb (offset_after v (v.resync + 1)) v.truth.size (omega (arith, at, low, whole))) ∙ (let e : offset_after v (v.resync + 1) / 128 ≡ v.resync + 1 = omega (arith, at) in e)
+        first_by true (lt-ltb (offset_after v (v.resync + rows)) v.truth.size (omega (arith, at, low, whole))) ∙ (let e : offset_after v (v.resync + rows) / 128 ≡ v.resync + rows = omega (arith, at) in e)
     by false last =
-        let at = offset_by v false last in
-        let high : v.truth.size / 128 ≤ v.resync + 1 = ltb-false (v.resync + 1) (v.truth.size / 128) last in
-        let row = is.row in
+        let at = offset_by v rows false last in
+        let high : v.truth.size / 128 ≤ v.resync + rows = ltb-false (v.resync + rows) (v.truth.size / 128) last in
+        let row = is.rows_left in
         let small = is.is_array.small in
-        first_by false (le-ltb (offset_after v (v.resync + 1)) v.truth.size (omega (arith, at, small))) ∙ (let e : v.truth.size / 128 ≡ v.resync + 1 = omega (arith, high, row) in e)
+        first_by false (le-ltb (offset_after v (v.resync + rows)) v.truth.size (omega (arith, at, small))) ∙ (let e : v.truth.size / 128 ≡ v.resync + rows = omega (arith, high, row) in e)
 
 -- and it is another one than before
-other_offset : (v : View) → IsUnsynced v → offset_after v (v.resync + 1) ≡ v.truth.resync_offset → ⊥
-other_offset v is same =
-    let next = next_unsynced v is in
-    let first : first_unsynced (next_truth v) ≡ first_unsynced v.truth = ap (λ (o : ℕ). if nat_lt o v.truth.size then o / 128 else v.truth.size / 128) same in
+other_offset : (v : View) (rows : ℕ) → IsUnsynced v rows → offset_after v (v.resync + rows) ≡ v.truth.resync_offset → ⊥
+other_offset v rows is same =
+    let next = next_unsynced v rows is in
+    let first : first_unsynced (next_truth v rows) ≡ first_unsynced v.truth = ap (λ (o : ℕ). if nat_lt o v.truth.size then o / 128 else v.truth.size / 128) same in
     let unsynced = is.unsynced in
     omega (arith, next, first, unsynced)
 
-pub keeps_none : (v : View) → IsUnsynced v → keeps_rows v.truth (next_truth v) ≡ false
-keeps_none v is = ap (λ (b : Bool). b && (v.truth.size == v.truth.size)) (ne_eqb (offset_after v (v.resync + 1)) v.truth.resync_offset (other_offset v is))
+pub keeps_none : (v : View) (rows : ℕ) → IsUnsynced v rows → keeps_rows v.truth (next_truth v rows) ≡ false
+keeps_none v rows is = ap (λ (b : Bool). b && (v.truth.size == v.truth.size)) (ne_eqb (offset_after v (v.resync + rows)) v.truth.resync_offset (other_offset v rows is))
 
 -- ---- the array of the change
 
 -- by a view with other seats
-pub adopted_is : (v z : View) → IsUnsynced v → IsArray z → IsSameButSeats v z
-    → adopted (resynced_to v (offset_after v (v.resync + 1))) z ≡ record z { truth = next_truth v; resync = v.resync + 1; marked = false }
-adopted_is v z is z_array same =
-    let c : Change = resynced_to v (offset_after v (v.resync + 1)) in
+pub adopted_is : (v z : View) (rows : ℕ) → IsUnsynced v rows → IsArray z → IsSameButSeats v z
+    → adopted (resynced_to v (offset_after v (v.resync + rows))) z ≡ record z { truth = next_truth v rows; resync = v.resync + rows; marked = false }
+adopted_is v z rows is z_array same =
+    let c : Change = resynced_to v (offset_after v (v.resync + rows)) in
     let kept = adopted_kept c z z_array (ap places_by (sym same.truth)) refl in
-    let keeps : keeps_rows z.truth (next_truth v) ≡ false = ap (λ (t : Super). keeps_rows t (next_truth v)) same.truth ∙ keeps_none v is in
+    let keeps : keeps_rows z.truth (next_truth v rows) ≡ false = ap (λ (t : Super). keeps_rows t (next_truth v rows)) same.truth ∙ keeps_none v rows is in
     let young : z.young ≡ false = same.young ∙ is.grown in
-    let next : adopted_resync z.young z.resync z.truth (next_truth v) ≡ v.resync + 1 =
-    ap (λ (b : Bool). if b then z.resync else resync_by z.young (next_truth v)) keeps
-    ∙ ap (λ (b : Bool). if b then v.truth.size / 128 else first_unsynced (next_truth v)) young ∙ next_unsynced v is in
-    let mark : (z.marked && keeps_rows z.truth (next_truth v)) ≡ false = ap (λ (b : Bool). z.marked && b) keeps ∙ and_false z.marked in
+    let next : adopted_resync z.young z.resync z.truth (next_truth v rows) ≡ v.resync + rows =
+    ap (λ (b : Bool). if b then z.resync else resync_by z.young (next_truth v rows)) keeps
+    ∙ ap (λ (b : Bool). if b then v.truth.size / 128 else first_unsynced (next_truth v rows)) young ∙ next_unsynced v rows is in
+    let mark : (z.marked && keeps_rows z.truth (next_truth v rows)) ≡ false = ap (λ (b : Bool). z.marked && b) keeps ∙ and_false z.marked in
     λ i. record z {
-      truth = next_truth v;
+      truth = next_truth v rows;
       seats = kept.0 i;
       devices = kept.1 i;
       resync = next i;
@@ -111,8 +116,8 @@ adopted_is v z is z_array same =
     and_false true = refl
     and_false false = refl
 
-pub next_array : (v : View) → IsUnsynced v → IsArray (resynced v 1)
-next_array v is =
+pub next_array : (v : View) (rows : ℕ) → IsUnsynced v rows → IsArray (resynced v rows)
+next_array v rows is =
     let old = is.is_array in
     record {
       few = old.few;
@@ -124,12 +129,12 @@ next_array v is =
       small = old.small;
       whole_rows = old.whole_rows;
       placed = old.placed;
-      synced = let row = is.row in omega (arith, row);
+      synced = let row = is.rows_left in omega (arith, row);
       reshape = old.reshape;
     }
 
-pub next_state : (s : State) (v : View) → IsStateOf v s → v.truth.events < 2 ^ 63 - 1 → IsStateOf (resynced v 1) s
-next_state s v state room =
+pub next_state : (s : State) (v : View) (rows : ℕ) → IsStateOf v s → v.truth.events < 2 ^ 63 - 1 → IsStateOf (resynced v rows) s
+next_state s v rows state room =
     let raise = raised_more v.truth.events room in
     record {
       set = state.set;
@@ -141,31 +146,31 @@ next_state s v state room =
       marks = state.marks;
     }
 
-pub next_rows : (v : View) → HasRowRebuilds v → HasRowRebuilds (resynced v 1)
-next_rows v rows = rows
+pub next_rows : (v : View) (rows : ℕ) → HasRowRebuilds v → HasRowRebuilds (resynced v rows)
+next_rows v rows whole = whole
 
-pub next_shape : (v : View) → shape_of (resynced v 1) ≡ shape_of v
+pub next_shape : (v : View) (rows : ℕ) → shape_of (resynced v rows) ≡ shape_of v
 unfolding shape_of
-next_shape v = refl
+next_shape v rows = refl
 
 -- the places that went are lost in it too
-module _ (v z w : View) (is : IsUnsynced v) (z_array : IsArray z) (same : IsSameButSeats v z) (adopts : w ≡ adopted (resynced_to v (offset_after v (v.resync + 1))) z) where
-  view_is : w ≡ record z { truth = next_truth v; resync = v.resync + 1; marked = false }
-  view_is = adopts ∙ adopted_is v z is z_array same
+module _ (v z w : View) (rows : ℕ) (is : IsUnsynced v rows) (z_array : IsArray z) (same : IsSameButSeats v z) (adopts : w ≡ adopted (resynced_to v (offset_after v (v.resync + rows))) z) where
+  view_is : w ≡ record z { truth = next_truth v rows; resync = v.resync + rows; marked = false }
+  view_is = adopts ∙ adopted_is v z rows is z_array same
 
-  pub next_same : IsSameButSeats (resynced v 1) w
+  pub next_same : IsSameButSeats (resynced v rows) w
   next_same =
-      subst (λ (x : View). IsSameButSeats (resynced v 1) x) (sym view_is)
+      subst (λ (x : View). IsSameButSeats (resynced v rows) x) (sym view_is)
       (record { number = same.number; truth = refl; devices = same.devices; resync = refl; young = same.young; marked = refl })
 
-  pub next_loses : (lost : ℕ → Bool) → LosesPlaces v z lost → LosesPlaces (resynced v 1) w lost
+  pub next_loses : (lost : ℕ → Bool) → LosesPlaces v z lost → LosesPlaces (resynced v rows) w lost
   next_loses lost loses =
-      subst (λ (x : View). LosesPlaces (resynced v 1) x lost) (sym view_is) (record { seats = loses.seats; went = loses.went })
+      subst (λ (x : View). LosesPlaces (resynced v rows) x lost) (sym view_is) (record { seats = loses.seats; went = loses.went })
 
   pub next_lacks : (row : ℕ) → lacks_row w row ≡ lacks_row z row
   next_lacks row =
       ap (λ (x : View). lacks_row x row) view_is
-      ∙ ap (λ (t : Super). lacks_row (record z { truth = record t { events = raised v.truth.events; resync_offset = offset_after v (v.resync + 1) }; resync = v.resync + 1; marked = false }) row) (sym same.truth)
+      ∙ ap (λ (t : Super). lacks_row (record z { truth = record t { events = raised v.truth.events; resync_offset = offset_after v (v.resync + rows) }; resync = v.resync + rows; marked = false }) row) (sym same.truth)
 
 -- ---- members that are there
 
@@ -173,10 +178,10 @@ pub seat_there : (v : View) (j t : ℕ) → t < (member_on v j).reach → slice_
 seat_there v j t counts gone =
     let none : (member_on v j).reach ≡ 0 = ap (λ o. option_map_or (seat_reach v.truth.size) o 0) gone in omega (arith, counts, none)
 
-pub all_there : (v : View) (j : ℕ) → lacks_row v v.resync ≡ false → j < v.truth.raid_disks → slice_get v.seats j ≢ Some Missing
-all_there v j lacks low = seat_there v j (v.resync * 128) (all_counts v v.resync j (v.resync * 128) lacks low (omega arith))
+pub all_there : (v : View) (row j : ℕ) → lacks_row v row ≡ false → j < v.truth.raid_disks → slice_get v.seats j ≢ Some Missing
+all_there v row j lacks low = seat_there v j (row * 128) (all_counts v row j (row * 128) lacks low (omega arith))
 
-pub slot_there : (v : View) (j : ℕ) → IsArray v → j < v.truth.raid_disks → slice_get v.seats j ≢ Some Missing → is_missing_seat (slot_on (resynced v 1) j).seat ≡ false
+pub slot_there : (v : View) (j : ℕ) → IsArray v → j < v.truth.raid_disks → slice_get v.seats j ≢ Some Missing → is_missing_seat (slot_on v j).seat ≡ false
 slot_there v j is_array low there = by (slice_get v.seats j) there (λ none. past j v.seats none (let count = is_array.seats in omega (arith, low, count)))
   where
     by : (o : Option Seat) → o ≢ Some Missing → (o ≡ None → ⊥) → is_missing_seat (unwrap_or o Missing) ≡ false
@@ -226,10 +231,10 @@ not_alone v is_array first second = ap (λ (b : Bool). is_mirror v.truth && b) (
     and_false true = refl
     and_false false = refl
 
-pub is_steady : (v : View) → IsArray v → lacks_row v v.resync ≡ false → v.resync < v.truth.size / 128 → (v.marked ≡ true → is_whole_array v ≡ true) → may_vary v ≡ false
-is_steady v is_array lacks row steady =
+pub is_steady : (v : View) (last : ℕ) → IsArray v → lacks_row v last ≡ false → v.resync < v.truth.size / 128 → (v.marked ≡ true → is_whole_array v ≡ true) → may_vary v ≡ false
+is_steady v last is_array lacks row steady =
     let least = is_array.least in
-    ap₂ (λ (p q : Bool). p || q) (unmarked v.marked refl) (not_alone v is_array (all_there v 0 lacks (omega (arith, least))) (all_there v 1 lacks (omega (arith, least))))
+    ap₂ (λ (p q : Bool). p || q) (unmarked v.marked refl) (not_alone v is_array (all_there v last 0 lacks (omega (arith, least))) (all_there v last 1 lacks (omega (arith, least))))
   where
     unmarked : (b : Bool) → v.marked ≡ b → v.marked ≡ false
     unmarked false is = is
@@ -240,20 +245,19 @@ is_steady v is_array lacks row steady =
         absurd (omega (arith, same, row))
 
 -- what is spent after it was before
-pub unspent_before : (v : View) → lacks_row v v.resync ≡ false → (y : ℕ) → spent_in (resynced v 1) y ≡ false → spent_in v y ≡ false
+pub unspent_before : (v : View) (rows : ℕ) → 0 < rows → lacks_row v (last_row v rows) ≡ false → (y : ℕ) → spent_in (resynced v rows) y ≡ false → spent_in v y ≡ false
 unfolding shape_of
-unspent_before v lacks y unspent =
+unspent_before v rows some lacks y unspent =
     let t = sector_in (layout_at (shape_of v) y) y in
     elim (cases_lt (row_at t) v.resync) [
       | inl less ↦
-          ap (spent_with (wanting t (shape_of v).members)) (lt-ltb (row_at t) v.resync less ∙ sym (lt-ltb (row_at t) (v.resync + 1) (omega (arith, less)))) ∙ unspent
-      | inr more ↦ elim (cases_lt v.resync (row_at t)) [
-        | inl past ↦
-            ap (spent_with (wanting t (shape_of v).members)) (le-ltb (row_at t) v.resync more ∙ sym (le-ltb (row_at t) (v.resync + 1) (omega (arith, past)))) ∙ unspent
-        | inr here ↦
-            let inside : t ≤ v.resync * 128 + 127 = omega (arith, here) in
-            let later = wanting_later t (v.resync * 128 + 127) (members_of v) inside in
-            let none : wanting (v.resync * 128 + 127) (members_of v) ≡ 0 = none_wants (wanting (v.resync * 128 + 127) (members_of v)) lacks in
+          ap (spent_with (wanting t (shape_of v).members)) (lt-ltb (row_at t) v.resync less ∙ sym (lt-ltb (row_at t) (v.resync + rows) (omega (arith, less)))) ∙ unspent
+      | inr more ↦ elim (cases_lt (row_at t) (v.resync + rows)) [
+        | inr past ↦ ap (spent_with (wanting t (shape_of v).members)) (le-ltb (row_at t) v.resync more ∙ sym (le-ltb (row_at t) (v.resync + rows) past)) ∙ unspent
+        | inl here ↦
+            let last = last_row v rows in
+            let later = wanting_later t (last * 128 + 127) (members_of v) (omega (arith, here)) in
+            let none : wanting (last * 128 + 127) (members_of v) ≡ 0 = none_wants (wanting (last * 128 + 127) (members_of v)) lacks in
             let here_none : wanting t (members_of v) ≡ 0 = omega (arith, later, none) in
             ap (λ (k : ℕ). spent_with k (nat_lt (row_at t) v.resync)) here_none
       ]
@@ -263,6 +267,6 @@ unspent_before v lacks y unspent =
     none_wants k is = let few = ltb-false 0 k is in omega (arith, few)
 
 -- what is staged of it
-pub stage_is : (v : View) (c : Change) (offset : ℕ) → IsUnsynced v → offset ≡ offset_after v (v.resync + 1) → c ≡ resynced_to v offset → adopted c v ≡ resynced v 1
-stage_is v c offset is at change =
-    ap (λ (x : Change). adopted x v) change ∙ ap (λ (o : ℕ). adopted (resynced_to v o) v) at ∙ adopted_is v v is is.is_array (same_view v)
+pub stage_is : (v : View) (rows : ℕ) (c : Change) (offset : ℕ) → IsUnsynced v rows → offset ≡ offset_after v (v.resync + rows) → c ≡ resynced_to v offset → adopted c v ≡ resynced v rows
+stage_is v rows c offset is at change =
+    ap (λ (x : Change). adopted x v) change ∙ ap (λ (o : ℕ). adopted (resynced_to v o) v) at ∙ adopted_is v v rows is is.is_array (same_view v)

@@ -1,5 +1,5 @@
 -- A row of zeros on an array's members.
-use Rattle.std.proofs.Common.{◌≡◌, ◌⊎◌, ℕ, zero, suc, ◌+◌, ◌-◌, ◌*◌, ◌<◌, ◌≤◌, Bool, true, false, nat_lt, if◌then◌else◌, List, [], ◌∷◌, ◌++◌, map, take, drop, length, slice_get, Option, Some, None, unwrap_or, refl, sym, ap, ap₂, subst, ◌∙◌, inl, inr, ltb-true, lt-ltb, arith}
+use Rattle.std.proofs.Common.{◌≡◌, ◌⊎◌, ℕ, zero, suc, ◌+◌, ◌-◌, ◌*◌, ◌<◌, ◌≤◌, Bool, true, false, nat_lt, if◌then◌else◌, List, [], ◌∷◌, ◌++◌, map, take, drop, length, slice_get, Option, Some, None, unwrap_or, refl, sym, ap, ap₂, subst, ◌∙◌, inl, inr, ltb-true, lt-ltb, mul-le-mul_left, arith}
 use Rattle.std.proofs.lemmas.Bool.{cases_lt}
 use Rattle.std.specs.Option.{option_map_or}
 use Rattle.rack.specs.Seen.{Image, Seen}
@@ -60,20 +60,52 @@ zeros_next v p first sector from xs ys zs is_array low blank least so_far added 
     (λ t j before now. let most = before.1 in let low_t = now.0 in omega (arith, most, low_t, at))
     so_far one)
 
-pub zeros_more : (v : View) (row k : ℕ) (xs ys zs : List Target) → IsArray v → AddsCopies v (OfCounting v row k) AreZeros (k * 128) xs ys
+pub zeros_more : (v : View) (row k : ℕ) (xs ys zs : List Target) → IsArray v → AddsCopies v (OfCounting v (row * 128) 128 k) AreZeros (k * 128) xs ys
     → AddsCopies v (λ t j. OfMember k (row * 128) 128 t j × (counts_in v row j ≡ true)) AreZeros 128 ys zs
-    → AddsCopies v (OfCounting v row (k + 1)) AreZeros ((k + 1) * 128) xs zs
+    → AddsCopies v (OfCounting v (row * 128) 128 (k + 1)) AreZeros ((k + 1) * 128) xs zs
 zeros_more v row k xs ys zs is_array so_far one =
-    subst (λ (n : ℕ). AddsCopies v (OfCounting v row (k + 1)) AreZeros n xs zs) (let e : k * 128 + 128 ≡ (k + 1) * 128 = omega arith in e)
-    (copies_then v (OfCounting v row k) (λ t j. OfMember k (row * 128) 128 t j × (counts_in v row j ≡ true)) (OfCounting v row (k + 1)) AreZeros (k * 128) 128 xs ys zs is_array
+    subst (λ (n : ℕ). AddsCopies v (OfCounting v (row * 128) 128 (k + 1)) AreZeros n xs zs) (let e : k * 128 + 128 ≡ (k + 1) * 128 = omega arith in e)
+    (copies_then v (OfCounting v (row * 128) 128 k) (λ t j. OfMember k (row * 128) 128 t j × (counts_in v row j ≡ true)) (OfCounting v (row * 128) 128 (k + 1)) AreZeros (k * 128) 128 xs ys zs is_array
     (λ t j is. let low = is.2 in (is.0, is.1, omega (arith, low), is.3))
-    (λ t j is. let at = is.0.2 in (is.0.0, is.0.1, omega (arith, at), is.1))
+    (λ t j is. let at = is.0.2 in (is.0.0, is.0.1, omega (arith, at), subst (λ (r : ℕ). counts_in v r j ≡ true) (sym (in_row t is.0.0 is.0.1)) is.1))
     (λ t j is. elim (cases_lt j k) [
       | inl less ↦ inl (is.0, is.1, less, is.3)
-      | inr past ↦ (let low = is.2 in inr ((is.0, is.1, omega (arith, low, past)), is.3))
+      | inr past ↦ (let low = is.2 in inr ((is.0, is.1, omega (arith, low, past)), subst (λ (r : ℕ). counts_in v r j ≡ true) (in_row t is.0 is.1) is.3))
     ])
     (λ t j before now. let low = before.2 in let at = now.0.2 in omega (arith, low, at))
     so_far one)
+  where
+    in_row : (t : ℕ) → row * 128 ≤ t → t < row * 128 + 128 → row_at t ≡ row
+    in_row t least most = omega (arith, least, most)
+
+-- a row more of so many sectors
+pub row_more : (n k m : ℕ) → k + 1 ≤ m → n * k + n ≤ n * m
+row_more n k m low = subst (λ (j : ℕ). j ≤ n * m) (times n k) (mul-le-mul_left n low)
+  where
+    times : (n k : ℕ) → n * (k + 1) ≡ n * k + n
+    times n k = grind arith
+
+-- those of one row more
+pub zeros_row : (v : View) (first row members : ℕ) (xs ys zs : List Target) → IsArray v → first ≤ row
+    → AddsCopies v (OfCounting v (first * 128) (128 * (row - first)) members) AreZeros (members * 128 * (row - first)) xs ys
+    → AddsCopies v (OfCounting v (row * 128) 128 members) AreZeros (members * 128) ys zs
+    → AddsCopies v (OfCounting v (first * 128) (128 * (row + 1 - first)) members) AreZeros (members * 128 * (row + 1 - first)) xs zs
+zeros_row v first row members xs ys zs is_array least so_far one =
+    subst (λ (n : ℕ). AddsCopies v (OfCounting v (first * 128) (128 * n) members) AreZeros (members * 128 * n) xs zs) (let e : row - first + 1 ≡ row + 1 - first = omega (arith, least) in e)
+    (subst (λ (n : ℕ). AddsCopies v (OfCounting v (first * 128) (128 * (row - first + 1)) members) AreZeros n xs zs) (times (members * 128) (row - first))
+    (copies_then v (OfCounting v (first * 128) (128 * (row - first)) members) (OfCounting v (row * 128) 128 members) (OfCounting v (first * 128) (128 * (row - first + 1)) members) AreZeros
+    (members * 128 * (row - first)) (members * 128) xs ys zs is_array
+    (λ t j is. let most = is.1 in (is.0, omega (arith, most), is.2, is.3))
+    (λ t j is. let low = is.0 in let most = is.1 in (omega (arith, low, least), omega (arith, most, least), is.2, is.3))
+    (λ t j is. elim (cases_lt t (row * 128)) [
+      | inl less ↦ inl (is.0, omega (arith, less, least), is.2, is.3)
+      | inr past ↦ (let most = is.1 in inr (past, omega (arith, most, least), is.2, is.3))
+    ])
+    (λ t j before now. let most = before.1 in let low = now.0 in omega (arith, most, low, least))
+    so_far one))
+  where
+    times : (n k : ℕ) → n * k + n ≡ n * (k + 1)
+    times n k = grind arith
 
 -- ---- stripes of zeros
 
@@ -144,9 +176,9 @@ unfolding xor_all
 all_xor c n t [] all = refl
 all_xor c n t (m ∷ ms) all = ap₂ xor (all m (inl refl)) (all_xor c n t ms (λ o among. all o (inr among))) ∙ xor_two
 
--- ---- the row
+-- ---- the rows
 
-module _ (v : View) (b : Seen) (xs : List Target) (is_array : IsArray v) (rows : HasRowRebuilds v) (copies : AreCopies v (OfCounting v v.resync v.truth.raid_disks) AreZeros xs) where
+module _ (v : View) (rows : ℕ) (b : Seen) (xs : List Target) (is_array : IsArray v) (rebuilds : HasRowRebuilds v) (copies : AreCopies v (OfCounting v (v.resync * 128) (128 * rows) v.truth.raid_disks) AreZeros xs) where
   abbrev n : ℕ
   n = v.number
 
@@ -168,31 +200,31 @@ module _ (v : View) (b : Seen) (xs : List Target) (is_array : IsArray v) (rows :
   same_before : (d t : ℕ) → t < v.resync * 128 → now d (data_sector + t) ≡ cur d (data_sector + t)
   same_before d t before = ap (λ (o : Option (List ℕ)). unwrap_or o (current_in b.held d (data_sector + t))) (none_before d t before)
 
-  -- whoever counts at a sector of the row counts in it
-  counts_all : (j t : ℕ) → t < (member_on v j).reach → v.resync * 128 ≤ t → counts_in v v.resync j ≡ true
-  counts_all j t counts first = lt-ltb (v.resync * 128 + 127) (member_on v j).reach (by (slice_get v.seats j) refl counts)
+  -- whoever counts at a sector of a row counts in it
+  counts_all : (j t : ℕ) → t < (member_on v j).reach → counts_in v (row_at t) j ≡ true
+  counts_all j t counts = lt-ltb (row_at t * 128 + 127) (member_on v j).reach (by (slice_get v.seats j) refl counts)
     where
-      by : (o : Option Seat) → slice_get v.seats j ≡ o → t < option_map_or (seat_reach v.truth.size) o 0 → v.resync * 128 + 127 < option_map_or (seat_reach v.truth.size) o 0
+      by : (o : Option Seat) → slice_get v.seats j ≡ o → t < option_map_or (seat_reach v.truth.size) o 0 → row_at t * 128 + 127 < option_map_or (seat_reach v.truth.size) o 0
       by None is less = absurd (omega (arith, less))
-      by (Some Whole) is less = let whole = is_array.whole_rows in omega (arith, less, whole, first)
+      by (Some Whole) is less = let whole = is_array.whole_rows in omega (arith, less, whole)
       by (Some Missing) is less = absurd (omega (arith, less))
-      by (Some (Rebuilding to)) is less = let whole = (rows j to is).0 in omega (arith, less, whole, first)
+      by (Some (Rebuilding to)) is less = let whole = (rebuilds j to is).0 in omega (arith, less, whole)
 
-  zeros_at : (m : Member) (t : ℕ) → Among m (shape_of v).members → t < m.reach → v.resync * 128 ≤ t → t < v.resync * 128 + 128 → data_of now n t m ≡ zeros 512
+  zeros_at : (m : Member) (t : ℕ) → Among m (shape_of v).members → t < m.reach → v.resync * 128 ≤ t → t < v.resync * 128 + 128 * rows → data_of now n t m ≡ zeros 512
   zeros_at m t among counts first last =
       let at = position_of v v.truth.raid_disks m (subst (λ (ms : List Member). Among m ms) (shape_members v) among) in
       let reach : t < (member_on v at.0).reach = subst (λ (o : Member). t < o.reach) at.2 counts in
-      let has = copies.has t at.0 (first, last, at.1, counts_all at.0 t reach first) in
+      let has = copies.has t at.0 (first, last, at.1, counts_all at.0 t reach) in
       let is = copies.on (slice_on v at.0) (data_sector + t) has.0 has.1 in
       subst (λ (o : Member). data_of now n t o ≡ zeros 512) (sym at.2)
       (ap (λ (o : Option (List ℕ)). unwrap_or o (current_in b.held (slice_on v at.0) (data_sector + t))) (payload_is xs (slice_on v at.0) (data_sector + t) has.0 copies.apart has.1) ∙ is.bytes)
 
-  row_sectors : (y : ℕ) → (v.resync ≤ row_in v y) × (row_in v y < v.resync + 1) → (v.resync * 128 ≤ sector_at (shape_of v) y) × (sector_at (shape_of v) y < v.resync * 128 + 128)
+  row_sectors : (y : ℕ) → (v.resync ≤ row_in v y) × (row_in v y < v.resync + rows) → (v.resync * 128 ≤ sector_at (shape_of v) y) × (sector_at (shape_of v) y < v.resync * 128 + 128 * rows)
   row_sectors y row = (let least = row.0 in omega (arith, least), (let most = row.1 in omega (arith, most)))
 
-  -- the row's sectors are zeros in contents that have them
+  -- the rows' sectors are zeros in contents that have them
   pub row_zeros : (r : Image) → ((m : Member) (t : ℕ) → Among m (shape_of v).members → t < m.reach → r (member_slice m.place v.number) (data_sector + t) ≡ now (member_slice m.place v.number) (data_sector + t))
-      → (y : ℕ) → (v.resync ≤ row_in v y) × (row_in v y < v.resync + 1) → value_by (shape_of v) r v.number y ≡ zeros 512
+      → (y : ℕ) → (v.resync ≤ row_in v y) × (row_in v y < v.resync + rows) → value_by (shape_of v) r v.number y ≡ zeros 512
   unfolding value_by
   row_zeros r same y row =
       let layout = layout_at (shape_of v) y in
@@ -207,7 +239,7 @@ module _ (v : View) (b : Seen) (xs : List Target) (is_array : IsArray v) (rows :
   -- and in those of the members that are left
   pub row_zeros_left : (gone : ℕ → Bool) (r : Image)
       → ((m : Member) (t : ℕ) → Among m (shape_of v).members → t < m.reach → gone m.place ≡ false → r (member_slice m.place v.number) (data_sector + t) ≡ now (member_slice m.place v.number) (data_sector + t))
-      → (y : ℕ) → (v.resync ≤ row_in v y) × (row_in v y < v.resync + 1) → value_by (lowered gone (shape_of v)) r v.number y ≡ zeros 512
+      → (y : ℕ) → (v.resync ≤ row_in v y) × (row_in v y < v.resync + rows) → value_by (lowered gone (shape_of v)) r v.number y ≡ zeros 512
   unfolding value_by
   row_zeros_left gone r same y row =
       let layout = layout_at (shape_of v) y in
@@ -221,7 +253,7 @@ module _ (v : View) (b : Seen) (xs : List Target) (is_array : IsArray v) (rows :
       let all = among_lowered gone t ms m left counts in
       same m t all counts (among_kept gone t ms m left counts) ∙ zeros_at m t all counts inside.0 inside.1))
 
-  even_kept : AreEven (shape_of v) v.number v.resync cur → AreEven (shape_of v) v.number (v.resync + 1) now
+  even_kept : AreEven (shape_of v) v.number v.resync cur → AreEven (shape_of v) v.number (v.resync + rows) now
   even_kept even y inside synced counts =
       let layout = layout_at (shape_of v) y in
       let t = sector_in layout y in
@@ -243,7 +275,7 @@ module _ (v : View) (b : Seen) (xs : List Target) (is_array : IsArray v) (rows :
       agrees (mirror k) t ms all = agree_one (zeros 512) v.number t k now ms all
       agrees (parity k) t ms all = all_xor now v.number t ms all
 
-  pub zero_moves : (spent : ℕ → Bool) → ((y : ℕ) → spent y ≡ false → row_in v y < v.resync) → RowMoves v (shape_of v) (v.resync + 1) spent cur xs
+  pub zero_moves : (spent : ℕ → Bool) → ((y : ℕ) → spent y ≡ false → row_in v y < v.resync) → RowMoves v (shape_of v) (v.resync + rows) spent cur xs
   zero_moves spent aside = record {
     counted = λ m t among counts. inl (m, among, refl, counts);
     value = λ y alive.

@@ -5,7 +5,7 @@ use Rattle.std.specs.List.{list_all, range_with_len}
 use Rattle.rack.specs.Seen.{Image, Seen}
 use Rattle.rack.specs.Targets.{Target}
 use Rattle.rack.specs.Sequences.{IsPayload}
-use Rattle.raid_map.specs.LeftSymmetric.{parity_at}
+use Rattle.raid_map.specs.LeftSymmetric.{parity_at, row_at}
 use Rattle.parity.specs.Xor.{xor_all, zeros}
 use Rattle.array_image.specs.Places.{data_sector}
 use Rattle.array_image.specs.Record.{are_apart}
@@ -95,9 +95,9 @@ pub record AreCopies (v : View) (within : ℕ → ℕ → Type 0) (has_bytes : �
 abbrev pub counts_in : View → ℕ → ℕ → Bool
 counts_in v row position = nat_lt (row * 128 + 127) (member_on v position).reach
 
--- a sector of a row, of the first members that count in it
-abbrev pub OfCounting : View → ℕ → ℕ → ℕ → ℕ → Type 0
-OfCounting v row members t j = (row * 128 ≤ t) × (t < row * 128 + 128) × (j < members) × (counts_in v row j ≡ true)
+-- a sector of those from one on, of the first members that count in its row
+abbrev pub OfCounting : View → (first many members t j : ℕ) → Type 0
+OfCounting v first many members t j = (first ≤ t) × (t < first + many) × (j < members) × (counts_in v (row_at t) j ≡ true)
 
 -- two members don't count in a row
 abbrev pub lacks_two : View → ℕ → Bool

@@ -1,4 +1,4 @@
-use Rattle.std.proofs.Common.{ap, ◌≡◌, ◌-◌, ◌*◌, ℕ, ◌∙◌, subst, refl, le-ltb, arith}
+use Rattle.std.proofs.Common.{ap, ◌≡◌, ◌+◌, ◌-◌, ◌*◌, ℕ, ◌∙◌, subst, refl, le-ltb, arith}
 use Rattle.rack.proofs.Reading.{only_reads_start, only_reads_join}
 use Rattle.log_laws.specs.View.{LogView}
 use Rattle.md_super.specs.declared.superblock.Super.{Super}
@@ -9,7 +9,7 @@ use Rattle.sync_laws.specs.Rows.{AddsCopies, IsGiven, OfMember}
 use Rattle.sync_laws.proofs.Copying.{added_length, no_copies}
 use Rattle.sync_laws.proofs.Others.{stays_lacking}
 use Rattle.sync_laws.proofs.Restoring.{member_next, spent_at_last}
-use Rattle.sync_laws.proofs.Summing.{sector_then, sector_in_row}
+use Rattle.sync_laws.proofs.Summing.{sector_then}
 use Rattle.array_sync.proofs.members.stage_sectors.Goals as goal
 
 pub loop-sector-init : goal.loop-sector-init
@@ -35,7 +35,7 @@ stage_sector-requires g c =
     let long = added_length v _ _ (c.loop-sector.sector - c.args.row * 128) c.args.log.now.added c.loop-sector.log.added c.loop-sector.invariant.3 in
     record {
       slices = slices_then v u (g.R.Rack.seen c.args.rack.now) (g.R.Rack.seen c.loop-sector.rack) c.loop-sector.invariant.0.stays notes c.requires.slices;
-      sector = sector_then v u c.loop-sector.sector notes.same (sector_in_row v c.args.row c.loop-sector.sector c.rules.ensures c.requires.row (omega (arith, low)));
+      sector = sector_then v u c.loop-sector.sector notes.same (let row = c.requires.row in let whole = c.rules.ensures.whole_rows in omega (arith, low, row, whole));
       position = omega (arith, position, disks);
       lacking = stays_lacking v u notes.lost c.args.position c.loop-sector.sector notes.same.truth notes.loses (le-ltb c.loop-sector.sector (member_on v c.args.position).reach (omega (arith, lacking, least)));
       room = omega (arith, room, long, low, least);
@@ -52,8 +52,8 @@ returns-then-not-stage_sector-clause-notes g c =
 pub returns-then-not-stage_sector-clause-lost : goal.returns-then-not-stage_sector-clause-lost
 returns-then-not-stage_sector-clause-lost g c = λ is.
     let low = c.loop-sector-test.true in
-    let least = c.loop-sector.auto.sector in
-    spent_at_last c.stage_sector.new.array c.args.row c.loop-sector.sector (omega (arith, least)) (omega (arith, low)) (c.stage_sector.ensures.lost c.if-not-stage_sector.true)
+    let some = c.requires.some in
+    spent_at_last c.stage_sector.new.array (c.args.row + (c.args.rows - 1)) c.loop-sector.sector (omega (arith, low, some)) (c.stage_sector.ensures.lost c.if-not-stage_sector.true)
 
 pub returns-then-not-stage_sector-clause-log : goal.returns-then-not-stage_sector-clause-log
 returns-then-not-stage_sector-clause-log g c =
@@ -84,5 +84,5 @@ returns-clause-added g c = λ is.
     let v = c.args.array.now in
     let end = c.loop-sector-test.false in
     let last = c.loop-sector.auto.sector-end in
-    let at : c.loop-sector.sector - c.args.row * 128 ≡ 128 = omega (arith, end, last) in
+    let at : c.loop-sector.sector - c.args.row * 128 ≡ 128 * c.args.rows = omega (arith, end, last) in
     subst (λ (n : ℕ). AddsCopies v (OfMember c.args.position (c.args.row * 128) n) (IsGiven v (g.R.Rack.seen c.args.rack.now) c.args.position) n c.args.log.now.added c.loop-sector.log.added) at c.loop-sector.invariant.3

@@ -1,11 +1,11 @@
-use Rattle.std.proofs.Common.{ap, ◌≡◌, ◌-◌, ◌*◌, ℕ, ◌∙◌, subst, refl, arith}
+use Rattle.std.proofs.Common.{ap, ◌≡◌, ◌+◌, ◌-◌, ◌*◌, ℕ, ◌∙◌, subst, refl, arith}
 use Rattle.rack.proofs.Reading.{only_reads_start, only_reads_join}
 use Rattle.log_laws.specs.View.{LogView}
 use Rattle.array_model.proofs.Reading.{slices_then}
 use Rattle.array_model.proofs.Views.{notes_none, notes_then}
 use Rattle.sync_laws.specs.Rows.{AddsCopies, IsRowSum, OfRow}
 use Rattle.sync_laws.proofs.Copying.{added_length, no_copies, row_step}
-use Rattle.sync_laws.proofs.Summing.{row_left, sector_then, sector_in_row, lacks_at_last}
+use Rattle.sync_laws.proofs.Summing.{row_left, sector_then, lacks_at_last}
 use Rattle.array_sync.proofs.rows.stage_sectors.Goals as goal
 
 pub loop-sector-init : goal.loop-sector-init
@@ -13,7 +13,7 @@ loop-sector-init g c = (
   only_reads_start (g.R.Rack.seen c.args.rack.now) c.requires.slices.fit,
   notes_none c.args.array.now _ _,
   g.met.R.Rack.runs_same c.args.rack.now,
-  no_copies c.args.array.now _ _ ((c.args.row * 128 - c.args.row * 128) * 16) c.args.log.now.added (λ t j is. let least = is.0 in let most = is.1 in omega (arith, least, most)),
+  no_copies c.args.array.now _ _ (c.args.row * 128 - c.args.row * 128) c.args.log.now.added (λ t j is. let least = is.0 in let most = is.1 in omega (arith, least, most)),
   refl,
 )
 
@@ -26,10 +26,10 @@ stage_sector-requires g c =
     let least = c.loop-sector.auto.sector in
     let left = c.requires.left in
     let room = c.requires.room in
-    let long = added_length v _ _ ((c.loop-sector.sector - c.args.row * 128) * 16) c.args.log.now.added c.loop-sector.log.added c.loop-sector.invariant.3 in
+    let long = added_length v _ _ (c.loop-sector.sector - c.args.row * 128) c.args.log.now.added c.loop-sector.log.added c.loop-sector.invariant.3 in
     record {
       slices = slices_then v u (g.R.Rack.seen c.args.rack.now) (g.R.Rack.seen c.loop-sector.rack) c.loop-sector.invariant.0.stays c.loop-sector.invariant.1 c.requires.slices;
-      sector = sector_then v u c.loop-sector.sector same (sector_in_row v c.args.row c.loop-sector.sector c.rules.ensures c.requires.row (omega (arith, low)));
+      sector = sector_then v u c.loop-sector.sector same (let row = c.requires.row in let whole = c.rules.ensures.whole_rows in omega (arith, low, row, whole));
       left = row_left v u c.loop-sector.sector same (omega (arith, left, least));
       room = omega (arith, room, long, low, least);
     }
@@ -45,7 +45,8 @@ returns-then-not-stage_sector-clause-notes g c =
 pub returns-then-not-stage_sector-clause-lost : goal.returns-then-not-stage_sector-clause-lost
 returns-then-not-stage_sector-clause-lost g c = λ is.
     let low = c.loop-sector-test.true in
-    lacks_at_last c.stage_sector.new.array c.args.row c.loop-sector.sector (omega (arith, low)) (c.stage_sector.ensures.lost c.if-not-stage_sector.true)
+    let some = c.requires.some in
+    lacks_at_last c.stage_sector.new.array (c.args.row + (c.args.rows - 1)) c.loop-sector.sector (omega (arith, low, some)) (c.stage_sector.ensures.lost c.if-not-stage_sector.true)
 
 pub returns-then-not-stage_sector-clause-log : goal.returns-then-not-stage_sector-clause-log
 returns-then-not-stage_sector-clause-log g c =
@@ -73,5 +74,5 @@ returns-clause-added g c = λ is.
     let v = c.args.array.now in
     let end = c.loop-sector-test.false in
     let last = c.loop-sector.auto.sector-end in
-    let at : c.loop-sector.sector - c.args.row * 128 ≡ 128 = omega (arith, end, last) in
-    subst (λ (n : ℕ). AddsCopies v (OfRow v (c.args.row * 128) n) (IsRowSum v (g.R.Rack.seen c.args.rack.now)) (n * 16) c.args.log.now.added c.loop-sector.log.added) at c.loop-sector.invariant.3
+    let at : c.loop-sector.sector - c.args.row * 128 ≡ 128 * c.args.rows = omega (arith, end, last) in
+    subst (λ (n : ℕ). AddsCopies v (OfRow v (c.args.row * 128) n) (IsRowSum v (g.R.Rack.seen c.args.rack.now)) n c.args.log.now.added c.loop-sector.log.added) at c.loop-sector.invariant.3

@@ -9,5 +9,5 @@ invariant-loop-sector g l =
     OnlyReads (g.R.Rack.seen l.fn.rack) (g.R.Rack.seen l.rack)
     × Notes l.fn.array l.array (g.R.Rack.seen l.fn.rack) (g.R.Rack.seen l.rack)
     × g.R.Rack.runs l.fn.rack l.rack
-    × AddsCopies l.fn.array (OfRow l.fn.array (l.row * 128) (l.sector - l.row * 128)) (IsRowSum l.fn.array (g.R.Rack.seen l.fn.rack)) ((l.sector - l.row * 128) * 16) l.fn.log.added l.log.added
+    × AddsCopies l.fn.array (OfRow l.fn.array (l.row * 128) (l.sector - l.row * 128)) (IsRowSum l.fn.array (g.R.Rack.seen l.fn.rack)) (l.sector - l.row * 128) l.fn.log.added l.log.added
     × (l.log ≡ record l.fn.log { added = l.log.added })

@@ -1,41 +1,38 @@
-use Rattle.std.proofs.Common.{ap, ◌≡◌, ◌≤◌, ◌*◌, ◌∙◌, refl, arith}
-use Rattle.md_super.specs.declared.superblock.Super.{Super}
+use Rattle.std.proofs.Common.{ap, ◌≡◌, ◌-◌, ◌*◌, ◌∙◌, ℕ, refl, subst, arith}
 use Rattle.log_laws.specs.View.{LogView}
-use Rattle.array_model.proofs.Noting.{final_is}
-use Rattle.array_model.proofs.Views.{same_view}
-use Rattle.sync_laws.specs.Rows.{AreZeros, OfCounting}
-use Rattle.sync_laws.proofs.Copying.{added_length, copies_by, no_copies}
-use Rattle.sync_laws.proofs.Zeroed.{zeros_more}
+use Rattle.sync_laws.specs.Rows.{AddsCopies, AreZeros, OfCounting}
+use Rattle.sync_laws.proofs.Copying.{added_length, no_copies}
+use Rattle.sync_laws.proofs.Zeroed.{row_more, zeros_row}
 use Rattle.array_sync.proofs.zeros.stage_zeros.Goals as goal
 
-pub loop-position-init : goal.loop-position-init
-loop-position-init c = (no_copies c.args.array.now _ _ (0 * 128) c.args.log.now.added (λ t j is. let low = is.2 in omega (arith, low)), refl)
-
-pub stage_if_counts-requires-clause-room : goal.stage_if_counts-requires-clause-room
-stage_if_counts-requires-clause-room c =
-    let room = c.requires.room in
-    let count = (final_is c.args.array.now c.rules.ensures).count in
-    let low = c.loop-position-test.true in
-    let same : c.truth.result.now.raid_disks ≡ c.args.array.now.truth.raid_disks = ap (λ (t : Super). t.raid_disks) c.truth.ensures in
-    let long = added_length c.args.array.now _ _ (c.loop-position.position * 128) c.args.log.now.added c.loop-position.log.added c.loop-position.invariant.0 in
-    omega (arith, room, count, low, long, same)
-
-pub loop-position-preserved : goal.loop-position-preserved
-loop-position-preserved c = (
-  zeros_more c.args.array.now c.args.row c.loop-position.position c.args.log.now.added c.loop-position.log.added c.stage_if_counts.new.log.added
-      c.rules.ensures c.loop-position.invariant.0 c.stage_if_counts.ensures.added,
-  c.stage_if_counts.ensures.log ∙ ap (λ (l : LogView). record l { added = c.stage_if_counts.new.log.added }) c.loop-position.invariant.1,
+pub loop-row-init : goal.loop-row-init
+loop-row-init c = (
+  no_copies c.args.array.now _ _ _ c.args.log.now.added (λ t j is. let least = is.0 in let most = is.1 in omega (arith, least, most)),
+  refl,
 )
+
+pub stage_row-requires-clause-room : goal.stage_row-requires-clause-room
+stage_row-requires-clause-room c =
+    let n = c.args.array.now.truth.raid_disks * 128 in
+    let room = c.requires.room in
+    let low = c.loop-row-test.true in
+    let least = c.loop-row.auto.row in
+    let long = added_length c.args.array.now _ _ (n * (c.loop-row.row - c.args.first)) c.args.log.now.added c.loop-row.log.added c.loop-row.invariant.0 in
+    let more = row_more n (c.loop-row.row - c.args.first) c.args.rows (omega (arith, low, least)) in
+    omega (arith, room, long, more)
+
+pub loop-row-preserved : goal.loop-row-preserved
+loop-row-preserved c =
+    let least = c.loop-row.auto.row in (
+      zeros_row c.args.array.now c.args.first c.loop-row.row c.args.array.now.truth.raid_disks c.args.log.now.added c.loop-row.log.added c.stage_row.new.log.added
+          c.rules.ensures (omega (arith, least)) c.loop-row.invariant.0 c.stage_row.ensures.added,
+      c.stage_row.ensures.log ∙ ap (λ (l : LogView). record l { added = c.stage_row.new.log.added }) c.loop-row.invariant.1,
+    )
 
 pub returns-clause-added : goal.returns-clause-added
 returns-clause-added c =
-    let count = (final_is c.args.array.now c.rules.ensures).count in
-    let end = c.loop-position-test.false in
-    let last = c.loop-position.auto.position-end in
-    let same : c.truth.result.now.raid_disks ≡ c.args.array.now.truth.raid_disks = ap (λ (t : Super). t.raid_disks) c.truth.ensures in
-    let at : c.loop-position.position ≡ c.args.array.now.truth.raid_disks = omega (arith, end, last, same) in
-    let few : c.args.array.now.truth.raid_disks * 128 ≤ 2048 = omega (arith, count) in
-    copies_by c.args.array.now c.args.array.now (OfCounting c.args.array.now c.args.row c.loop-position.position) (OfCounting c.args.array.now c.args.row c.args.array.now.truth.raid_disks)
-    AreZeros AreZeros (c.loop-position.position * 128) 2048 c.args.log.now.added c.loop-position.log.added (same_view c.args.array.now) (omega (arith, at, few))
-    (λ t j is. let low = is.2 in (is.0, is.1, omega (arith, low, at), is.3)) (λ t j is. let low = is.2 in (is.0, is.1, omega (arith, low, at), is.3)) (λ t j u is bytes. bytes)
-    c.loop-position.invariant.0
+    let n = c.args.array.now.truth.raid_disks in
+    let end = c.loop-row-test.false in
+    let last = c.loop-row.auto.row-end in
+    let at : c.loop-row.row - c.args.first ≡ c.args.rows = omega (arith, end, last) in
+    subst (λ (k : ℕ). AddsCopies c.args.array.now (OfCounting c.args.array.now (c.args.first * 128) (128 * k) n) AreZeros (n * 128 * k) c.args.log.now.added c.loop-row.log.added) at c.loop-row.invariant.0

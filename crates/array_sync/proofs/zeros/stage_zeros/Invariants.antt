@@ -1,8 +1,8 @@
-use Rattle.std.proofs.Common.{◌≡◌, ◌*◌}
+use Rattle.std.proofs.Common.{◌≡◌, ◌*◌, ◌-◌}
 use Rattle.sync_laws.specs.Rows.{AddsCopies, AreZeros, OfCounting}
 use Rattle.array_sync.proofs.zeros.stage_zeros.Given as goal
 
-abbrev pub invariant-loop-position : goal.invariant-loop-position
-invariant-loop-position l =
-    AddsCopies l.fn.array (OfCounting l.fn.array l.row l.position) AreZeros (l.position * 128) l.fn.log.added l.log.added
+abbrev pub invariant-loop-row : goal.invariant-loop-row
+invariant-loop-row l =
+    AddsCopies l.fn.array (OfCounting l.fn.array (l.first * 128) (128 * (l.row - l.first)) l.fn.array.truth.raid_disks) AreZeros (l.fn.array.truth.raid_disks * 128 * (l.row - l.first)) l.fn.log.added l.log.added
     × (l.log ≡ record l.fn.log { added = l.log.added })
