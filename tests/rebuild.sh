@@ -48,7 +48,7 @@ printf 'replace 2 new\n' >script
 "$tool" serve first second fourth <script >out 2>err
 expect 'killed: the new drive is taken in' grep -qx ok out
 images=(first second new fourth)
-yes 'step 1' | head -n 1000 >script
+yes $'step 1\nstep 6' | head -n 1000 >script
 for milliseconds in $(seq 5 7 61); do
   killed "0.0$(printf %02d "$milliseconds")" serve "${images[@]}"
   holds "killed after $milliseconds milliseconds" "${images[@]}"
@@ -85,7 +85,7 @@ kill -9 $! && wait $! 2>/dev/null
 exec 3>&-
 : >script
 for work in $(seq 60); do
-  echo 'step 1' >>script
+  echo "step $((work % 4 + 1))" >>script
   put $((work * 97 % sectors)) $((work + 120))
 done
 printf 'step 1000\n' >>script

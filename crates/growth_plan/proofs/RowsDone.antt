@@ -87,7 +87,7 @@ first_rebuild (Some place) below x w more e =
     (cases_Bool (x.rebuilding == place))
 
 -- those of an array on the place that is rebuilt
-rebuilds_of : (s : State) (place : ℕ) (below : List ArrayNow) (x : ArrayNow) → rebuilt s ≡ Some place → (x.rebuilding == place) ≡ true →
+pub rebuilds_of : (s : State) (place : ℕ) (below : List ArrayNow) (x : ArrayNow) → rebuilt s ≡ Some place → (x.rebuilding == place) ≡ true →
     rebuilds s (at below x) ≡ replicate x.rebuild (Rebuild (length below) place)
 rebuilds_of s place below x on same =
     ap (λ (o : Option ℕ). rebuilds_on o (at below x)) on ∙ ap (λ (t : Bool). if t then replicate x.rebuild (Rebuild (length below) place) else []) same

@@ -38,7 +38,7 @@ use Rattle.pool.specs.Works.{array_now, arrays_now, is_rebuilding_on, progress_b
 use Rattle.pool.proofs.Books.{is_book}
 use Rattle.pool.proofs.Counting.{none_changed, now_resynced, now_same, one_changed}
 use Rattle.pool.proofs.Quiet.{is_missing, seats_same, state_same}
-use Rattle.pool.proofs.Rebuilding.{now_rebuilt, rows_before, was_rebuilt}
+use Rattle.pool.proofs.Rebuilding.{is_first, now_rebuilt, rows_before, was_rebuilt}
 
 -- ---- members
 
@@ -138,7 +138,7 @@ rest_left l v w count some same is =
     new ∙ is ∙ ap (drop count) (sym own)
 
 -- the first work, by the book
-first_by : (l : Linear) (v : Raid) (work : Work) → 0 < length v.state.drives.items → slice_get (works_by l v) 0 ≡ Some work
+pub first_by : (l : Linear) (v : Raid) (work : Work) → 0 < length v.state.drives.items → slice_get (works_by l v) 0 ≡ Some work
     → slice_get (works_left v.state (progress_by l v)) 0 ≡ Some work
 first_by l v work some first =
     let p = progress_by l v in
@@ -146,7 +146,7 @@ first_by l v work some first =
     ap (λ (ws : List Work). slice_get ws 0) (sym own) ∙ first
 
 -- an array's standing, by its number
-now_at_number : (v : Raid) (m : ℕ) → m < v.state.made → slice_get (arrays_now v) m ≡ Some (array_now v.state.extent (v.arrays m))
+pub now_at_number : (v : Raid) (m : ℕ) → m < v.state.made → slice_get (arrays_now v) m ≡ Some (array_now v.state.extent (v.arrays m))
 now_at_number v m low =
     slice_get-map (λ n. array_now v.state.extent (v.arrays n)) (range_with_len 0 v.state.made) m
     ∙ ap (option_map (λ n. array_now v.state.extent (v.arrays n))) (get_range 0 v.state.made m low)
@@ -239,24 +239,24 @@ resync_counted l v w a b m rows set heeded some small alone first marks inside f
 -- rows are rebuilt
 rebuild_counted : (l : Linear) (v w : Raid) (a b : Seen) (m place rows : ℕ) → IsSet v a → IsHeeded v → 0 < length v.state.drives.items → extents_of l.runs < 2 ^ 52
     → HasRowsAlone v → slice_get (works_by l v) 0 ≡ Some (Rebuild m place) → ((p : ℕ) → is_current w.state p ≡ is_current v.state p)
-    → m < v.state.made → is_rebuilding_on (v.arrays m) place ≡ true → 0 < rows → rows ≤ rows_left (v.arrays m) place
+    → m < v.state.made → is_rebuilding_on (v.arrays m) place ≡ true → rows ≤ rows_left (v.arrays m) place
     → StepsOne v w a b m (rebuilt (v.arrays m) place rows) true → AreFewer l rows v w
-rebuild_counted l v w a b m place rows set heeded some small alone first marks inside rebuilds any few steps =
+rebuild_counted l v w a b m place rows set heeded some small alone first marks inside rebuilds few steps =
     let u = v.arrays m in
     let seated = set.arrays m inside in
     let has = row_left v.state m u a place seated rebuilds in
     let one = alone.one m inside in
     let next = next_rebuilt v.state m u a place rows seated has few in
     let count = seated.is_array.seats in
-    let before = rows_before u place rows seated.is_array has any few one in
+    let before = rows_before u place rows seated.is_array has (is_first u place rows seated.is_array has few one) in
     counted l v w a b rows m (λ u. rebuilt u place rows) (rows_rebuilt rows) set heeded some small alone marks inside steps
     (λ u. refl) (λ u. refl) (λ u. refl)
     (λ k gone.
     let low = slice_get_within u.seats k Missing gone in
     is_missing (slice_get (rebuilt u place rows).seats k)
     (next.seated.marks k (omega (arith, low, count)) ∙ sym (seated.marks k (omega (arith, low, count))) ∙ ap (option_map is_missing_seat) gone))
-    (was_rebuilt u place rows seated.is_array has any few one)
-    (now_rebuilt u place rows seated.is_array has any few one v.state.extent)
+    (was_rebuilt u place rows seated.is_array has)
+    (now_rebuilt u place rows seated.is_array has few one v.state.extent)
     (first_rebuilds v.state (progress_by l v) m place rows (first_by l v (Rebuild m place) some first)
     (subst (λ (o : Option ArrayNow). rows ≤ option_map_or (λ (x : ArrayNow). x.rebuild) o 0) (sym (now_at_number v m inside)) (omega (arith, few, before))))
 
@@ -295,7 +295,7 @@ work_counted l v w a b (Rebuild m place) most count set heeded some small alone 
     let parts = and_parts (nat_lt m v.state.made) (is_rebuilding_on (v.arrays m) place && is_whole_row (v.arrays m).truth.resync_offset) due in
     let own = and_parts (is_rebuilding_on (v.arrays m) place) (is_whole_row (v.arrays m).truth.resync_offset) parts.1 in
     subst (λ n. AreFewer l n v w) (sym does.rows.answer)
-    (rebuild_counted l v w a b m place does.rows.rows set heeded some small alone first marks (ltb-true m v.state.made parts.0) own.0 does.rows.some does.rows.left does.rows.steps)
+    (rebuild_counted l v w a b m place does.rows.rows set heeded some small alone first marks (ltb-true m v.state.made parts.0) own.0 does.rows.left does.rows.steps)
 work_counted l v w a b (TakeOver m) most count set heeded some small alone first marks due does = absurd does
 work_counted l v w a b (Begin m place) most count set heeded some small alone first marks due does = absurd does
 work_counted l v w a b (Reshape m) most count set heeded some small alone first marks due does = absurd does

@@ -1,6 +1,6 @@
 -- The works of a growth, by what the calls of the arrays and of the volume say.
-use Rattle.std.specs.Prelude.{IfErr, OnOk, Result, is_ok, unwrap_or}
-use Rattle.std.proofs.Common.{◌≡◌, ◌⊎◌, ℕ, ◌+◌, ◌*◌, ◌^◌, ◌<◌, ◌≤◌, ◌==◌, ◌&&◌, if◌then◌else◌, Bool, true, false, List, [], ◌∷◌, slice_get, Some, None, Ok, Err, refl, sym, ap, subst, ◌∙◌, inl, inr, arith}
+use Rattle.std.specs.Prelude.{IfErr, IfOk, OnOk, Result, is_ok, unwrap_or}
+use Rattle.std.proofs.Common.{◌≡◌, ◌⊎◌, ℕ, zero, suc, ◌+◌, ◌*◌, ◌^◌, ◌<◌, ◌≤◌, ◌==◌, ◌&&◌, if◌then◌else◌, Bool, true, false, List, [], ◌∷◌, slice_get, Some, None, Ok, Err, refl, sym, ap, subst, ◌∙◌, inl, inr, arith}
 use Rattle.std.proofs.lemmas.Bool.{both_ways, cases_Bool, cases_eq, eq-eqb, ne_eqb}
 use Rattle.rack.specs.Joins.{leaves_same, leaves_weaker, rose_before, rose_since, stays_same}
 use Rattle.rack.specs.Sequences.{IsMix, WritesOnly}
@@ -40,13 +40,14 @@ use Rattle.raid_rack.specs.declared.works.Stuck.{Stuck}
 use Rattle.raid_rack.proofs.Raises.{raises_more, raises_none, several_raise}
 use Rattle.pool.specs.declared.Pool.{Pool}
 use Rattle.pool.specs.Calls.{DriveWent}
-use Rattle.pool.specs.Growing.{DoesMany, DoesWork, DoesWorks, HasNone, IsDone, IsRefused, IsRefusedGrowth, IsRefusedRow, KeepsGrowing, LacksIn, StopsGrowing, TriesFirst, TriesWork, can_extend, change_in, linear_after, more, most_grown, none, target_of}
+use Rattle.pool.specs.Growing.{DoesMany, DoesWorks, HasNone, IsDone, IsRefused, IsRefusedGrowth, IsRefusedRow, KeepsGrowing, LacksIn, StopsGrowing, TriesFirst, TriesWork, can_extend, change_in, linear_after, more, most_grown, none, target_of}
 use Rattle.pool.specs.View.{View, arrays_of, bay_in, book, slices_shown, view, volume}
 use Rattle.pool.specs.Works.{progress_by, works_by, works_of}
 use Rattle.pool.proofs.Extends.{inside_longer}
 use Rattle.pool.proofs.Keeping.{not_left}
 use Rattle.pool.proofs.Reached.{reached_stays, with_arrays}
 use Rattle.pool.proofs.Serving.{KeepNames}
+use Rattle.pool.proofs.InRow.{works_then}
 use Rattle.pool.proofs.Stepping.{SaysOf, lacks_row}
 
 -- ---- what works keep
@@ -149,32 +150,51 @@ still_done x y z n left done =
 still_none : (y z : View) → HasNone y z → works_of z ≡ []
 still_none y z left = ap (λ (l : Linear). works_by l (book z)) left.1 ∙ ap (λ (v : Raid). works_by y.linear v) left.2 ∙ left.0
 
-pub many_then : (n : ℕ) (x y z : View) → DoesMany n x y → HasNone y z ⊎ DoesWork y.linear z.linear (book y) (book z) → DoesMany (n + 1) x z
-many_then n x y z (inl done) (inr work) =
-    inl (subst (λ k. DoesWorks k x.linear (book x) z.linear (book z)) (omega arith) (more done work))
-many_then n x y z (inl done) (inl left) = inr (n, omega arith, still_done x y z n left done, still_none y z left)
-many_then n x y z (inr over) (inl left) = inr (over.0, (let few = over.1 in omega (arith, few)), still_done x y z over.0 left over.2, still_none y z left)
-many_then n x y z (inr over) (inr work) = absurd (none_first (works_of y) work.work over.3 work.first)
+-- a row of them begins with the first
+first_in : (n : ℕ) (l m : Linear) (v w : Raid) → 0 < n → DoesWorks n l v m w → (work : Work) × (slice_get (works_by l v) 0 ≡ Some work)
+first_in zero l m v w any none = absurd (omega (arith, any))
+first_in (suc zero) l m v w any (more none last) = (last.work, last.first)
+first_in (suc (suc n)) l m v w any (more rest last) = first_in (suc n) l _ v _ (omega arith) rest
+
+pub many_then : (n k : ℕ) (x y z : View) → 0 < k → DoesMany n x y → HasNone y z ⊎ DoesWorks k y.linear (book y) z.linear (book z) → DoesMany (n + k) x z
+many_then n k x y z any (inl done) (inr works) =
+    inl (subst (λ j. DoesWorks j x.linear (book x) z.linear (book z)) (omega arith) (works_then n k x.linear y.linear z.linear (book x) (book y) (book z) done works))
+many_then n k x y z any (inl done) (inl left) = inr (n, omega arith, still_done x y z n left done, still_none y z left)
+many_then n k x y z any (inr over) (inl left) = inr (over.0, (let few = over.1 in omega (arith, few)), still_done x y z over.0 left over.2, still_none y z left)
+many_then n k x y z any (inr over) (inr works) =
+    let first = first_in k y.linear z.linear (book y) (book z) any works in
+    absurd (none_first (works_of y) first.0 over.3 first.1)
 
 -- a work is the first one
-pub first_tried : (x y : View) (runs : x.bays.one → x.bays.one → Type 0) (bay : x.bays.one) (work : Work) (r : Result (Unit {0}) Stuck) → slice_get (works_of x) 0 ≡ Some work
-    → TriesWork work x y runs bay r → TriesFirst x y runs bay r
-first_tried x y runs bay work r first tries = record { keeps = tries.keeps; done = done_of r tries; stuck = stuck_of r tries }
+pub first_tried : (most : ℕ) (x y : View) (runs : x.bays.one → x.bays.one → Type 0) (bay : x.bays.one) (work : Work) (r : Result (Unit {0}) Stuck) → 0 < most
+    → slice_get (works_of x) 0 ≡ Some work → TriesWork work x y runs bay r → TriesFirst most x y runs bay (one_done r)
+first_tried most x y runs bay work r any first tries = record { keeps = tries.keeps; some = some_of r; done = done_of r tries; stuck = stuck_of r tries }
   where
-    done_of : (r : Result (Unit {0}) Stuck) → TriesWork work x y runs bay r → OnOk r (HasNone x y ⊎ DoesWork x.linear y.linear (book x) (book y))
+    some_of : (r : Result (Unit {0}) Stuck) → IfOk (one_done r) (λ count. (0 < count) × (count ≤ most))
+    some_of (Err e) = tt
+    some_of (Ok u) = (omega arith, omega (arith, any))
+
+    done_of : (r : Result (Unit {0}) Stuck) → TriesWork work x y runs bay r
+        → IfOk (one_done r) (λ count. HasNone x y ⊎ DoesWorks count x.linear (book x) y.linear (book y))
     done_of (Err e) tries = tt
-    done_of (Ok u) tries = inr (record { work = work; first = first; done = tries.done.0; linear = tries.done.1 })
+    done_of (Ok u) tries = inr (more none (record { work = work; first = first; done = tries.done.0; linear = tries.done.1 }))
 
     stuck_of : (r : Result (Unit {0}) Stuck) → TriesWork work x y runs bay r
-        → IfErr r
+        → IfErr (one_done r)
         (λ e. (y.linear ≡ x.linear)
         × ((work : Work) × (slice_get (works_of x) 0 ≡ Some work) × IsRefused x.bays.seen runs x.slices bay x.linear work (book x) (book y) e.array))
     stuck_of (Ok u) tries = tt
     stuck_of (Err e) tries = (tries.stuck.0, (work, first, tries.stuck.1))
 
 -- none is left
-pub none_tried : (x : View) (runs : x.bays.one → x.bays.one → Type 0) (bay : x.bays.one) → (volume x).fit → slice_get (works_of x) 0 ≡ None → TriesFirst x x runs bay (Ok tt)
-none_tried x runs bay fit none_left = record { keeps = keeps_more 0 1 x x (omega arith) (keeps_none x fit); done = inl (empty (works_of x) none_left, refl, refl); stuck = tt }
+pub none_tried : (most : ℕ) (x : View) (runs : x.bays.one → x.bays.one → Type 0) (bay : x.bays.one) → 0 < most → (volume x).fit → slice_get (works_of x) 0 ≡ None
+    → TriesFirst most x x runs bay (Ok most)
+none_tried most x runs bay any fit none_left = record {
+  keeps = keeps_more 0 1 x x (omega arith) (keeps_none x fit);
+  some = (any, omega arith);
+  done = inl (empty (works_of x) none_left, refl, refl);
+  stuck = tt;
+}
   where
     empty : (works : List Work) → slice_get works 0 ≡ None → works ≡ []
     empty [] is = refl
@@ -288,7 +308,7 @@ extend_done v w loses = record {
   where
     own : (n : ℕ) → (if n == 0 then v.arrays 0 else v.arrays n) ≡ v.arrays n
     own n = elim (cases_eq n 0) [
-      | inl zero ↦ ap (λ t. if t then v.arrays 0 else v.arrays n) (eq-eqb n 0 zero) ∙ ap v.arrays (sym zero)
+      | inl same ↦ ap (λ t. if t then v.arrays 0 else v.arrays n) (eq-eqb n 0 same) ∙ ap v.arrays (sym same)
       | inr other ↦ ap (λ t. if t then v.arrays 0 else v.arrays n) (ne_eqb n 0 other)
     ]
 

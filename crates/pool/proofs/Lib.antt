@@ -36,7 +36,9 @@ mod Stepping
 mod Held
 mod Adds
 mod Extends
+mod InRow
 mod Grows
+mod RowsTried
 mod Trying
 mod Added
 mod AddedDrives

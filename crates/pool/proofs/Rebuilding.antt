@@ -111,27 +111,30 @@ listed v place k is_array low at =
 
 -- ---- the next rows of a member
 
-module _ (v : View) (place rows : ℕ) (is_array : IsArray v) (has : HasRowLeft v place) (some : 0 < rows) (few : rows ≤ rows_left v place) (one : IsOneRebuilt v) where
-  is_own : is_rebuilding_on v place ≡ true
+module _ (v : View) (place rows : ℕ) (is_array : IsArray v) (has : HasRowLeft v place) where
+  pub is_own : is_rebuilding_on v place ≡ true
   is_own = ap (λ (o : Option Seat). option_map_or is_rebuilding_seat o false) has.seat
 
-  -- the array is said to rebuild it
-  is_first : rebuilding_in v ≡ Some place
-  is_first =
+  -- the first one that is being rebuilt
+  pub first_some : (y : ℕ) × (rebuilding_in v ≡ Some y) × (is_rebuilding_on v y ≡ true)
+  first_some =
       let at = place_found v place (Rebuilding (reach_on v place)) is_array has.seat in
       let own = listed v place at.0 is_array at.1 at.2 in
-      let found = found_first (is_rebuilding_on v) (is_named v.truth) (range_with_len 0 (length v.truth.roles.items)) place place
-      (get_range 0 (length v.truth.roles.items) place own.1 ∙ ap Some (let e : 0 + place ≡ place = omega arith in e)) own.0 is_own in
-      found.1 ∙ ap Some (one found.0 place found.2 is_own)
+      found_first (is_rebuilding_on v) (is_named v.truth) (range_with_len 0 (length v.truth.roles.items)) place place
+      (get_range 0 (length v.truth.roles.items) place own.1 ∙ ap Some (let e : 0 + place ≡ place = omega arith in e)) own.0 is_own
+
+  -- it is this one where the array is said to rebuild it
+  pub first_by_number : option_map_or (λ p. p) (rebuilding_in v) 0 ≡ place → rebuilding_in v ≡ Some place
+  first_by_number is = first_some.1 ∙ ap Some (sym (ap (λ (o : Option ℕ). option_map_or (λ p. p) o 0) first_some.1) ∙ is)
 
   -- what becomes of its seat, and of the others
-  next_own : seat_of (rebuilt v place rows) place ≡ Some (rebuilt_seat v.truth.size (reach_on v place + 128 * rows))
+  pub next_own : seat_of (rebuilt v place rows) place ≡ Some (rebuilt_seat v.truth.size (reach_on v place + 128 * rows))
   next_own =
       rebuilt_at v place rows place
       ∙ ap (option_map (λ (s : Seat). if place == place then rebuilt_seat v.truth.size (reach_on v place + 128 * rows) else s)) has.seat
       ∙ ap (λ (b : Bool). Some (if b then rebuilt_seat v.truth.size (reach_on v place + 128 * rows) else Rebuilding (reach_on v place))) (eq-eqb place place refl)
 
-  next_other : (q : ℕ) → (q ≡ place → ⊥) → seat_of (rebuilt v place rows) q ≡ seat_of v q
+  pub next_other : (q : ℕ) → (q ≡ place → ⊥) → seat_of (rebuilt v place rows) q ≡ seat_of v q
   next_other q other =
       rebuilt_at v place rows q
       ∙ ap (λ (b : Bool). option_map (λ (s : Seat). if b then rebuilt_seat v.truth.size (reach_on v place + 128 * rows) else s) (seat_of v q)) (ne_eqb q place other)
@@ -149,38 +152,7 @@ module _ (v : View) (place rows : ℕ) (is_array : IsArray v) (has : HasRowLeft 
         | inr other ↦ sym (ap (λ (o : Option Seat). option_map_or is_rebuilding_seat o false) (next_other q other)) ∙ is
       ]
 
-  -- the last of all rows ends the rebuild
-  none_after : (reach_on v place + 128 * rows == v.truth.size) ≡ true → rebuilding_in (rebuilt v place rows) ≡ None
-  none_after last =
-      find_none (is_rebuilding_on (rebuilt v place rows)) (named_places v.truth)
-      (λ q.
-      elim (cases_eq q place) [
-        | inl same ↦
-            ap (is_rebuilding_on (rebuilt v place rows)) same
-            ∙ ap (λ (o : Option Seat). option_map_or is_rebuilding_seat o false) next_own
-            ∙ ap (λ (b : Bool). is_rebuilding_seat (if b then Whole else Rebuilding (reach_on v place + 128 * rows))) last
-        | inr other ↦
-            elim (cases_Bool (is_rebuilding_on v q)) [
-              | inl is ↦ absurd (other (one q place is is_own))
-              | inr not ↦ ap (λ (o : Option Seat). option_map_or is_rebuilding_seat o false) (next_other q other) ∙ not
-            ]
-      ])
-
-  same_after : (reach_on v place + 128 * rows == v.truth.size) ≡ false → rebuilding_in (rebuilt v place rows) ≡ Some place
-  same_after more =
-      find_same (is_rebuilding_on (rebuilt v place rows)) (is_rebuilding_on v) (named_places v.truth)
-      (λ q.
-      elim (cases_eq q place) [
-        | inl same ↦
-            ap (is_rebuilding_on (rebuilt v place rows)) same
-            ∙ ap (λ (o : Option Seat). option_map_or is_rebuilding_seat o false) next_own
-            ∙ ap (λ (b : Bool). is_rebuilding_seat (if b then Whole else Rebuilding (reach_on v place + 128 * rows))) more
-            ∙ sym (ap (is_rebuilding_on v) same ∙ is_own)
-        | inr other ↦ ap (λ (o : Option Seat). option_map_or is_rebuilding_seat o false) (next_other q other)
-      ])
-      ∙ is_first
-
-  reach_after : reach_on (rebuilt v place rows) place ≡ reach_on v place + 128 * rows
+  pub reach_after : reach_on (rebuilt v place rows) place ≡ reach_on v place + 128 * rows
   reach_after =
       ap (λ (o : Option Seat). option_map_or (seat_reach v.truth.size) o 0) next_own
       ∙ by (reach_on v place + 128 * rows == v.truth.size) refl
@@ -190,23 +162,81 @@ module _ (v : View) (place rows : ℕ) (is_array : IsArray v) (has : HasRowLeft 
       by true is = sym (eqb-true (reach_on v place + 128 * rows) v.truth.size is)
       by false other = refl
 
+-- where it is the first that is being rebuilt
+module _ (v : View) (place rows : ℕ) (is_array : IsArray v) (has : HasRowLeft v place) (first : rebuilding_in v ≡ Some place) where
+  pub same_after : (reach_on v place + 128 * rows == v.truth.size) ≡ false → rebuilding_in (rebuilt v place rows) ≡ Some place
+  same_after more =
+      find_same (is_rebuilding_on (rebuilt v place rows)) (is_rebuilding_on v) (named_places v.truth)
+      (λ q.
+      elim (cases_eq q place) [
+        | inl same ↦
+            ap (is_rebuilding_on (rebuilt v place rows)) same
+            ∙ ap (λ (o : Option Seat). option_map_or is_rebuilding_seat o false) (next_own v place rows is_array has)
+            ∙ ap (λ (b : Bool). is_rebuilding_seat (if b then Whole else Rebuilding (reach_on v place + 128 * rows))) more
+            ∙ sym (ap (is_rebuilding_on v) same ∙ is_own v place rows is_array has)
+        | inr other ↦ ap (λ (o : Option Seat). option_map_or is_rebuilding_seat o false) (next_other v place rows is_array has q other)
+      ])
+      ∙ first
+
   -- the rows that it has left
   pub rows_before : option_map_or (rows_to_rebuild v) (rebuilding_in v) 0 ≡ rows_left v place
   rows_before =
       let whole = has.whole in
       let size = is_array.whole_rows in
-      ap (λ (o : Option ℕ). option_map_or (rows_to_rebuild v) o 0) is_first ∙ (omega (arith, whole, size))
+      ap (λ (o : Option ℕ). option_map_or (rows_to_rebuild v) o 0) first ∙ (omega (arith, whole, size))
 
-  -- the array has so many rows less to rebuild
-  pub now_rebuilt : (extent : ℕ) → array_now extent (rebuilt v place rows) ≡ rows_rebuilt rows (array_now extent v)
-  now_rebuilt extent =
+  -- the array has so many rows less to rebuild, where some are left then
+  pub now_more : rows ≤ rows_left v place → (reach_on v place + 128 * rows == v.truth.size) ≡ false → (extent : ℕ)
+      → array_now extent (rebuilt v place rows) ≡ rows_rebuilt rows (array_now extent v)
+  now_more few more extent =
       let with : ℕ → ℕ → ArrayNow = λ left on. record (array_now extent v) { rebuild = left; rebuilding = on } in
       let w = rebuilt v place rows in
       let before = rows_before in
       let left = has.left in
       let whole = has.whole in
       let size = is_array.whole_rows in
-      let on_before : option_map_or (λ p. p) (rebuilding_in v) 0 ≡ place = ap (λ (o : Option ℕ). option_map_or (λ p. p) o 0) is_first in
+      let on_before : option_map_or (λ p. p) (rebuilding_in v) 0 ≡ place = ap (λ (o : Option ℕ). option_map_or (λ p. p) o 0) first in
+      let other = eqb-false (reach_on v place + 128 * rows) v.truth.size more in
+      let many : (option_map_or (rows_to_rebuild v) (rebuilding_in v) 0 ≡ rows) → ⊥ = λ all. other (omega (arith, all, before, whole, size, left)) in
+      let fewer : rows_of v - (reach_on v place + 128 * rows) / 128 ≡ rows_left v place - rows = omega (arith, whole, size) in
+      ap₂ with
+      (ap (λ (o : Option ℕ). option_map_or (rows_to_rebuild w) o 0) (same_after more)
+      ∙ ap (λ n. rows_of v - n / 128) (reach_after v place rows is_array has) ∙ fewer ∙ sym (ap (λ n. n - rows) before))
+      (ap (λ (o : Option ℕ). option_map_or (λ p. p) o 0) (same_after more)
+      ∙ sym (ap (λ b. if b then 0 else option_map_or (λ p. p) (rebuilding_in v) 0) (ne_eqb (option_map_or (rows_to_rebuild v) (rebuilding_in v) 0) rows many) ∙ on_before))
+
+-- where it is the only one
+module _ (v : View) (place rows : ℕ) (is_array : IsArray v) (has : HasRowLeft v place) (few : rows ≤ rows_left v place) (one : IsOneRebuilt v) where
+  pub is_first : rebuilding_in v ≡ Some place
+  is_first =
+      let found = first_some v place rows is_array has in
+      found.1 ∙ ap Some (one found.0 place found.2 (is_own v place rows is_array has))
+
+  -- the last of all rows ends the rebuild
+  none_after : (reach_on v place + 128 * rows == v.truth.size) ≡ true → rebuilding_in (rebuilt v place rows) ≡ None
+  none_after last =
+      find_none (is_rebuilding_on (rebuilt v place rows)) (named_places v.truth)
+      (λ q.
+      elim (cases_eq q place) [
+        | inl same ↦
+            ap (is_rebuilding_on (rebuilt v place rows)) same
+            ∙ ap (λ (o : Option Seat). option_map_or is_rebuilding_seat o false) (next_own v place rows is_array has)
+            ∙ ap (λ (b : Bool). is_rebuilding_seat (if b then Whole else Rebuilding (reach_on v place + 128 * rows))) last
+        | inr other ↦
+            elim (cases_Bool (is_rebuilding_on v q)) [
+              | inl is ↦ absurd (other (one q place is (is_own v place rows is_array has)))
+              | inr not ↦ ap (λ (o : Option Seat). option_map_or is_rebuilding_seat o false) (next_other v place rows is_array has q other) ∙ not
+            ]
+      ])
+
+  -- the array has so many rows less to rebuild
+  pub now_rebuilt : (extent : ℕ) → array_now extent (rebuilt v place rows) ≡ rows_rebuilt rows (array_now extent v)
+  now_rebuilt extent =
+      let with : ℕ → ℕ → ArrayNow = λ left on. record (array_now extent v) { rebuild = left; rebuilding = on } in
+      let w = rebuilt v place rows in
+      let before = rows_before v place rows is_array has is_first in
+      let whole = has.whole in
+      let size = is_array.whole_rows in
       elim (cases_Bool (reach_on v place + 128 * rows == v.truth.size)) [
         | inl last ↦
             let end = eqb-true (reach_on v place + 128 * rows) v.truth.size last in
@@ -216,13 +246,32 @@ module _ (v : View) (place rows : ℕ) (is_array : IsArray v) (has : HasRowLeft 
             (ap (λ (o : Option ℕ). option_map_or (rows_to_rebuild w) o 0) (none_after last) ∙ sym none)
             (ap (λ (o : Option ℕ). option_map_or (λ p. p) o 0) (none_after last)
             ∙ sym (ap (λ b. if b then 0 else option_map_or (λ p. p) (rebuilding_in v) 0) (eq-eqb (option_map_or (rows_to_rebuild v) (rebuilding_in v) 0) rows all)))
-        | inr more ↦
-            let other = eqb-false (reach_on v place + 128 * rows) v.truth.size more in
-            let many : (option_map_or (rows_to_rebuild v) (rebuilding_in v) 0 ≡ rows) → ⊥ = λ all. other (omega (arith, all, before, whole, size, left)) in
-            let fewer : rows_of v - (reach_on v place + 128 * rows) / 128 ≡ rows_left v place - rows = omega (arith, whole, size) in
-            ap₂ with
-            (ap (λ (o : Option ℕ). option_map_or (rows_to_rebuild w) o 0) (same_after more)
-            ∙ ap (λ n. rows_of v - n / 128) reach_after ∙ fewer ∙ sym (ap (λ n. n - rows) before))
-            (ap (λ (o : Option ℕ). option_map_or (λ p. p) o 0) (same_after more)
-            ∙ sym (ap (λ b. if b then 0 else option_map_or (λ p. p) (rebuilding_in v) 0) (ne_eqb (option_map_or (rows_to_rebuild v) (rebuilding_in v) 0) rows many) ∙ on_before))
+        | inr more ↦ now_more v place rows is_array has is_first few more extent
       ]
+
+-- ---- rows after rows
+
+reseated_again : (place : ℕ) (a b : Seat) (slots : List Slot)
+    → map (λ (s : Slot). if s.place == place then b else s.seat) (map (λ (s : Slot). record s { seat = if s.place == place then a else s.seat }) slots)
+    ≡ map (λ (s : Slot). if s.place == place then b else s.seat) slots
+reseated_again place a b [] = refl
+reseated_again place a b (x ∷ slots) = ap₂ (λ (y : Seat) (ys : List Seat). y ∷ ys) (by (x.place == place)) (reseated_again place a b slots)
+  where
+    by : (t : Bool) → (if t then b else (if t then a else x.seat)) ≡ (if t then b else x.seat)
+    by true = refl
+    by false = refl
+
+-- one row more
+pub rebuilt_more : (v : View) (place rows : ℕ) → IsArray v → HasRowLeft v place → rebuilt (rebuilt v place rows) place 1 ≡ rebuilt v place (rows + 1)
+rebuilt_more v place rows is_array has =
+    let f : ℕ → Seat → Seat = λ p s. if p == place then rebuilt_seat v.truth.size (reach_on v place + 128 * rows) else s in
+    let again : (to : ℕ) → map (λ (s : Slot). if s.place == place then rebuilt_seat v.truth.size to else s.seat) (slots_of (rebuilt v place rows))
+    ≡ map (λ (s : Slot). if s.place == place then rebuilt_seat v.truth.size to else s.seat) (slots_of v) =
+    λ to.
+    ap (map (λ (s : Slot). if s.place == place then rebuilt_seat v.truth.size to else s.seat)) (reseated f (places_by v.truth) v.seats v.devices)
+    ∙ reseated_again place (rebuilt_seat v.truth.size (reach_on v place + 128 * rows)) (rebuilt_seat v.truth.size to) (slots_of v) in
+    let further : reach_on (rebuilt v place rows) place + 128 * 1 ≡ reach_on v place + 128 * (rows + 1) =
+    (let e = reach_after v place rows is_array has in omega (arith, e)) in
+    ap (λ (seats : List Seat). record v { seats = seats })
+    (ap (λ to. map (λ (s : Slot). if s.place == place then rebuilt_seat v.truth.size to else s.seat) (slots_of (rebuilt v place rows))) further
+    ∙ again (reach_on v place + 128 * (rows + 1)))

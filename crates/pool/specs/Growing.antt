@@ -173,10 +173,25 @@ pub record TriesWork (work : Work) (x y : View) (runs : x.bays.one → x.bays.on
 abbrev pub HasNone : View → View → Type 0
 HasNone x y = (works_of x ≡ []) × (y.linear ≡ x.linear) × (book y ≡ book x)
 
--- the first of the works that are left is tried, where one is
-pub record TriesFirst (x y : View) (runs : x.bays.one → x.bays.one → Type 0) (r : x.bays.one) (result : Result (Unit {0}) Stuck) : Type 0 where
+-- a row to resync or to rebuild, of which one commit takes several
+abbrev pub is_row : Work → Bool
+is_row (Resync n) = true
+is_row (Rebuild n place) = true
+is_row (TakeOver n) = false
+is_row (Begin n place) = false
+is_row (Reshape n) = false
+is_row (Finish n) = false
+is_row (Make n height) = false
+is_row (Zero n) = false
+is_row (Ready n) = false
+is_row Extend = false
+is_row Close = false
+
+-- The first of the works that are left is tried, where one is, with those after it, at most so many: as many are done as are answered, or none is left.
+pub record TriesFirst (most : ℕ) (x y : View) (runs : x.bays.one → x.bays.one → Type 0) (r : x.bays.one) (result : Result ℕ Stuck) : Type 0 where
   pub keeps : KeepsGrowing 1 x y
-  pub done : OnOk result (HasNone x y ⊎ DoesWork x.linear y.linear (book x) (book y))
+  pub some : IfOk result (λ count. (0 < count) × (count ≤ most))
+  pub done : IfOk result (λ count. HasNone x y ⊎ DoesWorks count x.linear (book x) y.linear (book y))
   pub stuck :
       IfErr result
       (λ e. (y.linear ≡ x.linear)

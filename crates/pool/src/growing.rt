@@ -99,29 +99,58 @@ impl<R: Bay> Pool<R> {
         }
     }
 
-    /// Tries the first of the works that are left, where one is.
-    fn try_first(&mut self) -> Result<(), Stuck>
-        requires { (volume (view R.seen R.shelf self.old)).fit }
-        ensures tries { spec.TriesFirst (view R.seen R.shelf self.old) (view R.seen R.shelf self.new) R.runs (bay_in self.old) result }
+    /// Tries the first of the works that are left, where one is, and those after it that one commit takes, at most so many. It answers how
+    /// many are done: as many as were asked for where none is left.
+    fn try_first(&mut self, most: u64) -> Result<u64, Stuck>
+        requires fit { (volume (view R.seen R.shelf self.old)).fit }
+        requires some { 0 < most }
+        ensures tries { spec.TriesFirst most (view R.seen R.shelf self.old) (view R.seen R.shelf self.new) R.runs (bay_in self.old) result }
         ensures runs { R.runs (bay_in self.old) (bay_in self.new) }
     {
         match self.next_work() {
-            Some(work) => self.try_work(&work),
-            None => Ok(()),
+            Some(work) => {
+                if is_row(&work) {
+                    return self.volume.inner().works(&work, most);
+                }
+                self.try_work(&work)?;
+                Ok(1)
+            }
+            None => Ok(most),
         }
     }
 
     /// Does the first of the works that are left, whatever it is, so many times or until none is left, and answers how many are left then.
     /// Arrays get longer meanwhile, and new ones are made; the volume gets longer as the last work but one of a plan. A drive that is lost
     /// changes what is left, and the works go on. They end where a work can't be done, which names its array; those before it are done.
+    /// Rows to resync or to rebuild that follow each other are done several by one commit.
     pub fn grow(&mut self, count: u64) -> Result<u64, Stuck>
         requires { (volume (view R.seen R.shelf self.old)).fit }
         ensures grows { spec.GrowsBy count (view R.seen R.shelf self.old) (view R.seen R.shelf self.new) R.runs result }
         ensures runs { R.runs (bay_in self.old) (bay_in self.new) }
     {
-        for _turn in 0..count.min(self.left()) {
-            self.try_first()?;
+        let most = count.min(self.left());
+        let mut done = 0;
+        while done < most {
+            done += self.try_first(most - done)?;
         }
         Ok(self.left())
+    }
+}
+
+/// Whether a work is a row to resync or to rebuild.
+fn is_row(work: &Work) -> bool
+    ensures { result ≡ spec.is_row work.now }
+{
+    match *work {
+        Work::Resync { .. } | Work::Rebuild { .. } => true,
+        Work::TakeOver { .. }
+        | Work::Begin { .. }
+        | Work::Reshape { .. }
+        | Work::Finish { .. }
+        | Work::Make { .. }
+        | Work::Zero { .. }
+        | Work::Ready { .. }
+        | Work::Extend
+        | Work::Close => false,
     }
 }

@@ -1,4 +1,4 @@
-use Rattle.std.proofs.Common.{◌+◌, sym, subst, arith}
+use Rattle.std.proofs.Common.{◌+◌, ◌<◌, sym, subst, arith}
 use Rattle.std.proofs.lemmas.Result.{err_from_is_err_and}
 use Rattle.raid_rack.specs.declared.works.Stuck.{Stuck}
 use Rattle.pool.specs.Growing.{DoesMany, StopsGrowing}
@@ -6,53 +6,60 @@ use Rattle.pool.specs.View.{bay_in, view}
 use Rattle.pool.proofs.Grows.{keeps_more, keeps_none, keeps_then, many_none, many_then, stops_growing}
 use Rattle.pool.proofs.Pool.grow.Goals as goal
 
-pub loop-turn-init : goal.loop-turn-init
-loop-turn-init g c =
+pub loop-done-init : goal.loop-done-init
+loop-done-init g c =
     let p = c.args.self.now in
     let x = view g.R.Rack.seen g.R.Bay.shelf p in
-    record { keeps = keeps_none x c.requires; done = many_none x; runs = g.met.R.Rack.runs_same (bay_in p) }
+    record { inside = omega arith; keeps = keeps_none x c.requires; works = many_none x; runs = g.met.R.Rack.runs_same (bay_in p) }
 
-pub try_first-requires : goal.try_first-requires
-try_first-requires g c = c.loop-turn.invariant.keeps.fit
+pub try_first-requires-clause-fit : goal.try_first-requires-clause-fit
+try_first-requires-clause-fit g c = c.loop-done.invariant.keeps.fit
 
-pub loop-turn-preserved : goal.loop-turn-preserved
-loop-turn-preserved g c =
+pub loop-done-preserved : goal.loop-done-preserved
+loop-done-preserved g c =
     let seen = g.R.Rack.seen in
     let shelf = g.R.Bay.shelf in
     let p = c.args.self.now in
-    let q = c.loop-turn.self in
+    let q = c.loop-done.self in
     let r = c.try_first.new.self in
-    let before = c.loop-turn.invariant in
+    let before = c.loop-done.invariant in
+    let tries = c.in_ok-done.ensures.tries in
+    let done = c.loop-done.done in
+    let count = c.in_ok-done.field-0 in
+    let any = tries.some.0 in
+    let few = tries.some.1 in
+    let test = c.loop-done-test.true in
     record {
-      keeps = keeps_then c.loop-turn._turn (view seen shelf p) (view seen shelf q) (view seen shelf r) before.keeps c.try_first.ensures.tries.keeps;
-      done = many_then c.loop-turn._turn (view seen shelf p) (view seen shelf q) (view seen shelf r) before.done c.in_ok-try_first.ensures.tries.done;
+      inside = omega (arith, few, test);
+      keeps = keeps_more (done + 1) (done + count) (view seen shelf p) (view seen shelf r) (omega (arith, any))
+          (keeps_then done (view seen shelf p) (view seen shelf q) (view seen shelf r) before.keeps c.try_first.ensures.tries.keeps);
+      works = many_then done count (view seen shelf p) (view seen shelf q) (view seen shelf r) any before.works tries.done;
       runs = g.met.R.Rack.runs_then (bay_in p) (bay_in q) (bay_in r) before.runs c.try_first.ensures.runs;
     }
 
 pub left-requires-2 : goal.left-requires-2
-left-requires-2 g c = c.loop-turn.invariant.keeps.fit
+left-requires-2 g c = c.loop-done.invariant.keeps.fit
 
-pub returns-in_err-try_first : goal.returns-in_err-try_first
-returns-in_err-try_first g c =
+pub returns-in_err-done : goal.returns-in_err-done
+returns-in_err-done g c =
     let seen = g.R.Rack.seen in
     let shelf = g.R.Bay.shelf in
     let p = c.args.self.now in
-    let q = c.loop-turn.self in
+    let q = c.loop-done.self in
     let r = c.try_first.new.self in
-    let turn = c.loop-turn._turn in
-    let before = c.loop-turn.invariant in
+    let done = c.loop-done.done in
+    let before = c.loop-done.invariant in
     let error = err_from_is_err_and c.from_residual.result c.from_residual.ensures.1 in
-    let end = c.min-turn-end.ensures in
-    let test = c.loop-turn-test.true in
-    let all = keeps_then turn (view seen shelf p) (view seen shelf q) (view seen shelf r) before.keeps c.try_first.ensures.tries.keeps in
+    let fewer : done < c.args.count = let most = c.min-most.ensures in let test = c.loop-done-test.true in omega (arith, most, test) in
+    let all = keeps_then done (view seen shelf p) (view seen shelf q) (view seen shelf r) before.keeps c.try_first.ensures.tries.keeps in
     record {
       grows = record {
-        keeps = keeps_more (turn + 1) c.args.count (view seen shelf p) (view seen shelf r) (omega (arith, end, test)) all;
+        keeps = keeps_more (done + 1) c.args.count (view seen shelf p) (view seen shelf r) (omega (arith, fewer)) all;
         left = rw error.1 tt;
         done = rw error.1 tt;
         stuck = rw error.1
             (subst (λ (e : Stuck). StopsGrowing c.args.count (view seen shelf p) (view seen shelf r) g.R.Rack.runs e.array) (sym error.2)
-            (stops_growing seen shelf g.R.Rack.runs turn c.args.count p q r _ (omega (arith, end, test)) before.keeps c.try_first.ensures.tries.keeps before.done c.in_err-try_first.ensures.tries.stuck));
+            (stops_growing seen shelf g.R.Rack.runs done c.args.count p q r _ fewer before.keeps c.try_first.ensures.tries.keeps before.works c.in_err-done.ensures.tries.stuck));
       };
       runs = g.met.R.Rack.runs_then (bay_in p) (bay_in q) (bay_in r) before.runs c.try_first.ensures.runs;
     }
@@ -62,18 +69,18 @@ returns g c =
     let seen = g.R.Rack.seen in
     let shelf = g.R.Bay.shelf in
     let p = c.args.self.now in
-    let q = c.loop-turn.self in
-    let turn = c.loop-turn._turn in
-    let all = c.loop-turn.invariant in
+    let q = c.loop-done.self in
+    let done = c.loop-done.done in
+    let all = c.loop-done.invariant in
     let left = c.left.ensures in
-    let end = c.min-turn-end.ensures in
-    let test = c.loop-turn-test.false in
-    let auto = c.loop-turn.auto in
+    let most = c.min-most.ensures in
+    let test = c.loop-done-test.false in
+    let inside = all.inside in
     record {
       grows = record {
-        keeps = keeps_more turn c.args.count (view seen shelf p) (view seen shelf q) (omega (arith, end, auto)) all.keeps;
+        keeps = keeps_more done c.args.count (view seen shelf p) (view seen shelf q) (omega (arith, most, inside)) all.keeps;
         left = c.left-2.ensures;
-        done = subst (λ k. DoesMany k (view seen shelf p) (view seen shelf q)) (omega (arith, left, end, test, auto)) all.done;
+        done = subst (λ k. DoesMany k (view seen shelf p) (view seen shelf q)) (omega (arith, left, most, test, inside)) all.works;
         stuck = tt;
       };
       runs = all.runs;

@@ -1,20 +1,59 @@
-use Rattle.std.proofs.Common.{sym}
+use Rattle.std.proofs.Common.{ℕ, Err, Ok, Result, sym, ap, subst, ◌∙◌}
+use Rattle.std.proofs.lemmas.Result.{err_from_is_err_and}
 use Rattle.lvm_group.specs.Volume.{linear}
-use Rattle.pool.specs.View.{bay_in, book, view}
+use Rattle.raid_rack.specs.RaidRack.{IsFit, KeepsRack, SliceRuns, arrays_in, raid_in, raid_seen, slices_in, slices_seen, written_in}
+use Rattle.raid_rack.specs.declared.works.Stuck.{Stuck}
+use Rattle.raid_laws.specs.Moves.{RaisesBy}
+use Rattle.raid_laws.specs.Runs.{RaidRuns}
+use Rattle.pool.specs.Growing.{TriesFirst}
+use Rattle.pool.specs.View.{arrays_of, bay_in, book, view}
 use Rattle.pool.proofs.Grows.{first_tried, none_tried}
-use Rattle.pool.proofs.Stepping.{some_drive}
+use Rattle.pool.proofs.RowsTried.{rows_tried}
+use Rattle.pool.proofs.Stepping.{SaysOf, some_drive}
 use Rattle.pool.proofs.Pool.try_first.Goals as goal
+
+pub works-requires-clause-fit : goal.works-requires-clause-fit
+works-requires-clause-fit g c = subst (λ r. IsFit (arrays_in r) (slices_seen g.R.Rack.seen r)) (sym c.inner.ensures.value) c.requires.fit.0
+
+pub returns-then-is_row-clause-tries : goal.returns-then-is_row-clause-tries
+returns-then-is_row-clause-tries g c =
+    let seen = g.R.Rack.seen in
+    let shelf = g.R.Bay.shelf in
+    let p = c.args.self.now in
+    let most = c.args.most in
+    let new = c.works.new.self in
+    let own = c.works.ensures in
+    let work = c.in-Some.work in
+    let reached = c.inner.ensures.value in
+    let says : SaysOf seen work most c.works.result c.works.result (arrays_of p) new =
+    subst (λ old. SaysOf seen work most c.works.result c.works.result old new) reached (record { idle = own.idle; does = own.does; named = own.named }) in
+    rows_tried seen shelf g.R.Rack.runs g.met.R.Rack.sound g.met.R.Bay.runs_shelf p new work most c.requires.fit (sym c.in-Some.ensures.first) c.requires.some
+    c.works.result (sym c.is_row.ensures ∙ c.if-is_row.true) says
+    (subst (λ old. KeepsRack (raid_seen seen old) (raid_seen seen new)) reached own.keeps)
+    (subst (λ old. SliceRuns seen g.R.Rack.runs (slices_in old) (slices_in new)) reached own.runs)
+    (subst (λ old. RaidRuns (written_in old) (written_in new) (raid_in old) (raid_in new) (slices_seen seen old) (slices_seen seen new)) reached own.book)
+    (subst (λ old. RaisesBy 18 (raid_in old) (raid_in new)) reached own.raises)
 
 pub try_work-requires-clause-listed : goal.try_work-requires-clause-listed
 try_work-requires-clause-listed g c =
     let p = c.args.self.now in
     some_drive (linear p.volume) (book (view g.R.Rack.seen g.R.Bay.shelf p)) c.in-Some.work (sym c.in-Some.ensures.first)
 
-pub returns-in-Some-clause-tries : goal.returns-in-Some-clause-tries
-returns-in-Some-clause-tries g c =
+pub returns-in_ok-try_work-in-Some-clause-tries : goal.returns-in_ok-try_work-in-Some-clause-tries
+returns-in_ok-try_work-in-Some-clause-tries g c =
     let p = c.args.self.now in
-    first_tried (view g.R.Rack.seen g.R.Bay.shelf p) (view g.R.Rack.seen g.R.Bay.shelf c.try_work.new.self) g.R.Rack.runs (bay_in p) c.in-Some.work c.try_work.result (sym c.in-Some.ensures.first)
-    c.try_work.ensures.tries
+    first_tried c.args.most (view g.R.Rack.seen g.R.Bay.shelf p) (view g.R.Rack.seen g.R.Bay.shelf c.try_work.new.self) g.R.Rack.runs (bay_in p) c.in-Some.work (Ok c.in_ok-try_work-in-Some.field-0)
+    c.requires.some (sym c.in-Some.ensures.first) c.in_ok-try_work-in-Some.ensures.tries
+
+pub returns-in_err-try_work-in-Some-clause-tries : goal.returns-in_err-try_work-in-Some-clause-tries
+returns-in_err-try_work-in-Some-clause-tries g c =
+    let p = c.args.self.now in
+    let x = view g.R.Rack.seen g.R.Bay.shelf p in
+    let y = view g.R.Rack.seen g.R.Bay.shelf c.try_work.new.self in
+    let error = err_from_is_err_and c.from_residual.result c.from_residual.ensures.1 in
+    subst (λ (r : Result ℕ Stuck). TriesFirst c.args.most x y g.R.Rack.runs (bay_in p) r) (sym (error.1 ∙ ap (λ (e : Stuck). Err e) error.2))
+    (first_tried c.args.most x y g.R.Rack.runs (bay_in p) c.in-Some.work (Err _) c.requires.some (sym c.in-Some.ensures.first) c.in_err-try_work-in-Some.ensures.tries)
 
 pub returns-in-None-clause-tries : goal.returns-in-None-clause-tries
-returns-in-None-clause-tries g c = none_tried (view g.R.Rack.seen g.R.Bay.shelf c.args.self.now) g.R.Rack.runs (bay_in c.args.self.now) c.requires (sym c.in-None.ensures.first)
+returns-in-None-clause-tries g c =
+    none_tried c.args.most (view g.R.Rack.seen g.R.Bay.shelf c.args.self.now) g.R.Rack.runs (bay_in c.args.self.now) c.requires.some c.requires.fit (sym c.in-None.ensures.first)
