@@ -4,7 +4,8 @@
 //! [`resync_rows`] takes the first rows that are left. A mirror's other members get the chunk of its first one, and of RAID-5 the parity
 //! is computed from the data: the members whose sectors make the others of a row are one list (`makes_others` of `specs/Rows.antt` of sync_laws),
 //! and what they give is one sum. One commit of the log has the sectors that are made of others and the superblocks that leave the
-//! rows after them; those after the last row leave none. A row of an array that is being reshaped goes by the layout of its side.
+//! rows after them; those after the last row leave none. Rows whose members agree already are read and not written, so most of those
+//! that a stop left share one commit of superblocks. A row of an array that is being reshaped goes by the layout of its side.
 //!
 //! [`rebuild_rows`] takes the next rows of a member that is being rebuilt. Its sectors are what the others of a row give
 //! (`Array::member`), and one commit has them and the superblocks by which that member counts in the rows; those after the last row
@@ -31,6 +32,7 @@
 //! The proofs of a step by one commit are over any change of an array's truth and seats (`Step` of `proofs/Stepping.antt` of sync_laws).
 #![tactic(auto)]
 
+mod alike;
 mod members;
 mod rebuilding;
 mod resyncing;

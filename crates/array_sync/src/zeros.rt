@@ -38,7 +38,7 @@ fn counts_in(array: &Array, row: u64, position: u32) -> bool
 }
 
 /// A sector of zeros.
-fn zero_sector() -> [u8; 512]
+pub(crate) fn zero_sector() -> [u8; 512]
     ensures { result ≡ zeros 512 }
 {
     [0; 512]

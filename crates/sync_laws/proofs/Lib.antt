@@ -3,6 +3,7 @@ pub mod Copying
 pub mod Owed
 pub mod Moved
 pub mod Agreeing
+pub mod Alike
 pub mod Resynced
 pub mod Supers
 pub mod Logged

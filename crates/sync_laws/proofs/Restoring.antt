@@ -28,7 +28,7 @@ use Rattle.sync_laws.proofs.Summing.{wanting_later}
 
 -- ---- rows by position
 
-same_made : {X : Type 0} (f h : ℕ → X) (a n : ℕ) → ((j : ℕ) → a ≤ j → j < a + n → f j ≡ h j) → map f (range_with_len a n) ≡ map h (range_with_len a n)
+pub same_made : {X : Type 0} (f h : ℕ → X) (a n : ℕ) → ((j : ℕ) → a ≤ j → j < a + n → f j ≡ h j) → map f (range_with_len a n) ≡ map h (range_with_len a n)
 same_made f h a zero same = refl
 same_made f h a (suc n) same =
     ap₂ (λ x xs. x ∷ xs) (same a (omega arith) (omega arith)) (same_made f h (a + 1) n (λ j least most. same j (omega (arith, least)) (omega (arith, most))))

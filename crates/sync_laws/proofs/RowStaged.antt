@@ -1,12 +1,13 @@
 -- What is added to the log for a row that is resynced, as a whole.
-use Rattle.std.proofs.Common.{◌≡◌, ℕ, ◌+◌, ◌*◌, ◌<◌, ◌≤◌, ◌^◌, ◌-◌, nat_lt, if◌then◌else◌, Bool, true, false, not, List, [], ◌++◌, length, Some, refl, sym, ap, subst, ◌∙◌, inl, inr, arith}
+use Rattle.std.proofs.Common.{◌≡◌, ℕ, ◌+◌, ◌*◌, ◌<◌, ◌≤◌, ◌^◌, ◌-◌, nat_lt, if◌then◌else◌, Bool, true, false, not, List, [], ◌++◌, length, Some, refl, sym, ap, subst, append-nil, ◌∙◌, inl, inr, arith}
 use Rattle.std.proofs.lemmas.Bool.{both_ways, cases_lt}
 use Rattle.std.proofs.lemmas.List.{length-append}
 use Rattle.std.specs.List.{list_all}
 use Rattle.rack.specs.Seen.{Seen, IsLive}
 use Rattle.rack.specs.Targets.{Target, look}
 use Rattle.rack.specs.Sequences.{IsPayload, OnlyReads}
-use Rattle.array_image.specs.Places.{data_sector}
+use Rattle.array_image.specs.Places.{data_sector, member_slice}
+use Rattle.array_image.specs.Stripes.{width}
 use Rattle.array_image.specs.Record.{are_apart, is_target}
 use Rattle.array_image.specs.Arrays.{Member, Shape}
 use Rattle.array_image.specs.Held.{Among, current_in}
@@ -15,24 +16,28 @@ use Rattle.log_laws.specs.Commits.{CommitCall}
 use Rattle.log_laws.specs.Phases.{IsHad}
 use Rattle.array_model.specs.View.{View, IsArray, LosesPlaces, member_on, shape_of}
 use Rattle.array_model.specs.Says.{IsOpen}
-use Rattle.array_model.specs.Members.{HasSlices, IsSameButSeats, Notes, slice_on}
+use Rattle.array_model.specs.Members.{HasSlices, IsSameButSeats, Notes, row_layout, slice_on}
 use Rattle.array_model.proofs.Firsts.{member_among}
-use Rattle.array_model.proofs.Views.{same_view_then, shape_members}
+use Rattle.array_model.proofs.Layouts.{row_layout_is}
+use Rattle.array_model.proofs.Reading.{open_calls}
+use Rattle.array_model.proofs.Views.{notes_none, same_view, same_view_then, shape_members}
 use Rattle.array_core.specs.declared.Change.{Change}
 use Rattle.array_core.specs.Staging.{AddsSupersOf}
 use Rattle.array_core.specs.Superblocks.{adopted, raised, resynced_to}
 use Rattle.array_core.specs.Writing.{KeepsElsewhere}
-use Rattle.array_core.proofs.RowLists.{some_payload}
-use Rattle.sync_laws.specs.Rows.{AddsCopies, AreCopies, IsRowSum, OfRow, lacks_row}
+use Rattle.sync_laws.specs.Rows.{AddsCopies, AreAlike, AreCopies, IsCopy, IsRowSum, OfRow, lacks_row}
 use Rattle.sync_laws.specs.Steps.{Steps, offset_after, resynced}
 use Rattle.sync_laws.proofs.Agreeing.{all_counts}
+use Rattle.sync_laws.proofs.Alike.{alike_moves}
+use Rattle.sync_laws.proofs.Copying.{copies_by}
 use Rattle.sync_laws.proofs.Answering.{row_elsewhere}
 use Rattle.sync_laws.proofs.Logged.{AreOnMembers, all_had, all_valid}
-use Rattle.sync_laws.proofs.Sources.{one_made}
 use Rattle.sync_laws.proofs.Others.{lacks_first}
 use Rattle.sync_laws.proofs.Stepping.{IsDataOn, Step, all_apart, committed_steps, lacks_before, on_members}
 use Rattle.sync_laws.proofs.Owed.{RowMoves}
 use Rattle.sync_laws.proofs.Resynced.{row_moves}
+use Rattle.sync_laws.proofs.Summing.{sum_kept}
+use Rattle.sync_laws.proofs.Supers.{supers_some}
 use Rattle.sync_laws.proofs.Views.{IsUnsynced, all_there, is_steady, last_row, next_array, next_lacks, next_loses, next_rows, next_same, next_shape, next_state, next_unsynced, slot_there, stage_is, unspent_before}
 
 raised_least : (n : ℕ) → n ≤ raised n
@@ -42,40 +47,91 @@ raised_least n = by (nat_lt n (2 ^ 63 - 1))
     by true = omega arith
     by false = omega arith
 
--- the superblocks that leave the rows after so many, and the sectors of these that are made of others
-pub record RowStaged (v : View) (rows : ℕ) (a : Seen) (xs : List Target) : Type 0 where
+-- the superblocks that leave the rows after so many, and the sectors of these that are made of others, unless they agree already
+pub record RowStaged (v : View) (rows : ℕ) (a : Seen) (xs : List Target) : Type 1 where
   pub is : IsUnsynced v rows
   pub lacks : lacks_row v (last_row v rows) ≡ false
   pub supers : List Target
   pub own_data : List Target
   pub added : xs ≡ supers ++ own_data
   pub adds : AddsSupersOf (resynced v rows) [] supers
-  pub copies : AreCopies v (OfRow v (v.resync * 128) (128 * rows)) (IsRowSum v a) own_data
+  pub on : (d s : ℕ) (u : List ℕ) → IsPayload own_data d s u → IsCopy v (OfRow v (v.resync * 128) (128 * rows)) (IsRowSum v a) d s u
+  pub apart : are_apart own_data ≡ true
+  pub moves :
+      (b : Seen) → OnlyReads a b → IsOpen (shape_of v) v.number a
+      → ((m : Member) (t : ℕ) → Among m (shape_of v).members → t < m.reach → length (current_in b.held (member_slice m.place v.number) (data_sector + t)) ≡ 512)
+      → (spent : ℕ → Bool) → RowMoves v (shape_of v) (v.resync + rows) spent (current_in b.held) own_data
 
-pub staged : (v u : View) (a b : Seen) (rows row offset : ℕ) (c : Change) (x y z : List Target) → IsUnsynced v rows → row ≡ v.resync → offset ≡ offset_after v (row + rows) → c ≡ resynced_to v offset
-    → x ≡ [] → AddsSupersOf (adopted c v) x y → AddsCopies v (OfRow v (row * 128) (128 * rows)) (IsRowSum v a) (128 * rows) y z → Notes v u a b → not (lacks_row u (row + (rows - 1))) ≡ true
+-- what the rows' members make was so before reads
+rows_before : (v : View) (a b : Seen) (row rows : ℕ) (xs ys : List Target) → IsArray v → a.lasting → OnlyReads a b → 0 < rows → lacks_row v (row + (rows - 1)) ≡ false
+    → AddsCopies v (OfRow v (row * 128) (128 * rows)) (IsRowSum v b) (128 * rows) xs ys → AddsCopies v (OfRow v (row * 128) (128 * rows)) (IsRowSum v a) (128 * rows) xs ys
+rows_before v a b row rows xs ys is_array lasting reads some lacks =
+    let within = OfRow v (row * 128) (128 * rows) in
+    copies_by v v within within (IsRowSum v b) (IsRowSum v a) (128 * rows) (128 * rows) xs ys (same_view v) (omega arith) (λ t j is. is) (λ t j is. is)
+    (λ t j w inside bytes opened.
+    let last = inside.1 in
+    let most = (row_layout_is v t is_array).most in
+    bytes (open_calls v v a b lasting reads (notes_none v a b) opened)
+    ∙ sum_kept v v a b t (width (row_layout v t)) lasting reads (notes_none v a b) most
+    (λ k low is. all_counts v (row + (rows - 1)) k t lacks (omega (arith, low, most)) (omega (arith, last, some))) opened)
+
+pub staged : (v u : View) (a b e : Seen) (rows row offset : ℕ) (alike : Bool) (c : Change) (x y z : List Target) → IsUnsynced v rows → a.lasting → OnlyReads a b → row ≡ v.resync → offset ≡ offset_after v (row + rows)
+    → c ≡ resynced_to v offset → x ≡ [] → AddsSupersOf (adopted c v) x y
+    → (alike ≡ true → AreAlike v a (row * 128) (128 * rows) × (z ≡ y)) → (alike ≡ false → AddsCopies v (OfRow v (row * 128) (128 * rows)) (IsRowSum v b) (128 * rows) y z)
+    → Notes v u b e → not (lacks_row u (row + (rows - 1))) ≡ true
     → RowStaged v rows a z
-staged v u a b rows row offset c x y z is row_is offset_is change empty adds copies notes whole =
-    let next : adopted c v ≡ resynced v rows = stage_is v rows c offset is (offset_is ∙ ap (λ (r : ℕ). offset_after v (r + rows)) row_is) change in
-    record {
-      is = is;
-      lacks = lacks_before v u a b (last_row v rows) notes (subst (λ (r : ℕ). lacks_row u (r + (rows - 1)) ≡ false) row_is (not_true (lacks_row u (row + (rows - 1))) whole));
-      supers = y;
-      own_data = copies.targets;
-      added = copies.appended;
-      adds = subst (λ (g : View). AddsSupersOf g [] y) next (subst (λ xs. AddsSupersOf (adopted c v) xs y) empty adds);
-      copies = subst (λ (r : ℕ). AreCopies v (OfRow v (r * 128) (128 * rows)) (IsRowSum v a) copies.targets) row_is copies.copies;
-    }
+staged v u a b e rows row offset alike c x y z is lasting reads row_is offset_is change empty adds agree copies notes whole = by alike refl
   where
+    next : adopted c v ≡ resynced v rows
+    next = stage_is v rows c offset is (offset_is ∙ ap (λ (r : ℕ). offset_after v (r + rows)) row_is) change
+
     not_true : (b : Bool) → not b ≡ true → b ≡ false
     not_true true is = absurd (both_ways false refl is)
     not_true false is = refl
+
+    here : lacks_row v (row + (rows - 1)) ≡ false
+    here = lacks_before v u b e (row + (rows - 1)) notes (not_true (lacks_row u (row + (rows - 1))) whole)
+
+    lacks : lacks_row v (last_row v rows) ≡ false
+    lacks = subst (λ (r : ℕ). lacks_row v (r + (rows - 1)) ≡ false) row_is here
+
+    supers_added : AddsSupersOf (resynced v rows) [] y
+    supers_added = subst (λ (g : View). AddsSupersOf g [] y) next (subst (λ xs. AddsSupersOf (adopted c v) xs y) empty adds)
+
+    by : (s : Bool) → alike ≡ s → RowStaged v rows a z
+    by true same =
+        let alike_rows = subst (λ (r : ℕ). AreAlike v a (r * 128) (128 * rows)) row_is (agree same).0 in
+        record {
+          is = is;
+          lacks = lacks;
+          supers = y;
+          own_data = [];
+          added = (agree same).1 ∙ sym (append-nil y);
+          adds = supers_added;
+          on = λ d s w none. absurd none;
+          apart = refl;
+          moves = λ b reads opened sized. alike_moves v rows is.some a b is.is_array lasting reads lacks alike_rows opened sized;
+        }
+    by false other =
+        let added = rows_before v a b row rows y z is.is_array lasting reads is.some here (copies other) in
+        let own = subst (λ (r : ℕ). AreCopies v (OfRow v (r * 128) (128 * rows)) (IsRowSum v a) added.targets) row_is added.copies in
+        record {
+          is = is;
+          lacks = lacks;
+          supers = y;
+          own_data = added.targets;
+          added = added.appended;
+          adds = supers_added;
+          on = own.on;
+          apart = own.apart;
+          moves = λ b reads opened sized. row_moves v rows is.some a b added.targets is.is_array lasting reads lacks own opened sized;
+        }
 
 module _ (v : View) (rows : ℕ) (a b : Seen) (xs : List Target) (row : RowStaged v rows a xs) (lasting : a.lasting) (reads : OnlyReads a b) where
   -- a sector that is made of others is one of a member's data
   data_on : (d t : ℕ) (u : List ℕ) → IsPayload row.own_data d t u → IsDataOn v d t u
   data_on d t u pay =
-      let at = row.copies.on d t u pay in
+      let at = row.on d t u pay in
       record {
         position = at.position;
         low = at.low;
@@ -89,7 +145,7 @@ module _ (v : View) (rows : ℕ) (a b : Seen) (xs : List Target) (row : RowStage
 
   live_on : IsOpen (shape_of v) v.number a → (d t : ℕ) (u : List ℕ) → IsPayload row.own_data d t u → IsLive a a d t
   live_on opened d t u pay =
-      let at = row.copies.on d t u pay in
+      let at = row.on d t u pay in
       let among : Among (member_on v at.position) (shape_of v).members =
       subst (λ (ms : List Member). Among (member_on v at.position) ms) (sym (shape_members v)) (member_among v at.position v.truth.raid_disks at.low) in
       subst (λ e. IsLive a a e t) (sym at.disk)
@@ -104,7 +160,7 @@ module _ (v : View) (rows : ℕ) (a b : Seen) (xs : List Target) (row : RowStage
     is_array = row.is.is_array;
     next = next_array v rows row.is;
     on = data_on;
-    apart = row.copies.apart;
+    apart = row.apart;
     present = λ k there. there;
     more = raised_least v.truth.events;
     unsynced = let first = next_unsynced v rows row.is in omega (arith, first);
@@ -118,7 +174,7 @@ module _ (v : View) (rows : ℕ) (a b : Seen) (xs : List Target) (row : RowStage
     live = λ whole opened also. live_on opened;
     moves = λ whole opened sized even spent meets.
         subst (λ (f : Shape). RowMoves v f (v.resync + rows) spent (current_in b.held) row.own_data) (sym (next_shape v rows))
-        (row_moves v rows row.is.some a b row.own_data row.is.is_array lasting reads row.lacks row.copies opened sized spent);
+        (row.moves b reads opened sized spent);
   }
 
   pub row_members_on : AreOnMembers v xs
@@ -136,11 +192,10 @@ module _ (v : View) (rows : ℕ) (a b : Seen) (xs : List Target) (row : RowStage
 
   pub row_some : 0 < length xs
   row_some =
-      let one = one_made v (v.resync * 128) row.is.is_array in
-      let has = row.copies.has (v.resync * 128) one.0 (omega arith, (let some = row.is.some in omega (arith, some)), one.1, one.2) in
-      let some = some_payload row.own_data (slice_on v one.0) (data_sector + v.resync * 128) has.0 has.1 in
+      let some = supers_some (resynced v rows) [] row.supers (next_array v rows row.is) row.adds 0 low (slot_there v 0 row.is.is_array low (all_there v (last_row v rows) 0 row.lacks low)) in
+      let count : length row.supers ≡ length row.adds.targets = ap length row.adds.appended in
       let sum : length xs ≡ length row.supers + length row.own_data = ap length row.added ∙ length-append row.supers row.own_data in
-      omega (arith, some, sum)
+      omega (arith, some, count, sum)
 
   pub row_had : HasSlices v a → (d s : ℕ) (u : List ℕ) → look xs d s ≡ Some u → IsHad b d s
   row_had slices = all_had v a b xs slices reads.stays row_members_on

@@ -1,5 +1,5 @@
 -- The superblocks that a step adds to the log: whose they are.
-use Rattle.std.proofs.Common.{◌≡◌, ◌≢◌, ℕ, zero, suc, ◌+◌, ◌<◌, ◌≤◌, Bool, true, false, ◌==◌, not, if◌then◌else◌, List, [], ◌∷◌, map, length, slice_get, Some, None, refl, sym, ap, subst, ◌∙◌, inl, inr, eqb-true, arith}
+use Rattle.std.proofs.Common.{◌≡◌, ◌≢◌, ℕ, zero, suc, ◌+◌, ◌<◌, ◌≤◌, Bool, true, false, ◌==◌, not, if◌then◌else◌, List, [], ◌∷◌, map, length, slice_get, Some, None, unwrap_or, refl, sym, ap, subst, ◌∙◌, inl, inr, eqb-true, arith}
 use Rattle.std.proofs.lemmas.Bool.{both_ways, and_parts}
 use Rattle.std.specs.List.{range_with_len, zip}
 use Rattle.shr_base.specs.declared.Id.{Id}
@@ -17,6 +17,7 @@ use Rattle.array_model.proofs.RowWrites.{places_apart}
 use Rattle.array_core.specs.declared.slots.Slot.{Slot}
 use Rattle.array_core.specs.Slots.{slot_with, slots_of, place_by}
 use Rattle.array_core.specs.Staging.{AddsSupersOf, AreSupersOn, IsSuperOn, present}
+use Rattle.array_core.proofs.Staged.{slot_on, slots_zipped}
 use Rattle.array_core.proofs.StagedTargets.{targets_apart}
 
 payload_target : (xs : List Target) (d t : ℕ) (u : List ℕ) → IsPayload xs d t u → (x : Target) × AmongTargets x xs × (x.disk ≡ d) × (x.sector ≡ t) × (u ≡ x.bytes)
@@ -93,6 +94,24 @@ supers_count number t (s ∷ slots) xs are =
     taken [] all rest = omega arith
     taken (y ∷ ys) all rest = let low = rest ys all.1 in omega (arith, low)
 
+-- one that is there has a superblock
+some_super : (number : ℕ) (t : Super) (slots : List Slot) (xs : List Target) (k : ℕ) (s : Slot) → AreSupersOn number t (present slots) xs → slice_get slots k ≡ Some s → is_missing_seat s.seat ≡ false → 0 < length xs
+some_super number t slots (y ∷ ys) k s are at there = omega arith
+some_super number t [] [] k s are at there = absurd (let bad : None ≡ Some s = at in cc)
+some_super number t (s0 ∷ slots) [] k s are at there =
+    let Goal : Bool → Type 0 = λ b. is_missing_seat s0.seat ≡ b → AreSupersOn number t (if not b then s0 ∷ present slots else present slots) [] → 0 < 0 in
+    let goal : Goal (is_missing_seat s0.seat) = elim (is_missing_seat s0.seat) as Goal [
+      | true ↦ λ is others. by k at is (λ j at_j. some_super number t slots [] j s others at_j there)
+      | false ↦ λ is all. absurd all
+    ] in
+    goal refl are
+  where
+    by : (k : ℕ) → slice_get (s0 ∷ slots) k ≡ Some s → is_missing_seat s0.seat ≡ true → ((j : ℕ) → slice_get slots j ≡ Some s → 0 < 0) → 0 < 0
+    by zero at is rest =
+        let same : s0 ≡ s = ap (λ o. unwrap_or o s0) at in
+        absurd (both_ways (is_missing_seat s.seat) there (ap (λ (x : Slot). is_missing_seat x.seat) (sym same) ∙ is))
+    by (suc k) at is rest = rest k at
+
 zipped_few : (place : ℕ → ℕ) (a m : ℕ) (seats : List Seat) (devices : List Id) → length (map slot_with (zip (map place (range_with_len a m)) (zip seats devices))) ≤ m
 zipped_few place a zero seats devices = omega arith
 zipped_few place a (suc m) [] devices = omega arith
@@ -134,6 +153,11 @@ module _ (u : View) (before added : List Target) (is_array : IsArray u) (adds : 
       let second = slot_facts u m t is_array two in
       places_apart u n m is_array first.0 second.0 (sym first.1 ∙ same ∙ second.1))
       adds.supers
+
+  pub supers_some : (k : ℕ) → k < u.truth.raid_disks → is_missing_seat (slot_on u k).seat ≡ false → 0 < length adds.targets
+  supers_some k low there =
+      some_super u.number u.truth (slots_of u) adds.targets k _ adds.supers
+      (slots_zipped (place_by u.truth) 0 u.truth.raid_disks u.seats u.devices is_array.seats is_array.devices k low) there
 
   pub supers_few : length adds.targets ≤ u.truth.raid_disks
   supers_few =

@@ -44,6 +44,20 @@ SourcesCount v sector many = (j : ℕ) → j < many → is_source v sector j ≡
 abbrev pub IsRowSum : View → Seen → ℕ → List ℕ → Type 0
 IsRowSum v a sector bytes = IsOpen (shape_of v) v.number a → bytes ≡ row_sum v (current_in a.held) sector (width (row_layout v sector))
 
+-- ---- rows whose members agree
+
+-- what the first members hold at a sector, as one sum
+abbrev pub held_sum : View → Image → ℕ → ℕ → List ℕ
+held_sum v c sector many = xor_all 512 (map (λ j. c (slice_on v j) (data_sector + sector)) (range_with_len 0 many))
+
+-- the members of a sector's row agree in it, where they are told: a mirror's two are equal, and RAID-5 has its parity
+abbrev pub IsAlike : View → Seen → ℕ → Type 0
+IsAlike v a sector = IsOpen (shape_of v) v.number a → held_sum v (current_in a.held) sector (width (row_layout v sector)) ≡ zeros 512
+
+-- so they do in those from one on
+abbrev pub AreAlike : View → Seen → (first many : ℕ) → Type 0
+AreAlike v a first many = (t : ℕ) → first ≤ t → t < first + many → IsAlike v a t
+
 -- ---- a member that is rebuilt
 
 -- each member but that of a place counts in a row, and the row isn't left to resync: so the others give that member's row
