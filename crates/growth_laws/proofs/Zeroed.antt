@@ -32,8 +32,8 @@ has_row_to_zero v number due =
 unsynced_low : (offset size : ℕ) → (if nat_lt offset size then offset / 128 else size / 128) ≤ size / 128
 unsynced_low offset size = unsynced_by offset size (size / 128) (λ below. omega (arith, below)) (λ above. omega arith)
 
-seated_zeroed : (s : State) (n : ℕ) (u : View) (x : Seen) → u.young ≡ true → IsSeated s n u x → IsSeated s n (zeroed u) x
-seated_zeroed s n u x young seated =
+seated_zeroed : (s : State) (n rows : ℕ) (u : View) (x : Seen) → u.young ≡ true → IsSeated s n u x → IsSeated s n (zeroed u rows) x
+seated_zeroed s n rows u x young seated =
     let a = seated.is_array in
     let pool = seated.is_of_pool in
     let events = raised_low u.truth.events pool.events pool.events_end in
@@ -61,17 +61,17 @@ seated_zeroed s n u x young seated =
         events_end = events.1;
         row = pool.row;
         roles = pool.roles;
-        unsynced = unsynced_low (offset_after u (first_unsynced u.truth + 1)) u.truth.size;
+        unsynced = unsynced_low (offset_after u (first_unsynced u.truth + rows)) u.truth.size;
         synced = λ old. absurd (both_ways u.young old young);
         zeroed = λ is. omega arith;
         rows = pool.rows;
       };
     }
 
-pub may_zero : (v : Raid) (number : ℕ) (x : Seen) → IsSet v x → IsHeeded v → HasRowToZero v number → MayBecome v number (zeroed (v.arrays number)) x
-may_zero v number x set heeded has = record {
+pub may_zero : (v : Raid) (number rows : ℕ) (x : Seen) → IsSet v x → IsHeeded v → HasRowToZero v number → MayBecome v number (zeroed (v.arrays number) rows) x
+may_zero v number rows x set heeded has = record {
   low = has.low;
-  seated = seated_zeroed v.state number (v.arrays number) x has.young (set.arrays number has.low);
+  seated = seated_zeroed v.state number rows (v.arrays number) x has.young (set.arrays number has.low);
   went = heeded number has.low;
   whole = λ marked. absurd (both_ways false refl marked);
 }

@@ -105,14 +105,14 @@ pub record HasJoiningSlice (v : Raid) (n place : ℕ) (x : Seen) : Type 0 where
 
 -- what it changes, by the book before the commit; the volume's extension changes no array, and what is made hangs on the time too
 abbrev pub change_of : Work → Raid → Change
-change_of (Resync n) v = steps n (resynced (v.arrays n))
-change_of (Rebuild n place) v = steps n (rebuilt (v.arrays n) place)
+change_of (Resync n) v = steps n (resynced (v.arrays n) 1)
+change_of (Rebuild n place) v = steps n (rebuilt (v.arrays n) place 1)
 change_of (TakeOver n) v = steps n (taken_over (v.arrays n) (raised (v.arrays n).truth.events))
 change_of (Begin n place) v = steps n (joined (v.arrays n) (current_places v.state) place (drive_id v.state place))
 change_of (Reshape n) v = steps n (ahead (v.arrays n) (raised (v.arrays n).truth.events))
 change_of (Finish n) v = steps n (finished (v.arrays n) (raised (v.arrays n).truth.events))
 change_of (Make n height) v = makes (v.arrays v.state.made)
-change_of (Zero n) v = steps n (zeroed (v.arrays n))
+change_of (Zero n) v = steps n (zeroed (v.arrays n) 1)
 change_of (Ready n) v = readied
 change_of Extend v = steps 0 (v.arrays 0)
 change_of Close v = closed

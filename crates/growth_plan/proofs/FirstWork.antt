@@ -12,7 +12,7 @@ use Rattle.growth_plan.specs.declared.Progress.{Progress}
 use Rattle.growth_plan.specs.Book.{standing}
 use Rattle.growth_plan.specs.Target.{planned, new_layer, targets}
 use Rattle.growth_plan.specs.Works.{resyncs, rebuilt, rebuilds, growths, rows_of, zeros, makes, extends, closes, works_left}
-use Rattle.growth_plan.specs.Doing.{after, change, with_arrays, row_rebuilt}
+use Rattle.growth_plan.specs.Doing.{after, change, with_arrays, rows_rebuilt}
 use Rattle.growth_plan.specs.Sound.{ends_with}
 use Rattle.growth_plan.proofs.Heads.{first_part, first_copy}
 use Rattle.growth_plan.proofs.Parts.{at, first_at, split_at}
@@ -67,7 +67,7 @@ first_row s p w more e =
     let found = first_at (rebuilds s) p.arrays.items w more e in
     let x = found.now in
     let row = first_rebuild (rebuilt s) found.below x w found.more found.here in
-    changes s p w (Rebuild (length found.below) row.0) row_rebuilt found.below found.above x found.arrays_are row.1 refl refl
+    changes s p w (Rebuild (length found.below) row.0) (rows_rebuilt 1) found.below found.above x found.arrays_are row.1 refl refl
     (IsPermutation-refl (ends_with s (at found.below x)))
 
 first_growth : (s : State) (p : Progress) (w : Work) (more : List Work) → flat_map (growths s) (standing p.arrays.items) ≡ w ∷ more → ChangesOne s p w

@@ -1,17 +1,16 @@
 -- The volume is extended and the plan closed last: where one of these is the first of the works that are left, no earlier one is left.
-use Rattle.std.proofs.Common.{◌≡◌, ℕ, zero, suc, ◌<◌, ◌≤◌, ◌==◌, Bool, true, false, nat_lt, if◌then◌else◌, List, [], ◌∷◌, ◌++◌, length, replicate, is_some, slice_get, sum, Option, Some, None, refl, sym, ap, ◌∙◌, arith, ⊎_elim, append_assoc}
+use Rattle.std.proofs.Common.{◌≡◌, ℕ, ◌<◌, ◌≤◌, ◌==◌, Bool, true, false, nat_lt, if◌then◌else◌, List, [], ◌∷◌, ◌++◌, length, replicate, is_some, slice_get, sum, Option, Some, refl, sym, ap, ◌∙◌, arith, ⊎_elim, append_assoc}
 use Rattle.std.specs.List.{flat_map}
-use Rattle.std.specs.Option.{option_map_or}
 use Rattle.std.proofs.lemmas.Bool.{cases_Bool, cases_lt, cond-true, lt-ltb}
 use Rattle.std.proofs.lemmas.List.{length-append, nil_from_length}
 use Rattle.pool_state.specs.declared.contents.State.{State}
 use Rattle.pool_state.specs.declared.contents.Work.{Work}
 use Rattle.pool_state.specs.declared.contents.Work.TheVariants.{Resync, Rebuild, TakeOver, Begin, Reshape, Finish, Make, Zero, Ready, Extend, Close}
-use Rattle.growth_plan.specs.declared.ArrayNow.{ArrayNow}
 use Rattle.growth_plan.specs.declared.Progress.{Progress}
 use Rattle.growth_plan.specs.Book.{Standing, standing}
-use Rattle.growth_plan.specs.Target.{joining, new_layer, planned, targets}
-use Rattle.growth_plan.specs.Works.{resyncs, rebuilt, rebuilds, rebuilds_on, reshapes, is_mirror, joins, growths, growths_by, rows_of, zeros, makes, extends, closes, works_left}
+use Rattle.growth_plan.specs.Target.{joining, planned, targets}
+use Rattle.growth_plan.specs.Works.{resyncs, rebuilt, rebuilds, rebuilds_on, growths, makes, extends, closes, works_left}
+use Rattle.growth_plan.proofs.Beginning.{BeginsNot, copies_early, each_early, either_early, growths_early, is_growing, makes_early, maybe_early, none_early}
 
 -- the last works of all
 abbrev is_end : Work → Bool
@@ -27,69 +26,24 @@ is_end (Ready n) = false
 is_end Extend = true
 is_end Close = true
 
--- works that don't begin with one of them
-abbrev IsEarlier : List Work → Type 0
-IsEarlier works = (w : Work) → slice_get works 0 ≡ Some w → is_end w ≡ false
+-- none is one of a growth
+growth_early : (w : Work) → is_growing w ≡ true → is_end w ≡ false
+growth_early (Resync n) growing = refl
+growth_early (Rebuild n place) growing = refl
+growth_early (TakeOver n) growing = refl
+growth_early (Begin n place) growing = refl
+growth_early (Reshape n) growing = refl
+growth_early (Finish n) growing = refl
+growth_early (Make n height) growing = refl
+growth_early (Zero n) growing = refl
+growth_early (Ready n) growing = refl
+growth_early Extend growing = cc growing
+growth_early Close growing = cc growing
 
-none_early : IsEarlier []
-none_early = λ w first. cc first
-
--- a work with others behind it
-one_early : (v : Work) (works : List Work) → is_end v ≡ false → IsEarlier (v ∷ works)
-one_early v works early = λ w first. let same : v ≡ w = cc first in ap is_end (sym same) ∙ early
-
-both_early : (xs ys : List Work) → IsEarlier xs → IsEarlier ys → IsEarlier (xs ++ ys)
-both_early [] ys one two = two
-both_early (x ∷ xs) ys one two = one
-
-either_early : (b : Bool) (xs ys : List Work) → IsEarlier xs → IsEarlier ys → IsEarlier (if b then xs else ys)
-either_early true xs ys one two = one
-either_early false xs ys one two = two
-
-maybe_early : {X : Type 0} (f : X → List Work) (o : Option X) → ((x : X) → IsEarlier (f x)) → IsEarlier (option_map_or f o [])
-maybe_early f None each = none_early
-maybe_early f (Some x) each = each x
-
-each_early : {X : Type 0} (f : X → List Work) (xs : List X) → ((x : X) → IsEarlier (f x)) → IsEarlier (flat_map f xs)
-each_early f [] each = none_early
-each_early f (x ∷ xs) each = both_early (f x) (flat_map f xs) (each x) (each_early f xs each)
-
-copies_early : (k : ℕ) (w : Work) → is_end w ≡ false → IsEarlier (replicate k w)
-copies_early zero w early = none_early
-copies_early (suc k) w early = one_early w (replicate k w) early
-
--- ---- the parts before it
-
-rebuilds_early : (place : Option ℕ) (x : Standing) → IsEarlier (rebuilds_on place x)
+rebuilds_early : (place : Option ℕ) (x : Standing) → BeginsNot is_end (rebuilds_on place x)
 rebuilds_early place x =
-    maybe_early (λ p. if x.now.rebuilding == p then replicate x.now.rebuild (Rebuild x.number p) else []) place
-    (λ p. either_early (x.now.rebuilding == p) (replicate x.now.rebuild (Rebuild x.number p)) [] (copies_early x.now.rebuild (Rebuild x.number p) refl) none_early)
-
-reshapes_early : (number rows : ℕ) → IsEarlier (reshapes number rows)
-reshapes_early number rows = both_early (replicate rows (Reshape number)) (Finish number ∷ []) (copies_early rows (Reshape number) refl) (one_early (Finish number) [] refl)
-
-joins_early : (x : Standing) (place : ℕ) → IsEarlier (joins x place)
-joins_early x place =
-    both_early (if is_mirror x.now then TakeOver x.number ∷ [] else []) (Begin x.number place ∷ reshapes x.number x.now.rows)
-    (either_early (is_mirror x.now) (TakeOver x.number ∷ []) [] (one_early (TakeOver x.number) [] refl) none_early)
-    (one_early (Begin x.number place) (reshapes x.number x.now.rows) refl)
-
-growths_early : (place : Option ℕ) (x : Standing) → IsEarlier (growths_by place x)
-growths_early place x =
-    both_early (if x.now.reshaping then reshapes x.number x.now.reshape else []) (option_map_or (joins x) place [])
-    (either_early x.now.reshaping (reshapes x.number x.now.reshape) [] (reshapes_early x.number x.now.reshape) none_early)
-    (maybe_early (joins x) place (joins_early x))
-
-zeros_early : (number rows : ℕ) → IsEarlier (zeros number rows)
-zeros_early number rows = both_early (replicate rows (Zero number)) (Ready number ∷ []) (copies_early rows (Zero number) refl) (one_early (Ready number) [] refl)
-
-makes_early : (s : State) (arrays : List ArrayNow) → IsEarlier (makes s arrays)
-makes_early s arrays =
-    either_early (nat_lt s.joined s.made) (zeros s.joined (option_map_or (λ array. array.zero) (slice_get arrays s.joined) 0))
-    (option_map_or (λ layer. Make s.made layer.height ∷ zeros s.made (rows_of s layer.height)) (new_layer s arrays) [])
-    (zeros_early s.joined (option_map_or (λ array. array.zero) (slice_get arrays s.joined) 0))
-    (maybe_early (λ layer. Make s.made layer.height ∷ zeros s.made (rows_of s layer.height)) (new_layer s arrays)
-    (λ layer. one_early (Make s.made layer.height) (zeros s.made (rows_of s layer.height)) refl))
+    maybe_early is_end (λ p. if x.now.rebuilding == p then replicate x.now.rebuild (Rebuild x.number p) else []) place
+    (λ p. either_early is_end (x.now.rebuilding == p) (replicate x.now.rebuild (Rebuild x.number p)) [] (copies_early is_end x.now.rebuild (Rebuild x.number p) refl) (none_early is_end))
 
 -- ---- all works
 
@@ -97,7 +51,7 @@ makes_early s arrays =
 abbrev AreEnds : List Work → List Work → Type 0
 AreEnds ends works = (w : Work) → slice_get works 0 ≡ Some w → is_end w ≡ true → works ≡ ends
 
-behind : (ends xs ys : List Work) → IsEarlier xs → AreEnds ends ys → AreEnds ends (xs ++ ys)
+behind : (ends xs ys : List Work) → BeginsNot is_end xs → AreEnds ends ys → AreEnds ends (xs ++ ys)
 behind ends [] ys early rest = rest
 behind ends (x ∷ xs) ys early rest = λ w first last. cc (early w first, last)
 
@@ -109,10 +63,10 @@ ends_alone s p =
     let g = flat_map (growths s) arrays in
     let m = makes s p.arrays.items in
     let e = extends s p ++ closes s in
-    behind e r (b ++ (g ++ (m ++ e))) (each_early resyncs arrays (λ x. copies_early x.now.resync (Resync x.number) refl))
-    (behind e b (g ++ (m ++ e)) (each_early (rebuilds s) arrays (rebuilds_early (rebuilt s)))
-    (behind e g (m ++ e) (each_early (growths s) arrays (λ x. growths_early (joining s x) x))
-    (behind e m e (makes_early s p.arrays.items) (λ w first last. refl))))
+    behind e r (b ++ (g ++ (m ++ e))) (each_early is_end resyncs arrays (λ x. copies_early is_end x.now.resync (Resync x.number) refl))
+    (behind e b (g ++ (m ++ e)) (each_early is_end (rebuilds s) arrays (rebuilds_early (rebuilt s)))
+    (behind e g (m ++ e) (each_early is_end (growths s) arrays (λ x. growths_early is_end growth_early (joining s x) x))
+    (behind e m e (makes_early is_end growth_early s p.arrays.items) (λ w first last. refl))))
 
 -- the two of them
 close_of : (b c : Bool) → slice_get ((if b then Extend ∷ [] else []) ++ (if c then Close ∷ [] else [])) 0 ≡ Some Close →

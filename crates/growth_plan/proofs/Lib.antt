@@ -14,6 +14,8 @@ pub mod ZerosDone
 pub mod MakeDone
 pub mod EndDone
 pub mod Done
+pub mod Beginning
+pub mod FirstRows
 pub mod Last
 pub mod Above
 pub mod Held

@@ -24,9 +24,13 @@ change number to arrays = map (λ x. if x.0 == number then to x.1 else x.1) (enu
 abbrev pub with_arrays : State → Progress → List ArrayNow → Book
 with_arrays s p arrays = record { state = s; progress = record p { arrays = record { items = arrays } } }
 
--- the last row that is rebuilt ends the rebuild
-abbrev pub row_rebuilt : ArrayNow → ArrayNow
-row_rebuilt a = record a { rebuild = a.rebuild - 1; rebuilding = if a.rebuild == 1 then 0 else a.rebuilding }
+-- so many rows are resynced
+abbrev pub rows_resynced : ℕ → ArrayNow → ArrayNow
+rows_resynced rows a = record a { resync = a.resync - rows }
+
+-- so many rows are rebuilt: the last one ends the rebuild
+abbrev pub rows_rebuilt : ℕ → ArrayNow → ArrayNow
+rows_rebuilt rows a = record a { rebuild = a.rebuild - rows; rebuilding = if a.rebuild == rows then 0 else a.rebuilding }
 
 -- a place among others, which are in ascending order
 abbrev pub inserted : ℕ → List ℕ → List ℕ
@@ -55,8 +59,8 @@ new_array s arrays height =
 
 -- the book after a work is done
 abbrev pub after : Work → State → Progress → Book
-after (Resync n) s p = with_arrays s p (change n (λ a. record a { resync = a.resync - 1 }) p.arrays.items)
-after (Rebuild n place) s p = with_arrays s p (change n row_rebuilt p.arrays.items)
+after (Resync n) s p = with_arrays s p (change n (rows_resynced 1) p.arrays.items)
+after (Rebuild n place) s p = with_arrays s p (change n (rows_rebuilt 1) p.arrays.items)
 after (TakeOver n) s p = with_arrays s p (change n (λ a. record a { level = pos 5 }) p.arrays.items)
 after (Begin n place) s p = with_arrays s p (change n (begun place) p.arrays.items)
 after (Reshape n) s p = with_arrays s p (change n (λ a. record a { reshape = a.reshape - 1 }) p.arrays.items)

@@ -19,7 +19,7 @@ use Rattle.array_model.specs.View.{View, is_missing_seat, rows_of}
 use Rattle.sync_laws.specs.Steps.{rebuilt, resynced}
 use Rattle.growth_plan.specs.declared.ArrayNow.{ArrayNow}
 use Rattle.growth_plan.specs.declared.Progress.{Progress}
-use Rattle.growth_plan.specs.Doing.{Book, HasOneLayer, after, change, is_of_layer, row_rebuilt}
+use Rattle.growth_plan.specs.Doing.{Book, HasOneLayer, after, change, is_of_layer, rows_rebuilt}
 use Rattle.growth_plan.specs.Works.{works_left}
 use Rattle.growth_plan.proofs.Done.{first_done}
 use Rattle.lvm_group.specs.Runs.{Linear, extents_of}
@@ -231,7 +231,7 @@ rebuild_counted l v w a b m place set heeded some small alone first marks inside
     let one = alone.one m inside in
     let next = next_rebuilt v.state m u a place seated has in
     let count = seated.is_array.seats in
-    counted l v w a b (Rebuild m place) m (λ u. rebuilt u place) row_rebuilt set heeded some small alone first marks inside does.steps
+    counted l v w a b (Rebuild m place) m (λ u. rebuilt u place) (rows_rebuilt 1) set heeded some small alone first marks inside does.steps
     (λ u. refl) (λ u. refl) (λ u. refl)
     (λ k gone.
     let low = slice_get_within u.seats k Missing gone in

@@ -18,7 +18,7 @@ use Rattle.array_core.specs.Slots.{places_by, slot_with, slots_of}
 use Rattle.sync_laws.proofs.Rebuilt.{place_found}
 use Rattle.sync_laws.specs.Steps.{HasRowLeft, reach_on, rebuilt, rebuilt_seat}
 use Rattle.growth_plan.specs.declared.ArrayNow.{ArrayNow}
-use Rattle.growth_plan.specs.Doing.{row_rebuilt}
+use Rattle.growth_plan.specs.Doing.{rows_rebuilt}
 use Rattle.raid_laws.specs.Works.{is_rebuilding_seat}
 use Rattle.pool.specs.Works.{IsOneRebuilt, array_now, is_rebuilding_on, rebuilding_in, rows_to_rebuild}
 
@@ -194,7 +194,7 @@ module _ (v : View) (place : ℕ) (is_array : IsArray v) (has : HasRowLeft v pla
   rows_before = ap (λ (o : Option ℕ). option_map_or (rows_to_rebuild v) o 0) is_first
 
   -- the array has one row less to rebuild
-  pub now_rebuilt : (extent : ℕ) → array_now extent (rebuilt v place) ≡ row_rebuilt (array_now extent v)
+  pub now_rebuilt : (extent : ℕ) → array_now extent (rebuilt v place) ≡ rows_rebuilt 1 (array_now extent v)
   now_rebuilt extent =
       let with : ℕ → ℕ → ArrayNow = λ rows on. record (array_now extent v) { rebuild = rows; rebuilding = on } in
       let w = rebuilt v place in

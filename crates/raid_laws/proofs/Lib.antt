@@ -30,6 +30,7 @@ pub mod Told
 pub mod Sourced
 pub mod Whole
 pub mod Written
+pub mod RowsRebuilt
 pub mod Stepped
 pub mod Closing
 pub mod ClosedSays

@@ -1,5 +1,5 @@
 -- Works of maintenance, as calls of a rack of arrays.
-use Rattle.std.specs.Prelude.{◌≡◌, ℕ, ◌-◌, ◌/◌, ◌%◌, ◌<◌, ◌^◌, Bool, true, false, ◌==◌, ◌&&◌, ◌||◌, not, nat_lt, if◌then◌else◌}
+use Rattle.std.specs.Prelude.{◌≡◌, ℕ, ◌-◌, ◌/◌, ◌%◌, ◌<◌, ◌^◌, Bool, true, false, ◌==◌, ◌&&◌, ◌||◌, not, nat_lt, if◌then◌else◌, Result, IsOkAnd, OnErr, is_ok}
 use Rattle.std.specs.Option.{option_map_or}
 use Rattle.rack.specs.Values.{Values}
 use Rattle.rack.specs.Seen.{Seen}
@@ -15,7 +15,7 @@ use Rattle.array_model.specs.ArrayCalls.{Covers}
 use Rattle.array_core.specs.Seats.{seat_of}
 use Rattle.array_core.specs.Superblocks.{is_settled}
 use Rattle.sync_laws.specs.Rows.{lacks_row, others_give}
-use Rattle.sync_laws.specs.Steps.{reach_on, rebuilt, resynced}
+use Rattle.sync_laws.specs.Steps.{DoesRows, reach_on, rebuilt, resynced, rows_left}
 use Rattle.raid_laws.specs.Raid.{Raid, is_over, IsTold}
 use Rattle.raid_laws.specs.Missing.{raised}
 use Rattle.raid_laws.specs.Moves.{AreCaused, Brings, IsAmid, IsHeeded, KeepsArrays, LosesOnly}
@@ -54,11 +54,11 @@ pub record StepsOne (v w : Raid) (a b : Seen) (m : ℕ) (next : View) (answered 
       → (vals : ℕ → Values) (spent : ℕ → Bool) → m < v.state.joined → is_over w m ≡ false → Covers (w.arrays m) spent → IsAmid v a m vals spent
       → LeavesRows w b m
 
--- The first row left to resync of array m is resynced, exactly where it can be once losses are mended.
-pub record ResyncsOne (v w : Raid) (a b : Seen) (m : ℕ) (answered : Bool) : Type 0 where
-  pub steps : StepsOne v w a b m (resynced (v.arrays m)) answered
-  pub answer : answered ≡ not (is_stuck w m (v.arrays m).resync)
-  pub durable : answered ≡ true → IsTold v a m → LeavesRows w b m
+-- The first rows left to resync of array m are resynced, at most so many at once, exactly where the first can be once losses are mended.
+pub record Resyncs (v w : Raid) (a b : Seen) (m most : ℕ) {E : Type 0} (result : Result ℕ E) : Type 0 where
+  pub rows : DoesRows (λ rows. StepsOne v w a b m (resynced (v.arrays m) rows)) (rows_of (v.arrays m) - (v.arrays m).resync) most result
+  pub answer : is_ok result ≡ not (is_stuck w m (v.arrays m).resync)
+  pub durable : is_ok result ≡ true → IsTold v a m → LeavesRows w b m
 
 -- ---- a row of a member that is rebuilt
 
@@ -80,11 +80,11 @@ is_rebuilding v n place =
 abbrev pub next_row : View → ℕ → ℕ
 next_row u place = reach_on u place / 128
 
--- The next row of the member of array m on a place is rebuilt, where that is answered. It is refused only where, once losses are mended,
--- nothing is left of the array, numbers are used up, another member is missing or not rebuilt past the row, or the row is left to resync.
-pub record RebuildsOne (v w : Raid) (a b : Seen) (m place : ℕ) (answered : Bool) : Type 0 where
-  pub steps : StepsOne v w a b m (rebuilt (v.arrays m) place) answered
-  pub refused : answered ≡ false → (is_over w m || not (others_give (w.arrays m) place (next_row (v.arrays m) place))) ≡ true
+-- The next rows of the member of array m on a place are rebuilt, at most so many at once, where that is answered. It is refused only where, once
+-- losses are mended, nothing is left of the array, numbers are used up, another member is missing or not rebuilt past the first of them, or that is left to resync.
+pub record Rebuilds (v w : Raid) (a b : Seen) (m place most : ℕ) {E : Type 0} (result : Result ℕ E) : Type 0 where
+  pub rows : DoesRows (λ rows. StepsOne v w a b m (rebuilt (v.arrays m) place rows)) (rows_left (v.arrays m) place) most result
+  pub refused : OnErr result ((is_over w m || not (others_give (w.arrays m) place (next_row (v.arrays m) place))) ≡ true)
 
 -- ---- the end of a plan
 
@@ -122,19 +122,19 @@ is_due v (Ready array) = false
 is_due v Extend = false
 is_due v Close = is_plan v.state.plan
 
--- what a work does that is due, and whether it is answered to have been done
-abbrev pub Does : Work → Raid → Raid → Seen → Seen → Bool → Type 0
-Does (Resync array) v w a b answered = ResyncsOne v w a b array answered
-Does (Rebuild array place) v w a b answered = RebuildsOne v w a b array place answered
-Does (TakeOver array) v w a b answered = ⊥
-Does (Begin array place) v w a b answered = ⊥
-Does (Reshape array) v w a b answered = ⊥
-Does (Finish array) v w a b answered = ⊥
-Does (Make array height) v w a b answered = ⊥
-Does (Zero array) v w a b answered = ⊥
-Does (Ready array) v w a b answered = ⊥
-Does Extend v w a b answered = ⊥
-Does Close v w a b answered = (answered ≡ true) × ClosesPlan v w a b
+-- what a work does that is due, with those after it of its kind, at most so many at once, and how many are answered to have been done
+abbrev pub Does : Work → ℕ → Raid → Raid → Seen → Seen → {E : Type 0} → Result ℕ E → Type 0
+Does (Resync array) most v w a b result = Resyncs v w a b array most result
+Does (Rebuild array place) most v w a b result = Rebuilds v w a b array place most result
+Does (TakeOver array) most v w a b result = ⊥
+Does (Begin array place) most v w a b result = ⊥
+Does (Reshape array) most v w a b result = ⊥
+Does (Finish array) most v w a b result = ⊥
+Does (Make array height) most v w a b result = ⊥
+Does (Zero array) most v w a b result = ⊥
+Does (Ready array) most v w a b result = ⊥
+Does Extend most v w a b result = ⊥
+Does Close most v w a b result = IsOkAnd result (λ k. k ≡ 1) × ClosesPlan v w a b
 
 -- the array that a work belongs to
 abbrev pub array_of : Work → ℕ

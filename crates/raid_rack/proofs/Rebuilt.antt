@@ -1,5 +1,5 @@
 -- The code that rebuilds a row of a member, as a part of a call of all.
-use Rattle.std.proofs.Common.{◌≡◌, ◌⊎◌, ℕ, zero, suc, ◌+◌, ◌*◌, ◌%◌, ◌-◌, ◌^◌, ◌<◌, ◌≤◌, Bool, true, false, ◌==◌, ◌&&◌, ◌||◌, not, nat_lt, if◌then◌else◌, List, [], ◌∷◌, map, set, length, get_or, slice_get, Option, Some, None, option_map, unwrap_or, Result, Ok, Err, is_ok, IfErr, refl, sym, ap, subst, ◌∙◌, inl, inr, eqb-true, ltb-true, lt-ltb, arith}
+use Rattle.std.proofs.Common.{◌≡◌, ◌⊎◌, ℕ, zero, suc, ◌+◌, ◌*◌, ◌%◌, ◌-◌, ◌^◌, ◌<◌, ◌≤◌, Bool, true, false, ◌==◌, ◌&&◌, ◌||◌, not, nat_lt, if◌then◌else◌, List, [], ◌∷◌, map, set, length, get_or, slice_get, Option, Some, None, option_map, unwrap_or, Result, Ok, Err, is_ok, IfOk, IfErr, OnErr, refl, sym, ap, subst, ◌∙◌, inl, inr, eqb-true, ltb-true, lt-ltb, arith}
 use Rattle.std.proofs.lemmas.Bool.{both_ways, cases_Bool, cases_eq, cases_lt, and_parts, and_from}
 use Rattle.std.specs.List.{list_all, range_with_len}
 use Rattle.std.specs.Option.{option_map_or}
@@ -18,17 +18,19 @@ use Rattle.array_core.specs.Pool.{Goes}
 use Rattle.array_core.specs.Seats.{seat_of}
 use Rattle.array_core.specs.Writing.{KeepsElsewhere}
 use Rattle.sync_laws.specs.Rows.{others_give}
-use Rattle.sync_laws.specs.Steps.{HasRowLeft, Stepped, Steps, as_it_was, done, reach_on, rebuilt, rebuilt_seat}
-use Rattle.sync_laws.proofs.Rebuilt.{IsRebuilding, get_past, next_array, next_rows, other_seat, own_seat, place_found, place_of_other, rebuilding, rebuilt_there}
+use Rattle.sync_laws.specs.Steps.{HasRowLeft, Stepped, Steps, as_it_was, done, reach_on, rebuilt, rebuilt_seat, rows_left}
+use Rattle.sync_laws.proofs.Rebuilt.{place_found, rebuilt_there}
+use Rattle.raid_laws.proofs.RowsRebuilt.{next_array, next_rows, other_seat, own, own_before, own_seat}
 use Rattle.raid_rack.specs.declared.arrays.Arrays.{Arrays}
 use Rattle.raid_laws.specs.Raid.{Raid, is_empty, is_over, is_used_up}
 use Rattle.raid_laws.specs.Moves.{IsHeeded, IsSeated, LosesOnly, Mends}
 use Rattle.raid_rack.specs.RaidRack.{IsRunning, raid_by, no_array}
-use Rattle.raid_laws.specs.Works.{RebuildsOne, is_rebuilding, is_rebuilding_seat, is_whole_row, next_row}
+use Rattle.raid_laws.specs.Works.{Rebuilds, is_rebuilding, is_rebuilding_seat, is_whole_row, next_row}
 use Rattle.raid_laws.specs.Reach.{KeepsReach}
 use Rattle.raid_laws.proofs.Reach.{CountsOn, reach_by, same_counts}
 use Rattle.raid_laws.proofs.Changed.{caused, left_before}
-use Rattle.raid_rack.proofs.Resynced.{HasStepped, member_less, step_mended}
+use Rattle.raid_rack.specs.declared.works.Stuck.{Stuck}
+use Rattle.raid_rack.proofs.Resynced.{HasStepped, done_alone, member_less, rows_mended}
 use Rattle.raid_rack.proofs.Sent.{low_named}
 use Rattle.raid_laws.proofs.Stepped.{StepCall, done_rows, step_arrays, step_brings, views}
 use Rattle.raid_rack.proofs.Steps.{set_own, set_other, length_set}
@@ -68,54 +70,52 @@ all_at (x ∷ xs) zero s all at =
     ap is_whole_seat (sym (ap (λ o. unwrap_or o x) at)) ∙ (and_parts (is_whole_seat x) (list_all is_whole_seat xs) all).0
 all_at (x ∷ xs) (suc k) s all at = all_at xs k s (and_parts (is_whole_seat x) (list_all is_whole_seat xs) all).1 at
 
-module _ (s : State) (m : ℕ) (u : View) (x : Seen) (place : ℕ) (seated : IsSeated s m u x) (has : HasRowLeft u place) where
-  position : (k : ℕ) × (k < u.truth.raid_disks) × (place_at u k ≡ place) × (slice_get u.seats k ≡ Some (Rebuilding (reach_on u place)))
-  position = place_found u place (Rebuilding (reach_on u place)) seated.is_array has.seat
+module _ (s : State) (m : ℕ) (u : View) (x : Seen) (place rows : ℕ) (seated : IsSeated s m u x) (has : HasRowLeft u place) (left : rows ≤ rows_left u place) where
+  -- the member's position, and its seat before them and after them
+  abbrev at : ℕ
+  at = own u place rows seated.is_array has left
 
-  is : IsRebuilding u place position.0 (reach_on u place)
-  is = rebuilding u place position.0 seated.is_array has position.1 position.2
+  before : slice_get u.seats at ≡ Some (Rebuilding (reach_on u place))
+  before = own_before u place rows seated.is_array has left
+
+  after : slice_get (rebuilt u place rows).seats at ≡ Some (rebuilt_seat u.truth.size (reach_on u place + 128 * rows))
+  after = own_seat u place rows seated.is_array has left
+
+  others : (k : ℕ) → (k ≡ at → ⊥) → slice_get (rebuilt u place rows).seats k ≡ slice_get u.seats k
+  others k other = other_seat u place rows seated.is_array has left k other
 
   -- whoever was missing is
-  same_missing : (k : ℕ) → option_map is_missing_seat (slice_get (rebuilt u place).seats k) ≡ option_map is_missing_seat (slice_get u.seats k)
+  same_missing : (k : ℕ) → option_map is_missing_seat (slice_get (rebuilt u place rows).seats k) ≡ option_map is_missing_seat (slice_get u.seats k)
   same_missing k =
-      elim (cases_eq k position.0) [
+      elim (cases_eq k at) [
         | inl same ↦
-            ap (λ j. option_map is_missing_seat (slice_get (rebuilt u place).seats j)) same
-            ∙ ap (option_map is_missing_seat) (own_seat u place position.0 (reach_on u place) is)
-            ∙ ap Some (rebuilt_there u.truth.size (reach_on u place + 128))
-            ∙ sym (ap (λ j. option_map is_missing_seat (slice_get u.seats j)) same ∙ ap (option_map is_missing_seat) position.3)
-        | inr other ↦
-            elim (cases_lt k u.truth.raid_disks) [
-              | inl low ↦ ap (option_map is_missing_seat) (other_seat u place position.0 (reach_on u place) is k (place_of_other u place position.0 (reach_on u place) is k low other))
-              | inr past ↦
-                  ap (option_map is_missing_seat)
-                  (get_past (rebuilt u place).seats k (let count = (next_array u place position.0 (reach_on u place) is).seats in omega (arith, past, count))
-                  ∙ sym (get_past u.seats k (let count = seated.is_array.seats in omega (arith, past, count))))
-            ]
+            ap (λ j. option_map is_missing_seat (slice_get (rebuilt u place rows).seats j)) same
+            ∙ ap (option_map is_missing_seat) after
+            ∙ ap Some (rebuilt_there u.truth.size (reach_on u place + 128 * rows))
+            ∙ sym (ap (λ j. option_map is_missing_seat (slice_get u.seats j)) same ∙ ap (option_map is_missing_seat) before)
+        | inr other ↦ ap (option_map is_missing_seat) (others k other)
       ]
 
-  -- and each member counts as far as it did, or a row further
-  pub rebuilt_grows : KeepsReach s (shape_of u) (shape_of (rebuilt u place))
+  -- and each member counts as far as it did, or some rows further
+  pub rebuilt_grows : KeepsReach s (shape_of u) (shape_of (rebuilt u place rows))
   rebuilt_grows =
-      reach_by (is_current s) u (rebuilt u place) refl
+      reach_by (is_current s) u (rebuilt u place rows) refl
       (λ k low current.
-      elim (cases_eq k position.0) [
+      elim (cases_eq k at) [
         | inl same ↦
-            subst (CountsOn u (rebuilt u place)) (sym same) (record {
+            subst (CountsOn u (rebuilt u place rows)) (sym same) (record {
               reach =
-                  let was = ap (λ (o : Option Seat). option_map_or (seat_reach u.truth.size) o 0) position.3 in
+                  let was = ap (λ (o : Option Seat). option_map_or (seat_reach u.truth.size) o 0) before in
                   let now =
-                  ap (λ (o : Option Seat). option_map_or (seat_reach u.truth.size) o 0) (own_seat u place position.0 (reach_on u place) is)
-                  ∙ reach_there u.truth.size (reach_on u place + 128) in
+                  ap (λ (o : Option Seat). option_map_or (seat_reach u.truth.size) o 0) after
+                  ∙ reach_there u.truth.size (reach_on u place + 128 * rows) in
                   omega (arith, was, now);
               there = λ was.
-                  ap (λ (o : Option Seat). option_map_or is_seated o false) (own_seat u place position.0 (reach_on u place) is)
-                  ∙ ap not (rebuilt_there u.truth.size (reach_on u place + 128));
-              whole = λ whole. absurd (both_ways false refl (sym (ap (λ (o : Option Seat). option_map_or is_whole_seat o false) position.3) ∙ whole));
+                  ap (λ (o : Option Seat). option_map_or is_seated o false) after
+                  ∙ ap not (rebuilt_there u.truth.size (reach_on u place + 128 * rows));
+              whole = λ whole. absurd (both_ways false refl (sym (ap (λ (o : Option Seat). option_map_or is_whole_seat o false) before) ∙ whole));
             })
-        | inr other ↦
-            same_counts u (rebuilt u place) k refl
-            (other_seat u place position.0 (reach_on u place) is k (place_of_other u place position.0 (reach_on u place) is k low other))
+        | inr other ↦ same_counts u (rebuilt u place rows) k refl (others k other)
       ])
     where
       reach_there : (size to : ℕ) → seat_reach size (rebuilt_seat size to) ≡ to
@@ -130,17 +130,17 @@ module _ (s : State) (m : ℕ) (u : View) (x : Seen) (place : ℕ) (seated : IsS
   part_before = elim (cases_Bool (is_whole_array u)) [
     | inl all ↦
         absurd (both_ways (is_whole_seat (Rebuilding (reach_on u place))) refl
-        (all_at u.seats position.0 (Rebuilding (reach_on u place))
-        (and_parts (list_all is_whole_seat u.seats) ((u.resync == rows_of u) && (not u.young && not (is_reshaping u.truth))) all).0 position.3))
+        (all_at u.seats at (Rebuilding (reach_on u place))
+        (and_parts (list_all is_whole_seat u.seats) ((u.resync == rows_of u) && (not u.young && not (is_reshaping u.truth))) all).0 before))
     | inr part ↦ part
   ]
 
-  pub next_rebuilt : IsNext s m u (rebuilt u place) x
+  pub next_rebuilt : IsNext s m u (rebuilt u place rows) x
   next_rebuilt =
       let pool = seated.is_of_pool in
       record {
         seated = record {
-          is_array = next_array u place position.0 (reach_on u place) is;
+          is_array = next_array u place rows seated.is_array has left;
           number = seated.number;
           slices = record {
             fit = seated.slices.fit;
@@ -159,7 +159,7 @@ module _ (s : State) (m : ℕ) (u : View) (x : Seen) (place : ℕ) (seated : IsS
             unsynced = pool.unsynced;
             synced = λ young part. pool.synced young part_before;
             zeroed = pool.zeroed;
-            rows = next_rows u place position.0 (reach_on u place) is pool.rows;
+            rows = next_rows u place rows seated.is_array has left pool.rows;
           };
         };
         went = refl;
@@ -178,7 +178,7 @@ module _ (s : State) (m : ℕ) (u : View) (x : Seen) (place : ℕ) (seated : IsS
           resync = written.resync;
         };
         events = omega arith;
-        seats = let same = same_present (rebuilt u place).seats u.seats same_missing in omega (arith, same);
+        seats = let same = same_present (rebuilt u place rows).seats u.seats same_missing in omega (arith, same);
         was = λ marked. inl marked;
         whole = λ all. absurd (both_ways (is_whole_array u) part_before all);
       }
@@ -189,8 +189,8 @@ module _ (s : State) (m : ℕ) (u : View) (x : Seen) (place : ℕ) (seated : IsS
       missing_seat (Some Missing) bad = refl
       missing_seat (Some (Rebuilding to)) bad = absurd (both_ways false refl (ap (λ o. unwrap_or o true) bad))
 
-      missing_now : (k : ℕ) → slice_get u.seats k ≡ Some Missing → slice_get (rebuilt u place).seats k ≡ Some Missing
-      missing_now k gone = missing_seat (slice_get (rebuilt u place).seats k) (same_missing k ∙ ap (option_map is_missing_seat) gone)
+      missing_now : (k : ℕ) → slice_get u.seats k ≡ Some Missing → slice_get (rebuilt u place rows).seats k ≡ Some Missing
+      missing_now k gone = missing_seat (slice_get (rebuilt u place rows).seats k) (same_missing k ∙ ap (option_map is_missing_seat) gone)
 
 -- ---- members that are missing
 
@@ -234,31 +234,32 @@ give_less u w place row only gives =
 
 -- ---- the code
 
--- what the rebuild of a row says of the array, before it and after it
-pub record RebuiltRow (old u : View) (place number late : ℕ) (on : List ℕ) (x y : Seen) (answered : Bool) : Type 0 where
-  pub steps : Steps old (rebuilt old place) u number late on x y answered
+-- what the rebuild of rows says of the array, before it and after it
+pub record RebuiltRows (old u : View) (place rows number late : ℕ) (on : List ℕ) (x y : Seen) (answered : Bool) : Type 0 where
+  pub left : rows ≤ rows_left old place
+  pub steps : Steps old (rebuilt old place rows) u number late on x y answered
   pub elsewhere : KeepsElsewhere false old on x y
   pub refused : answered ≡ false → not (others_give u place (next_row old place)) ≡ true
 
-pub has_rebuilt : (a : Arrays) (all : ArrayVec View) (log : LogView) (x y : Seen) (n place : ℕ) (on : List ℕ) (number : ℕ) (old u : View) (answered : Bool)
+pub has_rebuilt : (a : Arrays) (all : ArrayVec View) (log : LogView) (x y : Seen) (n place rows : ℕ) (on : List ℕ) (number : ℕ) (old u : View) (answered : Bool)
     → IsRunning a x → IsHeeded (raid_by a) → n < a.state.made → HasRowLeft ((raid_by a).arrays n) place
     → ((raid_by a).arrays n).truth.resync_offset ≡ 2 ^ 64 - 1 ⊎ ((raid_by a).arrays n).truth.resync_offset % 128 ≡ 0
     → old ≡ get_or a.all.items n no_array → all.items ≡ set a.all.items n u → number ≡ a.log.number → number ≤ log.number
     → on ≡ current_places a.state → list_all (λ place. nat_lt place 16) u.went ≡ true → Goes x y
-    → RebuiltRow old u place number log.number on x y answered
-    → HasStepped a (record a { all = all; log = log }) x y n (rebuilt ((raid_by a).arrays n) place) (λ w. not (others_give w place (next_row ((raid_by a).arrays n) place))) answered
-has_rebuilt a all log x y n place on number old u answered running heeded low has whole old_is all_is number_is later on_is few goes rebuilt_row =
+    → RebuiltRows old u place rows number log.number on x y answered
+    → HasStepped a (record a { all = all; log = log }) x y n (rebuilt ((raid_by a).arrays n) place rows) (λ w. not (others_give w place (next_row ((raid_by a).arrays n) place))) answered
+has_rebuilt a all log x y n place rows on number old u answered running heeded low has whole old_is all_is number_is later on_is few goes rebuilt_rows =
     let f : ℕ → View = λ k. get_or all.items k no_array in
     let v = raid_by a in
     let own : f n ≡ u = ap (λ ys. get_or ys n no_array) all_is ∙ set_own a.all.items n u no_array (let count = running.count in omega (arith, low, count)) in
     let others : (k : ℕ) → (k ≡ n → ⊥) → f k ≡ v.arrays k = λ k other. ap (λ ys. get_or ys k no_array) all_is ∙ set_other a.all.items n k u no_array other in
-    let at : RebuiltRow (v.arrays n) (f n) place v.number log.number on x y answered =
-    subst (λ (z : View). RebuiltRow z (f n) place v.number log.number on x y answered) old_is
-    (subst (λ (z : View). RebuiltRow old z place v.number log.number on x y answered) (sym own)
-    (subst (λ k. RebuiltRow old u place k log.number on x y answered) number_is rebuilt_row)) in
+    let at : RebuiltRows (v.arrays n) (f n) place rows v.number log.number on x y answered =
+    subst (λ (z : View). RebuiltRows z (f n) place rows v.number log.number on x y answered) old_is
+    (subst (λ (z : View). RebuiltRows old z place rows v.number log.number on x y answered) (sym own)
+    (subst (λ k. RebuiltRows old u place rows k log.number on x y answered) number_is rebuilt_rows)) in
     let seated = running.set.arrays n low in
-    let next = rebuilt (v.arrays n) place in
-    let call : StepCall v f (rebuilt (v.arrays n) place) log.number n x y on answered = record {
+    let next = rebuilt (v.arrays n) place rows in
+    let call : StepCall v f (rebuilt (v.arrays n) place rows) log.number n x y on answered = record {
       heeded = heeded;
       low = low;
       others = others;
@@ -266,9 +267,9 @@ has_rebuilt a all log x y n place on number old u answered running heeded low ha
       later = subst (λ k. k ≤ log.number) number_is later;
       on_is = on_is;
       few = λ p is. low_named u.went p few (sym (ap (λ (z : View). has_gone z p) own) ∙ is);
-      is_next = next_rebuilt a.state n (v.arrays n) x place seated has;
+      is_next = next_rebuilt a.state n (v.arrays n) x place rows seated has at.left;
       framed = refl;
-      grows = rebuilt_grows a.state n (v.arrays n) x place seated has;
+      grows = rebuilt_grows a.state n (v.arrays n) x place rows seated has at.left;
       rows = omega arith;
       young = refl;
       whole = whole;
@@ -291,9 +292,9 @@ has_rebuilt a all log x y n place on number old u answered running heeded low ha
           done_rows v f next log.number n x y on answered running.set call is settled grown vals spent goes covers amid;
     }
 
-pub rebuilt_raise : (old u : View) (place : ℕ) (x y : Seen) (is_done : Bool) → Stepped old (rebuilt old place) u x y is_done → u.truth.events ≤ old.truth.events + 1
-rebuilt_raise old u place x y false (as_it_was notes) = let e = ap (λ t. t.events) notes.same.truth in omega (arith, e)
-rebuilt_raise old u place x y true (done notes) = let e = ap (λ t. t.events) notes.same.truth in omega (arith, e)
+pub rebuilt_raise : (old u : View) (place rows : ℕ) (x y : Seen) (is_done : Bool) → Stepped old (rebuilt old place rows) u x y is_done → u.truth.events ≤ old.truth.events + 1
+rebuilt_raise old u place rows x y false (as_it_was notes) = let e = ap (λ t. t.events) notes.same.truth in omega (arith, e)
+rebuilt_raise old u place rows x y true (done notes) = let e = ap (λ t. t.events) notes.same.truth in omega (arith, e)
 
 -- what a rebuild of a row asks
 pub rebuilding_parts : (v : Raid) (n place : ℕ) → is_rebuilding v n place ≡ true
@@ -315,39 +316,40 @@ rebuilding_parts v n place is =
         ]
 
 -- the answers of a row call
-pub answered_refused_not : {E : Type 0} (gives : Bool) (P : E → Type 0) (r : Result (Unit {0}) E) → IfErr r (λ e. P e × (gives ≡ false)) → is_ok r ≡ false → not gives ≡ true
+pub answered_refused_not : {T E : Type 0} (gives : Bool) (P : E → Type 0) (r : Result T E) → IfErr r (λ e. P e × (gives ≡ false)) → is_ok r ≡ false → not gives ≡ true
 answered_refused_not gives P (Ok x) refused is = absurd (both_ways true is refl)
 answered_refused_not gives P (Err e) refused is = ap not refused.1
 
--- a row that is rebuilt, and the mending after it
-pub rebuilds_one : (a b c : Arrays) (x y z : Seen) (m place : ℕ) (did ended : Bool) → m < a.state.made
-    → HasStepped a b x y m (rebuilt ((raid_by a).arrays m) place) (λ w. not (others_give w place (next_row ((raid_by a).arrays m) place))) did
+-- rows that are rebuilt, and the mending after it
+pub rebuilds_rows : (a b c : Arrays) (x y z : Seen) (m place most rows : ℕ) {E : Type 0} (did : Result ℕ E) (ended : Bool) (result : Result ℕ Stuck) → m < a.state.made
+    → 0 < rows → rows ≤ most → rows ≤ rows_left ((raid_by a).arrays m) place → IfOk did (λ k. k ≡ rows)
+    → HasStepped a b x y m (rebuilt ((raid_by a).arrays m) place rows) (λ w. not (others_give w place (next_row ((raid_by a).arrays m) place))) (is_ok did)
     → Mends (raid_by b) (raid_by c) y z → ended ≡ (is_empty (raid_by c) || is_used_up (raid_by c))
-    → RebuildsOne (raid_by a) (raid_by c) x z m place (did && not ended)
-rebuilds_one a b c x y z m place did ended low one mends ended_is =
+    → IfOk result (λ k. (did ≡ Ok k) × (ended ≡ false)) → IfErr result (λ e. (is_ok did ≡ false) ⊎ (ended ≡ true))
+    → Rebuilds (raid_by a) (raid_by c) x z m place most result
+rebuilds_rows a b c x y z m place most rows did ended result low some few inside number one mends ended_is told none =
     let row = next_row ((raid_by a).arrays m) place in
     let lacks : View → Bool = λ w. not (others_give w place row) in
     let made = subst (λ k. m < k) (sym one.brings.book.same.made) low in
     record {
-      steps =
-          step_mended a b c x y z m (rebuilt ((raid_by a).arrays m) place) (λ w. not (others_give w place (next_row ((raid_by a).arrays m) place))) did (did && not ended) low one mends
-          (λ ok. (and_parts did (not ended) ok).0);
-      refused = λ none. elim (cases_Bool did) [
-        | inl yes_done ↦
-            let over : ended ≡ true = ended_of ended (sym (ap (λ (d : Bool). d && not ended) yes_done) ∙ none) in
-            or_first (is_over (raid_by c) m) (lacks ((raid_by c).arrays m))
-            (over_by (is_empty (raid_by c)) (is_used_up (raid_by c)) (present ((raid_by c).arrays m).seats == 0) (sym ended_is ∙ over))
-        | inr not_done ↦
-            or_second (is_over (raid_by c) m) (lacks ((raid_by c).arrays m))
-            (lacks_on (lacks ((raid_by c).arrays m))
-            (λ gives.
-            both_ways (lacks ((raid_by b).arrays m)) (give_less ((raid_by b).arrays m) ((raid_by c).arrays m) place row (mends.moves.arrays m made) gives) (one.refused not_done)))
-      ];
+      rows = rows_mended a b c x y z m (rows_left ((raid_by a).arrays m) place) most (rebuilt ((raid_by a).arrays m) place) lacks did result low rows some few inside number one mends
+          (done_alone did ended result told);
+      refused = refused result none (λ is.
+          elim is [
+            | inr over ↦
+                or_first (is_over (raid_by c) m) (lacks ((raid_by c).arrays m))
+                (over_by (is_empty (raid_by c)) (is_used_up (raid_by c)) (present ((raid_by c).arrays m).seats == 0) (sym ended_is ∙ over))
+            | inl not_done ↦
+                or_second (is_over (raid_by c) m) (lacks ((raid_by c).arrays m))
+                (lacks_on (lacks ((raid_by c).arrays m))
+                (λ gives.
+                both_ways (lacks ((raid_by b).arrays m)) (give_less ((raid_by b).arrays m) ((raid_by c).arrays m) place row (mends.moves.arrays m made) gives) (one.refused not_done)))
+          ]);
     }
   where
-    ended_of : (e : Bool) → not e ≡ false → e ≡ true
-    ended_of true is = refl
-    ended_of false is = sym is
+    refused : (r : Result ℕ Stuck) → IfErr r (λ e. (is_ok did ≡ false) ⊎ (ended ≡ true)) → {P : Type 0} → ((is_ok did ≡ false) ⊎ (ended ≡ true) → P) → OnErr r P
+    refused (Ok k) is of = tt
+    refused (Err e) is of = of is
 
     or_first : (b c : Bool) → b ≡ true → (b || c) ≡ true
     or_first true c is = refl

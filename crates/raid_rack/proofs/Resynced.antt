@@ -1,5 +1,5 @@
 -- The code that resyncs a row of an array, as a part of a call of all.
-use Rattle.std.proofs.Common.{◌≡◌, ◌⊎◌, ℕ, zero, suc, ◌+◌, ◌-◌, ◌*◌, ◌/◌, ◌%◌, ◌^◌, ◌<◌, ◌≤◌, Bool, true, false, ◌==◌, ◌&&◌, not, nat_lt, if◌then◌else◌, List, map, set, length, get_or, slice_get, Option, Result, Ok, Err, is_ok, OnOk, IfErr, refl, sym, ap, subst, ◌∙◌, inl, inr, eq-eqb, eqb-true, lt-ltb, le-ltb, ltb-true, arith}
+use Rattle.std.proofs.Common.{◌≡◌, ◌⊎◌, ℕ, zero, suc, ◌+◌, ◌-◌, ◌*◌, ◌/◌, ◌%◌, ◌^◌, ◌<◌, ◌≤◌, Bool, true, false, ◌==◌, ◌&&◌, not, nat_lt, if◌then◌else◌, List, map, set, length, get_or, slice_get, Option, Result, Ok, Err, is_ok, IfOk, IfErr, refl, sym, ap, subst, ◌∙◌, inl, inr, eq-eqb, eqb-true, lt-ltb, le-ltb, ltb-true, arith}
 use Rattle.std.proofs.lemmas.Bool.{both_ways, cases_Bool, cases_lt, and_parts, ltb-false}
 use Rattle.std.specs.List.{list_all, range_with_len}
 use Rattle.std.specs.Option.{option_map_or}
@@ -19,7 +19,7 @@ use Rattle.array_core.specs.Pool.{Goes}
 use Rattle.array_core.specs.Superblocks.{is_settled, left_offset}
 use Rattle.array_core.specs.Writing.{KeepsElsewhere}
 use Rattle.sync_laws.specs.Rows.{lacks_row}
-use Rattle.sync_laws.specs.Steps.{Stepped, Steps, as_it_was, done, offset_after, resynced}
+use Rattle.sync_laws.specs.Steps.{DoesRows, Stepped, Steps, as_it_was, done, offset_after, resynced}
 use Rattle.raid_rack.specs.declared.arrays.Arrays.{Arrays}
 use Rattle.raid_laws.specs.Raid.{Raid, is_over}
 use Rattle.raid_laws.specs.Reach.{KeepsReachOn, reach_same}
@@ -27,6 +27,7 @@ use Rattle.raid_laws.specs.Moves.{AreCaused, Brings, IsAmid, IsHeeded, IsSeated,
 use Rattle.raid_laws.specs.Rows.{LeavesRows}
 use Rattle.raid_rack.specs.RaidRack.{IsRunning, raid_by, no_array}
 use Rattle.raid_laws.specs.Works.{StepsOne, stepped}
+use Rattle.raid_rack.specs.declared.works.Stuck.{Stuck}
 use Rattle.raid_laws.proofs.Calls.{raised_low, unsynced_by}
 use Rattle.raid_laws.proofs.Changed.{caused, left_before}
 use Rattle.raid_laws.proofs.Committed.{next_later}
@@ -41,26 +42,26 @@ use Rattle.raid_laws.proofs.Views.{IsNext}
 
 -- ---- the array once its row is resynced
 
-offset_whole : (v : View) (b : Bool) → nat_lt (v.resync + 1) (rows_of v) ≡ b → (offset_after v (v.resync + 1) ≡ 2 ^ 64 - 1) ⊎ (offset_after v (v.resync + 1) % 128 ≡ 0)
-offset_whole v true is =
-    let at : offset_after v (v.resync + 1) ≡ (v.resync + 1) * 128 = ap (λ (t : Bool). if t then (v.resync + 1) * 128 else 2 ^ 64 - 1) is in
+offset_whole : (v : View) (rows : ℕ) (b : Bool) → nat_lt (v.resync + rows) (rows_of v) ≡ b → (offset_after v (v.resync + rows) ≡ 2 ^ 64 - 1) ⊎ (offset_after v (v.resync + rows) % 128 ≡ 0)
+offset_whole v rows true is =
+    let at : offset_after v (v.resync + rows) ≡ (v.resync + rows) * 128 = ap (λ (t : Bool). if t then (v.resync + rows) * 128 else 2 ^ 64 - 1) is in
     inr (omega (arith, at))
-offset_whole v false is = inl (ap (λ (t : Bool). if t then (v.resync + 1) * 128 else 2 ^ 64 - 1) is)
+offset_whole v rows false is = inl (ap (λ (t : Bool). if t then (v.resync + rows) * 128 else 2 ^ 64 - 1) is)
 
-offset_rows : (v : View) (b : Bool) → v.truth.size < 2 ^ 48 → v.resync < rows_of v → nat_lt (v.resync + 1) (rows_of v) ≡ b
-    → (if nat_lt (offset_after v (v.resync + 1)) v.truth.size then offset_after v (v.resync + 1) / 128 else v.truth.size / 128) ≤ v.resync + 1
-offset_rows v true small row is =
-    let at : offset_after v (v.resync + 1) ≡ (v.resync + 1) * 128 = ap (λ (t : Bool). if t then (v.resync + 1) * 128 else 2 ^ 64 - 1) is in
-    let low = ltb-true (v.resync + 1) (rows_of v) is in
-    unsynced_by (offset_after v (v.resync + 1)) v.truth.size (v.resync + 1) (λ below. omega (arith, at)) (λ above. omega (arith, at, above, low))
-offset_rows v false small row is =
-    let at : offset_after v (v.resync + 1) ≡ 2 ^ 64 - 1 = ap (λ (t : Bool). if t then (v.resync + 1) * 128 else 2 ^ 64 - 1) is in
-    let high = ltb-false (v.resync + 1) (rows_of v) is in
-    unsynced_by (offset_after v (v.resync + 1)) v.truth.size (v.resync + 1) (λ below. absurd (omega (arith, at, small, below))) (λ above. omega (arith, high))
+offset_rows : (v : View) (rows : ℕ) (b : Bool) → v.truth.size < 2 ^ 48 → v.resync + rows ≤ rows_of v → nat_lt (v.resync + rows) (rows_of v) ≡ b
+    → (if nat_lt (offset_after v (v.resync + rows)) v.truth.size then offset_after v (v.resync + rows) / 128 else v.truth.size / 128) ≤ v.resync + rows
+offset_rows v rows true small inside is =
+    let at : offset_after v (v.resync + rows) ≡ (v.resync + rows) * 128 = ap (λ (t : Bool). if t then (v.resync + rows) * 128 else 2 ^ 64 - 1) is in
+    let low = ltb-true (v.resync + rows) (rows_of v) is in
+    unsynced_by (offset_after v (v.resync + rows)) v.truth.size (v.resync + rows) (λ below. omega (arith, at)) (λ above. omega (arith, at, above, low))
+offset_rows v rows false small inside is =
+    let at : offset_after v (v.resync + rows) ≡ 2 ^ 64 - 1 = ap (λ (t : Bool). if t then (v.resync + rows) * 128 else 2 ^ 64 - 1) is in
+    let high = ltb-false (v.resync + rows) (rows_of v) is in
+    unsynced_by (offset_after v (v.resync + rows)) v.truth.size (v.resync + rows) (λ below. absurd (omega (arith, at, small, below))) (λ above. omega (arith, high))
 
-pub resynced_settled : (v : View) → v.young ≡ false → is_settled (resynced v) ≡ true
-resynced_settled v young =
-    eq-eqb (offset_after v (v.resync + 1)) (left_offset (resynced v)) (sym (left_old (resynced v) young))
+pub resynced_settled : (v : View) (rows : ℕ) → v.young ≡ false → is_settled (resynced v rows) ≡ true
+resynced_settled v rows young =
+    eq-eqb (offset_after v (v.resync + rows)) (left_offset (resynced v rows)) (sym (left_old (resynced v rows) young))
 
 -- an array that has a row left isn't young
 pub grown : (s : State) (m : ℕ) (u : View) (x : Seen) → IsSeated s m u x → u.resync < rows_of u → u.young ≡ false
@@ -70,13 +71,13 @@ grown s m u x seated row =
       | inr not_young ↦ not_young
     ]
 
-next_resynced : (s : State) (m : ℕ) (u : View) (x : Seen) → IsSeated s m u x → u.resync < rows_of u → IsNext s m u (resynced u) x
-next_resynced s m u x seated row =
+next_resynced : (s : State) (m rows : ℕ) (u : View) (x : Seen) → IsSeated s m u x → u.resync < rows_of u → u.resync + rows ≤ rows_of u → IsNext s m u (resynced u rows) x
+next_resynced s m rows u x seated row inside =
     let a = seated.is_array in
     let pool = seated.is_of_pool in
     let events = raised_low u.truth.events pool.events pool.events_end in
     let young = grown s m u x seated row in
-    let array : IsArray (resynced u) = record {
+    let array : IsArray (resynced u rows) = record {
       few = a.few;
       level = a.level;
       least = a.least;
@@ -86,10 +87,10 @@ next_resynced s m u x seated row =
       small = a.small;
       whole_rows = a.whole_rows;
       placed = a.placed;
-      synced = omega (arith, row);
+      synced = omega (arith, inside);
       reshape = a.reshape;
     } in
-    let less = offset_rows u (nat_lt (u.resync + 1) (rows_of u)) a.small row refl in
+    let less = offset_rows u rows (nat_lt (u.resync + rows) (rows_of u)) a.small inside refl in
     record {
       seated = record {
         is_array = array;
@@ -104,7 +105,7 @@ next_resynced s m u x seated row =
           row = pool.row;
           roles = pool.roles;
           unsynced = less;
-          synced = λ old part. inl (settled_just (resynced u) array young (resynced_settled u young) less);
+          synced = λ old part. inl (settled_just (resynced u rows) array young (resynced_settled u rows young) less);
           zeroed = λ is. absurd (both_ways u.young young is);
           rows = pool.rows;
         };
@@ -122,7 +123,7 @@ next_resynced s m u x seated row =
         position = written.position;
         last_position = written.last_position;
         no_position = written.no_position;
-        resync = offset_whole u (nat_lt (u.resync + 1) (rows_of u)) refl;
+        resync = offset_whole u rows (nat_lt (u.resync + rows) (rows_of u)) refl;
       };
       events = events.0;
       seats = omega arith;
@@ -180,11 +181,11 @@ lacks_less u w row only lacks =
 
 -- ---- the code
 
--- what the resync of a row says of the array, before it and after it
-pub record ResyncedRow (old u : View) (number late : ℕ) (on : List ℕ) (x y : Seen) (answered : Bool) : Type 0 where
-  pub steps : Steps old (resynced old) u number late on x y answered
+-- what the resync of rows says of the array, before it and after it
+pub record ResyncedRows (old u : View) (rows number late : ℕ) (on : List ℕ) (x y : Seen) (answered : Bool) : Type 0 where
+  pub inside : old.resync + rows ≤ rows_of old
+  pub steps : Steps old (resynced old rows) u number late on x y answered
   pub elsewhere : KeepsElsewhere false old on x y
-  pub served : answered ≡ true → lacks_row u old.resync ≡ false
   pub refused : answered ≡ false → lacks_row u old.resync ≡ true
 
 -- what a step says of all arrays, where it is refused of an array that lacks somebody
@@ -202,30 +203,30 @@ pub record HasStepped (a b : Arrays) (x y : Seen) (m : ℕ) (next : View) (lacks
       → (vals : ℕ → Values) (spent : ℕ → Bool) → is_over (raid_by b) m ≡ false → Covers ((raid_by b).arrays m) spent
       → IsAmid (raid_by a) x m vals spent → LeavesRows (raid_by b) y m
 
--- a row that is resynced changes no member
-resynced_reach : (on : ℕ → Bool) (u : View) → KeepsReachOn on (shape_of u) (shape_of (resynced u))
+-- rows that are resynced change no member
+resynced_reach : (on : ℕ → Bool) (u : View) (rows : ℕ) → KeepsReachOn on (shape_of u) (shape_of (resynced u rows))
 unfolding shape_of
-resynced_reach on u = reach_same on (shape_of u)
+resynced_reach on u rows = reach_same on (shape_of u)
 
-pub has_resynced : (a : Arrays) (all : ArrayVec View) (log : LogView) (x y : Seen) (n : ℕ) (on : List ℕ) (number : ℕ) (old u : View) (answered : Bool)
+pub has_resynced : (a : Arrays) (all : ArrayVec View) (log : LogView) (x y : Seen) (n rows : ℕ) (on : List ℕ) (number : ℕ) (old u : View) (answered : Bool)
     → IsRunning a x → IsHeeded (raid_by a) → n < a.state.made → ((raid_by a).arrays n).resync < rows_of ((raid_by a).arrays n)
     → old ≡ get_or a.all.items n no_array → all.items ≡ set a.all.items n u → number ≡ a.log.number → number ≤ log.number
     → on ≡ current_places a.state → list_all (λ place. nat_lt place 16) u.went ≡ true → Goes x y
-    → ResyncedRow old u number log.number on x y answered
-    → HasStepped a (record a { all = all; log = log }) x y n (resynced ((raid_by a).arrays n)) (λ u. lacks_row u ((raid_by a).arrays n).resync) answered
-has_resynced a all log x y n on number old u answered running heeded low row old_is all_is number_is later on_is few goes resynced_row =
+    → ResyncedRows old u rows number log.number on x y answered
+    → HasStepped a (record a { all = all; log = log }) x y n (resynced ((raid_by a).arrays n) rows) (λ u. lacks_row u ((raid_by a).arrays n).resync) answered
+has_resynced a all log x y n rows on number old u answered running heeded low row old_is all_is number_is later on_is few goes resynced_rows =
     let f : ℕ → View = λ k. get_or all.items k no_array in
     let v = raid_by a in
     let own : f n ≡ u = ap (λ ys. get_or ys n no_array) all_is ∙ set_own a.all.items n u no_array (let count = running.count in omega (arith, low, count)) in
     let others : (k : ℕ) → (k ≡ n → ⊥) → f k ≡ v.arrays k = λ k other. ap (λ ys. get_or ys k no_array) all_is ∙ set_other a.all.items n k u no_array other in
-    let at : ResyncedRow (v.arrays n) (f n) v.number log.number on x y answered =
-    subst (λ (z : View). ResyncedRow z (f n) v.number log.number on x y answered) old_is
-    (subst (λ (z : View). ResyncedRow old z v.number log.number on x y answered) (sym own)
-    (subst (λ k. ResyncedRow old u k log.number on x y answered) number_is resynced_row)) in
+    let at : ResyncedRows (v.arrays n) (f n) rows v.number log.number on x y answered =
+    subst (λ (z : View). ResyncedRows z (f n) rows v.number log.number on x y answered) old_is
+    (subst (λ (z : View). ResyncedRows old z rows v.number log.number on x y answered) (sym own)
+    (subst (λ k. ResyncedRows old u rows k log.number on x y answered) number_is resynced_rows)) in
     let seated = running.set.arrays n low in
     let young = grown a.state n (v.arrays n) x seated row in
-    let next = resynced (v.arrays n) in
-    let call : StepCall v f (resynced (v.arrays n)) log.number n x y on answered = record {
+    let next = resynced (v.arrays n) rows in
+    let call : StepCall v f (resynced (v.arrays n) rows) log.number n x y on answered = record {
       heeded = heeded;
       low = low;
       others = others;
@@ -233,13 +234,13 @@ has_resynced a all log x y n on number old u answered running heeded low row old
       later = subst (λ k. k ≤ log.number) number_is later;
       on_is = on_is;
       few = λ p is. low_named u.went p few (sym (ap (λ (z : View). has_gone z p) own) ∙ is);
-      is_next = next_resynced a.state n (v.arrays n) x seated row;
+      is_next = next_resynced a.state n rows (v.arrays n) x seated row at.inside;
       framed = refl;
-      grows = resynced_reach (is_current a.state) (v.arrays n);
+      grows = resynced_reach (is_current a.state) (v.arrays n) rows;
       rows = omega arith;
       young = refl;
-      whole = offset_whole (v.arrays n) (nat_lt ((v.arrays n).resync + 1) (rows_of (v.arrays n))) refl;
-      settled = λ is was. resynced_settled (v.arrays n) is;
+      whole = offset_whole (v.arrays n) rows (nat_lt ((v.arrays n).resync + rows) (rows_of (v.arrays n))) refl;
+      settled = λ is was. resynced_settled (v.arrays n) rows is;
       steps = at.steps;
       elsewhere = at.elsewhere;
     } in
@@ -259,10 +260,10 @@ has_resynced a all log x y n on number old u answered running heeded low row old
     }
 
 -- a row that is resynced changes no member's size
-pub stepped_rows : (v : Raid) (w : View) (n : ℕ) (is_done : Bool) → LosesOnly (stepped v n (resynced (v.arrays n)) is_done n) w → rows_of w ≡ rows_of (v.arrays n)
-stepped_rows v w n is_done only = ap (λ size. size / 128) only.same.geometry.size ∙ of ((n == n) && is_done)
+pub stepped_rows : (v : Raid) (w : View) (n rows : ℕ) (is_done : Bool) → LosesOnly (stepped v n (resynced (v.arrays n) rows) is_done n) w → rows_of w ≡ rows_of (v.arrays n)
+stepped_rows v w n rows is_done only = ap (λ size. size / 128) only.same.geometry.size ∙ of ((n == n) && is_done)
   where
-    of : (b : Bool) → rows_of (if b then resynced (v.arrays n) else v.arrays n) ≡ rows_of (v.arrays n)
+    of : (b : Bool) → rows_of (if b then resynced (v.arrays n) rows else v.arrays n) ≡ rows_of (v.arrays n)
     of true = refl
     of false = refl
 
@@ -275,9 +276,9 @@ pub step_raise : (before after : LogView) → (after ≡ emptied before) ⊎ (af
 step_raise before after (inl same) = let is = ap (λ (l : LogView). l.number) same in omega (arith, is)
 step_raise before after (inr next) = let is = ap (λ (l : LogView). l.number) next in let up = raised_up before.number in omega (arith, is, up)
 
-pub resynced_raise : (old u : View) (x y : Seen) (is_done : Bool) → Stepped old (resynced old) u x y is_done → u.truth.events ≤ old.truth.events + 1
-resynced_raise old u x y false (as_it_was notes) = let e = ap (λ t. t.events) notes.same.truth in omega (arith, e)
-resynced_raise old u x y true (done notes) = let e = ap (λ t. t.events) notes.same.truth in let up = raised_up old.truth.events in omega (arith, e, up)
+pub resynced_raise : (old u : View) (rows : ℕ) (x y : Seen) (is_done : Bool) → Stepped old (resynced old rows) u x y is_done → u.truth.events ≤ old.truth.events + 1
+resynced_raise old u rows x y false (as_it_was notes) = let e = ap (λ t. t.events) notes.same.truth in omega (arith, e)
+resynced_raise old u rows x y true (done notes) = let e = ap (λ t. t.events) notes.same.truth in let up = raised_up old.truth.events in omega (arith, e, up)
 
 -- a step, and the mending after it: what is answered after that to have been done was
 pub step_mended : (a b c : Arrays) (x y z : Seen) (m : ℕ) (next : View) (lacks : View → Bool) (did answered : Bool) → m < a.state.made → HasStepped a b x y m next lacks did
@@ -304,25 +305,42 @@ step_mended a b c x y z m next lacks did answered low one mends served =
           (one.durable is settled young vals spent mid_goes covered amid)).after;
     }
 
--- so it was where whoever goes is one whose loss lacks nothing that it needed
-pub steps_one : (a b c : Arrays) (x y z : Seen) (m : ℕ) (next : View) (lacks : View → Bool) (did answered : Bool) → m < a.state.made → HasStepped a b x y m next lacks did
-    → Mends (raid_by b) (raid_by c) y z
-    → ((u w : View) → LosesOnly u w → lacks w ≡ false → lacks u ≡ false) → (answered ≡ true → lacks ((raid_by c).arrays m) ≡ false)
-    → StepsOne (raid_by a) (raid_by c) x z m next answered
-steps_one a b c x y z m next lacks did answered low one mends less served =
-    let made : m < b.state.made = subst (λ k. m < k) (sym one.brings.book.same.made) low in
-    step_mended a b c x y z m next lacks did answered low one mends
-    (λ ok. elim (cases_Bool did) [
-      | inl yes_done ↦ yes_done
-      | inr none ↦
-          absurd (both_ways (lacks ((raid_by b).arrays m)) (less ((raid_by b).arrays m) ((raid_by c).arrays m) (mends.moves.arrays m made) (served ok)) (one.refused none))
-    ])
+-- Rows by a step, and the mending after it: what is answered once that is known. What lacks nobody after losses lacked nobody before them.
+pub rows_mended : (a b c : Arrays) (x y z : Seen) (m left most : ℕ) (next : ℕ → View) (lacks : View → Bool) {E : Type 0} (did : Result ℕ E) (result : Result ℕ Stuck)
+    → m < a.state.made → (rows : ℕ) → 0 < rows → rows ≤ most → rows ≤ left → IfOk did (λ k. k ≡ rows)
+    → HasStepped a b x y m (next rows) lacks (is_ok did) → Mends (raid_by b) (raid_by c) y z
+    → IfOk result (λ k. did ≡ Ok k)
+    → DoesRows (λ rows. StepsOne (raid_by a) (raid_by c) x z m (next rows)) left most result
+rows_mended a b c x y z m left most next lacks did result low rows some few inside number one mends told = record {
+  rows = rows;
+  some = some;
+  few = few;
+  left = inside;
+  steps = step_mended a b c x y z m (next rows) lacks (is_ok did) (is_ok result) low one mends (served result told);
+  answer = answer result told;
+}
+  where
+    served : (r : Result ℕ Stuck) → IfOk r (λ k. did ≡ Ok k) → is_ok r ≡ true → is_ok did ≡ true
+    served (Ok k) is ok = ap is_ok is
+    served (Err e) is ok = absurd (both_ways false refl ok)
+
+    answer : (r : Result ℕ Stuck) → IfOk r (λ k. did ≡ Ok k) → IfOk r (λ k. k ≡ rows)
+    answer (Ok k) is = subst (λ d. IfOk d (λ n. n ≡ rows)) is number
+    answer (Err e) is = tt
+
+-- what is answered to be done was
+pub done_alone : {E : Type 0} (did : Result ℕ E) (stuck : Bool) (r : Result ℕ Stuck) → IfOk r (λ k. (did ≡ Ok k) × (stuck ≡ false)) → IfOk r (λ k. did ≡ Ok k)
+done_alone did stuck (Ok k) is = is.0
+done_alone did stuck (Err e) is = tt
+
+-- a row that is lacking before losses is after them
+pub lacks_then : (u w : View) (row : ℕ) → LosesOnly u w → lacks_row u row ≡ true → lacks_row w row ≡ true
+lacks_then u w row only lacks = elim (cases_Bool (lacks_row w row)) [
+  | inl still ↦ still
+  | inr none ↦ absurd (both_ways (lacks_row u row) (lacks_less u w row only none) lacks)
+]
 
 -- the answers of a row call
-pub answered_served : {E : Type 0} (lacks : Bool) (r : Result (Unit {0}) E) → OnOk r (lacks ≡ false) → is_ok r ≡ true → lacks ≡ false
-answered_served lacks (Ok x) served is = served
-answered_served lacks (Err e) served is = absurd (both_ways false refl is)
-
-pub answered_refused : {E : Type 0} (lacks : Bool) (P : E → Type 0) (r : Result (Unit {0}) E) → IfErr r (λ e. P e × (lacks ≡ true)) → is_ok r ≡ false → lacks ≡ true
+pub answered_refused : {T E : Type 0} (lacks : Bool) (P : E → Type 0) (r : Result T E) → IfErr r (λ e. P e × (lacks ≡ true)) → is_ok r ≡ false → lacks ≡ true
 answered_refused lacks P (Ok x) refused is = absurd (both_ways true is refl)
 answered_refused lacks P (Err e) refused is = refused.1

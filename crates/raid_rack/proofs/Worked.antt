@@ -1,5 +1,5 @@
 -- The code of works of maintenance: rows that are resynced, and the end of a plan.
-use Rattle.std.proofs.Common.{◌≡◌, ℕ, zero, suc, ◌+◌, ◌*◌, ◌<◌, ◌≤◌, Bool, true, false, ◌==◌, ◌&&◌, ◌||◌, not, List, [], ◌∷◌, length, get_or, slice_get, Some, option_map, refl, sym, ap, ap₂, subst, ◌∙◌, inl, inr, eq-eqb, eqb-true, lt-ltb, arith}
+use Rattle.std.proofs.Common.{◌≡◌, ℕ, zero, suc, ◌+◌, ◌*◌, ◌<◌, ◌≤◌, Bool, true, false, ◌==◌, ◌&&◌, ◌||◌, not, List, [], ◌∷◌, length, get_or, slice_get, Some, option_map, Result, Ok, Err, is_ok, IfOk, IfErr, ◌⊎◌, ◌-◌, refl, sym, ap, ap₂, subst, ◌∙◌, inl, inr, eq-eqb, eqb-true, lt-ltb, arith}
 use Rattle.std.proofs.lemmas.Bool.{both_ways, and_from, and_parts, cases_lt}
 use Rattle.std.proofs.lemmas.Option.{slice_get_past}
 use Rattle.std.specs.Option.{option_map_or}
@@ -23,14 +23,17 @@ use Rattle.array_model.specs.View.{View, IsArray, present, rows_of}
 use Rattle.array_model.specs.Members.{members_of}
 use Rattle.array_core.specs.Seats.{gone as without}
 use Rattle.sync_laws.specs.Rows.{lacks_row}
-use Rattle.sync_laws.specs.Steps.{resynced}
+use Rattle.sync_laws.specs.Steps.{DoesRows, resynced}
 use Rattle.raid_rack.specs.declared.arrays.Arrays.{Arrays}
 use Rattle.raid_laws.specs.Losses.{AddsCopies, AreCopiesOn}
 use Rattle.raid_laws.specs.Raid.{Raid, gone_in, is_empty, is_left, is_over, is_used_up, held_in, spent_of, StopsInside}
 use Rattle.raid_laws.specs.Laws.{live_parts}
 use Rattle.raid_laws.specs.Moves.{AreCaused, Brings, IsHeeded, IsSet, KeepsArrays, Mends, RaisesBy}
 use Rattle.raid_rack.specs.RaidRack.{IsFit, IsRunning, raid_by, no_array}
-use Rattle.raid_laws.specs.Works.{ClosesPlan, ResyncsOne, StepsOne, closed, is_stuck}
+use Rattle.pool_state.specs.declared.contents.Work.{Work}
+use Rattle.pool_state.specs.declared.contents.Work.TheVariants.{Resync, Rebuild, TakeOver, Begin, Reshape, Finish, Make, Zero, Ready, Extend, Close}
+use Rattle.raid_laws.specs.Works.{ClosesPlan, Does, Resyncs, StepsOne, closed, is_stuck}
+use Rattle.raid_rack.specs.declared.works.Stuck.{Stuck}
 use Rattle.raid_laws.proofs.Added.{names_current}
 use Rattle.raid_laws.proofs.Adding.{copies_apart, copies_from}
 use Rattle.raid_rack.proofs.CloseParts.{close_arrays, close_brings, close_truths}
@@ -44,7 +47,7 @@ use Rattle.raid_laws.proofs.Elements.{all_among, look_among}
 use Rattle.raid_rack.proofs.Ended.{all_wanting}
 use Rattle.raid_laws.proofs.Over.{not_true, or_parts}
 use Rattle.raid_rack.proofs.Raises.{raised_up, raises_then}
-use Rattle.raid_rack.proofs.Resynced.{grown, resynced_settled}
+use Rattle.raid_rack.proofs.Resynced.{HasStepped, grown, lacks_then, resynced_settled}
 use Rattle.raid_rack.proofs.Serving.{whole_call}
 use Rattle.raid_laws.proofs.Whole.{before_amid, heeded_left}
 
@@ -71,24 +74,68 @@ stuck_by_code v n row ended lacks is_array ended_is lacks_is =
     of false false true s all = all refl
     of false false false s all = refl
 
-pub resyncs_one : (a b : Arrays) (x y : Seen) (m : ℕ) (answered : Bool) → IsFit a x → IsFit b y → StopsInside y
+-- rows that aren't stuck are done, and they are stuck where the first was refused
+pub resyncs_rows : (a b c : Arrays) (x y z : Seen) (m most : ℕ) {E : Type 0} (did : Result ℕ E) (result : Result ℕ Stuck) → m < a.state.made
+    → (rows : ℕ) → HasStepped a b x y m (resynced ((raid_by a).arrays m) rows) (λ u. lacks_row u ((raid_by a).arrays m).resync) (is_ok did)
+    → Mends (raid_by b) (raid_by c) y z
+    → (stuck : Bool) → stuck ≡ is_stuck (raid_by c) m ((raid_by a).arrays m).resync
+    → IfOk result (λ k. (did ≡ Ok k) × (stuck ≡ false)) → IfErr result (λ e. (is_ok did ≡ false) ⊎ (stuck ≡ true))
+    → is_ok result ≡ not (is_stuck (raid_by c) m ((raid_by a).arrays m).resync)
+resyncs_rows a b c x y z m most did (Ok k) low rows one mends stuck stuck_is done refused = sym (ap not (sym stuck_is ∙ done.1))
+resyncs_rows a b c x y z m most did (Err e) low rows one mends stuck stuck_is done refused =
+    let row = ((raid_by a).arrays m).resync in
+    let made = subst (λ k. m < k) (sym one.brings.book.same.made) low in
+    elim refused [
+      | inr is ↦ sym (ap not (sym stuck_is ∙ is))
+      | inl none ↦
+          sym (ap not (or_second (is_over (raid_by c) m) (lacks_row ((raid_by c).arrays m) row)
+          (lacks_then ((raid_by b).arrays m) ((raid_by c).arrays m) row (mends.moves.arrays m made) (one.refused none))))
+    ]
+  where
+    or_second : (b c : Bool) → c ≡ true → (b || c) ≡ true
+    or_second true c is = refl
+    or_second false c is = is
+
+pub resyncs_one : (a b : Arrays) (x y : Seen) (m most : ℕ) (result : Result ℕ Stuck) → IsFit a x → IsFit b y → StopsInside y
     → m < a.state.made → ((raid_by a).arrays m).resync < rows_of ((raid_by a).arrays m)
-    → StepsOne (raid_by a) (raid_by b) x y m (resynced ((raid_by a).arrays m)) answered
-    → answered ≡ not (is_stuck (raid_by b) m ((raid_by a).arrays m).resync)
-    → ResyncsOne (raid_by a) (raid_by b) x y m answered
-resyncs_one a b x y m answered fit after inside low row steps answer =
+    → DoesRows (λ rows. StepsOne (raid_by a) (raid_by b) x y m (resynced ((raid_by a).arrays m) rows)) (rows_of ((raid_by a).arrays m) - ((raid_by a).arrays m).resync) most result
+    → is_ok result ≡ not (is_stuck (raid_by b) m ((raid_by a).arrays m).resync)
+    → Resyncs (raid_by a) (raid_by b) x y m most result
+resyncs_one a b x y m most result fit after inside low row rows answer =
     let v = raid_by a in
     let w = raid_by b in
     let young = grown a.state m (v.arrays m) x (fit.running.set.arrays m low) row in
     record {
-      steps = steps;
+      rows = rows;
       answer = answer;
       durable = λ ok told.
           let goes = (unstuck w m (v.arrays m).resync (sym answer ∙ ok)).0 in
-          steps.durable (steps.answer ok) (resynced_settled (v.arrays m) young) young (held_in v x m) (spent_of w m) told.joined goes
+          rows.steps.durable (rows.steps.answer ok) (resynced_settled (v.arrays m) rows.rows young) young (held_in v x m) (spent_of w m) told.joined goes
           (λ y alive. (live_parts w m y alive).1)
-          (before_amid v w x y (held_in v x) (whole_call a b x y (λ n vals. vals) fit after steps.brings inside) m told goes);
+          (before_amid v w x y (held_in v x) (whole_call a b x y (λ n vals. vals) fit after rows.steps.brings inside) m told goes);
     }
+
+-- ---- one work
+
+-- where one was asked for, it is answered that one is done
+pub one_work : (work : Work) (v w : Raid) (a b : Seen) (k : ℕ) → Does work 1 v w a b {E = Stuck} (Ok k) → Does work 1 v w a b {E = Stuck} (Ok 1)
+one_work work v w a b k does = subst (λ (n : ℕ). Does work 1 v w a b {E = Stuck} (Ok n)) (number work does) does
+  where
+    of_rows : {does : ℕ → Bool → Type 0} {left : ℕ} → DoesRows does left 1 {E = Stuck} (Ok k) → k ≡ 1
+    of_rows rows = let is = rows.answer in let some = rows.some in let few = rows.few in omega (arith, is, some, few)
+
+    number : (work : Work) → Does work 1 v w a b {E = Stuck} (Ok k) → k ≡ 1
+    number (Resync m) does = of_rows does.rows
+    number (Rebuild m place) does = of_rows does.rows
+    number (TakeOver m) does = absurd does
+    number (Begin m place) does = absurd does
+    number (Reshape m) does = absurd does
+    number (Finish m) does = absurd does
+    number (Make m height) does = absurd does
+    number (Zero m) does = absurd does
+    number (Ready m) does = absurd does
+    number Extend does = absurd does
+    number Close does = does.0
 
 -- ---- the end of a plan
 

@@ -32,7 +32,7 @@ lacks_two_less u w row only lacks =
     le-ltb 1 (wanting t (members_of u)) (omega (arith, less, none))
 
 -- the call, and the mending after it
-pub zero_grows : (a b c : Arrays) (x y z : Seen) (n : ℕ) (is_done did answered : Bool) → HasCalled a b x y n (zeroed ((raid_by a).arrays n)) is_done → n < b.state.made
+pub zero_grows : (a b c : Arrays) (x y z : Seen) (n : ℕ) (is_done did answered : Bool) → HasCalled a b x y n (zeroed ((raid_by a).arrays n) 1) is_done → n < b.state.made
     → (did ≡ true → is_done ≡ true)
     → (did ≡ false → lacks_two ((raid_by b).arrays n) (first_unsynced ((raid_by a).arrays n).truth) ≡ true)
     → Mends (raid_by b) (raid_by c) y z
@@ -44,20 +44,20 @@ zero_grows a b c x y z n is_done did answered one low answer refused mends answe
     let u = v.arrays n in
     let row = first_unsynced u.truth in
     let lost = is_ended w || lacks_two (w.arrays n) row in
-    grows_one (Zero n) (Lacks (Zero n)) v (raid_by b) w n (zeroed u) x y z is_done answered refl one.stays one.calls
+    grows_one (Zero n) (Lacks (Zero n)) v (raid_by b) w n (zeroed u 1) x y z is_done answered refl one.stays one.calls
     (λ ok.
     let few = (or_parts (is_ended w) (lacks_two (w.arrays n) row) (not_true lost (sym answered_is ∙ ok))).1 in
     elim (cases_Bool did) [
       | inl made ↦ answer made
       | inr none ↦ absurd (both_ways (lacks_two ((raid_by b).arrays n) row) (lacks_two_less ((raid_by b).arrays n) (w.arrays n) row (mends.moves.arrays n low) few) (refused none))
     ])
-    mends (step_as_long v n (zeroed u) refl) (λ no. not_of_false lost (sym answered_is ∙ no))
+    mends (step_as_long v n (zeroed u 1) refl) (λ no. not_of_false lost (sym answered_is ∙ no))
 
 -- the array has as many rows after the call
-pub called_rows : (v w : Raid) (n : ℕ) (x y : Seen) (is_done : Bool) → CallsTo v w n (zeroed (v.arrays n)) x y is_done → n < v.state.made
+pub called_rows : (v w : Raid) (n : ℕ) (x y : Seen) (is_done : Bool) → CallsTo v w n (zeroed (v.arrays n) 1) x y is_done → n < v.state.made
     → rows_of (w.arrays n) ≡ rows_of (v.arrays n)
 called_rows v w n x y is_done call low = of is_done call.book
   where
-    of : (d : Bool) → LosesBook (if_done d v (changed (steps n (zeroed (v.arrays n))) v)) w → rows_of (w.arrays n) ≡ rows_of (v.arrays n)
+    of : (d : Bool) → LosesBook (if_done d v (changed (steps n (zeroed (v.arrays n) 1)) v)) w → rows_of (w.arrays n) ≡ rows_of (v.arrays n)
     of false book = ap (λ k. k / 128) (book.arrays n low).same.geometry.size
-    of true book = ap (λ k. k / 128) (book.arrays n low).same.geometry.size ∙ ap rows_of (stepped_own v n (zeroed (v.arrays n)))
+    of true book = ap (λ k. k / 128) (book.arrays n low).same.geometry.size ∙ ap rows_of (stepped_own v n (zeroed (v.arrays n) 1))

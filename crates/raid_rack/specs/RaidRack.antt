@@ -1,5 +1,5 @@
 -- A rack of arrays, as contracts see it.
-use Rattle.std.specs.Prelude.{◌≡◌, ◌⊎◌, ℕ, Bool, pos, true, false, List, [], length, get_or, slice_get, unwrap_or}
+use Rattle.std.specs.Prelude.{◌≡◌, ◌⊎◌, ℕ, Bool, pos, true, false, List, [], length, get_or, slice_get, unwrap_or, Result, Ok, Err}
 use Rattle.rack.specs.Seen.{Seen, Stays}
 use Rattle.rack.specs.Calls.{KeepsAll}
 use Rattle.slice_rack.specs.declared.SliceRack.{SliceRack}
@@ -121,3 +121,8 @@ pub record KeepsRack (a b : Seen) : Type 0 where
 -- what calls on the slices below keep: where the slices lie, what the rack of drives promises, and all sectors outside slices
 abbrev pub SliceRuns : {R : Type 0} → (R → Seen) → (R → R → Type 0) → SliceRack R → SliceRack R → Type 0
 SliceRuns seen runs x y = Runs (tables x) (tables y) (seen (below_of x)) (seen (below_of y)) (runs (below_of x) (below_of y))
+
+-- an answer to one work, as the number of works that are done
+abbrev pub one_done : {E : Type 0} → Result (Unit {0}) E → Result ℕ E
+one_done (Ok u) = Ok 1
+one_done (Err e) = Err e

@@ -1,6 +1,6 @@
 //! Works of maintenance of the arrays: a row left to resync or to rebuild, and the end of a plan.
 
-ghost use Rattle.std.specs.Prelude.{◌≡◌, ◌<◌, ◌≤◌, ◌||◌, ℕ, true, false, not, is_ok, length, OnOk, OnErr, IfErr};
+ghost use Rattle.std.specs.Prelude.{◌≡◌, ◌⊎◌, ◌-◌, ◌<◌, ◌≤◌, ◌||◌, ℕ, true, false, not, is_ok, length, Ok, OnOk, OnErr, IfOk, IfErr};
 ghost use Rattle.std.specs.Option.{option_map_or};
 ghost use Rattle.array_model.specs.View.{IsArray, rows_of};
 ghost use Rattle.sync_laws.specs.Rows.{lacks_row};
@@ -8,13 +8,13 @@ ghost use Rattle.raid_laws.specs.Moves.{IsHeeded, RaisesBy};
 ghost use Rattle.raid_rack.specs.RaidRack.{IsRunning, raid_by};
 ghost use Rattle.raid_laws.specs.Truths.{KeepsTruths};
 ghost use Rattle.raid_laws.specs.Works as spec;
-ghost use Rattle.sync_laws.specs.Steps.{resynced};
+ghost use Rattle.sync_laws.specs.Steps.{DoesRows, resynced};
 
 use crate::arrays::{Arrays, RaidRack};
 use crate::losses::{add_copies, note_gone};
 use crate::marks::{current_places, end_plan};
-use array_core::Seat;
-use array_sync::{lacks_row, rebuild_row, resync_row};
+use array_core::{Seat, Spent};
+use array_sync::{lacks_row, rebuild_rows, resync_rows};
 use pool_state::{Plan, Work};
 use rack::Rack;
 
@@ -55,15 +55,18 @@ impl Arrays {
         array.resync_from() < array.rows()
     }
 
-    /// Resyncs the first row of an array that is left, by one commit. Whoever goes is marked. The answer is false exactly where the
-    /// row can't be resynced after that.
-    fn resync_array<S: Rack>(&mut self, rack: &mut S, number: u32) -> bool
+    /// Resyncs the first rows of an array that are left, by one commit, and answers how many: at most so many, and at least one. Whoever
+    /// goes is marked. It is refused exactly where the first of them can't be resynced after that.
+    fn resync_array<S: Rack>(&mut self, rack: &mut S, number: u32, most: u64) -> Result<u64, Stuck>
         requires running { IsRunning self.old (S.seen rack.old) }
         requires heeded { IsHeeded (raid_by self.old) }
         requires number { number < self.old.state.made }
         requires row { ((raid_by self.old).arrays number).resync < rows_of ((raid_by self.old).arrays number) }
-        ensures steps { spec.StepsOne (raid_by self.old) (raid_by self.new) (S.seen rack.old) (S.seen rack.new) number (resynced ((raid_by self.old).arrays number)) result }
-        ensures answer { result ≡ not (spec.is_stuck (raid_by self.new) number ((raid_by self.old).arrays number).resync) }
+        requires some { 0 < most }
+        ensures rows { DoesRows (λ rows. spec.StepsOne (raid_by self.old) (raid_by self.new) (S.seen rack.old) (S.seen rack.new) number (resynced ((raid_by self.old).arrays number) rows))
+            (rows_of ((raid_by self.old).arrays number) - ((raid_by self.old).arrays number).resync) most result }
+        ensures answer { is_ok result ≡ not (spec.is_stuck (raid_by self.new) number ((raid_by self.old).arrays number).resync) }
+        ensures named { IfErr result (λ e. e.array ≡ number) }
         ensures raises { RaisesBy 18 (raid_by self.old) (raid_by self.new) }
         ensures truths { KeepsTruths (raid_by self.old) (raid_by self.new) (S.seen rack.old) (S.seen rack.new) }
         ensures running { IsRunning self.new (S.seen rack.new) }
@@ -73,10 +76,10 @@ impl Arrays {
         self.log.clear();
         let array = &mut self.all[number as usize];
         let row = array.resync_from();
-        let _ = resync_row(array, rack, &mut self.log, &on);
+        let rows = resync_rows(array, rack, &mut self.log, &on, most);
         let _places = array.went();
         self.mend(rack);
-        !self.is_stuck(number, row)
+        answered(rows, self.is_stuck(number, row), number)
     }
 
     /// Whether an array has a member on a place that is being rebuilt. Its truth leaves rows to resync from a whole one on, as that of
@@ -92,13 +95,21 @@ impl Arrays {
         is_rebuilding_seat(array.seat(place)) && is_whole_row(array.truth().resync_offset)
     }
 
-    /// Rebuilds the next row of a place's member of an array, by one commit. Whoever goes is marked. Where the answer is true the row is
-    /// done; it is false only where the row can't be had after that.
-    fn rebuild_array<S: Rack>(&mut self, rack: &mut S, number: u32, place: u32) -> bool
+    /// Rebuilds the next rows of a place's member of an array, by one commit, and answers how many: at most so many, and at least one.
+    /// Whoever goes is marked. It is refused only where the first of them can't be had after that.
+    fn rebuild_array<S: Rack>(
+        &mut self,
+        rack: &mut S,
+        number: u32,
+        place: u32,
+        most: u64,
+    ) -> Result<u64, Stuck>
         requires running { IsRunning self.old (S.seen rack.old) }
         requires heeded { IsHeeded (raid_by self.old) }
         requires rebuilding { spec.is_rebuilding (raid_by self.old) number place ≡ true }
-        ensures rebuilds { spec.RebuildsOne (raid_by self.old) (raid_by self.new) (S.seen rack.old) (S.seen rack.new) number place result }
+        requires some { 0 < most }
+        ensures rebuilds { spec.Rebuilds (raid_by self.old) (raid_by self.new) (S.seen rack.old) (S.seen rack.new) number place most result }
+        ensures named { IfErr result (λ e. e.array ≡ number) }
         ensures raises { RaisesBy 18 (raid_by self.old) (raid_by self.new) }
         ensures truths { KeepsTruths (raid_by self.old) (raid_by self.new) (S.seen rack.old) (S.seen rack.new) }
         ensures running { IsRunning self.new (S.seen rack.new) }
@@ -107,10 +118,10 @@ impl Arrays {
         let on = current_places(&self.state);
         self.log.clear();
         let array = &mut self.all[number as usize];
-        let answer = rebuild_row(array, rack, &mut self.log, &on, place);
+        let rows = rebuild_rows(array, rack, &mut self.log, &on, place, most);
         let _places = array.went();
         self.mend(rack);
-        answer.is_ok() && !self.is_ended()
+        answered(rows, self.is_ended(), number)
     }
 
     /// Whether a plan has to end.
@@ -144,6 +155,18 @@ impl Arrays {
     }
 }
 
+/// How many rows are done, unless their array can't do them any more.
+fn answered(rows: Result<u64, Spent>, is_stuck: bool, array: u32) -> Result<u64, Stuck>
+    ensures done { IfOk result (λ k. (rows ≡ Ok k) × (is_stuck ≡ false)) }
+    ensures refused { IfErr result (λ e. (is_ok rows ≡ false) ⊎ (is_stuck ≡ true)) }
+    ensures named { IfErr result (λ e. e.array ≡ array) }
+{
+    match rows {
+        Ok(rows) if !is_stuck => Ok(rows),
+        Ok(_) | Err(_) => Err(Stuck { array }),
+    }
+}
+
 /// Whether a plan is one that has to end.
 fn is_plan(plan: &Plan) -> bool
     ensures { result ≡ spec.is_plan plan.now }
@@ -174,16 +197,18 @@ fn is_whole_row(offset: u64) -> bool
 impl<R: Rack> RaidRack<R> {
     ghost use Rattle.slice_rack.specs.SliceRack.{below_of};
     ghost use Rattle.raid_laws.specs.Runs.{RaidRuns};
-    ghost use Rattle.raid_rack.specs.RaidRack.{IsFit, KeepsRack, SliceRuns, arrays_in, raid_in, raid_seen, slices_in, slices_seen, written_in};
+    ghost use Rattle.raid_rack.specs.RaidRack.{IsFit, KeepsRack, SliceRuns, arrays_in, one_done, raid_in, raid_seen, slices_in, slices_seen, written_in};
 
-    /// Resyncs the first row of an array that is left, durably. No value moves. It is refused where the array has no row left, and
-    /// then nothing changes; and exactly where the row can't be resynced once the losses of this call are marked: a member of the
-    /// array is missing or not rebuilt past the row, no drive is left, or numbers are used up.
-    pub fn resync(&mut self, array: u32) -> Result<(), Stuck>
+    /// Resyncs the first rows of an array that are left, durably, and answers how many: as many as one commit takes, at least one and at
+    /// most so many. No value moves. It is refused where the array has no row left, and then nothing changes; and exactly where the first
+    /// row can't be resynced once the losses of this call are marked: a member of the array is missing or not rebuilt past the row, no
+    /// drive is left, or numbers are used up.
+    fn resync_rows(&mut self, array: u32, most: u64) -> Result<u64, Stuck>
         requires fit { IsFit (arrays_in self.old) (slices_seen R.seen self.old) }
+        requires some { 0 < most }
         ensures idle { spec.has_row (raid_in self.old) array ≡ false → (is_ok result ≡ false) × (self.new ≡ self.old) }
         ensures resyncs { spec.has_row (raid_in self.old) array ≡ true
-            → spec.ResyncsOne (raid_in self.old) (raid_in self.new) (slices_seen R.seen self.old) (slices_seen R.seen self.new) array (is_ok result) }
+            → spec.Resyncs (raid_in self.old) (raid_in self.new) (slices_seen R.seen self.old) (slices_seen R.seen self.new) array most result }
         ensures named { IfErr result (λ e. e.array ≡ array) }
         ensures keeps { KeepsRack (raid_seen R.seen self.old) (raid_seen R.seen self.new) }
         ensures raises { RaisesBy 18 (raid_in self.old) (raid_in self.new) }
@@ -194,22 +219,19 @@ impl<R: Rack> RaidRack<R> {
         if !self.arrays.has_row(array) {
             return Err(Stuck { array });
         }
-        if self.arrays.resync_array(&mut self.slices, array) {
-            Ok(())
-        } else {
-            Err(Stuck { array })
-        }
+        self.arrays.resync_array(&mut self.slices, array, most)
     }
 
-    /// Rebuilds the next row of a place's member of an array, durably. No value moves. It is refused where the array has no member
-    /// there that is being rebuilt, and then nothing changes. Where it isn't refused the row is done; it is refused only where the row
-    /// can't be had once the losses of this call are marked: another member of the array is missing or not rebuilt past the row, the
-    /// row is left to resync, no drive is left, or numbers are used up.
-    pub fn rebuild(&mut self, array: u32, place: u32) -> Result<(), Stuck>
+    /// Rebuilds the next rows of a place's member of an array, durably, and answers how many: as many as one commit takes, at least one and
+    /// at most so many. No value moves. It is refused where the array has no member there that is being rebuilt, and then nothing changes;
+    /// and only where the first row can't be had once the losses of this call are marked: another member of the array is missing or not
+    /// rebuilt past the row, the row is left to resync, no drive is left, or numbers are used up.
+    fn rebuild_rows(&mut self, array: u32, place: u32, most: u64) -> Result<u64, Stuck>
         requires fit { IsFit (arrays_in self.old) (slices_seen R.seen self.old) }
+        requires some { 0 < most }
         ensures idle { spec.is_rebuilding (raid_in self.old) array place ≡ false → (is_ok result ≡ false) × (self.new ≡ self.old) }
         ensures rebuilds { spec.is_rebuilding (raid_in self.old) array place ≡ true
-            → spec.RebuildsOne (raid_in self.old) (raid_in self.new) (slices_seen R.seen self.old) (slices_seen R.seen self.new) array place (is_ok result) }
+            → spec.Rebuilds (raid_in self.old) (raid_in self.new) (slices_seen R.seen self.old) (slices_seen R.seen self.new) array place most result }
         ensures named { IfErr result (λ e. e.array ≡ array) }
         ensures keeps { KeepsRack (raid_seen R.seen self.old) (raid_seen R.seen self.new) }
         ensures raises { RaisesBy 18 (raid_in self.old) (raid_in self.new) }
@@ -220,11 +242,8 @@ impl<R: Rack> RaidRack<R> {
         if !self.arrays.is_rebuilding(array, place) {
             return Err(Stuck { array });
         }
-        if self.arrays.rebuild_array(&mut self.slices, array, place) {
-            Ok(())
-        } else {
-            Err(Stuck { array })
-        }
+        self.arrays
+            .rebuild_array(&mut self.slices, array, place, most)
     }
 
     /// Ends the pool's plan: its state says that none is left, durably where a drive is left. No value moves. It is refused exactly
@@ -248,15 +267,18 @@ impl<R: Rack> RaidRack<R> {
         Ok(())
     }
 
-    /// Does a work of maintenance: resyncs or rebuilds one row of an array, or ends the plan. No value moves. It is refused where the
-    /// work isn't due, and then nothing changes: its array has no such row left, or the plan has ended. A row is refused too where it
-    /// can't be had once the losses of this call are marked. Works that make arrays, or change their level or the number of their
-    /// members, aren't due yet, and the volume isn't extended here. A refusal names the work's array, and 0 where it has none.
-    pub fn work(&mut self, work: &Work) -> Result<(), Stuck>
+    /// Does a work of maintenance and those after it of its kind, on its array and place: resyncs or rebuilds rows of an array, as many as
+    /// one commit takes, or ends the plan. It answers how many are done, at least one and at most so many. No value moves. It is refused
+    /// where the work isn't due, and then nothing changes: its array has no such row left, or the plan has ended. Rows are refused too
+    /// where the first of them can't be had once the losses of this call are marked. Works that make arrays, or change their level or the
+    /// number of their members, aren't due yet, and the volume isn't extended here. A refusal names the work's array, and 0 where it has
+    /// none.
+    pub fn works(&mut self, work: &Work, most: u64) -> Result<u64, Stuck>
         requires fit { IsFit (arrays_in self.old) (slices_seen R.seen self.old) }
+        requires some { 0 < most }
         ensures idle { spec.is_due (raid_in self.old) work.now ≡ false → (is_ok result ≡ false) × (self.new ≡ self.old) }
         ensures does { spec.is_due (raid_in self.old) work.now ≡ true
-            → spec.Does work.now (raid_in self.old) (raid_in self.new) (slices_seen R.seen self.old) (slices_seen R.seen self.new) (is_ok result) }
+            → spec.Does work.now most (raid_in self.old) (raid_in self.new) (slices_seen R.seen self.old) (slices_seen R.seen self.new) result }
         ensures named { IfErr result (λ e. e.array ≡ spec.array_of work.now) }
         ensures keeps { KeepsRack (raid_seen R.seen self.old) (raid_seen R.seen self.new) }
         ensures raises { RaisesBy 18 (raid_in self.old) (raid_in self.new) }
@@ -265,9 +287,12 @@ impl<R: Rack> RaidRack<R> {
         ensures book { RaidRuns (written_in self.old) (written_in self.new) (raid_in self.old) (raid_in self.new) (slices_seen R.seen self.old) (slices_seen R.seen self.new) }
     {
         match *work {
-            Work::Resync { array } => self.resync(array),
-            Work::Rebuild { array, place } => self.rebuild(array, place),
-            Work::Close => self.close(),
+            Work::Resync { array } => self.resync_rows(array, most),
+            Work::Rebuild { array, place } => self.rebuild_rows(array, place, most),
+            Work::Close => {
+                self.close()?;
+                Ok(1)
+            }
             Work::TakeOver { array }
             | Work::Begin { array, .. }
             | Work::Reshape { array }
@@ -277,5 +302,22 @@ impl<R: Rack> RaidRack<R> {
             | Work::Ready { array } => Err(Stuck { array }),
             Work::Extend => Err(Stuck { array: 0 }),
         }
+    }
+
+    /// Does one work of maintenance, as `works` does.
+    pub fn work(&mut self, work: &Work) -> Result<(), Stuck>
+        requires fit { IsFit (arrays_in self.old) (slices_seen R.seen self.old) }
+        ensures idle { spec.is_due (raid_in self.old) work.now ≡ false → (is_ok result ≡ false) × (self.new ≡ self.old) }
+        ensures does { spec.is_due (raid_in self.old) work.now ≡ true
+            → spec.Does work.now 1 (raid_in self.old) (raid_in self.new) (slices_seen R.seen self.old) (slices_seen R.seen self.new) (one_done result) }
+        ensures named { IfErr result (λ e. e.array ≡ spec.array_of work.now) }
+        ensures keeps { KeepsRack (raid_seen R.seen self.old) (raid_seen R.seen self.new) }
+        ensures raises { RaisesBy 18 (raid_in self.old) (raid_in self.new) }
+        ensures written { (n : ℕ) → written_in self.new n ≡ written_in self.old n }
+        ensures runs { SliceRuns R.seen R.runs (slices_in self.old) (slices_in self.new) }
+        ensures book { RaidRuns (written_in self.old) (written_in self.new) (raid_in self.old) (raid_in self.new) (slices_seen R.seen self.old) (slices_seen R.seen self.new) }
+    {
+        self.works(work, 1)?;
+        Ok(())
     }
 }

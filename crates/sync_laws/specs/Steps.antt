@@ -103,7 +103,7 @@ pub record Steps (v next w : View) (number next_number : ℕ) (on : List ℕ) (a
 
 -- Rows of an array by one commit: at least one, at most so many, and no more than are left. `does rows answered` is what becomes of so
 -- many. Where it is answered, it is answered how many.
-pub record DoesRows (does : ℕ → Bool → Type 0) (rows_left most : ℕ) (result : Result ℕ Spent) : Type 0 where
+pub record DoesRows (does : ℕ → Bool → Type 0) (rows_left most : ℕ) {E : Type 0} (result : Result ℕ E) : Type 0 where
   pub rows : ℕ
   pub some : 0 < rows
   pub few : rows ≤ most

@@ -127,9 +127,9 @@ pub view_settled : (on : ℕ → Bool) (u : View) → FollowsView on u (settled 
 unfolding shape_of
 view_settled on u = view_seats on u (settled u) refl refl (omega arith) refl
 
-pub view_resynced : (on : ℕ → Bool) (u : View) → FollowsView on u (resynced u)
+pub view_resynced : (on : ℕ → Bool) (u : View) (rows : ℕ) → FollowsView on u (resynced u rows)
 unfolding shape_of
-view_resynced on u = view_seats on u (resynced u) refl refl (omega arith) refl
+view_resynced on u rows = view_seats on u (resynced u rows) refl refl (omega arith) refl
 
 pub follows_change : (x : Change) (v : Raid) → is_keeping x v → Follows v (changed x v)
 follows_change (steps m next) v keeping = record { after = after_same v.state; views = λ n. of n (n == m) refl }

@@ -1,4 +1,4 @@
-use Rattle.std.proofs.Common.{ℕ, ◌≡◌, ◌<◌, false, not, get_or, slice_set, is_ok, ap, sym, subst, ◌∙◌, arith}
+use Rattle.std.proofs.Common.{ℕ, ◌≡◌, ◌<◌, ◌≤◌, ◌-◌, false, not, get_or, slice_set, is_ok, ap, sym, subst, ◌∙◌, arith}
 use Rattle.std.proofs.lemmas.Option.{slice_get-get_or}
 use Rattle.arrayvec.specs.ArrayVec.{with_items}
 use Rattle.log_laws.specs.View.{LogView}
@@ -11,22 +11,22 @@ use Rattle.raid_laws.specs.Losing.{only_then}
 use Rattle.raid_rack.proofs.Mended.{on_named}
 use Rattle.raid_laws.proofs.Noted.{current_few}
 use Rattle.raid_rack.proofs.RaisedCalls.{raises_call}
-use Rattle.raid_rack.proofs.Resynced.{answered_refused, answered_served, grown, has_resynced, lacks_less, resynced_raise, step_later, step_raise, stepped_rows, steps_one}
+use Rattle.raid_rack.proofs.Resynced.{answered_refused, done_alone, grown, has_resynced, resynced_raise, rows_mended, step_later, step_raise, stepped_rows}
 use Rattle.raid_rack.proofs.Steps.{same_element, items_set}
 use Rattle.raid_laws.proofs.Whole.{heeded_left}
-use Rattle.raid_rack.proofs.Worked.{unstuck}
+use Rattle.raid_rack.proofs.Worked.{resyncs_rows}
 use Rattle.raid_rack.proofs.TruthTurns.{truths_step}
 use Rattle.raid_rack.proofs.arrays.Arrays.resync_array.Goals as goal
 
-pub resync_row-requires-clause-logs : goal.resync_row-requires-clause-logs
-resync_row-requires-clause-logs g c j low =
+pub resync_rows-rows-requires-clause-logs : goal.resync_rows-rows-requires-clause-logs
+resync_rows-rows-requires-clause-logs g c j low =
     let s = c.args.self.now.state in
     let on = c.current_places-on.result.items in
     let current = on_named s on j (get_or on j 0) c.current_places-on.ensures (slice_get-get_or on j 0 low) in
     (current_few s (get_or on j 0) c.requires.running.set.few current, c.requires.running.set.logs (get_or on j 0) (heeded_left (raid_by c.args.self.now) (get_or on j 0) c.requires.heeded current))
 
-pub resync_row-requires-clause-grown : goal.resync_row-requires-clause-grown
-resync_row-requires-clause-grown g c =
+pub resync_rows-rows-requires-clause-grown : goal.resync_rows-rows-requires-clause-grown
+resync_rows-rows-requires-clause-grown g c =
     let a = c.args.self.now in
     let n = c.args.number in
     let count = c.requires.running.count in
@@ -34,8 +34,8 @@ resync_row-requires-clause-grown g c =
     subst (λ (u : View). u.young ≡ false) (sym (same_element c.deref_mut.result.now a.all.items n _ no_array c.deref_mut.ensures.value (omega (arith, count, low))))
     (grown a.state n ((raid_by a).arrays n) (g.S.Rack.seen c.args.rack.now) (c.requires.running.set.arrays n low) c.requires.row)
 
-pub resync_row-requires-clause-row : goal.resync_row-requires-clause-row
-resync_row-requires-clause-row g c =
+pub resync_rows-rows-requires-clause-row : goal.resync_rows-rows-requires-clause-row
+resync_rows-rows-requires-clause-row g c =
     let a = c.args.self.now in
     let n = c.args.number in
     let count = c.requires.running.count in
@@ -47,76 +47,104 @@ mend-requires g c =
     let a = c.args.self.now in
     let n = c.args.number in
     let x = g.S.Rack.seen c.args.rack.now in
-    let y = g.S.Rack.seen c.resync_row.new.rack in
+    let y = g.S.Rack.seen c.resync_rows-rows.new.rack in
     let count = c.requires.running.count in
     let low = c.requires.number in
     let number = ap (λ (l : LogView). l.number) c.clear.ensures in
-    let one = has_resynced a (with_items a.all (slice_set c.deref_mut.result.now n c.resync_row.new.array)) c.resync_row.new.log x y n c.current_places-on.result.items c.clear.new.self.number _ c.resync_row.new.array (is_ok c.resync_row.result)
-    c.requires.running c.requires.heeded low c.requires.row
-    (same_element c.deref_mut.result.now a.all.items n _ no_array c.deref_mut.ensures.value (omega (arith, count, low)))
-    (items_set a.all c.deref_mut.result.now n c.resync_row.new.array c.deref_mut.ensures.value)
-    number (step_later c.clear.new.self c.resync_row.new.log c.resync_row.ensures.log) c.current_places-on.ensures c.went-places.ensures.few c.resync_row.ensures.goes
+    let same = same_element c.deref_mut.result.now a.all.items n _ no_array c.deref_mut.ensures.value (omega (arith, count, low)) in
+    let done = c.resync_rows-rows.ensures.steps in
+    let one = has_resynced a (with_items a.all (slice_set c.deref_mut.result.now n c.resync_rows-rows.new.array)) c.resync_rows-rows.new.log x y n done.rows c.current_places-on.result.items c.clear.new.self.number _ c.resync_rows-rows.new.array (is_ok c.resync_rows-rows.result)
+    c.requires.running c.requires.heeded low c.requires.row same
+    (items_set a.all c.deref_mut.result.now n c.resync_rows-rows.new.array c.deref_mut.ensures.value)
+    number (step_later c.clear.new.self c.resync_rows-rows.new.log c.resync_rows-rows.ensures.log) c.current_places-on.ensures c.went-places.ensures.few c.resync_rows-rows.ensures.goes
     (record {
-      steps = c.resync_row.ensures.steps;
-      elsewhere = c.resync_row.ensures.elsewhere;
-      served = answered_served _ c.resync_row.result c.resync_row.ensures.served;
-      refused = answered_refused _ _ c.resync_row.result c.resync_row.ensures.refused;
+      inside = let some = done.some in let inside = done.left in omega (arith, some, inside);
+      steps = done.steps;
+      elsewhere = c.resync_rows-rows.ensures.elsewhere;
+      refused = answered_refused _ _ c.resync_rows-rows.result c.resync_rows-rows.ensures.refused;
     }) in
     record { running = one.running }
-
-pub returns-clause-steps : goal.returns-clause-steps
-returns-clause-steps g c =
-    let a = c.args.self.now in
-    let n = c.args.number in
-    let x = g.S.Rack.seen c.args.rack.now in
-    let y = g.S.Rack.seen c.resync_row.new.rack in
-    let count = c.requires.running.count in
-    let low = c.requires.number in
-    let number = ap (λ (l : LogView). l.number) c.clear.ensures in
-    let one = has_resynced a (with_items a.all (slice_set c.deref_mut.result.now n c.resync_row.new.array)) c.resync_row.new.log x y n c.current_places-on.result.items c.clear.new.self.number _ c.resync_row.new.array (is_ok c.resync_row.result)
-    c.requires.running c.requires.heeded low c.requires.row
-    (same_element c.deref_mut.result.now a.all.items n _ no_array c.deref_mut.ensures.value (omega (arith, count, low)))
-    (items_set a.all c.deref_mut.result.now n c.resync_row.new.array c.deref_mut.ensures.value)
-    number (step_later c.clear.new.self c.resync_row.new.log c.resync_row.ensures.log) c.current_places-on.ensures c.went-places.ensures.few c.resync_row.ensures.goes
-    (record {
-      steps = c.resync_row.ensures.steps;
-      elsewhere = c.resync_row.ensures.elsewhere;
-      served = answered_served _ c.resync_row.result c.resync_row.ensures.served;
-      refused = answered_refused _ _ c.resync_row.result c.resync_row.ensures.refused;
-    }) in
-    steps_one a _ c.mend.new.self x y (g.S.Rack.seen c.mend.new.rack) n (resynced ((raid_by a).arrays n)) (λ u. lacks_row u ((raid_by a).arrays n).resync) (is_ok c.resync_row.result) _
-    low one c.mend.ensures.mends (λ u w only lacks. lacks_less u w ((raid_by a).arrays n).resync only lacks)
-    (λ ok. (unstuck (raid_by c.mend.new.self) n ((raid_by a).arrays n).resync
-    (sym (ap not (c.is_stuck.ensures ∙ ap (λ (r : ℕ). is_stuck (raid_by c.mend.new.self) n r)
-    (c.resync_from-row.ensures ∙ ap (λ (u : View). u.resync) (same_element c.deref_mut.result.now a.all.items n _ no_array c.deref_mut.ensures.value (omega (arith, count, low)))))) ∙ ok)).1)
 
 pub is_stuck-requires-clause-row : goal.is_stuck-requires-clause-row
 is_stuck-requires-clause-row g c =
     let a = c.args.self.now in
     let n = c.args.number in
-    let v = raid_by a in
     let x = g.S.Rack.seen c.args.rack.now in
-    let y = g.S.Rack.seen c.resync_row.new.rack in
+    let y = g.S.Rack.seen c.resync_rows-rows.new.rack in
     let count = c.requires.running.count in
     let low = c.requires.number in
     let number = ap (λ (l : LogView). l.number) c.clear.ensures in
     let same = same_element c.deref_mut.result.now a.all.items n _ no_array c.deref_mut.ensures.value (omega (arith, count, low)) in
-    let one = has_resynced a (with_items a.all (slice_set c.deref_mut.result.now n c.resync_row.new.array)) c.resync_row.new.log x y n c.current_places-on.result.items c.clear.new.self.number _ c.resync_row.new.array (is_ok c.resync_row.result)
-    c.requires.running c.requires.heeded low c.requires.row
-    (same_element c.deref_mut.result.now a.all.items n _ no_array c.deref_mut.ensures.value (omega (arith, count, low)))
-    (items_set a.all c.deref_mut.result.now n c.resync_row.new.array c.deref_mut.ensures.value)
-    number (step_later c.clear.new.self c.resync_row.new.log c.resync_row.ensures.log) c.current_places-on.ensures c.went-places.ensures.few c.resync_row.ensures.goes
+    let done = c.resync_rows-rows.ensures.steps in
+    let one = has_resynced a (with_items a.all (slice_set c.deref_mut.result.now n c.resync_rows-rows.new.array)) c.resync_rows-rows.new.log x y n done.rows c.current_places-on.result.items c.clear.new.self.number _ c.resync_rows-rows.new.array (is_ok c.resync_rows-rows.result)
+    c.requires.running c.requires.heeded low c.requires.row same
+    (items_set a.all c.deref_mut.result.now n c.resync_rows-rows.new.array c.deref_mut.ensures.value)
+    number (step_later c.clear.new.self c.resync_rows-rows.new.log c.resync_rows-rows.ensures.log) c.current_places-on.ensures c.went-places.ensures.few c.resync_rows-rows.ensures.goes
     (record {
-      steps = c.resync_row.ensures.steps;
-      elsewhere = c.resync_row.ensures.elsewhere;
-      served = answered_served _ c.resync_row.result c.resync_row.ensures.served;
-      refused = answered_refused _ _ c.resync_row.result c.resync_row.ensures.refused;
+      inside = let some = done.some in let inside = done.left in omega (arith, some, inside);
+      steps = done.steps;
+      elsewhere = c.resync_rows-rows.ensures.elsewhere;
+      refused = answered_refused _ _ c.resync_rows-rows.result c.resync_rows-rows.ensures.refused;
     }) in
+    let v = raid_by a in
     subst (λ (r : ℕ). r < rows_of ((raid_by c.mend.new.self).arrays n)) (sym (c.resync_from-row.ensures ∙ ap (λ (u : View). u.resync) same))
     (subst (λ (k : ℕ). (v.arrays n).resync < k)
-    (sym (stepped_rows v ((raid_by c.mend.new.self).arrays n) n one.is_done
+    (sym (stepped_rows v ((raid_by c.mend.new.self).arrays n) n done.rows one.is_done
     (only_then _ _ _ (one.arrays n low) (c.mend.ensures.mends.moves.arrays n (subst (λ k. n < k) (sym one.brings.book.same.made) low)))))
     c.requires.row)
+
+pub returns-clause-rows : goal.returns-clause-rows
+returns-clause-rows g c =
+    let a = c.args.self.now in
+    let n = c.args.number in
+    let x = g.S.Rack.seen c.args.rack.now in
+    let y = g.S.Rack.seen c.resync_rows-rows.new.rack in
+    let count = c.requires.running.count in
+    let low = c.requires.number in
+    let number = ap (λ (l : LogView). l.number) c.clear.ensures in
+    let same = same_element c.deref_mut.result.now a.all.items n _ no_array c.deref_mut.ensures.value (omega (arith, count, low)) in
+    let done = c.resync_rows-rows.ensures.steps in
+    let one = has_resynced a (with_items a.all (slice_set c.deref_mut.result.now n c.resync_rows-rows.new.array)) c.resync_rows-rows.new.log x y n done.rows c.current_places-on.result.items c.clear.new.self.number _ c.resync_rows-rows.new.array (is_ok c.resync_rows-rows.result)
+    c.requires.running c.requires.heeded low c.requires.row same
+    (items_set a.all c.deref_mut.result.now n c.resync_rows-rows.new.array c.deref_mut.ensures.value)
+    number (step_later c.clear.new.self c.resync_rows-rows.new.log c.resync_rows-rows.ensures.log) c.current_places-on.ensures c.went-places.ensures.few c.resync_rows-rows.ensures.goes
+    (record {
+      inside = let some = done.some in let inside = done.left in omega (arith, some, inside);
+      steps = done.steps;
+      elsewhere = c.resync_rows-rows.ensures.elsewhere;
+      refused = answered_refused _ _ c.resync_rows-rows.result c.resync_rows-rows.ensures.refused;
+    }) in
+    let u = (raid_by a).arrays n in
+    let inside : done.rows ≤ rows_of u - u.resync = subst (λ (z : View). done.rows ≤ rows_of z - z.resync) same done.left in
+    rows_mended a _ c.mend.new.self x y (g.S.Rack.seen c.mend.new.rack) n (rows_of u - u.resync) c.args.most (resynced u) (λ z. lacks_row z u.resync)
+    c.resync_rows-rows.result c.answered.result low done.rows done.some done.few inside done.answer one c.mend.ensures.mends
+    (done_alone _ _ c.answered.result c.answered.ensures.done)
+
+pub returns-clause-answer : goal.returns-clause-answer
+returns-clause-answer g c =
+    let a = c.args.self.now in
+    let n = c.args.number in
+    let x = g.S.Rack.seen c.args.rack.now in
+    let y = g.S.Rack.seen c.resync_rows-rows.new.rack in
+    let count = c.requires.running.count in
+    let low = c.requires.number in
+    let number = ap (λ (l : LogView). l.number) c.clear.ensures in
+    let same = same_element c.deref_mut.result.now a.all.items n _ no_array c.deref_mut.ensures.value (omega (arith, count, low)) in
+    let done = c.resync_rows-rows.ensures.steps in
+    let one = has_resynced a (with_items a.all (slice_set c.deref_mut.result.now n c.resync_rows-rows.new.array)) c.resync_rows-rows.new.log x y n done.rows c.current_places-on.result.items c.clear.new.self.number _ c.resync_rows-rows.new.array (is_ok c.resync_rows-rows.result)
+    c.requires.running c.requires.heeded low c.requires.row same
+    (items_set a.all c.deref_mut.result.now n c.resync_rows-rows.new.array c.deref_mut.ensures.value)
+    number (step_later c.clear.new.self c.resync_rows-rows.new.log c.resync_rows-rows.ensures.log) c.current_places-on.ensures c.went-places.ensures.few c.resync_rows-rows.ensures.goes
+    (record {
+      inside = let some = done.some in let inside = done.left in omega (arith, some, inside);
+      steps = done.steps;
+      elsewhere = c.resync_rows-rows.ensures.elsewhere;
+      refused = answered_refused _ _ c.resync_rows-rows.result c.resync_rows-rows.ensures.refused;
+    }) in
+    let u = (raid_by a).arrays n in
+    let row = c.resync_from-row.ensures ∙ ap (λ (z : View). z.resync) same in
+    resyncs_rows a _ c.mend.new.self x y (g.S.Rack.seen c.mend.new.rack) n c.args.most c.resync_rows-rows.result c.answered.result low done.rows one c.mend.ensures.mends
+    c.is_stuck.result (c.is_stuck.ensures ∙ ap (λ (r : ℕ). is_stuck (raid_by c.mend.new.self) n r) row) c.answered.ensures.done c.answered.ensures.refused
 
 pub returns-clause-raises : goal.returns-clause-raises
 returns-clause-raises g c =
@@ -124,26 +152,27 @@ returns-clause-raises g c =
     let n = c.args.number in
     let count = c.requires.running.count in
     let low = c.requires.number in
-    raises_call 1 17 a c.mend.new.self (with_items a.all (slice_set c.deref_mut.result.now n c.resync_row.new.array)) c.resync_row.new.log n _ c.resync_row.new.array
+    raises_call 1 17 a c.mend.new.self (with_items a.all (slice_set c.deref_mut.result.now n c.resync_rows-rows.new.array)) c.resync_rows-rows.new.log n _ c.resync_rows-rows.new.array
     c.requires.running.count low
     (same_element c.deref_mut.result.now a.all.items n _ no_array c.deref_mut.ensures.value (omega (arith, count, low)))
-    (items_set a.all c.deref_mut.result.now n c.resync_row.new.array c.deref_mut.ensures.value)
-    (let up = step_raise c.clear.new.self c.resync_row.new.log c.resync_row.ensures.log in let e = ap (λ (l : LogView). l.number) c.clear.ensures in omega (arith, up, e))
-    (resynced_raise _ c.resync_row.new.array (g.S.Rack.seen c.args.rack.now) (g.S.Rack.seen c.resync_row.new.rack) c.resync_row.ensures.steps.is_done c.resync_row.ensures.steps.view)
+    (items_set a.all c.deref_mut.result.now n c.resync_rows-rows.new.array c.deref_mut.ensures.value)
+    (let up = step_raise c.clear.new.self c.resync_rows-rows.new.log c.resync_rows-rows.ensures.log in let e = ap (λ (l : LogView). l.number) c.clear.ensures in omega (arith, up, e))
+    (resynced_raise _ c.resync_rows-rows.new.array c.resync_rows-rows.ensures.steps.rows (g.S.Rack.seen c.args.rack.now) (g.S.Rack.seen c.resync_rows-rows.new.rack) c.resync_rows-rows.ensures.steps.steps.is_done c.resync_rows-rows.ensures.steps.steps.view)
     c.mend.ensures.raises
 
 pub returns-clause-runs : goal.returns-clause-runs
-returns-clause-runs g c = g.met.S.Rack.runs_then _ _ _ c.resync_row.ensures.runs c.mend.ensures.runs
+returns-clause-runs g c = g.met.S.Rack.runs_then _ _ _ c.resync_rows-rows.ensures.runs c.mend.ensures.runs
 
 pub returns-clause-truths : goal.returns-clause-truths
 returns-clause-truths g c =
     let a = c.args.self.now in
     let n = c.args.number in
     let x = g.S.Rack.seen c.args.rack.now in
-    let y = g.S.Rack.seen c.resync_row.new.rack in
+    let y = g.S.Rack.seen c.resync_rows-rows.new.rack in
     let count = c.requires.running.count in
     let low = c.requires.number in
-    truths_step a c.mend.new.self (with_items a.all (slice_set c.deref_mut.result.now n c.resync_row.new.array)) c.resync_row.new.log n _ c.resync_row.new.array x y (g.S.Rack.seen c.mend.new.rack) c.requires.running low
-    (same_element c.deref_mut.result.now a.all.items n _ no_array c.deref_mut.ensures.value (omega (arith, count, low)))
-    (items_set a.all c.deref_mut.result.now n c.resync_row.new.array c.deref_mut.ensures.value) c.mend.ensures.truths
-    c.current_places-on.result.items c.resync_row.ensures.goes.stays c.resync_row.ensures.steps.truth c.resync_row.ensures.elsewhere
+    let number = ap (λ (l : LogView). l.number) c.clear.ensures in
+    let same = same_element c.deref_mut.result.now a.all.items n _ no_array c.deref_mut.ensures.value (omega (arith, count, low)) in
+    truths_step a c.mend.new.self (with_items a.all (slice_set c.deref_mut.result.now n c.resync_rows-rows.new.array)) c.resync_rows-rows.new.log n _ c.resync_rows-rows.new.array x y (g.S.Rack.seen c.mend.new.rack) c.requires.running low same
+    (items_set a.all c.deref_mut.result.now n c.resync_rows-rows.new.array c.deref_mut.ensures.value) c.mend.ensures.truths
+    c.current_places-on.result.items c.resync_rows-rows.ensures.goes.stays c.resync_rows-rows.ensures.steps.steps.truth c.resync_rows-rows.ensures.elsewhere

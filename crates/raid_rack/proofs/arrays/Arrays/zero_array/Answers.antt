@@ -30,10 +30,10 @@ mend-requires g c =
     let low = has.low in
     let same : old ≡ (raid_by a).arrays n =
     same_element c.deref_mut.result.now a.all.items n c.index-deref_mut-number.result no_array c.deref_mut.ensures.value (omega (arith, count, low)) in
-    let one = has_called zeroed a (with_items a.all (slice_set c.deref_mut.result.now n c.zero_row.new.array)) c.zero_row.new.log x y n c.clear.new.self.number old c.zero_row.new.array
+    let one = has_called (λ u. zeroed u 1) a (with_items a.all (slice_set c.deref_mut.result.now n c.zero_row.new.array)) c.zero_row.new.log x y n c.clear.new.self.number old c.zero_row.new.array
     c.zero_row.ensures.zeroes.is_done c.requires.running c.requires.heeded same (items_set a.all c.deref_mut.result.now n c.zero_row.new.array c.deref_mut.ensures.value)
     (ap (λ (l : LogView). l.number) c.clear.ensures) (step_later c.clear.new.self c.zero_row.new.log c.zero_row.ensures.log)
-    (may_zero (raid_by a) n x c.requires.running.set c.requires.heeded has) c.zero_row.ensures.goes.stays c.zero_row.ensures.zeroes.view in
+    (may_zero (raid_by a) n 1 x c.requires.running.set c.requires.heeded has) c.zero_row.ensures.goes.stays c.zero_row.ensures.zeroes.view in
     record { running = one.running }
 
 pub lacks_two_in-requires : goal.lacks_two_in-requires
@@ -48,10 +48,10 @@ lacks_two_in-requires g c =
     let low = has.low in
     let same : old ≡ (raid_by a).arrays n =
     same_element c.deref_mut.result.now a.all.items n c.index-deref_mut-number.result no_array c.deref_mut.ensures.value (omega (arith, count, low)) in
-    let one = has_called zeroed a (with_items a.all (slice_set c.deref_mut.result.now n c.zero_row.new.array)) c.zero_row.new.log x y n c.clear.new.self.number old c.zero_row.new.array
+    let one = has_called (λ u. zeroed u 1) a (with_items a.all (slice_set c.deref_mut.result.now n c.zero_row.new.array)) c.zero_row.new.log x y n c.clear.new.self.number old c.zero_row.new.array
     c.zero_row.ensures.zeroes.is_done c.requires.running c.requires.heeded same (items_set a.all c.deref_mut.result.now n c.zero_row.new.array c.deref_mut.ensures.value)
     (ap (λ (l : LogView). l.number) c.clear.ensures) (step_later c.clear.new.self c.zero_row.new.log c.zero_row.ensures.log)
-    (may_zero (raid_by a) n x c.requires.running.set c.requires.heeded has) c.zero_row.ensures.goes.stays c.zero_row.ensures.zeroes.view in
+    (may_zero (raid_by a) n 1 x c.requires.running.set c.requires.heeded has) c.zero_row.ensures.goes.stays c.zero_row.ensures.zeroes.view in
     let first : c.first_unzeroed-unzeroed.result ≡ first_unsynced ((raid_by a).arrays n).truth =
     c.first_unzeroed-unzeroed.ensures
     ∙ ap (λ (u : View). first_unsynced u.truth) (c.index-deref-number.is ∙ same_element c.deref.result.now a.all.items n c.index-deref-number.result no_array c.deref.ensures.0 (omega (arith, count, low))) in
@@ -78,10 +78,10 @@ returns-then-not-is_ended-clause-grows g c =
     let low = has.low in
     let same : old ≡ (raid_by a).arrays n =
     same_element c.deref_mut.result.now a.all.items n c.index-deref_mut-number.result no_array c.deref_mut.ensures.value (omega (arith, count, low)) in
-    let one = has_called zeroed a (with_items a.all (slice_set c.deref_mut.result.now n c.zero_row.new.array)) c.zero_row.new.log x y n c.clear.new.self.number old c.zero_row.new.array
+    let one = has_called (λ u. zeroed u 1) a (with_items a.all (slice_set c.deref_mut.result.now n c.zero_row.new.array)) c.zero_row.new.log x y n c.clear.new.self.number old c.zero_row.new.array
     c.zero_row.ensures.zeroes.is_done c.requires.running c.requires.heeded same (items_set a.all c.deref_mut.result.now n c.zero_row.new.array c.deref_mut.ensures.value)
     (ap (λ (l : LogView). l.number) c.clear.ensures) (step_later c.clear.new.self c.zero_row.new.log c.zero_row.ensures.log)
-    (may_zero (raid_by a) n x c.requires.running.set c.requires.heeded has) c.zero_row.ensures.goes.stays c.zero_row.ensures.zeroes.view in
+    (may_zero (raid_by a) n 1 x c.requires.running.set c.requires.heeded has) c.zero_row.ensures.goes.stays c.zero_row.ensures.zeroes.view in
     let first : c.first_unzeroed-unzeroed.result ≡ first_unsynced ((raid_by a).arrays n).truth =
     c.first_unzeroed-unzeroed.ensures
     ∙ ap (λ (u : View). first_unsynced u.truth) (c.index-deref-number.is ∙ same_element c.deref.result.now a.all.items n c.index-deref-number.result no_array c.deref.ensures.0 (omega (arith, count, low))) in
@@ -115,10 +115,10 @@ returns-else-not-is_ended-clause-grows g c =
     let low = has.low in
     let same : old ≡ (raid_by a).arrays n =
     same_element c.deref_mut.result.now a.all.items n c.index-deref_mut-number.result no_array c.deref_mut.ensures.value (omega (arith, count, low)) in
-    let one = has_called zeroed a (with_items a.all (slice_set c.deref_mut.result.now n c.zero_row.new.array)) c.zero_row.new.log x y n c.clear.new.self.number old c.zero_row.new.array
+    let one = has_called (λ u. zeroed u 1) a (with_items a.all (slice_set c.deref_mut.result.now n c.zero_row.new.array)) c.zero_row.new.log x y n c.clear.new.self.number old c.zero_row.new.array
     c.zero_row.ensures.zeroes.is_done c.requires.running c.requires.heeded same (items_set a.all c.deref_mut.result.now n c.zero_row.new.array c.deref_mut.ensures.value)
     (ap (λ (l : LogView). l.number) c.clear.ensures) (step_later c.clear.new.self c.zero_row.new.log c.zero_row.ensures.log)
-    (may_zero (raid_by a) n x c.requires.running.set c.requires.heeded has) c.zero_row.ensures.goes.stays c.zero_row.ensures.zeroes.view in
+    (may_zero (raid_by a) n 1 x c.requires.running.set c.requires.heeded has) c.zero_row.ensures.goes.stays c.zero_row.ensures.zeroes.view in
     let w = raid_by c.mend.new.self in
     let unzeroed = first_unsynced ((raid_by a).arrays n).truth in
     let own = called_own a (with_items a.all (slice_set c.deref_mut.result.now n c.zero_row.new.array)) n c.zero_row.new.array count low
@@ -145,7 +145,7 @@ returns-then-not-is_ended-clause-raises g c =
     (same_element c.deref_mut.result.now a.all.items n c.index-deref_mut-number.result no_array c.deref_mut.ensures.value (omega (arith, count, low)))
     (items_set a.all c.deref_mut.result.now n c.zero_row.new.array c.deref_mut.ensures.value)
     (let up = step_raise c.clear.new.self c.zero_row.new.log c.zero_row.ensures.log in let e = ap (λ (l : LogView). l.number) c.clear.ensures in omega (arith, up, e))
-    (step_events old (zeroed old) c.zero_row.new.array x y c.zero_row.ensures.zeroes.is_done refl c.zero_row.ensures.zeroes.view)
+    (step_events old (zeroed old 1) c.zero_row.new.array x y c.zero_row.ensures.zeroes.is_done refl c.zero_row.ensures.zeroes.view)
     c.mend.ensures.raises
 
 pub returns-else-not-is_ended-clause-raises : goal.returns-else-not-is_ended-clause-raises
@@ -162,7 +162,7 @@ returns-else-not-is_ended-clause-raises g c =
     (same_element c.deref_mut.result.now a.all.items n c.index-deref_mut-number.result no_array c.deref_mut.ensures.value (omega (arith, count, low)))
     (items_set a.all c.deref_mut.result.now n c.zero_row.new.array c.deref_mut.ensures.value)
     (let up = step_raise c.clear.new.self c.zero_row.new.log c.zero_row.ensures.log in let e = ap (λ (l : LogView). l.number) c.clear.ensures in omega (arith, up, e))
-    (step_events old (zeroed old) c.zero_row.new.array x y c.zero_row.ensures.zeroes.is_done refl c.zero_row.ensures.zeroes.view)
+    (step_events old (zeroed old 1) c.zero_row.new.array x y c.zero_row.ensures.zeroes.is_done refl c.zero_row.ensures.zeroes.view)
     c.mend.ensures.raises
 
 pub returns-then-not-is_ended-clause-runs : goal.returns-then-not-is_ended-clause-runs

@@ -1,27 +1,8 @@
-use Rattle.raid_rack.specs.RaidRack.{raid_in, slices_seen, written_in}
-use Rattle.raid_laws.specs.Runs.{raid_runs_same}
+use Rattle.raid_rack.specs.RaidRack.{raid_in, slices_seen}
+use Rattle.raid_rack.proofs.Worked.{one_work}
 use Rattle.raid_rack.proofs.arrays.RaidRack.work.Goals as goal
 
-pub returns-in-TakeOver-clause-book : goal.returns-in-TakeOver-clause-book
-returns-in-TakeOver-clause-book g c = raid_runs_same (written_in c.args.self.now) (raid_in c.args.self.now) (slices_seen g.R.Rack.seen c.args.self.now)
-
-pub returns-in-TakeOver-2-clause-book : goal.returns-in-TakeOver-2-clause-book
-returns-in-TakeOver-2-clause-book g c = raid_runs_same (written_in c.args.self.now) (raid_in c.args.self.now) (slices_seen g.R.Rack.seen c.args.self.now)
-
-pub returns-in-TakeOver-3-clause-book : goal.returns-in-TakeOver-3-clause-book
-returns-in-TakeOver-3-clause-book g c = raid_runs_same (written_in c.args.self.now) (raid_in c.args.self.now) (slices_seen g.R.Rack.seen c.args.self.now)
-
-pub returns-in-TakeOver-4-clause-book : goal.returns-in-TakeOver-4-clause-book
-returns-in-TakeOver-4-clause-book g c = raid_runs_same (written_in c.args.self.now) (raid_in c.args.self.now) (slices_seen g.R.Rack.seen c.args.self.now)
-
-pub returns-in-TakeOver-5-clause-book : goal.returns-in-TakeOver-5-clause-book
-returns-in-TakeOver-5-clause-book g c = raid_runs_same (written_in c.args.self.now) (raid_in c.args.self.now) (slices_seen g.R.Rack.seen c.args.self.now)
-
-pub returns-in-TakeOver-6-clause-book : goal.returns-in-TakeOver-6-clause-book
-returns-in-TakeOver-6-clause-book g c = raid_runs_same (written_in c.args.self.now) (raid_in c.args.self.now) (slices_seen g.R.Rack.seen c.args.self.now)
-
-pub returns-in-TakeOver-7-clause-book : goal.returns-in-TakeOver-7-clause-book
-returns-in-TakeOver-7-clause-book g c = raid_runs_same (written_in c.args.self.now) (raid_in c.args.self.now) (slices_seen g.R.Rack.seen c.args.self.now)
-
-pub returns-in-Extend-clause-book : goal.returns-in-Extend-clause-book
-returns-in-Extend-clause-book g c = raid_runs_same (written_in c.args.self.now) (raid_in c.args.self.now) (slices_seen g.R.Rack.seen c.args.self.now)
+pub returns-clause-does : goal.returns-clause-does
+returns-clause-does g c due =
+    one_work c.args.work.now (raid_in c.args.self.now) (raid_in c.works.new.self) (slices_seen g.R.Rack.seen c.args.self.now) (slices_seen g.R.Rack.seen c.works.new.self)
+    c.in_ok-works.field-0 (c.in_ok-works.ensures.does due)
