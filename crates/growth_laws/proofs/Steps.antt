@@ -172,10 +172,10 @@ caused_rising v w z a b c first second one two = record {
     rose_before x y n up (inr most) = inr (omega (arith, up, most))
 
 -- the call, and the mending after it
-pub grows_one : (work : Work) (Lacks : Raid → Raid → Type 0) (v u w : Raid) (m : ℕ) (next : View) (a b c : Seen) (is_done answered : Bool)
-    → change_of work v ≡ steps m next → Stays a b → CallsTo v u m next a b is_done → (answered ≡ true → is_done ≡ true) → Mends u w b c
-    → GetsLonger v (changed (steps m next) v) → (answered ≡ false → Lacks v w) → Grows work Lacks v w a c answered
-grows_one work Lacks v u w m next a b c is_done answered change stays call answer mends longer refused =
+pub grows_one : (change : Raid → Change) (Lacks : Raid → Raid → Type 0) (v u w : Raid) (m : ℕ) (next : View) (a b c : Seen) (is_done answered : Bool)
+    → change v ≡ steps m next → Stays a b → CallsTo v u m next a b is_done → (answered ≡ true → is_done ≡ true) → Mends u w b c
+    → GetsLonger v (changed (steps m next) v) → (answered ≡ false → Lacks v w) → GrowsBy change Lacks v w a c answered
+grows_one change Lacks v u w m next a b c is_done answered change_is stays call answer mends longer refused =
     let after = loses_book_then (if_done is_done v (changed (steps m next) v)) u w call.book (mends_lose u w b c mends) in
     record {
       turns = record {
@@ -183,7 +183,7 @@ grows_one work Lacks v u w m next a b c is_done answered change stays call answe
         before = loses_nothing v;
         is_done = is_done;
         answer = answer;
-        after = subst (λ (k : Change). LosesBook (if_done is_done v (changed k v)) w) (sym change) after;
+        after = subst (λ (k : Change). LosesBook (if_done is_done v (changed k v)) w) (sym change_is) after;
         refused = refused;
       };
       caused = caused_then v u w a b c stays mends.moves.stays call.caused (moves_caused u w b c mends.moves);

@@ -1,5 +1,5 @@
 -- The works of a growth: when each is due, what it changes, and what a call of it does to the book.
-use Rattle.std.specs.Prelude.{◌≡◌, ◌⊎◌, ℕ, ◌+◌, ◌-◌, ◌*◌, ◌<◌, ◌≤◌, ◌^◌, Bool, true, false, ◌==◌, ◌&&◌, ◌||◌, not, nat_le, nat_lt, List, is_none, length, count_by, sum_by}
+use Rattle.std.specs.Prelude.{◌≡◌, ◌⊎◌, ℕ, ◌+◌, ◌-◌, ◌*◌, ◌<◌, ◌≤◌, ◌^◌, Bool, true, false, ◌==◌, ◌&&◌, ◌||◌, not, nat_le, nat_lt, List, is_none, length, Result, count_by, sum_by}
 use Rattle.std.specs.List.{range_with_len}
 use Rattle.rack.specs.Seen.{Seen}
 use Rattle.md_super.specs.Profile.{is_mirror, is_raid5}
@@ -13,8 +13,8 @@ use Rattle.array_model.specs.View.{View, rows_of, sectors_of}
 use Rattle.array_core.specs.Seats.{seat_of}
 use Rattle.array_core.specs.Superblocks.{raised}
 use Rattle.sync_laws.specs.Rows.{lacks_two as lacks_two_in}
-use Rattle.sync_laws.specs.Steps.{if_done, rebuilt, resynced, zeroed}
-use Rattle.reshape_laws.specs.Ahead.{ahead, finished, taken_over}
+use Rattle.sync_laws.specs.Steps.{DoesRows, if_done, rebuilt, resynced, zeroed}
+use Rattle.reshape_laws.specs.Ahead.{ahead_by, finished, next_row, taken_over}
 use Rattle.reshape_laws.specs.Reshapes.{joined, lacks_joined, lacks_two}
 use Rattle.raid_laws.specs.Moves.{AreCaused, IsHeeded}
 use Rattle.raid_laws.specs.NewDrive.{first_in, slice_length}
@@ -103,13 +103,17 @@ pub record HasJoiningSlice (v : Raid) (n place : ℕ) (x : Seen) : Type 0 where
 
 -- ---- what it changes
 
+-- so many next rows of a reshape are moved
+abbrev pub moves : ℕ → ℕ → Raid → Change
+moves n rows v = steps n (ahead_by (v.arrays n) rows (raised (v.arrays n).truth.events))
+
 -- what it changes, by the book before the commit; the volume's extension changes no array, and what is made hangs on the time too
 abbrev pub change_of : Work → Raid → Change
 change_of (Resync n) v = steps n (resynced (v.arrays n) 1)
 change_of (Rebuild n place) v = steps n (rebuilt (v.arrays n) place 1)
 change_of (TakeOver n) v = steps n (taken_over (v.arrays n) (raised (v.arrays n).truth.events))
 change_of (Begin n place) v = steps n (joined (v.arrays n) (current_places v.state) place (drive_id v.state place))
-change_of (Reshape n) v = steps n (ahead (v.arrays n) (raised (v.arrays n).truth.events))
+change_of (Reshape n) v = moves n 1 v
 change_of (Finish n) v = steps n (finished (v.arrays n) (raised (v.arrays n).truth.events))
 change_of (Make n height) v = makes (v.arrays v.state.made)
 change_of (Zero n) v = steps n (zeroed (v.arrays n) 1)
@@ -150,3 +154,7 @@ pub record GrowsBy (change : Raid → Change) (Lacks : Raid → Raid → Type 0)
 -- that of a work
 abbrev pub Grows : Work → (Raid → Raid → Type 0) → Raid → Raid → Seen → Seen → Bool → Type 0
 Grows work Lacks v w a b answered = GrowsBy (change_of work) Lacks v w a b answered
+
+-- that of the next rows of a reshape: some of them, at least one and at most so many
+abbrev pub MovesRows : (n most : ℕ) → Raid → Raid → Seen → Seen → {E : Type 0} → Result ℕ E → Type 0
+MovesRows n most v w a b result = DoesRows (λ rows. GrowsBy (moves n rows) (Lacks (Reshape n)) v w a b) (rows_of (v.arrays n) - next_row (v.arrays n)) most result

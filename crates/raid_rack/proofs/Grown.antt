@@ -1,5 +1,5 @@
 -- The code of a growth: a call of one array that makes another one of it, and the mending after it.
-use Rattle.std.proofs.Common.{◌&&◌, ◌≡◌, ◌⊎◌, ℕ, ◌+◌, ◌-◌, ◌<◌, ◌≤◌, Bool, true, false, ◌||◌, not, List, map, set, length, get_or, Result, Ok, Err, is_ok, IfErr, refl, sym, ap, subst, ◌∙◌, inl, inr, le-ltb, arith}
+use Rattle.std.proofs.Common.{◌&&◌, ◌≡◌, ◌⊎◌, ℕ, ◌+◌, ◌-◌, ◌<◌, ◌≤◌, Bool, true, false, ◌||◌, not, List, map, set, length, get_or, Result, Ok, Err, is_ok, IfOk, IfErr, refl, sym, ap, subst, ◌∙◌, inl, inr, le-ltb, arith}
 use Rattle.std.proofs.lemmas.Bool.{both_ways, cases_Bool, ltb-false}
 use Rattle.std.proofs.lemmas.List.{same_lists}
 use Rattle.std.proofs.lemmas.Option.{slice_get-get_or}
@@ -7,29 +7,31 @@ use Rattle.std.proofs.lemmas.List.FromFn.{get_or-map-range_with_len, length-map-
 use Rattle.std.specs.List.{range_with_len}
 use Rattle.arrayvec.specs.ArrayVec.{ArrayVec}
 use Rattle.rack.specs.Seen.{Seen, Stays}
-use Rattle.pool_state.specs.declared.contents.Work.{Work}
+use Rattle.pool_state.specs.declared.contents.Work.TheVariants.{Reshape}
 use Rattle.array_image.specs.Places.{log_sectors, log_slice}
 use Rattle.array_image.specs.Spent.{wanting}
 use Rattle.array_image.specs.States.{current_places}
 use Rattle.log_laws.specs.View.{LogView}
-use Rattle.array_model.specs.View.{View, member_on}
+use Rattle.array_model.specs.View.{View, member_on, rows_of}
 use Rattle.array_model.specs.Members.{members_of}
 use Rattle.array_core.specs.Superblocks.{raised}
 use Rattle.sync_laws.specs.Steps.{Stepped, as_it_was, done, if_done}
 use Rattle.shr_base.specs.declared.Id.{Id}
+use Rattle.reshape_laws.specs.Ahead.{next_row}
 use Rattle.reshape_laws.specs.Reshapes.{joined, lacks_two}
 use Rattle.raid_laws.specs.Moves.{IsHeeded, LosesOnly, Mends}
 use Rattle.raid_laws.specs.Raid.{Raid}
 use Rattle.raid_laws.proofs.Noted.{current_few}
 use Rattle.raid_laws.proofs.Whole.{heeded_left}
-use Rattle.transition_laws.specs.Changes.{changed, steps}
-use Rattle.growth_laws.specs.Growing.{GetsLonger, Grows, change_of, is_ended, lacks, views_of}
+use Rattle.transition_laws.specs.Changes.{Change, changed, steps}
+use Rattle.growth_laws.specs.Growing.{GetsLonger, GrowsBy, Lacks, MovesRows, is_ended, lacks, moves, views_of}
 use Rattle.growth_laws.proofs.Steps.{CallsTo, MayBecome, calls_to, grows_one}
 use Rattle.raid_rack.specs.declared.arrays.Arrays.{Arrays}
+use Rattle.raid_rack.specs.declared.works.Stuck.{Stuck}
 use Rattle.raid_rack.specs.RaidRack.{IsRunning, no_array, raid_by}
 use Rattle.raid_rack.proofs.Mended.{not_of_false, not_of_true, on_named}
 use Rattle.raid_rack.proofs.Raises.{raised_up}
-use Rattle.raid_rack.proofs.Resynced.{wanting_less}
+use Rattle.raid_rack.proofs.Resynced.{done_alone, told_rows, wanting_less}
 use Rattle.raid_rack.proofs.Steps.{length_set, same_element, set_other, set_own}
 
 -- the arrays below `made` are the list
@@ -122,26 +124,65 @@ pub step_events : (old next u : View) (x y : Seen) (is_done : Bool) → next.tru
 step_events old next u x y false is (as_it_was notes) = let e = ap (λ t. t.events) notes.same.truth in omega (arith, e)
 step_events old next u x y true is (done notes) = let e = ap (λ t. t.events) notes.same.truth in let up = raised_up old.truth.events in omega (arith, e, is, up)
 
+-- the call makes no array
+called_made : (a b : Arrays) (x y : Seen) (n : ℕ) (next : View) (is_done : Bool) → HasCalled a b x y n next is_done → b.state.made ≡ a.state.made
+called_made a b x y n next is_done called = by is_done called.calls.book.marks.same.made
+  where
+    by : (e : Bool) → b.state.made ≡ (if_done e (raid_by a) (changed (steps n next) (raid_by a))).state.made → b.state.made ≡ a.state.made
+    by true same = same
+    by false same = same
+
+-- where it is so after the mending, the call wasn't refused
+called_ok : (a b c : Arrays) (x y z : Seen) (n : ℕ) (next u : View) (is_done ok : Bool) → n < a.state.made → HasCalled a b x y n next is_done → get_or b.all.items n no_array ≡ u
+    → (ok ≡ false → lacks_two u ≡ true) → Mends (raid_by b) (raid_by c) y z → lacks (raid_by c) n ≡ false → ok ≡ true
+called_ok a b c x y z n next u is_done ok low called own refused mends none =
+    let there : n < b.state.made = subst (λ k. n < k) (sym (called_made a b x y n next is_done called)) low in
+    done_by u (raid_by c) n ok refused (subst (λ (k : View). LosesOnly k ((raid_by c).arrays n)) own (mends.moves.arrays n there)) none
+
 -- THE CALL AND THE MENDING AFTER IT, where it is answered by what the array lacks then
-pub grows_answered : (work : Work) (Lacking : Raid → Raid → Type 0) (a b c : Arrays) (x y z : Seen) (n : ℕ) (next u : View) (is_done ok answered : Bool)
-    → change_of work (raid_by a) ≡ steps n next → n < a.state.made → HasCalled a b x y n next is_done → get_or b.all.items n no_array ≡ u
+pub grows_answered : (change : Raid → Change) (Lacking : Raid → Raid → Type 0) (a b c : Arrays) (x y z : Seen) (n : ℕ) (next u : View) (is_done ok answered : Bool)
+    → change (raid_by a) ≡ steps n next → n < a.state.made → HasCalled a b x y n next is_done → get_or b.all.items n no_array ≡ u
     → (ok ≡ true → is_done ≡ true) → (ok ≡ false → lacks_two u ≡ true) → Mends (raid_by b) (raid_by c) y z → GetsLonger (raid_by a) (changed (steps n next) (raid_by a))
     → answered ≡ not (lacks (raid_by c) n) → (lacks (raid_by c) n ≡ true → Lacking (raid_by a) (raid_by c))
-    → Grows work Lacking (raid_by a) (raid_by c) x z answered
-grows_answered work Lacking a b c x y z n next u is_done ok answered change low called own answer refused mends longer is lacking =
-    let there : n < b.state.made =
-    subst (λ k. n < k) (sym (made_if is_done)) low in
-    grows_one work Lacking (raid_by a) (raid_by b) (raid_by c) n next x y z is_done answered change called.stays called.calls
-    (λ done_is. answer (done_by u (raid_by c) n ok refused
-    (subst (λ (k : View). LosesOnly k ((raid_by c).arrays n)) own (mends.moves.arrays n there)) (not_of_true (lacks (raid_by c) n) (sym is ∙ done_is))))
+    → GrowsBy change Lacking (raid_by a) (raid_by c) x z answered
+grows_answered change Lacking a b c x y z n next u is_done ok answered change_is low called own answer refused mends longer is lacking =
+    grows_one change Lacking (raid_by a) (raid_by b) (raid_by c) n next x y z is_done answered change_is called.stays called.calls
+    (λ done_is. answer (called_ok a b c x y z n next u is_done ok low called own refused mends (not_of_true (lacks (raid_by c) n) (sym is ∙ done_is))))
     mends longer (λ refuses. lacking (not_of_false (lacks (raid_by c) n) (sym is ∙ refuses)))
+
+-- THE SAME FOR ROWS, where it is answered how many they are
+pub rows_answered : (a b c : Arrays) (x y z : Seen) (n most : ℕ) (next : ℕ → View) (u : View) (is_done : Bool) {E : Type 0} (did : Result ℕ E) (result : Result ℕ Stuck) (rows : ℕ)
+    → 0 < rows → rows ≤ most → rows ≤ rows_of ((raid_by a).arrays n) - next_row ((raid_by a).arrays n) → IfOk did (λ k. k ≡ rows)
+    → moves n rows (raid_by a) ≡ steps n (next rows) → n < a.state.made → HasCalled a b x y n (next rows) is_done → get_or b.all.items n no_array ≡ u
+    → (is_ok did ≡ true → is_done ≡ true) → (is_ok did ≡ false → lacks_two u ≡ true) → Mends (raid_by b) (raid_by c) y z
+    → GetsLonger (raid_by a) (changed (steps n (next rows)) (raid_by a))
+    → (stuck : Bool) → stuck ≡ lacks (raid_by c) n → IfOk result (λ k. (did ≡ Ok k) × (stuck ≡ false)) → IfErr result (λ e. (is_ok did ≡ false) ⊎ (stuck ≡ true))
+    → MovesRows n most (raid_by a) (raid_by c) x z result
+rows_answered a b c x y z n most next u is_done did result rows some few left number change_is low called own answer refused mends longer stuck stuck_is told refuses = record {
+  rows = rows;
+  some = some;
+  few = few;
+  left = left;
+  steps =
+      grows_answered (moves n rows) (Lacks (Reshape n)) a b c x y z n (next rows) u is_done (is_ok did) (is_ok result) change_is low called own answer refused mends longer
+      (by result told refuses) (λ lacking. lacking);
+  answer = told_rows did rows result number (done_alone did stuck result told);
+}
   where
-    made_if : (d : Bool) → b.state.made ≡ a.state.made
-    made_if d = by is_done called.calls.book.marks.same.made
-      where
-        by : (e : Bool) → b.state.made ≡ (if_done e (raid_by a) (changed (steps n next) (raid_by a))).state.made → b.state.made ≡ a.state.made
-        by true same = same
-        by false same = same
+    by : (r : Result ℕ Stuck) → IfOk r (λ k. (did ≡ Ok k) × (stuck ≡ false)) → IfErr r (λ e. (is_ok did ≡ false) ⊎ (stuck ≡ true)) → is_ok r ≡ not (lacks (raid_by c) n)
+    by (Ok k) told refuses = sym (ap not (sym stuck_is ∙ told.1))
+    by (Err e) told (inr is) = sym (ap not (sym stuck_is ∙ is))
+    by (Err e) told (inl none) = elim (cases_Bool (lacks (raid_by c) n)) [
+      | inl lacking ↦ sym (ap not lacking)
+      | inr has ↦ absurd (both_ways (is_ok did) none (called_ok a b c x y z n (next rows) u is_done (is_ok did) low called own refused mends has))
+    ]
+
+-- one row at most is one
+pub one_moved : (n : ℕ) (v w : Raid) (x y : Seen) {E : Type 0} (result : Result ℕ E) → MovesRows n 1 v w x y result → GrowsBy (moves n 1) (Lacks (Reshape n)) v w x y (is_ok result)
+one_moved n v w x y result does =
+    let some = does.some in
+    let few = does.few in
+    subst (λ (rows : ℕ). GrowsBy (moves n rows) (Lacks (Reshape n)) v w x y (is_ok result)) (let one : does.rows ≡ 1 = omega (arith, some, few) in one) does.steps
 
 -- ---- a drive that joins
 

@@ -156,7 +156,7 @@ impl Arrays {
 }
 
 /// How many rows are done, unless their array can't do them any more.
-fn answered(rows: Result<u64, Spent>, is_stuck: bool, array: u32) -> Result<u64, Stuck>
+pub(crate) fn answered(rows: Result<u64, Spent>, is_stuck: bool, array: u32) -> Result<u64, Stuck>
     ensures done { IfOk result (λ k. (rows ≡ Ok k) × (is_stuck ≡ false)) }
     ensures refused { IfErr result (λ e. (is_ok rows ≡ false) ⊎ (is_stuck ≡ true)) }
     ensures named { IfErr result (λ e. e.array ≡ array) }

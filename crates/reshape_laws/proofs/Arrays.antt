@@ -7,7 +7,7 @@ use Rattle.md_super.specs.Profile.{is_mirror}
 use Rattle.array_image.specs.Supers.{is_reshaping, new_row}
 use Rattle.array_image.specs.SoundArray.{IsWrittenSuper}
 use Rattle.array_model.specs.View.{View, IsArray, rows_of}
-use Rattle.reshape_laws.specs.Ahead.{ahead, ahead_by, finished, next_row, row_sectors, taken_over}
+use Rattle.reshape_laws.specs.Ahead.{ahead_by, finished, next_row, row_sectors, taken_over}
 use Rattle.reshape_laws.proofs.Addresses.{next_position, position_rows, whole_position}
 
 -- ---- the next row
@@ -76,11 +76,6 @@ module _ (v : View) (many events : ℕ) (is_array : IsArray v) (reshaping : is_r
     no_position = λ is. absurd (both_ways (is_reshaping v.truth) is reshaping);
     resync = written.resync;
   }
-
-pub ahead_array : (v : View) (events : ℕ) → IsArray v → is_reshaping v.truth ≡ true → v.truth.reshape_position < (v.truth.raid_disks - 1) * v.truth.size → IsArray (ahead v events)
-ahead_array v events is_array reshaping left =
-    let low = row_left v is_array reshaping left in
-    ahead_by_array v 1 events is_array reshaping (omega (arith, low))
 
 -- ---- takeover
 

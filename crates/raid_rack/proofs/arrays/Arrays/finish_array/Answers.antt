@@ -5,7 +5,7 @@ use Rattle.array_core.specs.Superblocks.{raised}
 use Rattle.pool_state.specs.declared.contents.Work.TheVariants.{Finish}
 use Rattle.reshape_laws.specs.Ahead.{finished}
 use Rattle.reshape_laws.specs.Reshapes.{lacks_two}
-use Rattle.growth_laws.specs.Growing.{Lacks}
+use Rattle.growth_laws.specs.Growing.{Lacks, change_of}
 use Rattle.growth_laws.proofs.Due.{ended, may_finish}
 use Rattle.raid_rack.specs.RaidRack.{no_array, raid_by}
 use Rattle.raid_rack.proofs.Grown.{called_own, grows_answered, has_called, logs_there, step_events}
@@ -51,7 +51,7 @@ returns-clause-grows g c =
     (same_element c.deref_mut.result.now a.all.items n _ no_array c.deref_mut.ensures.value (omega (arith, count, low))) all_is
     (ap (λ (l : LogView). l.number) c.clear.ensures) (step_later c.clear.new.self c.finish.new.log c.finish.ensures.log)
     does.becomes c.finish.ensures.goes.stays c.finish.ensures.reshapes.steps.view in
-    grows_answered (Finish n) (Lacks (Finish n)) a (record a { all = all; log = c.finish.new.log }) c.mend.new.self x (g.S.Rack.seen c.finish.new.rack) (g.S.Rack.seen c.mend.new.rack) n
+    grows_answered (change_of (Finish n)) (Lacks (Finish n)) a (record a { all = all; log = c.finish.new.log }) c.mend.new.self x (g.S.Rack.seen c.finish.new.rack) (g.S.Rack.seen c.mend.new.rack) n
     (ended (raid_by a) n) c.finish.new.array c.finish.ensures.reshapes.steps.is_done (is_ok c.finish.result) _
     refl low one (called_own a all n c.finish.new.array count low all_is) c.finish.ensures.reshapes.steps.answer
     (answered_refused (lacks_two c.finish.new.array) _ c.finish.result c.finish.ensures.refused) c.mend.ensures.mends does.longer (ap not c.lacks.ensures) (λ lacking. lacking)
