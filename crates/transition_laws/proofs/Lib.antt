@@ -6,6 +6,7 @@ pub mod Committing
 pub mod TurnMakes
 pub mod ReadMakes
 pub mod NotedMakes
+pub mod SettledMakes
 pub mod HeededMakes
 pub mod StepMakes
 pub mod SteppedMakes
@@ -17,6 +18,8 @@ pub mod ClosedMakes
 pub mod ClosedMoments
 pub mod Rewritten
 pub mod MarkedMakes
+pub mod RunsOf
+pub mod LossesMade
 pub mod Readied
 pub mod ReshapeSectors
 pub mod ReshapeHolds
