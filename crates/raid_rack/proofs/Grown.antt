@@ -1,10 +1,10 @@
 -- The code of a growth: a call of one array that makes another one of it, and the mending after it.
-use Rattle.std.proofs.Common.{◌&&◌, ◌≡◌, ◌⊎◌, ℕ, ◌+◌, ◌-◌, ◌<◌, ◌≤◌, Bool, true, false, ◌||◌, not, List, map, set, length, get_or, Result, Ok, Err, is_ok, IfErr, refl, sym, ap, subst, ◌∙◌, inl, inr, le-ltb, arith}
+use Rattle.std.proofs.Common.{◌&&◌, ◌≡◌, ◌⊎◌, ℕ, ◌+◌, ◌-◌, ◌<◌, ◌≤◌, Bool, true, false, ◌||◌, not, nat_lt, List, map, set, length, get_or, Result, Ok, Err, is_ok, IfErr, refl, sym, ap, subst, ◌∙◌, inl, inr, le-ltb, arith}
 use Rattle.std.proofs.lemmas.Bool.{both_ways, cases_Bool, ltb-false}
 use Rattle.std.proofs.lemmas.List.{same_lists}
 use Rattle.std.proofs.lemmas.Option.{slice_get-get_or}
 use Rattle.std.proofs.lemmas.List.FromFn.{get_or-map-range_with_len, length-map-range_with_len}
-use Rattle.std.specs.List.{range_with_len}
+use Rattle.std.specs.List.{list_all, range_with_len}
 use Rattle.arrayvec.specs.ArrayVec.{ArrayVec}
 use Rattle.rack.specs.Seen.{Seen, Stays}
 use Rattle.pool_state.specs.declared.contents.Work.{Work}
@@ -12,24 +12,29 @@ use Rattle.array_image.specs.Places.{log_sectors, log_slice}
 use Rattle.array_image.specs.Spent.{wanting}
 use Rattle.array_image.specs.States.{current_places}
 use Rattle.log_laws.specs.View.{LogView}
-use Rattle.array_model.specs.View.{View, member_on}
+use Rattle.array_model.specs.View.{View, has_gone, member_on}
+use Rattle.array_core.specs.Pool.{Goes}
 use Rattle.array_model.specs.Members.{members_of}
 use Rattle.array_core.specs.Superblocks.{raised}
 use Rattle.sync_laws.specs.Steps.{Stepped, as_it_was, done, if_done}
 use Rattle.shr_base.specs.declared.Id.{Id}
-use Rattle.reshape_laws.specs.Reshapes.{joined, lacks_two}
+use Rattle.reshape_laws.specs.Reshapes.{Reshapes, joined, lacks_two}
 use Rattle.raid_laws.specs.Moves.{IsHeeded, LosesOnly, Mends}
 use Rattle.raid_laws.specs.Raid.{Raid}
 use Rattle.raid_laws.proofs.Noted.{current_few}
 use Rattle.raid_laws.proofs.Whole.{heeded_left}
 use Rattle.transition_laws.specs.Changes.{changed, steps}
-use Rattle.growth_laws.specs.Growing.{GetsLonger, Grows, change_of, is_ended, lacks, views_of}
-use Rattle.growth_laws.proofs.Steps.{CallsTo, MayBecome, calls_to, grows_one}
+use Rattle.growth_laws.specs.Growing.{GetsLonger, Grows, MakesReshape, MakesTurn, change_of, is_ended, lacks, views_of}
+use Rattle.transition_laws.specs.Reshaping.{FitsReshape}
+use Rattle.growth_laws.proofs.Becoming.{IsAtRest}
+use Rattle.growth_laws.proofs.ReshapeMakes.{KeepsMembers, ReshapeCall}
+use Rattle.growth_laws.proofs.Steps.{CallsTo, MayBecome, calls_to, grows_one, reshapes_one}
 use Rattle.raid_rack.specs.declared.arrays.Arrays.{Arrays}
 use Rattle.raid_rack.specs.RaidRack.{IsRunning, no_array, raid_by}
 use Rattle.raid_rack.proofs.Mended.{not_of_false, not_of_true, on_named}
 use Rattle.raid_rack.proofs.Raises.{raised_up}
 use Rattle.raid_rack.proofs.Resynced.{wanting_less}
+use Rattle.raid_rack.proofs.Sent.{low_named}
 use Rattle.raid_rack.proofs.Steps.{length_set, same_element, set_other, set_own}
 
 -- the arrays below `made` are the list
@@ -142,6 +147,53 @@ grows_answered work Lacking a b c x y z n next u is_done ok answered change low 
         by : (e : Bool) → b.state.made ≡ (if_done e (raid_by a) (changed (steps n next) (raid_by a))).state.made → b.state.made ≡ a.state.made
         by true same = same
         by false same = same
+
+-- ---- a step of a reshape, and what contents hold in it
+
+pub reshape_call : (step : View → View) (a : Arrays) (all : ArrayVec View) (log : LogView) (x y : Seen) (n number : ℕ) (old u : View) (on : List ℕ) (answered : Bool)
+    → IsRunning a x → IsHeeded (raid_by a) → IsAtRest (raid_by a) n → MayBecome (raid_by a) n (step ((raid_by a).arrays n)) x
+    → KeepsMembers ((raid_by a).arrays n) (step ((raid_by a).arrays n)) → old ≡ get_or a.all.items n no_array → all.items ≡ set a.all.items n u
+    → number ≡ a.log.number → number ≤ log.number → on ≡ current_places a.state → list_all (λ place. nat_lt place 16) u.went ≡ true → Goes x y
+    → Reshapes old (step old) u number log.number on x y answered
+    → ReshapeCall (raid_by a) (λ k. get_or all.items k no_array) (step ((raid_by a).arrays n)) log.number n x y on answered
+reshape_call step a all log x y n number old u on answered running heeded rest may keeps old_is all_is number_is later on_is few goes reshapes =
+    let f : ℕ → View = λ k. get_or all.items k no_array in
+    let v = raid_by a in
+    let low = rest.low in
+    let own : f n ≡ u = called_own a all n u running.count low all_is in
+    record {
+      set = running.set;
+      heeded = heeded;
+      rest = rest;
+      may = may;
+      keeps = keeps;
+      others = λ k other. ap (λ ys. get_or ys k no_array) all_is ∙ set_other a.all.items n k u no_array other;
+      goes = goes;
+      later = subst (λ k. k ≤ log.number) number_is later;
+      on_is = on_is;
+      few = λ p went. low_named u.went p few (subst (λ (z : View). has_gone z p ≡ true) own went);
+      reshapes =
+          subst (λ (z : View). Reshapes z (step z) (f n) v.number log.number on x y answered) old_is
+          (subst (λ (z : View). Reshapes old (step old) z v.number log.number on x y answered) (sym own)
+          (subst (λ k. Reshapes old (step old) u k log.number on x y answered) number_is reshapes));
+    }
+
+pub reshape_answered : (work : Work) (Lacking : Raid → Raid → Type 0) (a c : Arrays) (all : ArrayVec View) (log : LogView) (x y z : Seen) (n : ℕ) (next u : View) (on : List ℕ) (ok answered : Bool)
+    (call : ReshapeCall (raid_by a) (λ k. get_or all.items k no_array) next log.number n x y on ok) → change_of work (raid_by a) ≡ steps n next → get_or all.items n no_array ≡ u
+    → (ok ≡ false → lacks_two u ≡ true) → Mends (raid_by (record a { all = all; log = log })) (raid_by c) y z → GetsLonger (raid_by a) (changed (steps n next) (raid_by a))
+    → answered ≡ not (lacks (raid_by c) n) → (lacks (raid_by c) n ≡ true → Lacking (raid_by a) (raid_by c))
+    → MakesTurn (steps n next) call.reshapes.steps.is_done (FitsReshape (raid_by a) n) (raid_by a) (raid_by c) x z
+    → MakesReshape work Lacking n (raid_by a) (raid_by c) x z answered
+reshape_answered work Lacking a c all log x y z n next u on ok answered call change own refused mends longer is lacking turn =
+    let f : ℕ → View = λ k. get_or all.items k no_array in
+    let is_done = call.reshapes.steps.is_done in
+    let calls =
+    calls_to (raid_by a) f n log.number next x y is_done
+    (record { set = call.set; heeded = call.heeded; may = call.may; others = call.others; stays = call.goes.stays; later = call.later; view = call.reshapes.steps.view }) in
+    reshapes_one work Lacking (raid_by a) (raid_by (record a { all = all; log = log })) (raid_by c) n next x y z is_done answered change call.goes.stays calls
+    (λ done_is. call.reshapes.steps.answer (done_by u (raid_by c) n ok refused
+    (subst (λ (k : View). LosesOnly k ((raid_by c).arrays n)) own (mends.moves.arrays n call.may.low)) (not_of_true (lacks (raid_by c) n) (sym is ∙ done_is))))
+    mends longer (λ refuses. lacking (not_of_false (lacks (raid_by c) n) (sym is ∙ refuses))) turn
 
 -- ---- a drive that joins
 

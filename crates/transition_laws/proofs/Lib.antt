@@ -11,6 +11,7 @@ pub mod HeededMakes
 pub mod StepMakes
 pub mod SteppedMakes
 pub mod WriteMakes
+pub mod UndoneMakes
 pub mod Follows
 pub mod MomentsOf
 pub mod Closed
@@ -19,6 +20,7 @@ pub mod ClosedMoments
 pub mod Rewritten
 pub mod MarkedMakes
 pub mod RunsOf
+pub mod OverMakes
 pub mod LossesMade
 pub mod Readied
 pub mod ReshapeSectors

@@ -38,6 +38,7 @@ use Rattle.transition_laws.specs.Makes.{Makes, makes_then, Suits}
 use Rattle.transition_laws.proofs.Committing.{book_with}
 use Rattle.transition_laws.proofs.HeededMakes.{heeded_makes}
 use Rattle.transition_laws.proofs.MarkedMakes.{mark_makes}
+use Rattle.transition_laws.proofs.OverMakes.{over_makes}
 use Rattle.transition_laws.proofs.Rewritten.{IsRestated}
 use Rattle.transition_laws.proofs.RunsOf.{marked_shape, run_loses, run_marked}
 use Rattle.transition_laws.proofs.Shown.{stands_shape}
@@ -145,25 +146,13 @@ pub empty_losses : (d u v : Raid) (lost : List ℕ) (a b : Seen) → IsSet v b �
 empty_losses d u v lost a b set run settles same lost_is noted nobody some = record {
   changes = failed lost (λ k. (v.arrays k).truth.events) ∷ [];
   losses = (tt, tt);
-  makes = λ vals. record {
-    due = (tt, tt);
-    stays = (settles.makes d vals (same ∙ run.same)).stays;
-    back = λ p suits promised. record {
-      is_one = promised.is_one;
-      goes = λ n live low. absurd (over n (promised.goes n live (there n low)));
-      covers = λ n live low. absurd (over n (promised.goes n live (there n low)));
-    };
-    grows = λ n y u may. may;
-    stops = λ p suits promised stands traced. absurd (over p.one (promised.goes p.one promised.is_one (subst (λ (s : State). p.one < s.made) (sym run.same) stands.one)));
-    after = λ p suits promised stands. absurd (over p.one (promised.goes p.one promised.is_one (subst (λ (s : State). p.one < s.made) (sym run.same) stands.one)));
-  };
+  makes = λ vals.
+      over_makes (failed lost (λ k. (v.arrays k).truth.events) ∷ []) d u (record v { state = state_after v lost }) vals a b (tt, tt) (settles.makes d vals (same ∙ run.same)).stays
+      (ap (λ (s : State). s.made) (same ∙ run.same)) (ap (λ (s : State). s.made) (sym same)) over;
   run = run_marked d v (record v { state = state_after v lost }) lost (λ k. (v.arrays k).truth.events) b set run lost_is noted refl (λ n low. only_same (v.arrays n) (v.arrays n) refl) (λ n low. refl);
   none = λ are. absurd (some are);
 }
   where
-    there : (n : ℕ) → n < u.state.made → n < v.state.made
-    there n low = subst (λ (s : State). n < s.made) same low
-
     over : (n : ℕ) → is_over (record v { state = state_after v lost }) n ≡ false → ⊥
     over n goes = let left = someone_left (record v { state = state_after v lost }) n goes in both_ways (is_current (state_after v lost) left.0) (nobody left.0) left.1
 

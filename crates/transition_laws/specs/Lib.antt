@@ -2,4 +2,5 @@ pub mod Changes
 pub mod Holds
 pub mod Losses
 pub mod Makes
+pub mod Reshaping
 pub mod Stages
