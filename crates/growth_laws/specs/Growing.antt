@@ -1,7 +1,8 @@
 -- The works of a growth: when each is due, what it changes, and what a call of it does to the book.
-use Rattle.std.specs.Prelude.{◌≡◌, ◌⊎◌, ℕ, ◌+◌, ◌-◌, ◌*◌, ◌<◌, ◌≤◌, ◌^◌, Bool, true, false, ◌==◌, ◌&&◌, ◌||◌, not, nat_le, nat_lt, List, is_none, length, Result, count_by, sum_by}
+use Rattle.std.specs.Prelude.{◌≡◌, ◌⊎◌, ℕ, ◌+◌, ◌-◌, ◌*◌, ◌<◌, ◌≤◌, ◌^◌, Bool, true, false, ◌==◌, ◌&&◌, ◌||◌, not, nat_le, nat_lt, List, ◌∷◌, ◌++◌, is_none, length, Result, count_by, sum_by}
 use Rattle.std.specs.List.{range_with_len}
 use Rattle.rack.specs.Seen.{Seen}
+use Rattle.rack.specs.Values.{Values}
 use Rattle.md_super.specs.Profile.{is_mirror, is_raid5}
 use Rattle.pool_state.specs.declared.contents.Work.{Work}
 use Rattle.pool_state.specs.declared.contents.Work.TheVariants.{Resync, Rebuild, TakeOver, Begin, Reshape, Finish, Make, Zero, Ready, Extend, Close}
@@ -22,6 +23,9 @@ use Rattle.raid_laws.specs.Raid.{Raid, is_empty, is_used_up}
 pub use Rattle.growth_laws.specs.NewArrays.{drive_id, may_make, reaching, views_of}
 use Rattle.growth_laws.specs.Losses.{LosesBook}
 use Rattle.transition_laws.specs.Changes.{Change, changed, closed, makes, readied, steps}
+use Rattle.transition_laws.specs.Losses.{AreLosses}
+use Rattle.transition_laws.specs.Makes.{Makes}
+use Rattle.transition_laws.specs.Reshaping.{FitsReshape}
 
 -- ---- which can be done
 
@@ -155,6 +159,26 @@ pub record GrowsBy (change : Raid → Change) (Lacks : Raid → Raid → Type 0)
 abbrev pub Grows : Work → (Raid → Raid → Type 0) → Raid → Raid → Seen → Seen → Bool → Type 0
 Grows work Lacks v w a b answered = GrowsBy (change_of work) Lacks v w a b answered
 
--- that of the next rows of a reshape: some of them, at least one and at most so many
+-- ---- what contents hold in it
+
+-- A change of the book between losses, where it is done: this is all that calls make of the book, of values that fit. So at each moment a stop leaves
+-- contents that hold the book before the change or after it, but for losses, with these values, and then the run stands by the last book.
+pub record MakesTurn (change : Change) (is_done : Bool) (Fits : (ℕ → ℕ → Values) → Type 0) (v w : Raid) (a b : Seen) : Type 0 where
+  pub before : List Change
+  pub after : List Change
+  pub losses_before : AreLosses before
+  pub losses_after : AreLosses after
+  pub makes : (vals : ℕ → ℕ → Values) → Fits vals → Makes (before ++ if_done is_done after (change ∷ after)) v v w vals vals a b
+
+-- of any values
+abbrev pub AnyValues : (ℕ → ℕ → Values) → Type 0
+AnyValues vals = Unit {0}
+
+-- A step of array n's reshape, with what contents hold in its call: the change is made, by the book before its commit.
+pub record MakesReshape (change : Raid → Change) (Lacks : Raid → Raid → Type 0) (n : ℕ) (v w : Raid) (a b : Seen) (answered : Bool) : Type 0 where
+  pub grows : GrowsBy change Lacks v w a b answered
+  pub contents : MakesTurn (change grows.turns.mid) grows.turns.is_done (FitsReshape v n) v w a b
+
+-- that of the next rows: some of them, at least one and at most so many
 abbrev pub MovesRows : (n most : ℕ) → Raid → Raid → Seen → Seen → {E : Type 0} → Result ℕ E → Type 0
-MovesRows n most v w a b result = DoesRows (λ rows. GrowsBy (moves n rows) (Lacks (Reshape n)) v w a b) (rows_of (v.arrays n) - next_row (v.arrays n)) most result
+MovesRows n most v w a b result = DoesRows (λ rows. MakesReshape (moves n rows) (Lacks (Reshape n)) n v w a b) (rows_of (v.arrays n) - next_row (v.arrays n)) most result

@@ -7,7 +7,7 @@ ghost use Rattle.array_image.specs.Supers.{is_reshaping};
 ghost use Rattle.reshape_laws.specs.Reshapes.{lacks_joined, lacks_two};
 ghost use Rattle.raid_laws.specs.Moves.{IsHeeded, RaisesBy};
 ghost use Rattle.growth_laws.specs.Growing as spec;
-ghost use Rattle.growth_laws.specs.Growing.{Grows, Lacks, MovesRows};
+ghost use Rattle.growth_laws.specs.Growing.{Grows, Lacks, MakesReshape, MovesRows};
 ghost use Rattle.raid_rack.specs.RaidRack.{IsRunning, raid_by};
 
 use crate::arrays::{Arrays, RaidRack};
@@ -241,6 +241,7 @@ impl Arrays {
         requires heeded { IsHeeded (raid_by self.old) }
         requires due { spec.is_due (raid_by self.old) (Finish number) ≡ true }
         ensures grows { Grows (Finish number) (Lacks (Finish number)) (raid_by self.old) (raid_by self.new) (S.seen rack.old) (S.seen rack.new) result }
+        ensures contents { MakesReshape (spec.change_of (Finish number)) (Lacks (Finish number)) number (raid_by self.old) (raid_by self.new) (S.seen rack.old) (S.seen rack.new) result }
         ensures raises { RaisesBy 18 (raid_by self.old) (raid_by self.new) }
         ensures running { IsRunning self.new (S.seen rack.new) }
         ensures runs { S.runs rack.old rack.new }
@@ -318,6 +319,8 @@ impl<R: Rack> RaidRack<R> {
         ensures idle { spec.is_due (raid_in self.old) (Reshape array) ≡ false → (is_ok result ≡ false) × (self.new ≡ self.old) }
         ensures grows { spec.is_due (raid_in self.old) (Reshape array) ≡ true
             → Grows (Reshape array) (Lacks (Reshape array)) (raid_in self.old) (raid_in self.new) (slices_seen R.seen self.old) (slices_seen R.seen self.new) (is_ok result) }
+        ensures contents { spec.is_due (raid_in self.old) (Reshape array) ≡ true
+            → MakesReshape (spec.change_of (Reshape array)) (Lacks (Reshape array)) array (raid_in self.old) (raid_in self.new) (slices_seen R.seen self.old) (slices_seen R.seen self.new) (is_ok result) }
         ensures named { IfErr result (λ e. e.array ≡ array) }
         ensures fit { IsFit (arrays_in self.new) (slices_seen R.seen self.new) }
         ensures raises { RaisesBy 18 (raid_in self.old) (raid_in self.new) }
@@ -338,6 +341,8 @@ impl<R: Rack> RaidRack<R> {
         ensures idle { spec.is_due (raid_in self.old) (Finish array) ≡ false → (is_ok result ≡ false) × (self.new ≡ self.old) }
         ensures grows { spec.is_due (raid_in self.old) (Finish array) ≡ true
             → Grows (Finish array) (Lacks (Finish array)) (raid_in self.old) (raid_in self.new) (slices_seen R.seen self.old) (slices_seen R.seen self.new) (is_ok result) }
+        ensures contents { spec.is_due (raid_in self.old) (Finish array) ≡ true
+            → MakesReshape (spec.change_of (Finish array)) (Lacks (Finish array)) array (raid_in self.old) (raid_in self.new) (slices_seen R.seen self.old) (slices_seen R.seen self.new) (is_ok result) }
         ensures named { IfErr result (λ e. e.array ≡ array) }
         ensures fit { IsFit (arrays_in self.new) (slices_seen R.seen self.new) }
         ensures raises { RaisesBy 18 (raid_in self.old) (raid_in self.new) }
