@@ -1,7 +1,8 @@
 #!/usr/bin/env bash
 # The MB a second of the rebuilding of a member of a RAID-5 over three images, by `replace` and `step`, beside a C program that makes the same
-# calls on files like them: for each row of 64 KiB the reads of the other two members, the record of 227 sectors on the three logs, a sync, the
-# gates, a sync, the row with three superblocks, a sync, and the gates with a sync. No call reads or writes more than a sector.
+# commits on files like them: for each 31 rows of 64 KiB the reads of the other two members, the record of 99 sectors and the rows on the three
+# logs, a sync, the gates, a sync, the rows with three superblocks, a sync, and the gates with a sync. No call of it reads or writes more than a
+# sector.
 . "$(dirname "$(readlink -f "${BASH_SOURCE[0]}")")/program.sh"
 mebibytes=${1:-64}
 
@@ -23,6 +24,8 @@ cat >same.c <<'C'
 
 #define EXPECT(call) do { if (!(call)) { perror(#call); exit(1); } } while (0)
 
+enum { MOST = 31, CHUNK = 128 };
+
 static int disks[3];
 
 static void put(int disk, off_t sector, const unsigned char *bytes) {
@@ -37,23 +40,28 @@ static void put_all(off_t sector, const unsigned char *bytes) {
   for (int disk = 0; disk < 3; disk++) put(disk, sector, bytes);
 }
 
+static void take(int disk, off_t sector, unsigned char *bytes) {
+  EXPECT(pread(disks[disk], bytes, 512, sector * 512) == 512);
+}
+
 int main(int count, char **words) {
-  static unsigned char row[128][512], other[512], zeros[512];
+  static unsigned char batch[MOST * CHUNK][512], other[512], zeros[512];
   long rows = atol(words[1]);
   for (int disk = 0; disk < 3; disk++) EXPECT((disks[disk] = open(words[2 + disk], O_RDWR)) >= 0);
-  for (long at = 0; at < rows; at++) {
-    for (int chunk = 0; chunk < 128; chunk++) {
-      off_t sector = 12288 + at * 128 + chunk;
-      EXPECT(pread(disks[0], row[chunk], 512, sector * 512) == 512);
-      EXPECT(pread(disks[1], other, 512, sector * 512) == 512);
-      for (int byte = 0; byte < 512; byte++) row[chunk][byte] ^= other[byte];
+  for (long at = 0; at < rows; at += MOST) {
+    int sectors = (rows - at < MOST ? rows - at : MOST) * CHUNK;
+    off_t first = 12288 + at * CHUNK;
+    for (int sector = 0; sector < sectors; sector++) {
+      take(0, first + sector, batch[sector]);
+      take(1, first + sector, other);
+      for (int byte = 0; byte < 512; byte++) batch[sector][byte] ^= other[byte];
     }
-    for (int sector = 0; sector < 227; sector++) put_all(2050 + sector, row[sector % 128]);
+    for (int sector = 0; sector < 99 + sectors; sector++) put_all(2050 + sector, batch[sector % sectors]);
     sync_all();
     put_all(2049, zeros);
     sync_all();
     put_all(10248, zeros);
-    for (int chunk = 0; chunk < 128; chunk++) put(2, 12288 + at * 128 + chunk, row[chunk]);
+    for (int sector = 0; sector < sectors; sector++) put(2, first + sector, batch[sector]);
     sync_all();
     put_all(2049, zeros);
     sync_all();

@@ -1,13 +1,14 @@
 //! The changes of an array's superblocks by which a reshape goes on.
 
-ghost use Rattle.std.specs.Prelude.{◌≡◌, ◌<◌, ◌*◌, ◌-◌, ◌^◌, ℕ, true, None, length, set};
+ghost use Rattle.std.specs.Prelude.{◌≡◌, ◌<◌, ◌≤◌, ◌+◌, ◌*◌, ◌-◌, ◌^◌, ℕ, true, None, length, set};
 ghost use Rattle.array_image.specs.Supers.{is_reshaping};
 ghost use Rattle.array_image.specs.Places.{member_id};
 ghost use Rattle.md_super.specs.Profile.{is_mirror, is_raid5};
+ghost use Rattle.array_model.specs.View.{rows_of};
 ghost use Rattle.array_core.specs.Model.{is_truth};
 ghost use Rattle.array_core.specs.Seats.{seat_of};
 ghost use Rattle.array_core.specs.Superblocks.{raised};
-ghost use Rattle.reshape_laws.specs.Ahead.{ahead, begun, finished, taken_over};
+ghost use Rattle.reshape_laws.specs.Ahead.{ahead_by, begun, finished, next_row, taken_over};
 ghost use Rattle.reshape_laws.specs.Reshapes.{joining_seat, step_to};
 ghost use Rattle.array_model.specs.declared.Seat.TheVariants.{Whole};
 
@@ -94,18 +95,18 @@ pub(crate) fn taken_over(array: &Array) -> Change
     of_truth(truth)
 }
 
-/// The next row is moved.
-pub(crate) fn moved(array: &Array) -> Change
+/// So many next rows are moved.
+pub(crate) fn moved(array: &Array, rows: u64) -> Change
     requires reshaping { is_reshaping array.now.truth ≡ true }
-    requires left { array.now.truth.reshape_position < (array.now.truth.raid_disks - 1) * array.now.truth.size }
-    ensures change { result ≡ step_to array.now (ahead array.now (raised array.now.truth.events)) }
+    requires left { next_row array.now + rows ≤ rows_of array.now }
+    ensures change { result ≡ step_to array.now (ahead_by array.now rows (raised array.now.truth.events)) }
     ensures truth { is_truth result.truth ≡ true }
 {
     array.rules();
     array.truth_rules();
     let mut truth = copied(array.truth());
     truth.events = raised(truth.events);
-    truth.reshape_position += CHUNK_SECTORS * (u64::from(truth.raid_disks) - 1);
+    truth.reshape_position += CHUNK_SECTORS * rows * (u64::from(truth.raid_disks) - 1);
     of_truth(truth)
 }
 

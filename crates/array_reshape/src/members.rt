@@ -1,9 +1,10 @@
-//! Which members a step finds missing, the member that joins, and the next row.
+//! Which members a step finds missing, the member that joins, and the next rows.
 
-ghost use Rattle.std.specs.Prelude.{◌≡◌, ◌<◌, ◌-◌, ◌*◌, ◌+◌, ℕ, Option, None, nat_lt, true, false, OnOk, IfErr};
+ghost use Rattle.std.specs.Prelude.{◌≡◌, ◌<◌, ◌≤◌, ◌-◌, ◌*◌, ◌+◌, ℕ, Option, None, [], nat_lt, true, false, IfOk, OnOk, IfErr};
 ghost use Rattle.array_image.specs.Supers.{is_reshaping};
 ghost use Rattle.md_super.specs.Profile.{is_raid5};
 ghost use Rattle.array_model.specs.View.{member_on, rows_of};
+ghost use Rattle.log_laws.specs.View.{most_sectors};
 ghost use Rattle.array_core.specs.Seats.{seat_of};
 ghost use Rattle.reshape_laws.specs.Ahead.{next_row};
 ghost use Rattle.reshape_laws.specs.Reshapes.{joined, lacks_joined, lacks_two};
@@ -11,6 +12,7 @@ ghost use Rattle.reshape_laws.specs.Rows.{IsAbsent, counts_in};
 
 use crate::changes;
 use array_core::{Array, Seat, Spent};
+use commit_log::Log;
 use rack::Places;
 use raid_map::CHUNK_SECTORS;
 use shr_base::Id;
@@ -36,15 +38,16 @@ pub(crate) fn lacks_joined(array: &Array, on: &Places, place: u32) -> bool
     }
 }
 
-/// The answer to a step: it is refused where two members are missing.
-pub(crate) fn answer(array: &Array, sector: u64) -> Result<(), Spent>
+/// The answer to a step, which says what it has done: it is refused where two members are missing.
+pub(crate) fn answer<T: Copy>(array: &Array, sector: u64, done: T) -> Result<T, Spent>
+    ensures done { IfOk result (λ told. told ≡ done) }
     ensures served { OnOk result (lacks_two array.now ≡ false) }
     ensures refused { IfErr result (λ e. (e.sector ≡ sector) × (lacks_two array.now ≡ true)) }
 {
     if lacks_two(array) {
         Err(Spent { sector })
     } else {
-        Ok(())
+        Ok(done)
     }
 }
 
@@ -96,7 +99,7 @@ fn counts_in(array: &Array, row: u64, position: u32) -> bool
 pub(crate) fn absent_in(array: &Array, row: u64) -> Option<u32>
     requires row { row < rows_of array.now }
     requires few { lacks_two array.now ≡ false }
-    ensures { IsAbsent array.now row result }
+    ensures { IsAbsent array.now row row result }
 {
     array.rules();
     for position in 0..array.truth().raid_disks {
@@ -105,4 +108,35 @@ pub(crate) fn absent_in(array: &Array, row: u64) -> Option<u32>
         }
     }
     None
+}
+
+/// How many of the next rows one commit of the log moves, at most so many: those that its record holds beside a superblock of each
+/// member. Where a member counts in the first of them and not in the last it is the first alone.
+pub(crate) fn rows_at_once(
+    array: &Array,
+    log: &Log,
+    first: u64,
+    absent: Option<u32>,
+    most: u64,
+) -> u64
+    requires first { first < rows_of array.now }
+    requires few { lacks_two array.now ≡ false }
+    requires absent { IsAbsent array.now first first absent }
+    requires empty { log.now.added ≡ [] }
+    requires some { 0 < most }
+    ensures some { 0 < result }
+    ensures few { result ≤ most }
+    ensures left { first + result ≤ rows_of array.now }
+    ensures room { result * 128 * array.now.truth.raid_disks + array.now.truth.raid_disks ≤ most_sectors }
+    ensures absent { IsAbsent array.now first (first + result - 1) absent }
+{
+    array.rules();
+    let members = u64::from(array.truth().raid_disks);
+    let held = (u64::from(log.room()) - members) / (CHUNK_SECTORS * members);
+    let rows = most.min(held).min(array.rows() - first);
+    if absent_in(array, first + rows - 1) == absent {
+        rows
+    } else {
+        1
+    }
 }

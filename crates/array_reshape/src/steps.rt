@@ -12,11 +12,11 @@ ghost use Rattle.array_core.specs.Seats.{seat_of};
 ghost use Rattle.array_core.specs.Superblocks.{raised};
 ghost use Rattle.array_core.specs.Writing.{KeepsElsewhere};
 ghost use Rattle.reshape_laws.specs.Ahead.{ahead, finished, taken_over};
-ghost use Rattle.reshape_laws.specs.Reshapes.{Reshapes, joined, lacks_joined, lacks_two};
+ghost use Rattle.reshape_laws.specs.Reshapes.{Reshapes, ReshapesRows, joined, lacks_joined, lacks_two};
 
 use crate::changes;
-use crate::members::{absent_in, answer, join, lacks_joined, lacks_two, next_row};
-use crate::rows::stage_row;
+use crate::members::{absent_in, answer, join, lacks_joined, lacks_two, next_row, rows_at_once};
+use crate::new_rows::stage_rows;
 use array_core::{Array, Spent};
 use commit_log::Log;
 use rack::{Places, Rack};
@@ -53,13 +53,13 @@ pub fn take_over<R: Rack>(
     array.sync(rack);
     if lacks_two(array) {
         log.clear();
-        return answer(array, 0);
+        return answer(array, 0, ());
     }
     // A stop leaves a mirror, or RAID-5 of two members, whose parity is the data: each sector reads the same.
     let lost = log.commit(rack, on);
     array.note_all(&lost);
     array.rules();
-    let answered = answer(array, 0);
+    let answered = answer(array, 0, ());
     array.adopt(&change);
     answered
 }
@@ -105,12 +105,64 @@ pub fn begin<R: Rack>(
     // A stop leaves the members that were, or one more and no row moved: all rows go by the old layout still.
     let lost = log.commit(rack, on);
     array.note_all(&lost);
-    answer(array, 0)
+    answer(array, 0, ())
 }
 
-/// Moves the next row: it holds what the array had there, and zeros past the array's old end. One commit of the log has the row on each
-/// member that counts there when the call begins, and the superblocks with the position behind it; a row that lacks a member is
-/// computed from the others. It is refused exactly where two members are missing after the losses of this call.
+/// Moves some of the next rows, at least one and at most so many: they hold what the array had there, and zeros past the array's old
+/// end. All that they take is read before anything is written. One commit of the log has the rows on each member that counts there
+/// when the call begins, and the superblocks with the position behind them; rows that lack a member are computed from the others. The
+/// answer is how many rows were moved. It is refused exactly where two members are missing after the losses of this call.
+pub fn rows<R: Rack>(
+    array: &mut Array,
+    rack: &mut R,
+    log: &mut Log,
+    on: &Places,
+    most: u64,
+) -> Result<u64, Spent>
+    requires slices { HasSlices array.old (R.seen rack.old) }
+    requires disks { (R.seen rack.old).disks ≡ 272 }
+    requires logs { AreLogs (R.seen rack.old).sectors on.now.items }
+    requires empty { log.old.added ≡ [] }
+    requires grown { array.old.young ≡ false }
+    requires synced { array.old.resync ≡ rows_of array.old }
+    requires reshaping { is_reshaping array.old.truth ≡ true }
+    requires left { array.old.truth.reshape_position < (array.old.truth.raid_disks - 1) * array.old.truth.size }
+    requires some { 0 < most }
+    ensures reshapes { ReshapesRows array.old array.new most log.old.number log.new.number on.now.items (R.seen rack.old) (R.seen rack.new) result }
+    ensures elsewhere { KeepsElsewhere false array.old on.now.items (R.seen rack.old) (R.seen rack.new) }
+    ensures goes { Goes (R.seen rack.old) (R.seen rack.new) }
+    ensures log { (log.new ≡ emptied log.old) ⊎ (log.new ≡ committed log.old) }
+    ensures runs { R.runs rack.old rack.new }
+    ensures served { OnOk result (lacks_two array.new ≡ false) }
+    ensures refused { IfErr result (λ e. (e.sector ≡ array.old.truth.reshape_position) × (lacks_two array.new ≡ true)) }
+{
+    array.rules();
+    array.unsynced_rows();
+    let position = array.truth().reshape_position;
+    if lacks_two(array) {
+        log.clear();
+        return Err(Spent { sector: position });
+    }
+    let first = next_row(array);
+    let absent = absent_in(array, first);
+    let rows = rows_at_once(array, log, first, absent, most);
+    let change = changes::moved(array, rows);
+    array.stage(log, &change);
+    if !stage_rows(array, rack, log, first, rows, absent) {
+        log.clear();
+        return Err(Spent { sector: position });
+    }
+    // The rows are written over sectors that they were read from. A stop amid them replays them; before that the
+    // position is in front of them and the old sectors stand, after it the position is behind them.
+    let lost = log.commit(rack, on);
+    array.note_all(&lost);
+    array.rules();
+    let answered = answer(array, position, rows);
+    array.adopt(&change);
+    answered
+}
+
+/// Moves the next row, as `rows` does it.
 pub fn row<R: Rack>(
     array: &mut Array,
     rack: &mut R,
@@ -133,29 +185,10 @@ pub fn row<R: Rack>(
     ensures served { OnOk result (lacks_two array.new ≡ false) }
     ensures refused { IfErr result (λ e. (e.sector ≡ array.old.truth.reshape_position) × (lacks_two array.new ≡ true)) }
 {
-    array.rules();
-    array.unsynced_rows();
-    let position = array.truth().reshape_position;
-    if lacks_two(array) {
-        log.clear();
-        return answer(array, position);
+    match rows(array, rack, log, on, 1) {
+        Ok(_) => Ok(()),
+        Err(spent) => Err(spent),
     }
-    let row = next_row(array);
-    let absent = absent_in(array, row);
-    let change = changes::moved(array);
-    array.stage(log, &change);
-    if !stage_row(array, rack, log, row, absent) {
-        log.clear();
-        return answer(array, position);
-    }
-    // The row is written over sectors that it was read from. A stop amid them replays it; before that the position
-    // is in front of the row and the old sectors stand, after it the position is behind it.
-    let lost = log.commit(rack, on);
-    array.note_all(&lost);
-    array.rules();
-    let answered = answer(array, position);
-    array.adopt(&change);
-    answered
 }
 
 /// Ends a reshape that has no row left, by one commit of superblocks.
@@ -185,7 +218,7 @@ pub fn finish<R: Rack>(
     array.unsynced_rows();
     if lacks_two(array) {
         log.clear();
-        return answer(array, 0);
+        return answer(array, 0, ());
     }
     let change = changes::finished(array);
     array.stage(log, &change);
@@ -193,7 +226,7 @@ pub fn finish<R: Rack>(
     let lost = log.commit(rack, on);
     array.note_all(&lost);
     array.rules();
-    let answered = answer(array, 0);
+    let answered = answer(array, 0, ());
     array.adopt(&change);
     answered
 }

@@ -1,4 +1,4 @@
--- The array that a takeover, a row of a reshape or its end makes is one of the pool as well.
+-- The array that a takeover, rows of a reshape or its end make is one of the pool as well.
 use Rattle.std.proofs.Math.Nat.{mul-le-mul_right}
 use Rattle.std.proofs.Common.{◌≡◌, ℕ, length, ◌+◌, ◌-◌, ◌*◌, ◌%◌, ◌/◌, ◌<◌, ◌≤◌, ◌^◌, Bool, true, false, ◌==◌, ◌&&◌, ◌||◌, not, nat_lt, refl, sym, ap, ap₂, subst, ◌∙◌, inl, inr, lt-ltb, eq-eqb, eqb-true, ltb-true, if◌then◌else◌, arith}
 use Rattle.std.proofs.lemmas.Bool.{and_from, and_parts, both_ways, cases_Bool}
@@ -14,8 +14,8 @@ use Rattle.array_model.specs.View.{IsArray, View, is_whole_array, is_whole_seat,
 use Rattle.array_core.specs.Model.{is_truth}
 use Rattle.array_core.specs.Superblocks.{raised}
 use Rattle.array_core.proofs.Truths.{valid_truth}
-use Rattle.reshape_laws.specs.Ahead.{ahead, finished, taken_over}
-use Rattle.reshape_laws.proofs.Arrays.{ahead_array, finished_array, taken_array}
+use Rattle.reshape_laws.specs.Ahead.{ahead_by, finished, next_row, taken_over}
+use Rattle.reshape_laws.proofs.Arrays.{ahead_by_array, finished_array, taken_array}
 use Rattle.reshape_laws.proofs.Finishing.{no_mirror}
 use Rattle.reshape_laws.proofs.Taking.{stands_still}
 use Rattle.reshape_laws.proofs.Truths.{finished_profile, profile_from, profile_rules, taken_profile}
@@ -162,16 +162,16 @@ taken_sectors u events a is =
     ∙ (let one : (2 - 1) * u.truth.size ≡ u.truth.size = omega arith in one)
     ∙ sym (ap₂ (λ (b c : Bool). capacity (if b then parity (u.truth.raid_disks - 1) else if c then mirror u.truth.raid_disks else parity u.truth.raid_disks) u.truth.size) still is)
 
--- ---- a row
+-- ---- rows
 
-pub ahead_seated : (s : State) (n : ℕ) (u : View) (x : Seen) → IsSeated s n u x → is_reshaping u.truth ≡ true
-    → u.truth.reshape_position < (u.truth.raid_disks - 1) * u.truth.size → first_unsynced u.truth ≡ u.resync → u.young ≡ false
-    → IsSeated s n (ahead u (raised u.truth.events)) x
-ahead_seated s n u x seated reshaping left rows young =
+pub ahead_seated : (s : State) (n many : ℕ) (u : View) (x : Seen) → IsSeated s n u x → is_reshaping u.truth ≡ true
+    → next_row u + many ≤ rows_of u → first_unsynced u.truth ≡ u.resync → u.young ≡ false
+    → IsSeated s n (ahead_by u many (raised u.truth.events)) x
+ahead_seated s n many u x seated reshaping left rows young =
     let a = seated.is_array in
     let pool = seated.is_of_pool in
     let events = raised_low u.truth.events pool.events pool.events_end in
-    let array = ahead_array u (raised u.truth.events) a reshaping left in
+    let array = ahead_by_array u many (raised u.truth.events) a reshaping left in
     let next = array.reshape reshaping in
     record {
       is_array = array;
@@ -186,7 +186,7 @@ ahead_seated s n u x seated reshaping left rows young =
         row = or_right (not (is_reshaping u.truth)) _
             (and_from (is_raid5 u.truth) _ next.0
             (and_from (nat_lt 2 u.truth.raid_disks) _ (lt-ltb 2 u.truth.raid_disks (let three = next.1 in omega (arith, three)))
-            (eq-eqb ((u.truth.reshape_position + new_row u.truth) % new_row u.truth) 0 next.2)));
+            (eq-eqb ((u.truth.reshape_position + 128 * many * (u.truth.raid_disks - 1)) % new_row u.truth) 0 next.2)));
         roles = pool.roles;
         unsynced = pool.unsynced;
         synced = λ old part. inl rows;
@@ -248,12 +248,12 @@ taken_may v x n set heeded rest is = record {
   whole = λ marked. absurd (both_ways (v.arrays n).marked rest.unmarked marked);
 }
 
-pub ahead_may : (v : Raid) (x : Seen) (n : ℕ) → IsSet v x → IsHeeded v → IsAtRest v n → is_reshaping (v.arrays n).truth ≡ true
-    → (v.arrays n).truth.reshape_position < ((v.arrays n).truth.raid_disks - 1) * (v.arrays n).truth.size
-    → MayBecome v n (ahead (v.arrays n) (raised (v.arrays n).truth.events)) x
-ahead_may v x n set heeded rest reshaping left = record {
+pub ahead_may : (v : Raid) (x : Seen) (n many : ℕ) → IsSet v x → IsHeeded v → IsAtRest v n → is_reshaping (v.arrays n).truth ≡ true
+    → next_row (v.arrays n) + many ≤ rows_of (v.arrays n)
+    → MayBecome v n (ahead_by (v.arrays n) many (raised (v.arrays n).truth.events)) x
+ahead_may v x n many set heeded rest reshaping left = record {
   low = rest.low;
-  seated = ahead_seated v.state n (v.arrays n) x (set.arrays n rest.low) reshaping left rest.rows rest.grown;
+  seated = ahead_seated v.state n many (v.arrays n) x (set.arrays n rest.low) reshaping left rest.rows rest.grown;
   went = heeded n rest.low;
   whole = λ marked. absurd (both_ways (v.arrays n).marked rest.unmarked marked);
 }

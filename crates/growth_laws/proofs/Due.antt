@@ -1,5 +1,5 @@
 -- What a work that is due makes of its array is an array of the pool, and short enough.
-use Rattle.std.proofs.Common.{◌≡◌, ℕ, ◌<◌, true, false, ◌==◌, ◌&&◌, not, nat_lt, is_none, length, Option, Some, None, refl, ltb-true}
+use Rattle.std.proofs.Common.{◌≡◌, ℕ, ◌+◌, ◌<◌, ◌≤◌, true, false, ◌==◌, ◌&&◌, not, nat_lt, is_none, length, Option, Some, None, refl, ltb-true}
 use Rattle.std.proofs.lemmas.Bool.{and_parts, both_ways}
 use Rattle.rack.specs.Seen.{Seen}
 use Rattle.shr_base.specs.declared.Id.{Id}
@@ -7,10 +7,10 @@ use Rattle.md_super.specs.Profile.{is_mirror, is_raid5}
 use Rattle.pool_state.specs.declared.contents.Work.TheVariants.{Begin, Finish, Reshape, TakeOver}
 use Rattle.array_image.specs.States.{current_places}
 use Rattle.array_image.specs.Supers.{is_reshaping}
-use Rattle.array_model.specs.View.{View}
+use Rattle.array_model.specs.View.{View, rows_of}
 use Rattle.array_core.specs.Seats.{seat_of}
 use Rattle.array_core.specs.Superblocks.{raised}
-use Rattle.reshape_laws.specs.Ahead.{ahead, finished, taken_over}
+use Rattle.reshape_laws.specs.Ahead.{ahead_by, finished, next_row, taken_over}
 use Rattle.reshape_laws.specs.Reshapes.{joined}
 use Rattle.raid_laws.specs.Moves.{IsHeeded, IsSet}
 use Rattle.raid_laws.specs.Raid.{Raid}
@@ -81,19 +81,23 @@ may_begin v x n place drive set heeded due clean slice =
       longer = step_as_long v n (joined u (current_places v.state) place drive) (joined_sectors v.state n u place drive x is);
     }
 
--- a row
-abbrev pub moved : Raid → ℕ → View
-moved v n = ahead (v.arrays n) (raised (v.arrays n).truth.events)
+-- so many rows
+abbrev pub moved : ℕ → Raid → ℕ → View
+moved rows v n = ahead_by (v.arrays n) rows (raised (v.arrays n).truth.events)
 
-pub may_move : (v : Raid) (x : Seen) (n : ℕ) → IsSet v x → IsHeeded v → is_due v (Reshape n) ≡ true → MayDo v n moved x
-may_move v x n set heeded due =
+pub move_low : (v : Raid) (n : ℕ) → is_due v (Reshape n) ≡ true → n < v.state.made
+move_low v n due = (synced_parts v n (and_parts (is_synced v n) _ due).0).low
+
+pub may_move : (v : Raid) (x : Seen) (n rows : ℕ) → IsSet v x → IsHeeded v → is_due v (Reshape n) ≡ true → next_row (v.arrays n) + rows ≤ rows_of (v.arrays n)
+    → MayDo v n (moved rows) x
+may_move v x n rows set heeded due left =
     let u = v.arrays n in
     let both = and_parts (is_synced v n) _ due in
     let row = and_parts (is_reshaping u.truth) (nat_lt u.truth.reshape_position (whole_position u)) both.1 in
     let rest = reshaping_rests v x n set heeded (synced_parts v n both.0) row.0 in
     record {
-      becomes = ahead_may v x n set heeded rest row.0 (ltb-true u.truth.reshape_position (whole_position u) row.1);
-      longer = step_as_long v n (moved v n) refl;
+      becomes = ahead_may v x n rows set heeded rest row.0 left;
+      longer = step_as_long v n (moved rows v n) refl;
     }
 
 -- the end of a reshape

@@ -7,6 +7,9 @@ pub mod Becoming
 pub mod Beginning
 pub mod Room
 pub mod Due
+pub mod Turning
+pub mod ReshapeMakes
+pub mod ReshapeDue
 pub mod Stating
 pub mod Listing
 pub mod Reached

@@ -2,7 +2,6 @@
 use Rattle.std.proofs.Common.{◌≡◌, ℕ, ◌<◌, ◌≤◌, Bool, true, false, not, if◌then◌else◌, [], refl, sym, ap, subst, ◌∙◌, inl, inr, eq-eqb, ne_eqb, arith}
 use Rattle.std.proofs.lemmas.Bool.{and_parts, both_ways, cases_Bool, cases_eq}
 use Rattle.rack.specs.Seen.{Rose, Seen, Stays}
-use Rattle.pool_state.specs.declared.contents.Work.{Work}
 use Rattle.array_image.specs.States.{is_current}
 use Rattle.array_model.specs.View.{View, is_whole_array, sectors_of}
 use Rattle.array_model.specs.Members.{Notes}
@@ -12,11 +11,12 @@ use Rattle.raid_laws.specs.Moves.{AreCaused, IsHeeded, IsSeated, IsSet, Mends}
 use Rattle.raid_laws.specs.Raid.{Raid, gone_in, is_left}
 use Rattle.raid_laws.proofs.Changed.{called, caused, further, keeps_arrays, left_before, views_set}
 use Rattle.raid_laws.proofs.Moving.{caused_then}
-use Rattle.raid_laws.proofs.Views.{MayRestate, views_notes}
+use Rattle.raid_laws.proofs.Views.{MayRestate, NotesOne, views_notes}
 use Rattle.raid_laws.proofs.Whole.{heeded_left, heeded_whole}
 use Rattle.growth_laws.specs.Losses.{LosesBook}
 use Rattle.transition_laws.specs.Changes.{Change, changed, steps}
-use Rattle.growth_laws.specs.Growing.{GetsLonger, Grows, GrowsBy, change_of}
+use Rattle.transition_laws.specs.Reshaping.{FitsReshape}
+use Rattle.growth_laws.specs.Growing.{GetsLonger, GrowsBy, MakesReshape, MakesTurn}
 use Rattle.growth_laws.proofs.Losing.{as_long, loses_as_long, loses_book_then, loses_nothing, longer_then, mends_lose, moves_caused}
 
 -- ---- the book once a step is done
@@ -69,9 +69,9 @@ pub record LosesIn (v w : Raid) (a b : Seen) : Type 0 where
   pub caused : AreCaused v w a b
 
 -- whoever went in a call of array m is noted in it
-pub notes_lose : (v : Raid) (f : ℕ → View) (m number : ℕ) (a b : Seen) → IsSet v a → m < v.state.made → Stays a b → v.number ≤ number
-    → ((n : ℕ) → (n ≡ m → ⊥) → f n ≡ v.arrays n) → Notes (v.arrays m) (f m) a b → LosesIn v (called v f number) a b
-notes_lose v f m number a b set low stays later others notes =
+pub notes_views : (v : Raid) (f : ℕ → View) (m : ℕ) (a b : Seen) → IsSet v a → m < v.state.made → Stays a b
+    → ((n : ℕ) → (n ≡ m → ⊥) → f n ≡ v.arrays n) → Notes (v.arrays m) (f m) a b → NotesOne v f m a b
+notes_views v f m a b set low stays others notes =
     let u = v.arrays m in
     let pool = (set.arrays m low).is_of_pool in
     let may : MayRestate u u.truth.events u.truth.resync_offset = record {
@@ -82,7 +82,12 @@ notes_lose v f m number a b set low stays later others notes =
       unsynced = pool.unsynced;
       synced = λ young part rows. rows;
     } in
-    let one = views_notes v f m a b u.truth.events u.truth.resync_offset u.marked set low stays others may (λ marked. inl marked) notes in
+    views_notes v f m a b u.truth.events u.truth.resync_offset u.marked set low stays others may (λ marked. inl marked) notes
+
+pub notes_lose : (v : Raid) (f : ℕ → View) (m number : ℕ) (a b : Seen) → IsSet v a → m < v.state.made → Stays a b → v.number ≤ number
+    → ((n : ℕ) → (n ≡ m → ⊥) → f n ≡ v.arrays n) → Notes (v.arrays m) (f m) a b → LosesIn v (called v f number) a b
+notes_lose v f m number a b set low stays later others notes =
+    let one = notes_views v f m a b set low stays others notes in
     record {
       set = views_set v f m a b set one.views number;
       book = record {
@@ -172,10 +177,10 @@ caused_rising v w z a b c first second one two = record {
     rose_before x y n up (inr most) = inr (omega (arith, up, most))
 
 -- the call, and the mending after it
-pub grows_one : (work : Work) (Lacks : Raid → Raid → Type 0) (v u w : Raid) (m : ℕ) (next : View) (a b c : Seen) (is_done answered : Bool)
-    → change_of work v ≡ steps m next → Stays a b → CallsTo v u m next a b is_done → (answered ≡ true → is_done ≡ true) → Mends u w b c
-    → GetsLonger v (changed (steps m next) v) → (answered ≡ false → Lacks v w) → Grows work Lacks v w a c answered
-grows_one work Lacks v u w m next a b c is_done answered change stays call answer mends longer refused =
+pub grows_one : (change : Raid → Change) (Lacks : Raid → Raid → Type 0) (v u w : Raid) (m : ℕ) (next : View) (a b c : Seen) (is_done answered : Bool)
+    → change v ≡ steps m next → Stays a b → CallsTo v u m next a b is_done → (answered ≡ true → is_done ≡ true) → Mends u w b c
+    → GetsLonger v (changed (steps m next) v) → (answered ≡ false → Lacks v w) → GrowsBy change Lacks v w a c answered
+grows_one change Lacks v u w m next a b c is_done answered change_is stays call answer mends longer refused =
     let after = loses_book_then (if_done is_done v (changed (steps m next) v)) u w call.book (mends_lose u w b c mends) in
     record {
       turns = record {
@@ -183,7 +188,7 @@ grows_one work Lacks v u w m next a b c is_done answered change stays call answe
         before = loses_nothing v;
         is_done = is_done;
         answer = answer;
-        after = subst (λ (k : Change). LosesBook (if_done is_done v (changed k v)) w) (sym change) after;
+        after = subst (λ (k : Change). LosesBook (if_done is_done v (changed k v)) w) (sym change_is) after;
         refused = refused;
       };
       caused = caused_then v u w a b c stays mends.moves.stays call.caused (moves_caused u w b c mends.moves);
@@ -191,6 +196,17 @@ grows_one work Lacks v u w m next a b c is_done answered change stays call answe
       longer = longer_then v (if_done is_done v (changed (steps m next) v)) w (if_longer v (changed (steps m next) v) is_done longer)
           (loses_as_long (if_done is_done v (changed (steps m next) v)) w after);
     }
+
+-- so it is with what contents hold in it
+pub reshapes_one : (change : Raid → Change) (Lacks : Raid → Raid → Type 0) (v u w : Raid) (m : ℕ) (next : View) (a b c : Seen) (is_done answered : Bool)
+    → change v ≡ steps m next → Stays a b → CallsTo v u m next a b is_done → (answered ≡ true → is_done ≡ true) → Mends u w b c
+    → GetsLonger v (changed (steps m next) v) → (answered ≡ false → Lacks v w) → MakesTurn (steps m next) is_done (FitsReshape v m) v w a c
+    → MakesReshape change Lacks m v w a c answered
+unfolding grows_one
+reshapes_one change Lacks v u w m next a b c is_done answered change_is stays call answer mends longer refused turn = record {
+  grows = grows_one change Lacks v u w m next a b c is_done answered change_is stays call answer mends longer refused;
+  contents = subst (λ (k : Change). MakesTurn k is_done (FitsReshape v m) v w a c) (sym change_is) turn;
+}
 
 -- losses before it, with whatever it is refused for by the book after them
 pub grows_behind : (change : Raid → Change) (Lacks More : Raid → Raid → Type 0) (v u w : Raid) (a b c : Seen) (answered : Bool) → FaultsRise a b → FaultsRise b c → LosesBook v u

@@ -1,7 +1,8 @@
 -- The works of a growth: when each is due, what it changes, and what a call of it does to the book.
-use Rattle.std.specs.Prelude.{◌≡◌, ◌⊎◌, ℕ, ◌+◌, ◌-◌, ◌*◌, ◌<◌, ◌≤◌, ◌^◌, Bool, true, false, ◌==◌, ◌&&◌, ◌||◌, not, nat_le, nat_lt, List, is_none, length, count_by, sum_by}
+use Rattle.std.specs.Prelude.{◌≡◌, ◌⊎◌, ℕ, ◌+◌, ◌-◌, ◌*◌, ◌<◌, ◌≤◌, ◌^◌, Bool, true, false, ◌==◌, ◌&&◌, ◌||◌, not, nat_le, nat_lt, List, ◌∷◌, ◌++◌, is_none, length, Result, count_by, sum_by}
 use Rattle.std.specs.List.{range_with_len}
 use Rattle.rack.specs.Seen.{Seen}
+use Rattle.rack.specs.Values.{Values}
 use Rattle.md_super.specs.Profile.{is_mirror, is_raid5}
 use Rattle.pool_state.specs.declared.contents.Work.{Work}
 use Rattle.pool_state.specs.declared.contents.Work.TheVariants.{Resync, Rebuild, TakeOver, Begin, Reshape, Finish, Make, Zero, Ready, Extend, Close}
@@ -13,8 +14,8 @@ use Rattle.array_model.specs.View.{View, rows_of, sectors_of}
 use Rattle.array_core.specs.Seats.{seat_of}
 use Rattle.array_core.specs.Superblocks.{raised}
 use Rattle.sync_laws.specs.Rows.{lacks_two as lacks_two_in}
-use Rattle.sync_laws.specs.Steps.{if_done, rebuilt, resynced, zeroed}
-use Rattle.reshape_laws.specs.Ahead.{ahead, finished, taken_over}
+use Rattle.sync_laws.specs.Steps.{DoesRows, if_done, rebuilt, resynced, zeroed}
+use Rattle.reshape_laws.specs.Ahead.{ahead_by, finished, next_row, taken_over}
 use Rattle.reshape_laws.specs.Reshapes.{joined, lacks_joined, lacks_two}
 use Rattle.raid_laws.specs.Moves.{AreCaused, IsHeeded}
 use Rattle.raid_laws.specs.NewDrive.{first_in, slice_length}
@@ -22,6 +23,9 @@ use Rattle.raid_laws.specs.Raid.{Raid, is_empty, is_used_up}
 pub use Rattle.growth_laws.specs.NewArrays.{drive_id, may_make, reaching, views_of}
 use Rattle.growth_laws.specs.Losses.{LosesBook}
 use Rattle.transition_laws.specs.Changes.{Change, changed, closed, makes, readied, steps}
+use Rattle.transition_laws.specs.Losses.{AreLosses}
+use Rattle.transition_laws.specs.Makes.{Makes}
+use Rattle.transition_laws.specs.Reshaping.{FitsReshape}
 
 -- ---- which can be done
 
@@ -103,13 +107,17 @@ pub record HasJoiningSlice (v : Raid) (n place : ℕ) (x : Seen) : Type 0 where
 
 -- ---- what it changes
 
+-- so many next rows of a reshape are moved
+abbrev pub moves : ℕ → ℕ → Raid → Change
+moves n rows v = steps n (ahead_by (v.arrays n) rows (raised (v.arrays n).truth.events))
+
 -- what it changes, by the book before the commit; the volume's extension changes no array, and what is made hangs on the time too
 abbrev pub change_of : Work → Raid → Change
 change_of (Resync n) v = steps n (resynced (v.arrays n) 1)
 change_of (Rebuild n place) v = steps n (rebuilt (v.arrays n) place 1)
 change_of (TakeOver n) v = steps n (taken_over (v.arrays n) (raised (v.arrays n).truth.events))
 change_of (Begin n place) v = steps n (joined (v.arrays n) (current_places v.state) place (drive_id v.state place))
-change_of (Reshape n) v = steps n (ahead (v.arrays n) (raised (v.arrays n).truth.events))
+change_of (Reshape n) v = moves n 1 v
 change_of (Finish n) v = steps n (finished (v.arrays n) (raised (v.arrays n).truth.events))
 change_of (Make n height) v = makes (v.arrays v.state.made)
 change_of (Zero n) v = steps n (zeroed (v.arrays n) 1)
@@ -150,3 +158,27 @@ pub record GrowsBy (change : Raid → Change) (Lacks : Raid → Raid → Type 0)
 -- that of a work
 abbrev pub Grows : Work → (Raid → Raid → Type 0) → Raid → Raid → Seen → Seen → Bool → Type 0
 Grows work Lacks v w a b answered = GrowsBy (change_of work) Lacks v w a b answered
+
+-- ---- what contents hold in it
+
+-- A change of the book between losses, where it is done: this is all that calls make of the book, of values that fit. So at each moment a stop leaves
+-- contents that hold the book before the change or after it, but for losses, with these values, and then the run stands by the last book.
+pub record MakesTurn (change : Change) (is_done : Bool) (Fits : (ℕ → ℕ → Values) → Type 0) (v w : Raid) (a b : Seen) : Type 0 where
+  pub before : List Change
+  pub after : List Change
+  pub losses_before : AreLosses before
+  pub losses_after : AreLosses after
+  pub makes : (vals : ℕ → ℕ → Values) → Fits vals → Makes (before ++ if_done is_done after (change ∷ after)) v v w vals vals a b
+
+-- of any values
+abbrev pub AnyValues : (ℕ → ℕ → Values) → Type 0
+AnyValues vals = Unit {0}
+
+-- A step of array n's reshape, with what contents hold in its call: the change is made, by the book before its commit.
+pub record MakesReshape (change : Raid → Change) (Lacks : Raid → Raid → Type 0) (n : ℕ) (v w : Raid) (a b : Seen) (answered : Bool) : Type 0 where
+  pub grows : GrowsBy change Lacks v w a b answered
+  pub contents : MakesTurn (change grows.turns.mid) grows.turns.is_done (FitsReshape v n) v w a b
+
+-- that of the next rows: some of them, at least one and at most so many
+abbrev pub MovesRows : (n most : ℕ) → Raid → Raid → Seen → Seen → {E : Type 0} → Result ℕ E → Type 0
+MovesRows n most v w a b result = DoesRows (λ rows. MakesReshape (moves n rows) (Lacks (Reshape n)) n v w a b) (rows_of (v.arrays n) - next_row (v.arrays n)) most result

@@ -1,35 +1,42 @@
 -- The code of a growth: a call of one array that makes another one of it, and the mending after it.
-use Rattle.std.proofs.Common.{◌&&◌, ◌≡◌, ◌⊎◌, ℕ, ◌+◌, ◌-◌, ◌<◌, ◌≤◌, Bool, true, false, ◌||◌, not, List, map, set, length, get_or, Result, Ok, Err, is_ok, IfErr, refl, sym, ap, subst, ◌∙◌, inl, inr, le-ltb, arith}
+use Rattle.std.proofs.Common.{◌&&◌, ◌≡◌, ◌⊎◌, ℕ, ◌+◌, ◌-◌, ◌<◌, ◌≤◌, Bool, true, false, ◌||◌, not, nat_lt, List, map, set, length, get_or, Result, Ok, Err, is_ok, IfOk, IfErr, refl, sym, ap, subst, ◌∙◌, inl, inr, le-ltb, arith}
 use Rattle.std.proofs.lemmas.Bool.{both_ways, cases_Bool, ltb-false}
 use Rattle.std.proofs.lemmas.List.{same_lists}
 use Rattle.std.proofs.lemmas.Option.{slice_get-get_or}
 use Rattle.std.proofs.lemmas.List.FromFn.{get_or-map-range_with_len, length-map-range_with_len}
-use Rattle.std.specs.List.{range_with_len}
+use Rattle.std.specs.List.{list_all, range_with_len}
 use Rattle.arrayvec.specs.ArrayVec.{ArrayVec}
 use Rattle.rack.specs.Seen.{Seen, Stays}
-use Rattle.pool_state.specs.declared.contents.Work.{Work}
+use Rattle.pool_state.specs.declared.contents.Work.TheVariants.{Reshape}
 use Rattle.array_image.specs.Places.{log_sectors, log_slice}
 use Rattle.array_image.specs.Spent.{wanting}
 use Rattle.array_image.specs.States.{current_places}
 use Rattle.log_laws.specs.View.{LogView}
-use Rattle.array_model.specs.View.{View, member_on}
+use Rattle.array_model.specs.View.{View, has_gone, member_on, rows_of}
+use Rattle.array_core.specs.Pool.{Goes}
 use Rattle.array_model.specs.Members.{members_of}
 use Rattle.array_core.specs.Superblocks.{raised}
 use Rattle.sync_laws.specs.Steps.{Stepped, as_it_was, done, if_done}
 use Rattle.shr_base.specs.declared.Id.{Id}
-use Rattle.reshape_laws.specs.Reshapes.{joined, lacks_two}
+use Rattle.reshape_laws.specs.Ahead.{next_row}
+use Rattle.reshape_laws.specs.Reshapes.{Reshapes, joined, lacks_two}
 use Rattle.raid_laws.specs.Moves.{IsHeeded, LosesOnly, Mends}
 use Rattle.raid_laws.specs.Raid.{Raid}
 use Rattle.raid_laws.proofs.Noted.{current_few}
 use Rattle.raid_laws.proofs.Whole.{heeded_left}
-use Rattle.transition_laws.specs.Changes.{changed, steps}
-use Rattle.growth_laws.specs.Growing.{GetsLonger, Grows, change_of, is_ended, lacks, views_of}
-use Rattle.growth_laws.proofs.Steps.{CallsTo, MayBecome, calls_to, grows_one}
+use Rattle.transition_laws.specs.Changes.{Change, changed, steps}
+use Rattle.growth_laws.specs.Growing.{GetsLonger, GrowsBy, Lacks, MakesReshape, MakesTurn, MovesRows, is_ended, lacks, moves, views_of}
+use Rattle.transition_laws.specs.Reshaping.{FitsReshape}
+use Rattle.growth_laws.proofs.Becoming.{IsAtRest}
+use Rattle.growth_laws.proofs.ReshapeMakes.{KeepsMembers, ReshapeCall}
+use Rattle.growth_laws.proofs.Steps.{CallsTo, MayBecome, calls_to, grows_one, reshapes_one}
 use Rattle.raid_rack.specs.declared.arrays.Arrays.{Arrays}
+use Rattle.raid_rack.specs.declared.works.Stuck.{Stuck}
 use Rattle.raid_rack.specs.RaidRack.{IsRunning, no_array, raid_by}
 use Rattle.raid_rack.proofs.Mended.{not_of_false, not_of_true, on_named}
 use Rattle.raid_rack.proofs.Raises.{raised_up}
-use Rattle.raid_rack.proofs.Resynced.{wanting_less}
+use Rattle.raid_rack.proofs.Resynced.{done_alone, told_rows, wanting_less}
+use Rattle.raid_rack.proofs.Sent.{low_named}
 use Rattle.raid_rack.proofs.Steps.{length_set, same_element, set_other, set_own}
 
 -- the arrays below `made` are the list
@@ -122,26 +129,114 @@ pub step_events : (old next u : View) (x y : Seen) (is_done : Bool) → next.tru
 step_events old next u x y false is (as_it_was notes) = let e = ap (λ t. t.events) notes.same.truth in omega (arith, e)
 step_events old next u x y true is (done notes) = let e = ap (λ t. t.events) notes.same.truth in let up = raised_up old.truth.events in omega (arith, e, is, up)
 
+-- the call makes no array
+called_made : (a b : Arrays) (x y : Seen) (n : ℕ) (next : View) (is_done : Bool) → HasCalled a b x y n next is_done → b.state.made ≡ a.state.made
+called_made a b x y n next is_done called = by is_done called.calls.book.marks.same.made
+  where
+    by : (e : Bool) → b.state.made ≡ (if_done e (raid_by a) (changed (steps n next) (raid_by a))).state.made → b.state.made ≡ a.state.made
+    by true same = same
+    by false same = same
+
+-- where it is so after the mending, the call wasn't refused
+called_ok : (a b c : Arrays) (x y z : Seen) (n : ℕ) (next u : View) (is_done ok : Bool) → n < a.state.made → HasCalled a b x y n next is_done → get_or b.all.items n no_array ≡ u
+    → (ok ≡ false → lacks_two u ≡ true) → Mends (raid_by b) (raid_by c) y z → lacks (raid_by c) n ≡ false → ok ≡ true
+called_ok a b c x y z n next u is_done ok low called own refused mends none =
+    let there : n < b.state.made = subst (λ k. n < k) (sym (called_made a b x y n next is_done called)) low in
+    done_by u (raid_by c) n ok refused (subst (λ (k : View). LosesOnly k ((raid_by c).arrays n)) own (mends.moves.arrays n there)) none
+
 -- THE CALL AND THE MENDING AFTER IT, where it is answered by what the array lacks then
-pub grows_answered : (work : Work) (Lacking : Raid → Raid → Type 0) (a b c : Arrays) (x y z : Seen) (n : ℕ) (next u : View) (is_done ok answered : Bool)
-    → change_of work (raid_by a) ≡ steps n next → n < a.state.made → HasCalled a b x y n next is_done → get_or b.all.items n no_array ≡ u
+pub grows_answered : (change : Raid → Change) (Lacking : Raid → Raid → Type 0) (a b c : Arrays) (x y z : Seen) (n : ℕ) (next u : View) (is_done ok answered : Bool)
+    → change (raid_by a) ≡ steps n next → n < a.state.made → HasCalled a b x y n next is_done → get_or b.all.items n no_array ≡ u
     → (ok ≡ true → is_done ≡ true) → (ok ≡ false → lacks_two u ≡ true) → Mends (raid_by b) (raid_by c) y z → GetsLonger (raid_by a) (changed (steps n next) (raid_by a))
     → answered ≡ not (lacks (raid_by c) n) → (lacks (raid_by c) n ≡ true → Lacking (raid_by a) (raid_by c))
-    → Grows work Lacking (raid_by a) (raid_by c) x z answered
-grows_answered work Lacking a b c x y z n next u is_done ok answered change low called own answer refused mends longer is lacking =
-    let there : n < b.state.made =
-    subst (λ k. n < k) (sym (made_if is_done)) low in
-    grows_one work Lacking (raid_by a) (raid_by b) (raid_by c) n next x y z is_done answered change called.stays called.calls
-    (λ done_is. answer (done_by u (raid_by c) n ok refused
-    (subst (λ (k : View). LosesOnly k ((raid_by c).arrays n)) own (mends.moves.arrays n there)) (not_of_true (lacks (raid_by c) n) (sym is ∙ done_is))))
+    → GrowsBy change Lacking (raid_by a) (raid_by c) x z answered
+grows_answered change Lacking a b c x y z n next u is_done ok answered change_is low called own answer refused mends longer is lacking =
+    grows_one change Lacking (raid_by a) (raid_by b) (raid_by c) n next x y z is_done answered change_is called.stays called.calls
+    (λ done_is. answer (called_ok a b c x y z n next u is_done ok low called own refused mends (not_of_true (lacks (raid_by c) n) (sym is ∙ done_is))))
     mends longer (λ refuses. lacking (not_of_false (lacks (raid_by c) n) (sym is ∙ refuses)))
+
+-- ---- a step of a reshape, and what contents hold in it
+
+pub reshape_call : (step : View → View) (a : Arrays) (all : ArrayVec View) (log : LogView) (x y : Seen) (n number : ℕ) (old u : View) (on : List ℕ) (answered : Bool)
+    → IsRunning a x → IsHeeded (raid_by a) → IsAtRest (raid_by a) n → MayBecome (raid_by a) n (step ((raid_by a).arrays n)) x
+    → KeepsMembers ((raid_by a).arrays n) (step ((raid_by a).arrays n)) → old ≡ get_or a.all.items n no_array → all.items ≡ set a.all.items n u
+    → number ≡ a.log.number → number ≤ log.number → on ≡ current_places a.state → list_all (λ place. nat_lt place 16) u.went ≡ true → Goes x y
+    → Reshapes old (step old) u number log.number on x y answered
+    → ReshapeCall (raid_by a) (λ k. get_or all.items k no_array) (step ((raid_by a).arrays n)) log.number n x y on answered
+reshape_call step a all log x y n number old u on answered running heeded rest may keeps old_is all_is number_is later on_is few goes reshapes =
+    let f : ℕ → View = λ k. get_or all.items k no_array in
+    let v = raid_by a in
+    let low = rest.low in
+    let own : f n ≡ u = called_own a all n u running.count low all_is in
+    record {
+      set = running.set;
+      heeded = heeded;
+      rest = rest;
+      may = may;
+      keeps = keeps;
+      others = λ k other. ap (λ ys. get_or ys k no_array) all_is ∙ set_other a.all.items n k u no_array other;
+      goes = goes;
+      later = subst (λ k. k ≤ log.number) number_is later;
+      on_is = on_is;
+      few = λ p went. low_named u.went p few (subst (λ (z : View). has_gone z p ≡ true) own went);
+      reshapes =
+          subst (λ (z : View). Reshapes z (step z) (f n) v.number log.number on x y answered) old_is
+          (subst (λ (z : View). Reshapes old (step old) z v.number log.number on x y answered) (sym own)
+          (subst (λ k. Reshapes old (step old) u k log.number on x y answered) number_is reshapes));
+    }
+
+pub reshape_answered : (change : Raid → Change) (Lacking : Raid → Raid → Type 0) (a c : Arrays) (all : ArrayVec View) (log : LogView) (x y z : Seen) (n : ℕ) (next u : View) (on : List ℕ) (ok answered : Bool)
+    (call : ReshapeCall (raid_by a) (λ k. get_or all.items k no_array) next log.number n x y on ok) → change (raid_by a) ≡ steps n next → get_or all.items n no_array ≡ u
+    → (ok ≡ false → lacks_two u ≡ true) → Mends (raid_by (record a { all = all; log = log })) (raid_by c) y z → GetsLonger (raid_by a) (changed (steps n next) (raid_by a))
+    → answered ≡ not (lacks (raid_by c) n) → (lacks (raid_by c) n ≡ true → Lacking (raid_by a) (raid_by c))
+    → MakesTurn (steps n next) call.reshapes.steps.is_done (FitsReshape (raid_by a) n) (raid_by a) (raid_by c) x z
+    → MakesReshape change Lacking n (raid_by a) (raid_by c) x z answered
+reshape_answered change Lacking a c all log x y z n next u on ok answered call change_is own refused mends longer is lacking turn =
+    let f : ℕ → View = λ k. get_or all.items k no_array in
+    let is_done = call.reshapes.steps.is_done in
+    let calls =
+    calls_to (raid_by a) f n log.number next x y is_done
+    (record { set = call.set; heeded = call.heeded; may = call.may; others = call.others; stays = call.goes.stays; later = call.later; view = call.reshapes.steps.view }) in
+    reshapes_one change Lacking (raid_by a) (raid_by (record a { all = all; log = log })) (raid_by c) n next x y z is_done answered change_is call.goes.stays calls
+    (λ done_is. call.reshapes.steps.answer (done_by u (raid_by c) n ok refused
+    (subst (λ (k : View). LosesOnly k ((raid_by c).arrays n)) own (mends.moves.arrays n call.may.low)) (not_of_true (lacks (raid_by c) n) (sym is ∙ done_is))))
+    mends longer (λ refuses. lacking (not_of_false (lacks (raid_by c) n) (sym is ∙ refuses))) turn
+
+-- THE SAME FOR ROWS, where it is answered how many they are
+pub rows_answered : (a c : Arrays) (all : ArrayVec View) (log : LogView) (x y z : Seen) (n most : ℕ) (next : ℕ → View) (u : View) (on : List ℕ) {E : Type 0} (did : Result ℕ E) (result : Result ℕ Stuck) (rows : ℕ)
+    → 0 < rows → rows ≤ most → rows ≤ rows_of ((raid_by a).arrays n) - next_row ((raid_by a).arrays n) → IfOk did (λ k. k ≡ rows)
+    → (call : ReshapeCall (raid_by a) (λ k. get_or all.items k no_array) (next rows) log.number n x y on (is_ok did)) → moves n rows (raid_by a) ≡ steps n (next rows) → get_or all.items n no_array ≡ u
+    → (is_ok did ≡ false → lacks_two u ≡ true) → Mends (raid_by (record a { all = all; log = log })) (raid_by c) y z → GetsLonger (raid_by a) (changed (steps n (next rows)) (raid_by a))
+    → (stuck : Bool) → stuck ≡ lacks (raid_by c) n → IfOk result (λ k. (did ≡ Ok k) × (stuck ≡ false)) → IfErr result (λ e. (is_ok did ≡ false) ⊎ (stuck ≡ true))
+    → MakesTurn (steps n (next rows)) call.reshapes.steps.is_done (FitsReshape (raid_by a) n) (raid_by a) (raid_by c) x z
+    → MovesRows n most (raid_by a) (raid_by c) x z result
+rows_answered a c all log x y z n most next u on did result rows some few left number call change_is own refused mends longer stuck stuck_is told refuses turn = record {
+  rows = rows;
+  some = some;
+  few = few;
+  left = left;
+  steps =
+      reshape_answered (moves n rows) (Lacks (Reshape n)) a c all log x y z n (next rows) u on (is_ok did) (is_ok result) call change_is own refused mends longer
+      (by result told refuses) (λ lacking. lacking) turn;
+  answer = told_rows did rows result number (done_alone did stuck result told);
+}
   where
-    made_if : (d : Bool) → b.state.made ≡ a.state.made
-    made_if d = by is_done called.calls.book.marks.same.made
-      where
-        by : (e : Bool) → b.state.made ≡ (if_done e (raid_by a) (changed (steps n next) (raid_by a))).state.made → b.state.made ≡ a.state.made
-        by true same = same
-        by false same = same
+    by : (r : Result ℕ Stuck) → IfOk r (λ k. (did ≡ Ok k) × (stuck ≡ false)) → IfErr r (λ e. (is_ok did ≡ false) ⊎ (stuck ≡ true)) → is_ok r ≡ not (lacks (raid_by c) n)
+    by (Ok k) told refuses = sym (ap not (sym stuck_is ∙ told.1))
+    by (Err e) told (inr is) = sym (ap not (sym stuck_is ∙ is))
+    by (Err e) told (inl none) = elim (cases_Bool (lacks (raid_by c) n)) [
+      | inl lacking ↦ sym (ap not lacking)
+      | inr has ↦
+          absurd (both_ways (is_ok did) none
+          (done_by u (raid_by c) n (is_ok did) refused (subst (λ (k : View). LosesOnly k ((raid_by c).arrays n)) own (mends.moves.arrays n call.may.low)) has))
+    ]
+
+-- one row at most is one
+pub one_moved : (n : ℕ) (v w : Raid) (x y : Seen) {E : Type 0} (result : Result ℕ E) → MovesRows n 1 v w x y result → MakesReshape (moves n 1) (Lacks (Reshape n)) n v w x y (is_ok result)
+one_moved n v w x y result does =
+    let some = does.some in
+    let few = does.few in
+    subst (λ (rows : ℕ). MakesReshape (moves n rows) (Lacks (Reshape n)) n v w x y (is_ok result)) (let one : does.rows ≡ 1 = omega (arith, some, few) in one) does.steps
 
 -- ---- a drive that joins
 

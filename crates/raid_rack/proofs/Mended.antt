@@ -37,6 +37,13 @@ use Rattle.raid_laws.proofs.Over.{someone_left}
 use Rattle.raid_laws.proofs.Turns.{agrees_commit, moves_commit, commit_progress}
 use Rattle.raid_rack.proofs.Turned.{newly_named, newly_other, moves_emptied}
 use Rattle.raid_laws.specs.Truths.{MakesTruths}
+use Rattle.array_core.specs.Superblocks.{left_offset}
+use Rattle.rack.specs.Values.{Values}
+use Rattle.transition_laws.specs.Losses.{IsRunOf, MakesLosses, SettlesBook}
+use Rattle.transition_laws.specs.Makes.{Makes}
+use Rattle.transition_laws.proofs.LossesMade.{commit_losses, early_losses, empty_losses, settles_behind}
+use Rattle.transition_laws.proofs.NotedMakes.{noted_makes}
+use Rattle.transition_laws.proofs.RunsOf.{run_loses}
 use Rattle.raid_rack.proofs.Truths.{early_truths, makes_after, makes_commit, makes_nobody}
 use Rattle.raid_laws.specs.Unlost.{KeepsUnlost}
 use Rattle.raid_laws.proofs.Unlost.{unlost_commit, unlost_marked, unlost_reads}
@@ -98,6 +105,9 @@ pub record HasNoted (a b : Arrays) (lost : List ℕ) (x : Seen) : Type 0 where
   pub noted : (n p : ℕ) → n < a.state.made → names lost p ≡ true → has_gone ((raid_by b).arrays n) p ≡ true
   pub one : ℕ
   pub named : names lost one ≡ true
+  pub unmarked : AreMarked (raid_by a) → ⊥
+  pub makes : (d : Raid) (vals : ℕ → ℕ → Values) → a.state ≡ d.state → Makes [] d (raid_by a) (raid_by b) vals vals x x
+  pub left : (n : ℕ) → n < a.state.made → left_offset ((raid_by b).arrays n) ≡ left_offset ((raid_by a).arrays n)
 
 or_last : (b c : Bool) → c ≡ true → (b || c) ≡ true
 or_last true c is = refl
@@ -140,7 +150,24 @@ has_noted a all log lost x turn each count number =
           ∙ or_last (has_gone ((raid_by a).arrays n) p) (names lost p) is;
       one = one.0;
       named = one.1;
+      unmarked = λ are. let at = had one.0 one.1 in both_ways (gone_in (raid_by a) one.0) (are one.0 at.0) at.1;
+      makes = λ d vals same.
+          subst (λ (w : Raid). Makes [] d (raid_by a) w vals vals x x) whole (noted_makes lost d (raid_by a) f x turn.running.set noting same vals);
+      left = λ n low. ap left_offset (noting.arrays n low);
     }
+
+-- the arrays are settled once they are noted
+pub settles_noted : (a b c : Arrays) (lost : List ℕ) (x y : Seen) → HasNoted a b lost x → SettlesBook (raid_by b) (raid_by c) b.state.made x y → SettlesBook (raid_by a) (raid_by c) a.state.made x y
+settles_noted a b c lost x y noted book =
+    settles_behind (raid_by a) (raid_by b) (raid_by c) a.state.made x x y (sym noted.same) noted.makes noted.left
+    (subst (λ k. SettlesBook (raid_by b) (raid_by c) k x y) (ap (λ (s : State). s.made) noted.same) book)
+
+-- they are a run of each book that they were one of
+pub settled_run : (d : Raid) (a b c : Arrays) (lost : List ℕ) (x y : Seen) → HasNoted a b lost x → SettlesTo (raid_by b) (raid_by c) x y b.state.made c.log.added
+    → SettlesBook (raid_by b) (raid_by c) b.state.made x y → IsRunOf d (raid_by a) → IsRunOf d (raid_by c)
+settled_run d a b c lost x y noted settles book run =
+    run_loses d (raid_by b) (raid_by c) settles.same settles.moves.arrays book.left
+    (run_loses d (raid_by a) (raid_by b) noted.same noted.moves.arrays noted.left run)
 
 -- ---- what is to be committed
 
@@ -201,12 +228,12 @@ made_still : (a b : Arrays) {lost : List ℕ} {x : Seen} → HasNoted a b lost x
 made_still a b noted n low = subst (λ (s : State). n < s.made) (sym noted.same) low
 
 pub ends_turn : (a b c : Arrays) (all : ArrayVec View) (log l : LogView) (t : State) (lost on gone : List ℕ) (x y z : Seen)
-    → HasNoted a b lost x → SettlesTo (raid_by b) (raid_by c) x y b.state.made c.log.added → IsRunning c y
+    → HasNoted a b lost x → SettlesTo (raid_by b) (raid_by c) x y b.state.made c.log.added → SettlesBook (raid_by b) (raid_by c) b.state.made x y → IsRunning c y
     → t ≡ marked lost c.state → IsMarking (raid_by c) lost on l c.log.added y → CommitCall l on gone y z
     → ((n : ℕ) → slice_get all.items n ≡ option_map (without gone) (slice_get c.all.items n)) → length all.items ≡ length c.all.items
     → log.number ≡ next_number l.number
     → EndsTurn a (record c { state = t; all = all; log = log }) x z
-ends_turn a b c all log l t lost on gone x y z noted settles running t_is marking call each count number =
+ends_turn a b c all log l t lost on gone x y z noted settles book running t_is marking call each count number =
     let f : ℕ → View = λ n. get_or all.items n no_array in
     let v = raid_by c in
     let commit : IsCommit v lost on gone l c.log.added f y z = record {
@@ -225,6 +252,10 @@ ends_turn a b c all log l t lost on gone x y z noted settles running t_is markin
     let last = moves_commit (raid_by b) v lost on gone l c.log.added f x y z settled commit in
     let step = moves_then (raid_by a) (raid_by b) (raid_after v lost (next_number l.number) f) x x z noted.moves last in
     record {
+      losses = λ d run.
+          subst (λ (w : Raid). MakesLosses d (raid_by a) w x z) whole
+          (commit_losses d (raid_by a) v lost on gone l c.log.added f x y z commit (settled_run d a b c lost x y noted settles book run) (settles_noted a b c lost x y noted book)
+          (sym (settles.same ∙ noted.same)) noted.unmarked);
       supers = subst (λ (w : Raid). MakesAgree (raid_by a) w x z) whole
           (agree_then (raid_by a) (raid_by b) (raid_after v lost (next_number l.number) f) x x z noted.moves last
           (agrees_commit (raid_by b) v lost on gone l c.log.added f x y z settled commit));
@@ -271,21 +302,21 @@ ends_turn a b c all log l t lost on gone x y z noted settles running t_is markin
 
 -- nobody is left: the marks are in this run alone
 pub ends_empty : (a b c : Arrays) (t : State) (lost on : List ℕ) (x y : Seen)
-    → HasNoted a b lost x → SettlesTo (raid_by b) (raid_by c) x y b.state.made c.log.added → IsRunning c y
+    → HasNoted a b lost x → SettlesTo (raid_by b) (raid_by c) x y b.state.made c.log.added → SettlesBook (raid_by b) (raid_by c) b.state.made x y → IsRunning c y
     → newly_gone c.state c.all.items ≡ lost → t ≡ marked lost c.state → on ≡ current_places t → length on ≡ 0
     → EndsTurn a (record c { state = t }) x y
-ends_empty a b c t lost on x y noted settles running same t_is on_is empty =
+ends_empty a b c t lost on x y noted settles book running same t_is on_is empty =
     let v = raid_by c in
     let none : on ≡ [] = nothing on empty in
     let nobody : (p : ℕ) → is_current (state_after v lost) p ≡ false =
     λ p. ap (λ (s : State). is_current s p) (sym t_is) ∙ sym (names_current t p) ∙ ap (λ ps. names ps p) (sym on_is ∙ none) in
     let lost_is : (p : ℕ) → names lost p ≡ (is_current c.state p && gone_in v p) =
     λ p. ap (λ ps. names ps p) (sym same) ∙ newly_named c p running.count running.set.few in
-    let step = moves_emptied v lost y running.set lost_is
-    (λ n p low is.
+    let went : (n p : ℕ) → n < c.state.made → names lost p ≡ true → has_gone ((raid_by c).arrays n) p ≡ true =
+    λ n p low is.
     let made : n < b.state.made = subst (λ (s : State). n < s.made) settles.same low in
-    settles.went n p made (noted.noted n p (subst (λ (s : State). n < s.made) noted.same made) is))
-    nobody
+    settles.went n p made (noted.noted n p (subst (λ (s : State). n < s.made) noted.same made) is) in
+    let step = moves_emptied v lost y running.set lost_is went nobody
     (λ n low. (settles.staged.each n (subst (λ (s : State). n < s.made) settles.same low)).unmarked) in
     let back = sym t_is in
     let whole : record v { state = state_after v lost } ≡ raid_by (record c { state = t }) =
@@ -294,6 +325,10 @@ ends_empty a b c t lost on x y noted settles running same t_is on_is empty =
     let over : (p : ℕ) → is_current t p ≡ true → ⊥ = λ p current.
     both_ways (is_current t p) (sym (names_current t p) ∙ ap (λ ps. names ps p) (sym on_is ∙ none)) current in
     record {
+      losses = λ d run.
+          subst (λ (w : Raid). MakesLosses d (raid_by a) w x y) whole
+          (empty_losses d (raid_by a) v lost x y running.set (settled_run d a b c lost x y noted settles book run) (settles_noted a b c lost x y noted book)
+          (sym (settles.same ∙ noted.same)) lost_is went nobody noted.unmarked);
       supers = λ unfaulted n vals spent low made goes.
           let one = someone_left (raid_by (record c { state = t })) n goes in
           absurd (over one.0 one.1);
@@ -329,9 +364,9 @@ ends_empty a b c t lost on x y noted settles running same t_is on_is empty =
 
 -- somebody else went while the arrays were settled
 pub ends_early : (a b c : Arrays) (lost : List ℕ) (x y : Seen) → IsTurn a lost x
-    → HasNoted a b lost x → SettlesTo (raid_by b) (raid_by c) x y b.state.made c.log.added → IsRunning c y
+    → HasNoted a b lost x → SettlesTo (raid_by b) (raid_by c) x y b.state.made c.log.added → SettlesBook (raid_by b) (raid_by c) b.state.made x y → IsRunning c y
     → (newly_gone c.state c.all.items ≡ lost → ⊥) → EndsTurn a c x y
-ends_early a b c lost x y turn noted settles running other =
+ends_early a b c lost x y turn noted settles book running other =
     let joined = moves_then (raid_by a) (raid_by b) (raid_by c) x x y noted.moves settles.moves in
     let lost_one = newly_other a c (sym (settles.same ∙ noted.same)) turn.running.count running.count turn.running.set.few
     (λ p was current.
@@ -344,6 +379,8 @@ ends_early a b c lost x y turn noted settles running other =
     (λ same. other (same ∙ sym turn.lost_are)) in
     record {
       moves = joined;
+      losses = λ d run.
+          early_losses d (raid_by a) (raid_by c) a.state.made x y (settled_run d a b c lost x y noted settles book run) (sym (settles.same ∙ noted.same)) (settles_noted a b c lost x y noted book);
       progress = inr lost_one;
       supers = λ unfaulted. absurd (unfaulted lost_one.0 (joined.cause lost_one.0 lost_one.1 lost_one.2));
       truths = early_truths (raid_by a) (raid_by c) x y (settles.same ∙ noted.same) lost_one;

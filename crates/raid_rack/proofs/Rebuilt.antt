@@ -1,6 +1,6 @@
 -- The code that rebuilds a row of a member, as a part of a call of all.
 use Rattle.std.proofs.Common.{◌≡◌, ◌⊎◌, ℕ, zero, suc, ◌+◌, ◌*◌, ◌%◌, ◌-◌, ◌^◌, ◌<◌, ◌≤◌, Bool, true, false, ◌==◌, ◌&&◌, ◌||◌, not, nat_lt, if◌then◌else◌, List, [], ◌∷◌, map, set, length, get_or, slice_get, Option, Some, None, option_map, unwrap_or, Result, Ok, Err, is_ok, IfOk, IfErr, OnErr, refl, sym, ap, subst, ◌∙◌, inl, inr, eqb-true, ltb-true, lt-ltb, arith}
-use Rattle.std.proofs.lemmas.Bool.{both_ways, cases_Bool, cases_eq, cases_lt, and_parts, and_from}
+use Rattle.std.proofs.lemmas.Bool.{both_ways, cases_Bool, cases_eq, and_parts, and_from}
 use Rattle.std.specs.List.{list_all, range_with_len}
 use Rattle.std.specs.Option.{option_map_or}
 use Rattle.arrayvec.specs.ArrayVec.{ArrayVec}

@@ -305,6 +305,11 @@ step_mended a b c x y z m next lacks did answered low one mends served =
           (one.durable is settled young vals spent mid_goes covered amid)).after;
     }
 
+-- as many are answered as were done
+pub told_rows : {E : Type 0} (did : Result ℕ E) (rows : ℕ) (r : Result ℕ Stuck) → IfOk did (λ k. k ≡ rows) → IfOk r (λ k. did ≡ Ok k) → IfOk r (λ k. k ≡ rows)
+told_rows did rows (Ok k) number is = subst (λ d. IfOk d (λ n. n ≡ rows)) is number
+told_rows did rows (Err e) number is = tt
+
 -- Rows by a step, and the mending after it: what is answered once that is known. What lacks nobody after losses lacked nobody before them.
 pub rows_mended : (a b c : Arrays) (x y z : Seen) (m left most : ℕ) (next : ℕ → View) (lacks : View → Bool) {E : Type 0} (did : Result ℕ E) (result : Result ℕ Stuck)
     → m < a.state.made → (rows : ℕ) → 0 < rows → rows ≤ most → rows ≤ left → IfOk did (λ k. k ≡ rows)
@@ -317,16 +322,12 @@ rows_mended a b c x y z m left most next lacks did result low rows some few insi
   few = few;
   left = inside;
   steps = step_mended a b c x y z m (next rows) lacks (is_ok did) (is_ok result) low one mends (served result told);
-  answer = answer result told;
+  answer = told_rows did rows result number told;
 }
   where
     served : (r : Result ℕ Stuck) → IfOk r (λ k. did ≡ Ok k) → is_ok r ≡ true → is_ok did ≡ true
     served (Ok k) is ok = ap is_ok is
     served (Err e) is ok = absurd (both_ways false refl ok)
-
-    answer : (r : Result ℕ Stuck) → IfOk r (λ k. did ≡ Ok k) → IfOk r (λ k. k ≡ rows)
-    answer (Ok k) is = subst (λ d. IfOk d (λ n. n ≡ rows)) is number
-    answer (Err e) is = tt
 
 -- what is answered to be done was
 pub done_alone : {E : Type 0} (did : Result ℕ E) (stuck : Bool) (r : Result ℕ Stuck) → IfOk r (λ k. (did ≡ Ok k) × (stuck ≡ false)) → IfOk r (λ k. did ≡ Ok k)

@@ -20,6 +20,8 @@ use Rattle.raid_laws.proofs.Moving.{moves_then}
 use Rattle.raid_laws.proofs.Noted.{with_arrays, current_few, moves_heeded}
 use Rattle.raid_rack.proofs.Mended.{each_get, each_sectors, first_named}
 use Rattle.raid_rack.proofs.Turned.{newly_named}
+use Rattle.transition_laws.specs.Losses.{MakesLosses}
+use Rattle.transition_laws.proofs.LossesMade.{losses_heeded}
 
 -- how many drives are left
 pub count_left : Raid → ℕ
@@ -159,6 +161,13 @@ heeds_raise k a b all x y moves running each one =
           let was = one.events n low in
           omega (arith, e, was);
     }
+
+pub heeds_losses : (d : Raid) (a b : Arrays) (all : ArrayVec View) (x y : Seen) → IsRunning b y → AreMarked (raid_by b)
+    → ((n : ℕ) → slice_get all.items n ≡ option_map heeded (slice_get b.all.items n)) → MakesLosses d (raid_by a) (raid_by b) x y
+    → MakesLosses d (raid_by a) (raid_by (record b { all = all })) x y
+heeds_losses d a b all x y running are each made =
+    losses_heeded d (raid_by a) (raid_by b) (λ n. get_or all.items n no_array) x y running.set.fit made are
+    (λ n low. each_get heeded b.all.items all.items n each (let same = running.count in omega (arith, low, same)))
 
 -- where whoever went is marked, that is all
 pub idle_by : (a b : Arrays) (all : ArrayVec View) (y : Seen) → IsRunning b y → ((n : ℕ) → slice_get all.items n ≡ option_map heeded (slice_get b.all.items n))

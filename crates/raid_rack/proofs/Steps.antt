@@ -18,6 +18,8 @@ use Rattle.array_core.specs.Superblocks.{left_offset}
 use Rattle.raid_rack.specs.declared.arrays.Arrays.{Arrays}
 use Rattle.raid_laws.specs.Raid.{Raid}
 use Rattle.raid_laws.specs.Settling.{SettlesTo}
+use Rattle.transition_laws.specs.Losses.{SettlesBook}
+use Rattle.transition_laws.proofs.SettledMakes.{settles_book_more}
 use Rattle.raid_rack.specs.RaidRack.{IsRunning, raid_by, no_array}
 use Rattle.raid_laws.proofs.Noted.{with_arrays}
 use Rattle.raid_laws.proofs.Calls.{reads_settled}
@@ -62,12 +64,12 @@ settle_slices a b x y n u running settles low is =
     subst (λ z. HasSlices z y) (sym is) (settles.moves.set.arrays n (subst (λ (s : State). n < s.made) (sym settles.same) low)).slices
 
 pub settle_step : (a b : Arrays) (all : ArrayVec View) (log : LogView) (x y z : Seen) (n : ℕ) (old u : View)
-    → IsRunning a x → SettlesTo (raid_by a) (raid_by b) x y n b.log.added → length b.all.items ≡ a.state.made
+    → IsRunning a x → SettlesTo (raid_by a) (raid_by b) x y n b.log.added → SettlesBook (raid_by a) (raid_by b) n x y → length b.all.items ≡ a.state.made
     → n < a.state.made → old ≡ get_or b.all.items n no_array → all.items ≡ set b.all.items n u
     → ((s : State) (durable : Shape) (vals : ℕ → Values) (spent : ℕ → Bool) → Covers u spent → SyncsArray s old u spent y z durable vals)
     → OnlyReads y z → Settles old u y z → AddsSupersOf u b.log.added log.added → log ≡ record b.log { added = log.added }
-    → SettlesTo (raid_by a) (raid_by (record b { all = all; log = log })) x z (n + 1) log.added
-settle_step a b all log x y z n old u running settles count low old_is all_is syncs reads view adds log_is =
+    → SettlesTo (raid_by a) (raid_by (record b { all = all; log = log })) x z (n + 1) log.added × SettlesBook (raid_by a) (raid_by (record b { all = all; log = log })) (n + 1) x z
+settle_step a b all log x y z n old u running settles book count low old_is all_is syncs reads view adds log_is =
     let f : ℕ → View = λ k. get_or all.items k no_array in
     let v = raid_by b in
     let own : f n ≡ u = ap (λ ys. get_or ys n no_array) all_is ∙ set_own b.all.items n u no_array (omega (arith, low, count)) in
@@ -81,9 +83,11 @@ settle_step a b all log x y z n old u running settles count low old_is all_is sy
     let call = reads_settled v f n y z settles.moves.set made reads others settled (λ s durable vals spent covers. (synced s durable vals spent covers).acts) in
     let number : v.number ≡ log.number = sym (ap (λ (m : LogView). m.number) log_is) in
     let whole : with_arrays v f ≡ raid_by (record b { all = all; log = log }) = λ i. record { state = v.state; arrays = f; number = number i } in
-    subst (λ (w : Raid). SettlesTo (raid_by a) w x z (n + 1) log.added) whole
-    (settles_more (raid_by a) v f x y z n b.log.added log.added settles.moves.set.most settles call synced
-    (subst (λ w. AddsSupersOf w b.log.added log.added) (sym own) adds)
-    (ap (λ (w : View). w.marked) settled.truth)
-    (settles_raise (v.arrays n) (f n) y z settled)
-    (ap (λ (w : View). w.truth.resync_offset) settled.truth ∙ ap left_offset (view_with (v.arrays n) settled.synced settled.notes.same)))
+    subst (λ (w : Raid). SettlesTo (raid_by a) w x z (n + 1) log.added × SettlesBook (raid_by a) w (n + 1) x z) whole (
+      settles_more (raid_by a) v f x y z n b.log.added log.added settles.moves.set.most settles call synced
+          (subst (λ w. AddsSupersOf w b.log.added log.added) (sym own) adds)
+          (ap (λ (w : View). w.marked) settled.truth)
+          (settles_raise (v.arrays n) (f n) y z settled)
+          (ap (λ (w : View). w.truth.resync_offset) settled.truth ∙ ap left_offset (view_with (v.arrays n) settled.synced settled.notes.same)),
+      settles_book_more (raid_by a) v f n x y z settles.same book settles.moves.set call settled synced,
+    )

@@ -29,10 +29,14 @@ use Rattle.raid_laws.specs.Losses.{AddsCopies, AreCopiesOn}
 use Rattle.raid_laws.specs.Raid.{Raid, gone_in, is_empty, is_left, is_over, is_used_up, held_in, spent_of, StopsInside}
 use Rattle.raid_laws.specs.Laws.{live_parts}
 use Rattle.raid_laws.specs.Moves.{AreCaused, Brings, IsHeeded, IsSet, KeepsArrays, Mends, RaisesBy}
+use Rattle.transition_laws.specs.Changes.{changed, closed as plan_ends}
+use Rattle.transition_laws.specs.Losses.{IsRunOf, MakesLosses}
+use Rattle.growth_laws.specs.Growing.{AnyValues, MakesTurn}
+use Rattle.growth_laws.proofs.Turning.{ClosesBook, closing_book, emptied_book, turn_then}
 use Rattle.raid_rack.specs.RaidRack.{IsFit, IsRunning, raid_by, no_array}
 use Rattle.pool_state.specs.declared.contents.Work.{Work}
 use Rattle.pool_state.specs.declared.contents.Work.TheVariants.{Resync, Rebuild, TakeOver, Begin, Reshape, Finish, Make, Zero, Ready, Extend, Close}
-use Rattle.raid_laws.specs.Works.{ClosesPlan, Does, Resyncs, StepsOne, closed, is_stuck}
+use Rattle.raid_laws.specs.Works.{ClosesPlan, Does, Resyncs, StepsOne, closed, is_stuck, is_plan}
 use Rattle.raid_rack.specs.declared.works.Stuck.{Stuck}
 use Rattle.raid_laws.proofs.Added.{names_current}
 use Rattle.raid_laws.proofs.Adding.{copies_apart, copies_from}
@@ -186,6 +190,7 @@ pub record HasClosed (a b : Arrays) (x y : Seen) : Type 0 where
   pub running : IsRunning b y
   pub raises : RaisesBy 1 (raid_by a) (raid_by b)
   pub truths : KeepsTruths (raid_by a) (raid_by b) x y
+  pub book : ClosesBook (raid_by a) (raid_by b) x y
 
 pub closes_empty : (a : Arrays) (t : State) (log : LogView) (on : List ℕ) (x : Seen) → IsRunning a x → IsHeeded (raid_by a)
     → t ≡ closed a.state → on ≡ current_places t → length on ≡ 0 → log.number ≡ a.log.number
@@ -209,6 +214,7 @@ closes_empty a t log on x running heeded t_is on_is empty number =
       });
       arrays = λ n low. only_same (v.arrays n) (v.arrays n) refl;
       truths = λ n low held. held;
+      book = emptied_book v (raid_by (record a { state = t; log = log })) x running.set nobody (sym whole);
       plan = ap (λ (s : State). s.plan) t_is;
       running = record {
         count = running.count ∙ sym (ap (λ (s : State). s.made) t_is);
@@ -258,6 +264,7 @@ has_closed a all t log l on gone x y running commit t_is count number =
       caused = subst (λ (w : Raid). AreCaused v w x y) whole (record { left = closing_left v on gone l f x y commit; cause = closing_cause v on gone l f x y commit });
       arrays = close_arrays v on gone l f x y commit;
       truths = subst (λ (w : Raid). KeepsTruths v w x y) whole (close_truths v on gone l f x y commit);
+      book = subst (λ (w : Raid). ClosesBook v w x y) whole (closing_book v on gone l f x y commit);
       plan = ap (λ (s : State). s.plan) t_is;
       running = record {
         count = count ∙ running.count ∙ sym (ap (λ (s : State). s.made) t_is);
@@ -279,6 +286,12 @@ closes_one a b c x y z one mends = record {
   arrays = arrays_then (raid_by a) (raid_by b) (raid_by c) one.brings.book.same.made one.arrays mends.moves.arrays;
   plan = mends.moves.plan ∙ one.plan;
 }
+
+-- and this is all that it makes of the book
+pub closes_turn : (a b c : Arrays) (x y z : Seen) → HasClosed a b x y → ((d : Raid) → IsRunOf d (raid_by b) → MakesLosses d (raid_by b) (raid_by c) y z) → is_plan a.state.plan ≡ true
+    → MakesTurn plan_ends true AnyValues (raid_by a) (raid_by c) x z
+closes_turn a b c x y z one losses due =
+    turn_then plan_ends AnyValues (raid_by a) (raid_by b) (raid_by c) x y z (λ vals fits. one.book.makes due vals) (losses (changed plan_ends (raid_by a)) one.book.run)
 
 pub closes_alone : (a b : Arrays) (x y : Seen) → IsHeeded (raid_by b) → HasClosed a b x y → ClosesPlan (raid_by a) (raid_by b) x y
 closes_alone a b x y heeded one = record { brings = one.brings; caused = one.caused; heeded = heeded; arrays = one.arrays; plan = one.plan }

@@ -18,7 +18,7 @@ use Rattle.raid_laws.proofs.Over.{not_true, or_parts}
 use Rattle.raid_rack.proofs.Grown.{HasCalled}
 use Rattle.raid_rack.proofs.Mended.{not_of_false}
 use Rattle.raid_rack.proofs.Resynced.{wanting_less}
-use Rattle.growth_laws.specs.Growing.{Grows, Lacks, is_ended}
+use Rattle.growth_laws.specs.Growing.{Grows, Lacks, change_of, is_ended}
 use Rattle.growth_laws.specs.Losses.{LosesBook}
 use Rattle.transition_laws.specs.Changes.{changed, steps}
 use Rattle.growth_laws.proofs.Steps.{CallsTo, grows_one, step_as_long, stepped_own}
@@ -44,7 +44,7 @@ zero_grows a b c x y z n is_done did answered one low answer refused mends answe
     let u = v.arrays n in
     let row = first_unsynced u.truth in
     let lost = is_ended w || lacks_two (w.arrays n) row in
-    grows_one (Zero n) (Lacks (Zero n)) v (raid_by b) w n (zeroed u 1) x y z is_done answered refl one.stays one.calls
+    grows_one (change_of (Zero n)) (Lacks (Zero n)) v (raid_by b) w n (zeroed u 1) x y z is_done answered refl one.stays one.calls
     (λ ok.
     let few = (or_parts (is_ended w) (lacks_two (w.arrays n) row) (not_true lost (sym answered_is ∙ ok))).1 in
     elim (cases_Bool did) [

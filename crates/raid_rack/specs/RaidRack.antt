@@ -15,6 +15,7 @@ use Rattle.raid_laws.specs.Raid.{Raid, is_left, raid_of}
 use Rattle.raid_laws.specs.Truths.{MakesTruths}
 use Rattle.raid_laws.specs.Unlost.{KeepsUnlost}
 use Rattle.raid_laws.specs.Moves.{AreMarked, IsHeeded, IsSet, Moves, RaisesBy}
+use Rattle.transition_laws.specs.Losses.{IsRunOf, MakesLosses}
 
 -- a number without an array: nothing is said of it
 abbrev pub no_super : Super
@@ -83,6 +84,8 @@ pub record EndsTurn (a b : Arrays) (x y : Seen) : Type 0 where
   pub supers : MakesAgree (raid_by a) (raid_by b) x y
   pub truths : AreMarked (raid_by b) → MakesTruths (raid_by a) (raid_by b) x y
   pub unlost : KeepsUnlost a.state b.state x y
+  -- this is all that it makes of a book
+  pub losses : (d : Raid) → IsRunOf d (raid_by a) → MakesLosses d (raid_by a) (raid_by b) x y
 
 -- the arrays of a rack of arrays, with their state and log
 abbrev pub arrays_in : {R : Type 0} → RaidRack R → Arrays

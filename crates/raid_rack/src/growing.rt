@@ -7,16 +7,16 @@ ghost use Rattle.array_image.specs.Supers.{is_reshaping};
 ghost use Rattle.reshape_laws.specs.Reshapes.{lacks_joined, lacks_two};
 ghost use Rattle.raid_laws.specs.Moves.{IsHeeded, RaisesBy};
 ghost use Rattle.growth_laws.specs.Growing as spec;
-ghost use Rattle.growth_laws.specs.Growing.{Grows, Lacks};
+ghost use Rattle.growth_laws.specs.Growing.{Grows, Lacks, MakesReshape, MovesRows};
 ghost use Rattle.raid_rack.specs.RaidRack.{IsRunning, raid_by};
 
 use crate::arrays::{Arrays, RaidRack};
 use crate::disks::note_written;
 use crate::marks::current_places;
 use crate::new_drive::{BACKUP_SECTORS, DATA_SECTOR, first_in};
-use crate::works::Stuck;
+use crate::works::{Stuck, answered};
 use array_core::Array;
-use array_reshape::{begin, finish, row, take_over};
+use array_reshape::{begin, finish, rows, take_over};
 use pool_state::State;
 use rack::{Places, Rack};
 use shr_base::Id;
@@ -213,12 +213,15 @@ impl Arrays {
         !lacked && !self.lacks(number)
     }
 
-    /// Moves the next row of a reshape, by one commit. Whoever goes is marked.
-    fn move_row<S: Rack>(&mut self, rack: &mut S, number: u32) -> bool
+    /// Moves the next rows of a reshape, by one commit, and answers how many: at most so many, and at least one. Whoever goes is marked. It
+    /// is refused exactly where the array lacks two members after that, nobody is left or numbers are used up.
+    fn move_rows<S: Rack>(&mut self, rack: &mut S, number: u32, most: u64) -> Result<u64, Stuck>
         requires running { IsRunning self.old (S.seen rack.old) }
         requires heeded { IsHeeded (raid_by self.old) }
         requires due { spec.is_due (raid_by self.old) (Reshape number) ≡ true }
-        ensures grows { Grows (Reshape number) (Lacks (Reshape number)) (raid_by self.old) (raid_by self.new) (S.seen rack.old) (S.seen rack.new) result }
+        requires some { 0 < most }
+        ensures grows { MovesRows number most (raid_by self.old) (raid_by self.new) (S.seen rack.old) (S.seen rack.new) result }
+        ensures named { IfErr result (λ e. e.array ≡ number) }
         ensures raises { RaisesBy 18 (raid_by self.old) (raid_by self.new) }
         ensures running { IsRunning self.new (S.seen rack.new) }
         ensures runs { S.runs rack.old rack.new }
@@ -226,10 +229,10 @@ impl Arrays {
         let on = current_places(&self.state);
         self.log.clear();
         let array = &mut self.all[number as usize];
-        let _ = row(array, rack, &mut self.log, &on);
+        let moved = rows(array, rack, &mut self.log, &on, most);
         let _places = array.went();
         self.mend(rack);
-        !self.lacks(number)
+        answered(moved, self.lacks(number), number)
     }
 
     /// Ends a reshape that has moved all rows, by one commit of superblocks. Whoever goes is marked.
@@ -238,6 +241,7 @@ impl Arrays {
         requires heeded { IsHeeded (raid_by self.old) }
         requires due { spec.is_due (raid_by self.old) (Finish number) ≡ true }
         ensures grows { Grows (Finish number) (Lacks (Finish number)) (raid_by self.old) (raid_by self.new) (S.seen rack.old) (S.seen rack.new) result }
+        ensures contents { MakesReshape (spec.change_of (Finish number)) (Lacks (Finish number)) number (raid_by self.old) (raid_by self.new) (S.seen rack.old) (S.seen rack.new) result }
         ensures raises { RaisesBy 18 (raid_by self.old) (raid_by self.new) }
         ensures running { IsRunning self.new (S.seen rack.new) }
         ensures runs { S.runs rack.old rack.new }
@@ -286,13 +290,15 @@ impl<R: Rack> RaidRack<R> {
         }
     }
 
-    /// Moves the next row of a reshape, durably. No value moves. It is refused where the array has no such row, and then nothing changes; else
-    /// exactly where nobody is left, numbers are used up or two members are missing once the losses of this call are marked.
-    pub fn reshape(&mut self, array: u32) -> Result<(), Stuck>
+    /// Moves the next rows of a reshape, durably, and answers how many: as many as one commit takes, at least one and at most so many. No value
+    /// moves. It is refused where the array has no such row, and then nothing changes; else exactly where nobody is left, numbers are used up
+    /// or two members are missing once the losses of this call are marked.
+    pub fn reshape_rows(&mut self, array: u32, most: u64) -> Result<u64, Stuck>
         requires fit { IsFit (arrays_in self.old) (slices_seen R.seen self.old) }
+        requires some { 0 < most }
         ensures idle { spec.is_due (raid_in self.old) (Reshape array) ≡ false → (is_ok result ≡ false) × (self.new ≡ self.old) }
         ensures grows { spec.is_due (raid_in self.old) (Reshape array) ≡ true
-            → Grows (Reshape array) (Lacks (Reshape array)) (raid_in self.old) (raid_in self.new) (slices_seen R.seen self.old) (slices_seen R.seen self.new) (is_ok result) }
+            → MovesRows array most (raid_in self.old) (raid_in self.new) (slices_seen R.seen self.old) (slices_seen R.seen self.new) result }
         ensures named { IfErr result (λ e. e.array ≡ array) }
         ensures fit { IsFit (arrays_in self.new) (slices_seen R.seen self.new) }
         ensures raises { RaisesBy 18 (raid_in self.old) (raid_in self.new) }
@@ -304,10 +310,27 @@ impl<R: Rack> RaidRack<R> {
             return Err(Stuck { array });
         }
         note_written(&mut self.written, array);
-        if self.arrays.move_row(&mut self.slices, array) {
-            Ok(())
-        } else {
-            Err(Stuck { array })
+        self.arrays.move_rows(&mut self.slices, array, most)
+    }
+
+    /// Moves the next row of a reshape, as `reshape_rows` does.
+    pub fn reshape(&mut self, array: u32) -> Result<(), Stuck>
+        requires fit { IsFit (arrays_in self.old) (slices_seen R.seen self.old) }
+        ensures idle { spec.is_due (raid_in self.old) (Reshape array) ≡ false → (is_ok result ≡ false) × (self.new ≡ self.old) }
+        ensures grows { spec.is_due (raid_in self.old) (Reshape array) ≡ true
+            → Grows (Reshape array) (Lacks (Reshape array)) (raid_in self.old) (raid_in self.new) (slices_seen R.seen self.old) (slices_seen R.seen self.new) (is_ok result) }
+        ensures contents { spec.is_due (raid_in self.old) (Reshape array) ≡ true
+            → MakesReshape (spec.change_of (Reshape array)) (Lacks (Reshape array)) array (raid_in self.old) (raid_in self.new) (slices_seen R.seen self.old) (slices_seen R.seen self.new) (is_ok result) }
+        ensures named { IfErr result (λ e. e.array ≡ array) }
+        ensures fit { IsFit (arrays_in self.new) (slices_seen R.seen self.new) }
+        ensures raises { RaisesBy 18 (raid_in self.old) (raid_in self.new) }
+        ensures refused { (n : ℕ) → refused_in self.new n ≡ refused_in self.old n }
+        ensures written { (n : ℕ) → (n ≡ array → ⊥) → written_in self.new n ≡ written_in self.old n }
+        ensures runs { SliceRuns R.seen R.runs (slices_in self.old) (slices_in self.new) }
+    {
+        match self.reshape_rows(array, 1) {
+            Ok(_) => Ok(()),
+            Err(stuck) => Err(stuck),
         }
     }
 
@@ -318,6 +341,8 @@ impl<R: Rack> RaidRack<R> {
         ensures idle { spec.is_due (raid_in self.old) (Finish array) ≡ false → (is_ok result ≡ false) × (self.new ≡ self.old) }
         ensures grows { spec.is_due (raid_in self.old) (Finish array) ≡ true
             → Grows (Finish array) (Lacks (Finish array)) (raid_in self.old) (raid_in self.new) (slices_seen R.seen self.old) (slices_seen R.seen self.new) (is_ok result) }
+        ensures contents { spec.is_due (raid_in self.old) (Finish array) ≡ true
+            → MakesReshape (spec.change_of (Finish array)) (Lacks (Finish array)) array (raid_in self.old) (raid_in self.new) (slices_seen R.seen self.old) (slices_seen R.seen self.new) (is_ok result) }
         ensures named { IfErr result (λ e. e.array ≡ array) }
         ensures fit { IsFit (arrays_in self.new) (slices_seen R.seen self.new) }
         ensures raises { RaisesBy 18 (raid_in self.old) (raid_in self.new) }

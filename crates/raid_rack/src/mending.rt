@@ -12,6 +12,8 @@ ghost use Rattle.raid_rack.specs.RaidRack.{EndsTurn, IsRunning, raid_by};
 ghost use Rattle.raid_laws.specs.Truths.{KeepsTruths, MakesTruths};
 ghost use Rattle.raid_laws.specs.Unlost.{KeepsUnlost};
 ghost use Rattle.raid_laws.specs.Losses as spec;
+ghost use Rattle.raid_laws.specs.Raid.{Raid};
+ghost use Rattle.transition_laws.specs.Losses.{IsRunOf, MakesLosses, SettlesBook};
 
 use crate::arrays::Arrays;
 use crate::losses::{add_copies, heed_all, newly_gone, note_gone};
@@ -27,6 +29,7 @@ impl Arrays {
         requires running { IsRunning self.old (S.seen rack.old) }
         requires empty { self.old.log.added ≡ [] }
         ensures settles { SettlesTo (raid_by self.old) (raid_by self.new) (S.seen rack.old) (S.seen rack.new) self.old.state.made self.new.log.added }
+        ensures book { SettlesBook (raid_by self.old) (raid_by self.new) self.old.state.made (S.seen rack.old) (S.seen rack.new) }
         ensures log { self.new.log ≡ record self.old.log { added = self.new.log.added } }
         ensures same { self.new ≡ record self.old { all = self.new.all; log = self.new.log } }
         ensures running { IsRunning self.new (S.seen rack.new) }
@@ -77,6 +80,7 @@ impl Arrays {
         ensures supers { (AreMarked (raid_by self.old) → ⊥) → MakesAgree (raid_by self.old) (raid_by self.new) (S.seen rack.old) (S.seen rack.new) }
         ensures truths { ((self.new ≡ self.old) × (rack.new ≡ rack.old)) ⊎ MakesTruths (raid_by self.old) (raid_by self.new) (S.seen rack.old) (S.seen rack.new) }
         ensures unlost { KeepsUnlost self.old.state self.new.state (S.seen rack.old) (S.seen rack.new) }
+        ensures losses { (d : Raid) → IsRunOf d (raid_by self.old) → MakesLosses d (raid_by self.old) (raid_by self.new) (S.seen rack.old) (S.seen rack.new) }
         ensures running { IsRunning self.new (S.seen rack.new) }
         ensures runs { S.runs rack.old rack.new }
     {
@@ -100,6 +104,7 @@ impl Arrays {
         ensures truths { KeepsTruths (raid_by self.old) (raid_by self.new) (S.seen rack.old) (S.seen rack.new) }
         ensures makes { (AreMarked (raid_by self.old) → ⊥) → MakesTruths (raid_by self.old) (raid_by self.new) (S.seen rack.old) (S.seen rack.new) }
         ensures unlost { KeepsUnlost self.old.state self.new.state (S.seen rack.old) (S.seen rack.new) }
+        ensures losses { (d : Raid) → IsRunOf d (raid_by self.old) → MakesLosses d (raid_by self.old) (raid_by self.new) (S.seen rack.old) (S.seen rack.new) }
         ensures running { IsRunning self.new (S.seen rack.new) }
         ensures runs { S.runs rack.old rack.new }
     {

@@ -9,6 +9,8 @@ ghost use Rattle.raid_rack.specs.RaidRack.{IsRunning, raid_by};
 ghost use Rattle.raid_laws.specs.Truths.{KeepsTruths};
 ghost use Rattle.raid_laws.specs.Works as spec;
 ghost use Rattle.sync_laws.specs.Steps.{DoesRows, resynced};
+ghost use Rattle.transition_laws.specs.Changes.{closed};
+ghost use Rattle.growth_laws.specs.Growing.{AnyValues, MakesTurn};
 
 use crate::arrays::{Arrays, RaidRack};
 use crate::losses::{add_copies, note_gone};
@@ -137,6 +139,7 @@ impl Arrays {
         requires running { IsRunning self.old (S.seen rack.old) }
         requires heeded { IsHeeded (raid_by self.old) }
         ensures closes { spec.ClosesPlan (raid_by self.old) (raid_by self.new) (S.seen rack.old) (S.seen rack.new) }
+        ensures contents { spec.is_plan (raid_by self.old).state.plan ≡ true → MakesTurn closed true AnyValues (raid_by self.old) (raid_by self.new) (S.seen rack.old) (S.seen rack.new) }
         ensures raises { RaisesBy 18 (raid_by self.old) (raid_by self.new) }
         ensures truths { KeepsTruths (raid_by self.old) (raid_by self.new) (S.seen rack.old) (S.seen rack.new) }
         ensures running { IsRunning self.new (S.seen rack.new) }
@@ -157,7 +160,7 @@ impl Arrays {
 }
 
 /// How many rows are done, unless their array can't do them any more.
-fn answered(rows: Result<u64, Spent>, is_stuck: bool, array: u32) -> Result<u64, Stuck>
+pub(crate) fn answered(rows: Result<u64, Spent>, is_stuck: bool, array: u32) -> Result<u64, Stuck>
     ensures done { IfOk result (λ k. (rows ≡ Ok k) × (is_stuck ≡ false)) }
     ensures refused { IfErr result (λ e. (is_ok rows ≡ false) ⊎ (is_stuck ≡ true)) }
     ensures named { IfErr result (λ e. e.array ≡ array) }
@@ -254,6 +257,8 @@ impl<R: Rack> RaidRack<R> {
         ensures idle { spec.is_plan (raid_in self.old).state.plan ≡ false → (is_ok result ≡ false) × (self.new ≡ self.old) }
         ensures closes { spec.is_plan (raid_in self.old).state.plan ≡ true
             → (is_ok result ≡ true) × spec.ClosesPlan (raid_in self.old) (raid_in self.new) (slices_seen R.seen self.old) (slices_seen R.seen self.new) }
+        ensures contents { spec.is_plan (raid_in self.old).state.plan ≡ true
+            → MakesTurn closed true AnyValues (raid_in self.old) (raid_in self.new) (slices_seen R.seen self.old) (slices_seen R.seen self.new) }
         ensures named { IfErr result (λ e. e.array ≡ 0) }
         ensures keeps { KeepsRack (raid_seen R.seen self.old) (raid_seen R.seen self.new) }
         ensures raises { RaisesBy 18 (raid_in self.old) (raid_in self.new) }

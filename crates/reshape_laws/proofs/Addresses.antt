@@ -52,20 +52,13 @@ old_past k b y count high = elim (cases_lt (row_of (k - 1) y) b) [
 fewer : (k b : ℕ) → b * (k - 1 - 1) * 128 ≤ b * (k - 1) * 128
 fewer k b = mul-le-mul_right 128 (mul-le-mul_left b (omega arith))
 
--- What row a is made of stands in the old rows from a on: a row that is moved never goes up the members.
+-- THE LOGGED ROWS. What the new rows from a on are made of stands in the old rows from a on: a row that is moved never goes up the members.
+-- So once those below a are moved, their write has left each sector that isn't.
 pub made_of : (k a y : ℕ) → 3 ≤ k → k ≤ 16 → a * row_sectors k ≤ y → a ≤ row_of (k - 1) y
 made_of k a y three most high =
     let at = position_is k a in
     let less = fewer k a in
     old_past k a y (old_count k three most) (omega (arith, at, less, high))
-
--- THE LOGGED ROW. Each sector that isn't moved with row a or before it stands in an old row past a: row a's write leaves it.
-pub left_old : (k a y : ℕ) → 3 ≤ k → k ≤ 16 → (a + 1) * row_sectors k ≤ y → a < row_of (k - 1) y
-left_old k a y three most high =
-    let at = position_is k (a + 1) in
-    let less = fewer k (a + 1) in
-    let past = old_past k (a + 1) y (old_count k three most) (omega (arith, at, less, high)) in
-    omega (arith, past)
 
 -- THE DIRECT ROW. Where it is direct, so does each sector that isn't moved before it: a row that is torn anywhere is used by none.
 pub left_direct : (k a y : ℕ) → 3 ≤ k → k ≤ 16 → IsDirect k a → a * row_sectors k ≤ y → a < row_of (k - 1) y
@@ -114,9 +107,9 @@ position_rows k position whole = sym (div-add-mod position (row_sectors k)) ∙ 
     by : (n a : ℕ) → n * a + 0 ≡ a * n
     by n a = grind arith
 
--- the next one too
-pub next_position : (k a position : ℕ) → position ≡ a * row_sectors k → position + row_sectors k ≡ (a + 1) * row_sectors k
-next_position k a position is = ap (λ p. p + row_sectors k) is ∙ by (row_sectors k) a
+-- and so is the one past the next rows
+pub next_position : (k a many position : ℕ) → position ≡ a * row_sectors k → position + 128 * many * (k - 1) ≡ (a + many) * row_sectors k
+next_position k a many position is = ap (λ p. p + 128 * many * (k - 1)) is ∙ by (k - 1) a many
   where
-    by : (n a : ℕ) → a * n + n ≡ (a + 1) * n
-    by n a = grind arith
+    by : (n a m : ℕ) → a * (128 * n) + 128 * m * n ≡ (a + m) * (128 * n)
+    by n a m = grind arith

@@ -1,10 +1,10 @@
 -- The array that the change of a step makes, and the states that its marks fit.
-use Rattle.std.proofs.Common.{◌≡◌, ◌-◌, ◌*◌, ◌<◌, ◌^◌, Bool, true, false, ◌==◌, ◌&&◌, if◌then◌else◌, None, refl, sym, ap, subst, ◌∙◌, eq-eqb, arith}
+use Rattle.std.proofs.Common.{◌≡◌, ℕ, ◌+◌, ◌-◌, ◌≤◌, ◌<◌, ◌^◌, Bool, true, false, ◌==◌, ◌&&◌, if◌then◌else◌, None, refl, sym, ap, subst, ◌∙◌, eq-eqb, arith}
 use Rattle.std.proofs.lemmas.Bool.{and_from}
 use Rattle.md_super.specs.declared.superblock.Super.{Super}
 use Rattle.pool_state.specs.declared.contents.State.{State}
 use Rattle.array_image.specs.Supers.{is_reshaping}
-use Rattle.array_model.specs.View.{View, IsArray}
+use Rattle.array_model.specs.View.{View, IsArray, rows_of}
 use Rattle.array_model.specs.Members.{IsSameButSeats}
 use Rattle.array_model.specs.Stages.{IsStateOf}
 use Rattle.array_core.specs.declared.Change.{Change}
@@ -14,7 +14,7 @@ use Rattle.array_core.specs.Slots.{places_by}
 use Rattle.array_core.specs.Superblocks.{adopted, adopted_resync, keeps_rows, raised}
 use Rattle.array_core.proofs.Cleaning.{raised_more}
 use Rattle.sync_laws.proofs.Adopted.{adopted_kept}
-use Rattle.reshape_laws.specs.Ahead.{ahead, changed, finished, taken_over}
+use Rattle.reshape_laws.specs.Ahead.{ahead_by, changed, finished, next_row, taken_over}
 use Rattle.reshape_laws.proofs.Truths.{ahead_truth, finished_profile, parts_of, taken_profile, taken_truth}
 
 -- a truth with the members and the rows of another one
@@ -50,16 +50,16 @@ next_same v z w u z_array same keeps is =
 
 -- ---- the marks
 
-pub ahead_state : (s : State) (v : View) → IsArray v → is_reshaping v.truth ≡ true → v.truth.reshape_position < (v.truth.raid_disks - 1) * v.truth.size → is_truth v.truth ≡ true
-    → IsStateOf v s → v.truth.events < 2 ^ 63 - 1 → IsStateOf (ahead v (raised v.truth.events)) s
-ahead_state s v is_array reshaping left truth state room =
+pub ahead_state : (s : State) (v : View) (many : ℕ) → IsArray v → is_reshaping v.truth ≡ true → next_row v + many ≤ rows_of v → is_truth v.truth ≡ true
+    → IsStateOf v s → v.truth.events < 2 ^ 63 - 1 → IsStateOf (ahead_by v many (raised v.truth.events)) s
+ahead_state s v many is_array reshaping left truth state room =
     let raise = raised_more v.truth.events room in
     record {
       set = state.set;
       profile = state.profile;
       events = let more = raise.0 in omega (arith, more);
       events_end = raise.1;
-      row = (parts_of (ahead v (raised v.truth.events)).truth (ahead_truth v (raised v.truth.events) is_array reshaping left truth)).1.0;
+      row = (parts_of (ahead_by v many (raised v.truth.events)).truth (ahead_truth v many (raised v.truth.events) is_array reshaping left truth)).1.0;
       roles = state.roles;
       marks = state.marks;
     }

@@ -7,21 +7,18 @@ use Rattle.md_super.specs.Profile.{is_mirror}
 use Rattle.array_image.specs.Supers.{is_reshaping, new_row}
 use Rattle.array_image.specs.SoundArray.{IsWrittenSuper}
 use Rattle.array_model.specs.View.{View, IsArray, rows_of}
-use Rattle.reshape_laws.specs.Ahead.{ahead, finished, next_row, row_sectors, taken_over}
+use Rattle.reshape_laws.specs.Ahead.{ahead_by, finished, next_row, row_sectors, taken_over}
 use Rattle.reshape_laws.proofs.Addresses.{next_position, position_rows, whole_position}
 
--- ---- a row
+-- ---- the next row
 
-module _ (v : View) (events : ℕ) (is_array : IsArray v) (reshaping : is_reshaping v.truth ≡ true) (left : v.truth.reshape_position < (v.truth.raid_disks - 1) * v.truth.size) where
+module _ (v : View) (is_array : IsArray v) (reshaping : is_reshaping v.truth ≡ true) where
   cut : v.truth.reshape_position ≡ next_row v * row_sectors v.truth.raid_disks
   cut = position_rows v.truth.raid_disks v.truth.reshape_position (is_array.reshape reshaping).2
 
-  next_cut : v.truth.reshape_position + new_row v.truth ≡ (next_row v + 1) * row_sectors v.truth.raid_disks
-  next_cut = next_position v.truth.raid_disks (next_row v) v.truth.reshape_position cut
-
-  -- the row is one of the members' data
-  pub row_left : next_row v < rows_of v
-  row_left = elim (cases_lt (next_row v) (v.truth.size / 128)) [
+  -- the next row is one of the members' data
+  pub row_left : v.truth.reshape_position < (v.truth.raid_disks - 1) * v.truth.size → next_row v < rows_of v
+  row_left left = elim (cases_lt (next_row v) (v.truth.size / 128)) [
     | inl low ↦ low
     | inr past ↦
         let more : v.truth.size / 128 * row_sectors v.truth.raid_disks ≤ next_row v * row_sectors v.truth.raid_disks = mul-le-mul_right (row_sectors v.truth.raid_disks) past in
@@ -30,22 +27,28 @@ module _ (v : View) (events : ℕ) (is_array : IsArray v) (reshaping : is_reshap
         absurd (omega (arith, more, whole, at, left))
   ]
 
-  next_whole : (v.truth.reshape_position + new_row v.truth) % new_row v.truth ≡ 0
+-- ---- the next rows
+
+module _ (v : View) (many events : ℕ) (is_array : IsArray v) (reshaping : is_reshaping v.truth ≡ true) (left : next_row v + many ≤ rows_of v) where
+  next_cut : v.truth.reshape_position + 128 * many * (v.truth.raid_disks - 1) ≡ (next_row v + many) * row_sectors v.truth.raid_disks
+  next_cut = next_position v.truth.raid_disks (next_row v) many v.truth.reshape_position (cut v is_array reshaping)
+
+  next_whole : (v.truth.reshape_position + 128 * many * (v.truth.raid_disks - 1)) % new_row v.truth ≡ 0
   next_whole =
       let three = (is_array.reshape reshaping).1 in
-      ap (λ p. p % row_sectors v.truth.raid_disks) (next_cut ∙ (let e : (next_row v + 1) * row_sectors v.truth.raid_disks ≡ (next_row v + 1) * row_sectors v.truth.raid_disks + 0 = omega arith in e))
-      ∙ mod-mul-add (next_row v + 1) (row_sectors v.truth.raid_disks) 0 (omega (arith, three))
+      ap (λ p. p % row_sectors v.truth.raid_disks)
+      (next_cut ∙ (let e : (next_row v + many) * row_sectors v.truth.raid_disks ≡ (next_row v + many) * row_sectors v.truth.raid_disks + 0 = omega arith in e))
+      ∙ mod-mul-add (next_row v + many) (row_sectors v.truth.raid_disks) 0 (omega (arith, three))
 
-  next_inside : v.truth.reshape_position + new_row v.truth ≤ (v.truth.raid_disks - 1) * v.truth.size
+  pub next_inside : v.truth.reshape_position + 128 * many * (v.truth.raid_disks - 1) ≤ (v.truth.raid_disks - 1) * v.truth.size
   next_inside =
-      let low = row_left in
-      let more : (next_row v + 1) * row_sectors v.truth.raid_disks ≤ v.truth.size / 128 * row_sectors v.truth.raid_disks = mul-le-mul_right (row_sectors v.truth.raid_disks) (omega (arith, low)) in
+      let more : (next_row v + many) * row_sectors v.truth.raid_disks ≤ v.truth.size / 128 * row_sectors v.truth.raid_disks = mul-le-mul_right (row_sectors v.truth.raid_disks) left in
       let whole = whole_position v.truth.raid_disks v.truth.size is_array.whole_rows in
       let at = next_cut in
       omega (arith, more, whole, at)
 
-  pub ahead_array : IsArray (ahead v events)
-  ahead_array = record {
+  pub ahead_by_array : IsArray (ahead_by v many events)
+  ahead_by_array = record {
     few = is_array.few;
     level = is_array.level;
     least = is_array.least;
@@ -59,7 +62,7 @@ module _ (v : View) (events : ℕ) (is_array : IsArray v) (reshaping : is_reshap
     reshape = λ is. let was = is_array.reshape reshaping in (was.0, was.1, next_whole);
   }
 
-  pub ahead_written : (n : ℕ) → IsWrittenSuper n v.truth → IsWrittenSuper n (ahead v events).truth
+  pub ahead_written : (n : ℕ) → IsWrittenSuper n v.truth → IsWrittenSuper n (ahead_by v many events).truth
   ahead_written n written = record {
     name = written.name;
     times = written.times;

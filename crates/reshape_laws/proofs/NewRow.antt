@@ -1,5 +1,5 @@
--- From what a call adds to the log for a row, sector by sector, to the new row.
-use Rattle.std.proofs.Common.{◌≡◌, ℕ, ◌+◌, ◌*◌, ◌%◌, ◌<◌, Bool, true, false, ◌==◌, if◌then◌else◌, List, map, slice_get, Option, Some, None, sym, ap, ◌∙◌, inl, inr, eq-eqb, ltb-true, ltb-false, arith}
+-- From what a call adds to the log for rows, sector by sector, to the new rows.
+use Rattle.std.proofs.Common.{◌≡◌, ℕ, ◌+◌, ◌-◌, ◌*◌, ◌%◌, ◌<◌, Bool, true, false, ◌==◌, if◌then◌else◌, List, map, slice_get, Option, Some, None, sym, ap, ◌∙◌, inl, inr, eq-eqb, ltb-true, ltb-false, arith}
 use Rattle.std.proofs.lemmas.Bool.{cases_eq, ne_eqb}
 use Rattle.std.specs.Option.{option_map_or}
 use Rattle.std.specs.List.{range_with_len}
@@ -25,15 +25,15 @@ use Rattle.array_model.specs.Members.{slice_on}
 use Rattle.array_model.proofs.Keeping.{live_on}
 use Rattle.array_model.proofs.Looking.{look_payload}
 use Rattle.array_core.specs.Staging.{HasRowRebuilds}
-use Rattle.reshape_laws.specs.Ahead.{InRow, IsNewRow, new_piece, next_row, row_parity, sector_on}
+use Rattle.reshape_laws.specs.Ahead.{AreNewRows, InRows, new_piece, next_row, row_parity, sector_on}
 use Rattle.reshape_laws.specs.Rows.{ArePieces, HasPieces, IsAbsent, IsNewBytes, IsOld, OfSectors, data_sum, is_absent}
 use Rattle.reshape_laws.proofs.Gathered.{parity_of_pieces}
 use Rattle.reshape_laws.proofs.Old.{old_value}
 use Rattle.reshape_laws.proofs.StepsOf.{IsRowTarget, reach_low}
 
--- what is added for the next row of an array
-abbrev pub IsRowOf : View → Seen → Option ℕ → List Target → Type 0
-IsRowOf v a absent xs = ArePieces v (OfSectors v.truth.raid_disks (next_row v * 128) 128 absent) (IsNewBytes v a) xs
+-- what is added for so many next rows of an array
+abbrev pub AreRowsOf : View → Seen → ℕ → Option ℕ → List Target → Type 0
+AreRowsOf v a many absent xs = ArePieces v (OfSectors v.truth.raid_disks (next_row v * 128) (many * 128) absent) (IsNewBytes v a) xs
 
 -- members are rebuilt by whole rows
 reach_whole : (v : View) (j : ℕ) → IsArray v → HasRowRebuilds v → (member_on v j).reach % 128 ≡ 0
@@ -56,14 +56,15 @@ sum_is_xor : (members t : ℕ) (bytes : ℕ → List ℕ)
 unfolding data_sum
 sum_is_xor members t bytes = λ i. xor_all 512 (map (λ j. if j == parity_at members t then zeros 512 else bytes j) (range_with_len 0 members))
 
--- each is one of the row's targets
-pub row_targets : (v : View) (a : Seen) (absent : Option ℕ) (xs : List Target) → IsAbsent v (next_row v) absent → IsRowOf v a absent xs
-    → (d s : ℕ) (u : List ℕ) → IsPayload xs d s u → IsRowTarget v d s u
-row_targets v a absent xs lacks row d s u pay =
+-- each is one of the rows' targets
+pub row_targets : (v : View) (a : Seen) (many : ℕ) (absent : Option ℕ) (xs : List Target) → IsAbsent v (next_row v) (next_row v + many - 1) absent → AreRowsOf v a many absent xs
+    → (d s : ℕ) (u : List ℕ) → IsPayload xs d s u → IsRowTarget v many d s u
+row_targets v a many absent xs lacks row d s u pay =
     let at = row.on d s u pay in
     let inside = at.inside in
     let low = inside.1 in
-    let counts : next_row v * 128 + 127 < (member_on v at.position).reach = ltb-true (next_row v * 128 + 127) (member_on v at.position).reach (lacks.others at.position at.low inside.3) in
+    let counts : (next_row v + many - 1) * 128 + 127 < (member_on v at.position).reach =
+    ltb-true ((next_row v + many - 1) * 128 + 127) (member_on v at.position).reach (lacks.others at.position at.low inside.3) in
     record {
       position = at.position;
       sector = at.sector;
@@ -71,12 +72,12 @@ row_targets v a absent xs lacks row d s u pay =
       counts = omega (arith, low, counts);
       disk = at.disk;
       at = at.at;
-      inside = (inside.0, inside.1);
+      inside = (inside.0, (omega (arith, low)));
       long = at.long;
     }
 
-module _ (v : View) (a b : Seen) (absent : Option ℕ) (xs : List Target) (is_array : IsArray v) (reshaping : is_reshaping v.truth ≡ true) (lasting : a.lasting) (reads : OnlyReads a b)
-    (lacks : IsAbsent v (next_row v) absent) (row : IsRowOf v a absent xs)
+module _ (v : View) (a b : Seen) (many : ℕ) (absent : Option ℕ) (xs : List Target) (is_array : IsArray v) (reshaping : is_reshaping v.truth ≡ true) (lasting : a.lasting) (reads : OnlyReads a b)
+    (lacks : IsAbsent v (next_row v) (next_row v + many - 1) absent) (row : AreRowsOf v a many absent xs)
     (rows : HasRowRebuilds v) (s : State) (vals : ℕ → Values) (spent : ℕ → Bool) (holds : Holds s (shape_of v) v vals spent a) (steady : may_vary v ≡ false) where
   -- what was read is what the array has
   piece_is : (x : ℕ) (bytes : List ℕ) → IsOld v a x bytes → bytes ≡ value_by (shape_of v) (current_in b.held) v.number x
@@ -104,8 +105,8 @@ module _ (v : View) (a b : Seen) (absent : Option ℕ) (xs : List Target) (is_ar
             (ne_eqb j q other))
       ]
 
-  -- the absent member has nothing in the row
-  there : (t j : ℕ) → InRow (next_row v) t → j < v.truth.raid_disks → t < (member_on v j).reach → is_absent absent j ≡ false
+  -- the absent member has nothing in the rows
+  there : (t j : ℕ) → InRows (next_row v) many t → j < v.truth.raid_disks → t < (member_on v j).reach → is_absent absent j ≡ false
   there t j inside low counts = by (is_absent absent j) refl_of
     where
       refl_of : is_absent absent j ≡ is_absent absent j
@@ -119,9 +120,9 @@ module _ (v : View) (a b : Seen) (absent : Option ℕ) (xs : List Target) (is_ar
           let least = inside.0 in
           absurd (omega (arith, short, whole, least, counts))
 
-  -- THE TARGETS ARE THE NEW ROW
-  pub new_row_is : IsNewRow v (current_in b.held) xs
-  new_row_is = record {
+  -- THE TARGETS ARE THE NEW ROWS
+  pub new_rows_are : AreNewRows v many (current_in b.held) xs
+  new_rows_are = record {
     on = λ d i u found.
         let at = row.on d i u (look_payload xs d i u found) in
         record {
@@ -130,11 +131,11 @@ module _ (v : View) (a b : Seen) (absent : Option ℕ) (xs : List Target) (is_ar
           low = at.low;
           disk = at.disk;
           at = at.at;
-          inside = (at.inside.0, at.inside.1);
+          inside = (at.inside.0, (let high = at.inside.1 in omega (arith, high)));
           bytes = at.bytes.own ∙ bytes_are at.sector at.position at.bytes.bytes at.bytes.pieces at.low;
         };
     has = λ t j inside less counts.
-        let at = row.has t j (inside.0, inside.1, less, there t j inside less counts) in
+        let at = row.has t j (inside.0, (let high = inside.1 in omega (arith, high)), less, there t j inside less counts) in
         payload_is xs (slice_on v j) (data_sector + t) at.0 row.apart at.1
         ∙ ap Some (at.2.own ∙ bytes_are t j at.2.bytes at.2.pieces less);
   }

@@ -1,4 +1,4 @@
--- The call that moves a row: which sectors of the array it reads, who gets a sector, and its commit.
+-- The call that moves rows: which sectors of the array it reads, who gets a sector, and its commit.
 use Rattle.std.proofs.Common.{◌≡◌, ℕ, ◌+◌, ◌-◌, ◌*◌, ◌/◌, ◌<◌, ◌≤◌, Bool, true, false, ◌==◌, nat_lt, if◌then◌else◌, List, [], length, Option, Some, None, refl, sym, ap, subst, ◌∙◌, inl, inr, eq-eqb, eqb-true, lt-ltb, le-ltb, ltb-false, arith}
 use Rattle.std.proofs.lemmas.Bool.{both_ways, cases_lt}
 use Rattle.rack.specs.Seen.{Seen}
@@ -21,16 +21,16 @@ use Rattle.array_model.proofs.RowWrites.{part_on}
 use Rattle.array_model.proofs.Views.{shape_members}
 use Rattle.array_core.specs.Stands.{blank}
 use Rattle.array_core.specs.Superblocks.{raised}
-use Rattle.reshape_laws.specs.Ahead.{InRow, ahead, next_row, row_sectors, sector_on}
+use Rattle.reshape_laws.specs.Ahead.{ahead_by, next_row, row_sectors, sector_on}
 use Rattle.reshape_laws.specs.Reshapes.{lacks_two}
 use Rattle.reshape_laws.specs.Rows.{AddsPiece, ArePieces, IsAbsent, IsNewBytes, OfOneData, OfSectors, counts_in}
 use Rattle.reshape_laws.proofs.Addresses.{below_row, in_row, position_rows}
 use Rattle.reshape_laws.proofs.Ahead.{sector_on_own}
 use Rattle.reshape_laws.proofs.Committing.{Step}
 use Rattle.reshape_laws.proofs.Finishing.{no_mirror}
-use Rattle.reshape_laws.proofs.NewRow.{IsRowOf, new_row_is, row_targets}
+use Rattle.reshape_laws.proofs.NewRow.{AreRowsOf, new_rows_are, row_targets}
 use Rattle.reshape_laws.proofs.Pieces.{no_pieces}
-use Rattle.reshape_laws.proofs.StepsOf.{row_step}
+use Rattle.reshape_laws.proofs.StepsOf.{rows_step}
 use Rattle.reshape_laws.proofs.Truths.{unspent_before}
 
 pub blank_zeros : blank ≡ zeros 512
@@ -63,9 +63,9 @@ stands_on k x position sector least low stands =
     (subst (λ p. sector_on k p (sector_of k x) ≡ x) stands.on_member (sector_on_own k x least (subst (λ p. p < k) (sym stands.on_member) low))))
 
 -- it isn't moved yet
-pub stands_left : (v : View) (x position sector : ℕ) → IsArray v → is_reshaping v.truth ≡ true → InRow (next_row v) sector → StandsAt v.truth.raid_disks x position sector
+pub stands_left : (v : View) (x position sector : ℕ) → IsArray v → is_reshaping v.truth ≡ true → next_row v * 128 ≤ sector → StandsAt v.truth.raid_disks x position sector
     → v.truth.reshape_position ≤ x
-stands_left v x position sector is_array reshaping inside stands =
+stands_left v x position sector is_array reshaping least stands =
     let reshape = is_array.reshape reshaping in
     let cut = position_rows v.truth.raid_disks v.truth.reshape_position reshape.2 in
     elim (cases_lt x v.truth.reshape_position) [
@@ -75,7 +75,6 @@ stands_left v x position sector is_array reshaping inside stands =
           let at : row_at sector ≡ row_of v.truth.raid_disks x = subst (λ s. row_at s ≡ row_of v.truth.raid_disks x) stands.at_sector row in
           let below : row_of v.truth.raid_disks x < next_row v =
           below_row v.truth.raid_disks (next_row v) x (member_count v is_array) (subst (λ p. x < p) cut less) in
-          let least = inside.0 in
           absurd (omega (arith, at, below, least))
     ]
 
@@ -108,16 +107,16 @@ no_piece v a sector position absent sum xs long parity = record {
       sym (xor_zeros sum long)
       ∙ sym (ap (λ (b : Bool). xor sum (if b then zeros 512 else [])) (eq-eqb position (parity_at v.truth.raid_disks sector) parity));
   adds =
-      no_pieces v (OfOneData v.truth.raid_disks sector position absent) (λ t j u. u ≡ []) 1 xs
+      no_pieces v (OfOneData v.truth.raid_disks sector position absent) (λ t j u. u ≡ []) (if position == parity_at v.truth.raid_disks sector then 0 else 1) xs
       (λ t j is. is.3 (is.1 ∙ parity ∙ sym (ap (parity_at v.truth.raid_disks) is.0)));
 }
 
 -- ---- who gets a sector
 
-pub absent_none : (v : View) (row : ℕ) → ((j : ℕ) → j < v.truth.raid_disks → counts_in v row j ≡ true) → IsAbsent v row None
+pub absent_none : (v : View) (row : ℕ) → ((j : ℕ) → j < v.truth.raid_disks → counts_in v row j ≡ true) → IsAbsent v row row None
 absent_none v row all = record { lacks = λ j low none. absurd (both_ways false refl none); others = λ j low other. all j low }
 
-pub absent_one : (v : View) (row k : ℕ) → IsArray v → row < rows_of v → lacks_two v ≡ false → k < v.truth.raid_disks → counts_in v row k ≡ false → IsAbsent v row (Some k)
+pub absent_one : (v : View) (row k : ℕ) → IsArray v → row < rows_of v → lacks_two v ≡ false → k < v.truth.raid_disks → counts_in v row k ≡ false → IsAbsent v row row (Some k)
 absent_one v row k is_array inside few low lacks = record {
   lacks = λ j below same. subst (λ i. counts_in v row i ≡ false) (eqb-true k j same) lacks;
   others = λ j below other. by j below (λ at. both_ways (k == j) other (eq-eqb k j at)) (counts_in v row j) refl;
@@ -146,37 +145,37 @@ absent_one v row k is_array inside few low lacks = record {
 
 -- ---- its commit
 
--- what the call needs of an array, and what it has added for the row
-pub record IsMoving (v : View) (absent : Option ℕ) (a : Seen) (own_data : List Target) : Type 0 where
+-- what the call needs of an array, and what it has added for so many rows
+pub record IsMoving (v : View) (many : ℕ) (absent : Option ℕ) (a : Seen) (own_data : List Target) : Type 0 where
   pub is_array : IsArray v
   pub reshaping : is_reshaping v.truth ≡ true
-  pub left : v.truth.reshape_position < (v.truth.raid_disks - 1) * v.truth.size
+  pub left : next_row v + many ≤ rows_of v
   pub few : lacks_two v ≡ false
   pub synced : v.resync ≡ rows_of v
   pub unsynced : first_unsynced v.truth ≤ v.resync
-  pub absent_is : IsAbsent v (next_row v) absent
-  pub row : IsRowOf v a absent own_data
+  pub absent_is : IsAbsent v (next_row v) (next_row v + many - 1) absent
+  pub rows : AreRowsOf v a many absent own_data
 
-pub moving_step : (v : View) (absent : Option ℕ) (a b : Seen) (own_data : List Target) → a.lasting → OnlyReads a b → IsMoving v absent a own_data
-    → Step v (ahead v (raised v.truth.events)).truth v.seats v.devices v.resync (λ m. ⊥) own_data a b
-moving_step v absent a b own_data lasting reads is =
-    row_step v (raised v.truth.events) is.is_array is.reshaping (no_mirror v is.is_array is.reshaping) is.left is.few is.unsynced a b own_data is.row.apart
-    (row_targets v a absent own_data is.absent_is is.row)
-    (λ rows s vals spent holds steady. new_row_is v a b absent own_data is.is_array is.reshaping lasting reads is.absent_is is.row rows s vals spent holds steady)
+pub moving_step : (v : View) (many : ℕ) (absent : Option ℕ) (a b : Seen) (own_data : List Target) → a.lasting → OnlyReads a b → IsMoving v many absent a own_data
+    → Step v (ahead_by v many (raised v.truth.events)).truth v.seats v.devices v.resync (λ m. ⊥) own_data a b
+moving_step v many absent a b own_data lasting reads is =
+    rows_step v many (raised v.truth.events) is.is_array is.reshaping (no_mirror v is.is_array is.reshaping) is.left is.few is.unsynced a b own_data is.rows.apart
+    (row_targets v a many absent own_data is.absent_is is.rows)
+    (λ rows s vals spent holds steady. new_rows_are v a b many absent own_data is.is_array is.reshaping lasting reads is.absent_is is.rows rows s vals spent holds steady)
 
-pub moving_is : (v : View) (absent : Option ℕ) (a : Seen) (row : ℕ) (own_data : List Target) → IsArray v → is_reshaping v.truth ≡ true → v.truth.reshape_position < (v.truth.raid_disks - 1) * v.truth.size
-    → lacks_two v ≡ false → v.resync ≡ rows_of v → first_unsynced v.truth ≤ v.resync → row ≡ next_row v → IsAbsent v row absent
-    → ArePieces v (OfSectors v.truth.raid_disks (row * 128) 128 absent) (IsNewBytes v a) own_data
-    → IsMoving v absent a own_data
-moving_is v absent a row own_data is_array reshaping left few synced unsynced row_is absent_is pieces = record {
+pub moving_is : (v : View) (many : ℕ) (absent : Option ℕ) (a : Seen) (first : ℕ) (own_data : List Target) → IsArray v → is_reshaping v.truth ≡ true → first + many ≤ rows_of v
+    → lacks_two v ≡ false → v.resync ≡ rows_of v → first_unsynced v.truth ≤ v.resync → first ≡ next_row v → IsAbsent v first (first + many - 1) absent
+    → ArePieces v (OfSectors v.truth.raid_disks (first * 128) (many * 128) absent) (IsNewBytes v a) own_data
+    → IsMoving v many absent a own_data
+moving_is v many absent a first own_data is_array reshaping left few synced unsynced first_is absent_is pieces = record {
   is_array = is_array;
   reshaping = reshaping;
-  left = left;
+  left = subst (λ r. r + many ≤ rows_of v) first_is left;
   few = few;
   synced = synced;
   unsynced = unsynced;
-  absent_is = subst (λ r. IsAbsent v r absent) row_is absent_is;
-  row = subst (λ r. ArePieces v (OfSectors v.truth.raid_disks (r * 128) 128 absent) (IsNewBytes v a) own_data) row_is pieces;
+  absent_is = subst (λ r. IsAbsent v r (r + many - 1) absent) first_is absent_is;
+  rows = subst (λ r. ArePieces v (OfSectors v.truth.raid_disks (r * 128) (many * 128) absent) (IsNewBytes v a) own_data) first_is pieces;
 }
 
 -- an array that has lost members has no row to resync yet

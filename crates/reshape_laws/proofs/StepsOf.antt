@@ -1,5 +1,5 @@
 -- Each of the four steps as a step by one commit: what is left for the code to show is that its targets are these.
-use Rattle.std.proofs.Common.{◌≡◌, ◌≢◌, ℕ, zero, suc, ◌+◌, ◌-◌, ◌*◌, ◌/◌, ◌%◌, ◌<◌, ◌≤◌, Bool, true, false, ◌&&◌, nat_lt, slice_get, get_or, length, List, [], ◌∷◌, ◌++◌, Option, Some, None, unwrap_or, refl, sym, ap, subst, ◌∙◌, lt-ltb, ltb-true, ltb-false, arith}
+use Rattle.std.proofs.Common.{◌≡◌, ◌≢◌, ℕ, zero, suc, ◌+◌, ◌-◌, ◌*◌, ◌%◌, ◌<◌, ◌≤◌, Bool, true, false, ◌&&◌, nat_lt, slice_get, get_or, length, List, [], ◌∷◌, ◌++◌, Option, Some, None, unwrap_or, refl, sym, ap, subst, ◌∙◌, lt-ltb, ltb-true, ltb-false, arith}
 use Rattle.std.proofs.lemmas.Bool.{both_ways}
 use Rattle.rack.specs.Values.{Values}
 use Rattle.rack.specs.Seen.{Seen, IsLive}
@@ -29,10 +29,10 @@ use Rattle.array_core.specs.Staging.{HasRowRebuilds}
 use Rattle.array_core.proofs.Stripped.{whole_written}
 use Rattle.sync_laws.proofs.Summing.{wanting_later}
 use Rattle.sync_laws.proofs.Views.{slot_there}
-use Rattle.reshape_laws.specs.Ahead.{InRow, IsNewRow, ahead, begun, finished, next_row, taken_over}
+use Rattle.reshape_laws.specs.Ahead.{AreNewRows, InRows, ahead_by, begun, finished, next_row, taken_over}
 use Rattle.reshape_laws.specs.Reshapes.{lacks_two}
 use Rattle.reshape_laws.proofs.Ahead.{row_moves}
-use Rattle.reshape_laws.proofs.Arrays.{ahead_array, ahead_written, finished_array, finished_written, row_left, taken_array, taken_written}
+use Rattle.reshape_laws.proofs.Arrays.{ahead_by_array, ahead_written, finished_array, finished_written, taken_array, taken_written}
 use Rattle.reshape_laws.proofs.Committing.{Step}
 use Rattle.reshape_laws.proofs.StepMoves.{begun_moves, finished_moves, places, seat_kept, taken_moves}
 use Rattle.reshape_laws.proofs.Begun.{begun_array, begun_written}
@@ -154,38 +154,37 @@ module _ (v : View) (events : ℕ) (is_array : IsArray v) (mirrored : is_mirror 
             taken_moves v events is_array mirrored still (current_in b.held) (reach_low v rows) holds.shape.sized synced holds.shape.even spent;
       }
 
--- ---- a row
+-- ---- rows
 
--- a target is a sector of the row, of a member that counts there
-pub record IsRowTarget (v : View) (d s : ℕ) (u : List ℕ) : Type 0 where
+-- a target is a sector of the rows, of a member that counts there
+pub record IsRowTarget (v : View) (many d s : ℕ) (u : List ℕ) : Type 0 where
   pub position : ℕ
   pub sector : ℕ
   pub low : position < v.truth.raid_disks
   pub counts : sector < (member_on v position).reach
   pub disk : d ≡ slice_on v position
   pub at : s ≡ data_sector + sector
-  pub inside : InRow (next_row v) sector
+  pub inside : InRows (next_row v) many sector
   pub long : length u ≡ 512
 
-module _ (v : View) (events : ℕ) (is_array : IsArray v) (reshaping : is_reshaping v.truth ≡ true) (plain : is_mirror v.truth ≡ false)
-    (left : v.truth.reshape_position < (v.truth.raid_disks - 1) * v.truth.size) (few : lacks_two v ≡ false)
+module _ (v : View) (many events : ℕ) (is_array : IsArray v) (reshaping : is_reshaping v.truth ≡ true) (plain : is_mirror v.truth ≡ false)
+    (left : next_row v + many ≤ rows_of v) (few : lacks_two v ≡ false)
     (unsynced : first_unsynced v.truth ≤ v.resync)
     (a b : Seen) (own_data : List Target) (once : are_apart own_data ≡ true)
-    (on : (d i : ℕ) (u : List ℕ) → IsPayload own_data d i u → IsRowTarget v d i u)
-    (news : HasRowRebuilds v → (s : State) (vals : ℕ → Values) (spent : ℕ → Bool) → Holds s (shape_of v) v vals spent a → may_vary v ≡ false → IsNewRow v (current_in b.held) own_data) where
-  inside_size : (t : ℕ) → InRow (next_row v) t → t < v.truth.size
+    (on : (d i : ℕ) (u : List ℕ) → IsPayload own_data d i u → IsRowTarget v many d i u)
+    (news : HasRowRebuilds v → (s : State) (vals : ℕ → Values) (spent : ℕ → Bool) → Holds s (shape_of v) v vals spent a → may_vary v ≡ false → AreNewRows v many (current_in b.held) own_data) where
+  inside_size : (t : ℕ) → InRows (next_row v) many t → t < v.truth.size
   inside_size t inside =
-      let row : next_row v < v.truth.size / 128 = row_left v events is_array reshaping left in
       let whole = is_array.whole_rows in
       let high = inside.1 in
-      omega (arith, row, whole, high)
+      omega (arith, left, whole, high)
 
-  pub row_step : Step v (ahead v events).truth v.seats v.devices v.resync (λ m. ⊥) own_data a b
-  row_step =
+  pub rows_step : Step v (ahead_by v many events).truth v.seats v.devices v.resync (λ m. ⊥) own_data a b
+  rows_step =
       let one = one_counts v is_array few in
       record {
         is_array = is_array;
-        next = ahead_array v events is_array reshaping left;
+        next = ahead_by_array v many events is_array reshaping left;
         on = λ d i u pay.
             let at = on d i u pay in
             record {
@@ -200,7 +199,7 @@ module _ (v : View) (events : ℕ) (is_array : IsArray v) (reshaping : is_reshap
             };
         apart = once;
         keeps = λ k low. (low, refl);
-        written = λ offset stripped. ahead_written v events is_array reshaping left v.number (whole_written v.number v.truth offset stripped);
+        written = λ offset stripped. ahead_written v many events is_array reshaping left v.number (whole_written v.number v.truth offset stripped);
         unsynced = unsynced;
         some = one.0;
         some_low = one.1;
@@ -215,7 +214,7 @@ module _ (v : View) (events : ℕ) (is_array : IsArray v) (reshaping : is_reshap
             subst (λ e. IsLive a a e i) (sym at.disk)
             (subst (λ e. IsLive a a (slice_on v at.position) e) (sym at.at) (opened (member_on v at.position) at.sector among at.counts));
         moves = λ unmarked rows s vals spent before holds.
-            row_moves v events is_array reshaping (current_in b.held) own_data (news rows s vals spent before (raid5_steady v plain unmarked))
+            row_moves v many events is_array reshaping (current_in b.held) own_data (news rows s vals spent before (raid5_steady v plain unmarked))
             (λ t inside. few_wanting v t few (inside_size t inside)) holds.shape.sized v.resync spent;
       }
 

@@ -18,9 +18,9 @@ use Rattle.array_model.proofs.Layouts.{sector_inside}
 use Rattle.array_model.proofs.Views.{shape_members}
 use Rattle.array_core.specs.Model.{is_truth}
 use Rattle.array_core.specs.TruthHeld.{HasFewBits}
-use Rattle.reshape_laws.specs.Ahead.{ahead, begun, finished, taken_over}
+use Rattle.reshape_laws.specs.Ahead.{ahead_by, begun, finished, next_row, taken_over}
 use Rattle.reshape_laws.specs.Reshapes.{lacks_two}
-use Rattle.reshape_laws.proofs.Arrays.{ahead_array}
+use Rattle.reshape_laws.proofs.Arrays.{ahead_by_array}
 use Rattle.reshape_laws.proofs.Roles.{begun_roles}
 use Rattle.reshape_laws.proofs.StepsOf.{few_wanting}
 
@@ -113,17 +113,17 @@ truth_from : (t : Super) → is_ok (profiled t 128) ≡ true → has_whole_row t
 truth_from t profile row roles size =
     and_from (is_ok (profiled t 128)) _ profile (and_from (has_whole_row t) _ row (and_from (has_roles 16 t) (nat_lt t.size (2 ^ 48)) roles size))
 
--- a row is moved
-pub ahead_truth : (v : View) (events : ℕ) → IsArray v → (reshaping : is_reshaping v.truth ≡ true) → v.truth.reshape_position < (v.truth.raid_disks - 1) * v.truth.size
-    → is_truth v.truth ≡ true → is_truth (ahead v events).truth ≡ true
-ahead_truth v events is_array reshaping left truth =
+-- rows are moved
+pub ahead_truth : (v : View) (many events : ℕ) → IsArray v → (reshaping : is_reshaping v.truth ≡ true) → next_row v + many ≤ rows_of v
+    → is_truth v.truth ≡ true → is_truth (ahead_by v many events).truth ≡ true
+ahead_truth v many events is_array reshaping left truth =
     let was = parts_of v.truth truth in
-    let next = (ahead_array v events is_array reshaping left).reshape reshaping in
-    truth_from (ahead v events).truth was.0
+    let next = (ahead_by_array v many events is_array reshaping left).reshape reshaping in
+    truth_from (ahead_by v many events).truth was.0
     (or_right (not (is_reshaping v.truth)) _
     (and_from (is_raid5 v.truth) _ next.0
     (and_from (nat_lt 2 v.truth.raid_disks) _ (lt-ltb 2 v.truth.raid_disks (let three = next.1 in omega (arith, three)))
-    (eq-eqb ((v.truth.reshape_position + new_row v.truth) % new_row v.truth) 0 next.2))))
+    (eq-eqb ((v.truth.reshape_position + 128 * many * (v.truth.raid_disks - 1)) % new_row v.truth) 0 next.2))))
     was.1.1.0 was.1.1.1
   where
     or_right : (p q : Bool) → q ≡ true → (p || q) ≡ true

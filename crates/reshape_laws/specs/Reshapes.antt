@@ -1,5 +1,5 @@
 -- What takeover, begin, a row and finish do to an array.
-use Rattle.std.specs.Prelude.{◌⊎◌, ◌%◌, ◌^◌, ◌≡◌, ℕ, ◌+◌, ◌-◌, ◌<◌, Bool, true, false, not, nat_lt, if◌then◌else◌, List, length, None}
+use Rattle.std.specs.Prelude.{◌⊎◌, ◌%◌, ◌^◌, ◌≡◌, ℕ, ◌+◌, ◌-◌, ◌<◌, Bool, true, false, not, nat_lt, if◌then◌else◌, List, length, None, Result}
 use Rattle.rack.specs.Values.{Values, IsSingle}
 use Rattle.rack.specs.Seen.{Seen, Image}
 use Rattle.pool_state.specs.declared.contents.State.{State}
@@ -13,20 +13,21 @@ use Rattle.shr_base.specs.declared.Id.{Id}
 use Rattle.log_laws.specs.Kept.{LogKept}
 use Rattle.array_model.specs.declared.Seat.{Seat}
 use Rattle.array_model.specs.declared.Seat.TheVariants.{Whole, Missing}
-use Rattle.array_model.specs.View.{View, has_gone, sectors_of, shape_of, spent_in}
+use Rattle.array_model.specs.View.{View, has_gone, rows_of, sectors_of, shape_of, spent_in}
 use Rattle.array_model.specs.Says.{Holds, IsOpen}
 use Rattle.array_model.specs.Stages.{IsStateOf}
 use Rattle.array_model.specs.Members.{members_of}
 use Rattle.array_model.specs.ArrayCalls.{Covers, HasFields, Keeping, Moving}
 use Rattle.array_core.specs.declared.Change.{Change}
+use Rattle.array_core.specs.declared.Spent.{Spent}
 use Rattle.array_core.specs.Pool.{MayCommit}
 use Rattle.array_core.specs.Seats.{names}
 use Rattle.array_core.specs.Staging.{HasRowRebuilds}
 use Rattle.array_core.specs.Superblocks.{raised}
 use Rattle.array_core.specs.TruthHeld.{HasFewBits, HoldTruth, TellSupers}
 use Rattle.array_core.specs.TruthLeft.{LeavesSupers}
-use Rattle.sync_laws.specs.Steps.{Stepped, if_done}
-use Rattle.reshape_laws.specs.Ahead.{begun}
+use Rattle.sync_laws.specs.Steps.{DoesRows, Stepped, if_done}
+use Rattle.reshape_laws.specs.Ahead.{ahead_by, begun, next_row}
 
 -- two members are missing, or not rebuilt to the end
 abbrev pub lacks_two : View → Bool
@@ -85,6 +86,11 @@ pub record Reshapes (v next w : View) (number next_number : ℕ) (on : List ℕ)
   pub kept : (s : State) → MayReshape s v next w number on a → LogKept s next_number (has_gone w) b
   -- superblocks that said the array's truth do so after it, where those of the next array are told
   pub truth : HasFewBits v.truth → TellSupers next a → HoldTruth v a → HoldTruth w b
+
+-- A step that moves some of the next rows, at least one, at most so many and at most those that are left, and answers how many they are.
+abbrev pub ReshapesRows : View → View → ℕ → ℕ → ℕ → List ℕ → Seen → Seen → Result ℕ Spent → Type 0
+ReshapesRows v w most number next_number on a b result =
+    DoesRows (λ rows. Reshapes v (ahead_by v rows (raised v.truth.events)) w number next_number on a b) (rows_of v - next_row v) most result
 
 -- a sector of an array stands past the end of its members' data, where there are zeros
 abbrev pub past_end : View → ℕ → Bool

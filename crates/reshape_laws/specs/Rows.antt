@@ -1,5 +1,5 @@
--- What a call adds to the log for a new row: pieces of its members, each read of the array as it was, and their parity.
-use Rattle.std.specs.Prelude.{◌≡◌, ℕ, ◌+◌, ◌*◌, ◌<◌, ◌≤◌, Bool, true, false, ◌==◌, nat_lt, if◌then◌else◌, List, ◌++◌, map, length, Option}
+-- What a call adds to the log for new rows: pieces of its members, each read of the array as it was, and their parity.
+use Rattle.std.specs.Prelude.{◌≡◌, ℕ, ◌+◌, ◌-◌, ◌*◌, ◌<◌, ◌≤◌, Bool, true, false, ◌==◌, nat_lt, if◌then◌else◌, List, ◌++◌, map, length, Option}
 use Rattle.std.specs.List.{range_with_len}
 use Rattle.std.specs.Option.{option_map_or}
 use Rattle.rack.specs.Values.{Values}
@@ -43,7 +43,7 @@ pub record AddsPieces (v : View) (within : ℕ → ℕ → Type 0) (has_bytes : 
   pub few : length targets ≤ many
   pub pieces : ArePieces v within has_bytes targets
 
--- ---- a new row
+-- ---- new rows
 
 -- a position is the absent one, which gets no sector
 abbrev pub is_absent : Option ℕ → ℕ → Bool
@@ -53,10 +53,10 @@ is_absent absent position = option_map_or (λ p. p == position) absent false
 abbrev pub counts_in : View → ℕ → ℕ → Bool
 counts_in v row position = nat_lt (row * 128 + 127) (member_on v position).reach
 
--- at most one member doesn't count in a row: the absent one
-pub record IsAbsent (v : View) (row : ℕ) (absent : Option ℕ) : Type 0 where
-  pub lacks : (j : ℕ) → j < v.truth.raid_disks → is_absent absent j ≡ true → counts_in v row j ≡ false
-  pub others : (j : ℕ) → j < v.truth.raid_disks → is_absent absent j ≡ false → counts_in v row j ≡ true
+-- at most one member doesn't count in the rows from the first one to the last: the absent one, which counts in none of them
+pub record IsAbsent (v : View) (first last : ℕ) (absent : Option ℕ) : Type 0 where
+  pub lacks : (j : ℕ) → j < v.truth.raid_disks → is_absent absent j ≡ true → counts_in v first j ≡ false
+  pub others : (j : ℕ) → j < v.truth.raid_disks → is_absent absent j ≡ false → counts_in v last j ≡ true
 
 -- the first positions at a sector, but the absent one
 abbrev pub OfSector : ℕ → ℕ → Option ℕ → ℕ → ℕ → Type 0
@@ -106,16 +106,20 @@ pub record IsNewBytes (v : View) (a : Seen) (t j : ℕ) (u : List ℕ) : Type 0 
   pub pieces : HasPieces v a t bytes
   pub own : u ≡ bytes j
 
+-- how many of the first positions have data at a sector
+abbrev pub data_count : ℕ → ℕ → ℕ → ℕ
+data_count members sector many = if nat_lt (parity_at members sector) many then many - 1 else many
+
 -- one position's data, which is added to a sum and to the log
 pub record AddsPiece (v : View) (a : Seen) (sector position : ℕ) (absent : Option ℕ) (sum next : List ℕ) (before after : List Target) : Type 0 where
   pub bytes : List ℕ
   pub old : (position ≡ parity_at v.truth.raid_disks sector → ⊥) → IsOld v a (sector_on v.truth.raid_disks position sector) bytes
   pub sum_is : next ≡ xor sum (if position == parity_at v.truth.raid_disks sector then zeros 512 else bytes)
-  pub adds : AddsPieces v (OfOneData v.truth.raid_disks sector position absent) (λ t j u. u ≡ bytes) 1 before after
+  pub adds : AddsPieces v (OfOneData v.truth.raid_disks sector position absent) (λ t j u. u ≡ bytes) (if position == parity_at v.truth.raid_disks sector then 0 else 1) before after
 
 -- that of the first positions
 pub record AddsData (v : View) (a : Seen) (sector many : ℕ) (absent : Option ℕ) (sum : List ℕ) (before after : List Target) : Type 0 where
   pub bytes : ℕ → List ℕ
   pub old : HasData v a sector many bytes
   pub sum_is : sum ≡ data_sum v.truth.raid_disks sector many bytes
-  pub adds : AddsPieces v (OfData v.truth.raid_disks sector many absent) (λ t j u. u ≡ bytes j) many before after
+  pub adds : AddsPieces v (OfData v.truth.raid_disks sector many absent) (λ t j u. u ≡ bytes j) (data_count v.truth.raid_disks sector many) before after

@@ -51,8 +51,8 @@ rests_closed s u p n vals r shows =
     let was : (t : Super) → truth_in (closed_state s) r n ≡ Some t → truth_in s r n ≡ Some t = λ t is. sym (truth_closed s r n) ∙ is in
     record {
       shows = record {
-        rows = λ kept t is. shows.shows.rows kept t (was t is);
-        lacks = λ wanted some t is. shows.shows.lacks wanted some t (was t is);
+        rows = λ old kept t is. shows.shows.rows old kept t (was t is);
+        lacks = λ old wanted some t is. shows.shows.lacks old wanted some t (was t is);
         says = record {
           shape_is = shape_closed s r n ∙ shows.shows.says.shape_is;
           value = shows.shows.says.value;
@@ -76,10 +76,10 @@ idle_agrees d v p vals xs a n c stands none others picks place u =
     (ap (λ (ts : List Target). look ts (member_slice place n) u) (kept_idle d.state v.number (gone_in v) a c stands.log (logs_of c picks) none) ∙ look_nothing (member_slice place n) u))
 
 pub stages_closed : (d v w : Raid) (vals : ℕ → ℕ → Values) (xs : List Target) (a b : Seen) → ((q : ℕ) → is_current d.state q ≡ true → gone_in v q ≡ false)
-    → ((n place u : ℕ) → n < 16 → look xs (member_slice place n) u ≡ None) → Stages closed d v w vals xs a b
-stages_closed d v w vals xs a b none others = record {
-  new = λ p promised stands n live high low. absurd (omega (arith, high, low));
-  old = λ p promised stands n live low.
+    → ((n place u : ℕ) → n < 16 → look xs (member_slice place n) u ≡ None) → (p : Promise) → Stages closed d v w p vals xs a b
+stages_closed d v w vals xs a b none others p = record {
+  new = λ promised stands n live high low. absurd (omega (arith, high, low));
+  old = λ promised stands n live low.
       let at = stands.arrays n live low in
       record {
         shows = λ c picks shows.

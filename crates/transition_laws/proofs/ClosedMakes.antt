@@ -30,7 +30,7 @@ module _ (v : Raid) (on gone : List ℕ) (l : LogView) (f : ℕ → View) (b c :
   left : (q : ℕ) → is_current v.state q ≡ (is_current v.state q && not (gone_in v q))
   left q = sym (and_true (is_current v.state q)) ∙ ap (λ (g : Bool). is_current v.state q && not g) (sym (heeded_gone v commit.heeded q))
 
-  closing_committing : IsCommitting plan_ends v v.arrays on gone l f b c
+  closing_committing : IsCommitting plan_ends v v.number v.arrays on gone l f b c
   closing_committing = record {
     due = due;
     set = commit.set;
@@ -64,6 +64,6 @@ module _ (v : Raid) (on gone : List ℕ) (l : LogView) (f : ℕ → View) (b c :
 
   pub close_makes : (vals : ℕ → ℕ → Values) → Makes (plan_ends ∷ []) v v (closed_raid v (next_number l.number) f) vals vals b c
   close_makes vals =
-      committing_makes plan_ends v v.arrays on gone l f b c closing_committing vals
+      committing_makes plan_ends v v.number v.arrays on gone l f b c closing_committing vals
       (stages_closed v v (closed_raid v (next_number l.number) f) vals l.added b c (λ q current. heeded_gone v commit.heeded q)
       (λ n place u few. closing_none v on gone l f b c commit (member_slice place n) u (λ p named disk first. absurd (omega (arith, few, disk)))))

@@ -42,9 +42,9 @@ closing_moments v on gone l f b c commit due heeded inside low =
     })
 
 -- The plan ends, whoever went is noted and all arrays are settled, and one more commit marks them: one call, two changes.
-pub close_then_mark : (v one two last : Raid) (lost : List ℕ) (vals : ℕ → ℕ → Values) (a b c e : Seen)
+pub close_then_mark : (v one two last : Raid) (lost : List ℕ) (events : ℕ → ℕ) (vals : ℕ → ℕ → Values) (a b c e : Seen)
     → Makes (plan_ends ∷ []) v v one vals vals a b → Makes [] (changed plan_ends v) one two vals vals b c
-    → Makes (failed lost ∷ []) (changed plan_ends v) two last vals vals c e → Makes (plan_ends ∷ failed lost ∷ []) v v last vals vals a e
-close_then_mark v one two last lost vals a b c e close settle mark =
-    makes_then (plan_ends ∷ []) (failed lost ∷ []) v v two last vals vals vals a c e
+    → Makes (failed lost events ∷ []) (changed plan_ends v) two last vals vals c e → Makes (plan_ends ∷ failed lost events ∷ []) v v last vals vals a e
+close_then_mark v one two last lost events vals a b c e close settle mark =
+    makes_then (plan_ends ∷ []) (failed lost events ∷ []) v v two last vals vals vals a c e
     (makes_then (plan_ends ∷ []) [] v v one two vals vals vals a b c close settle) mark

@@ -52,7 +52,7 @@ is_left_on : (named lost : Bool) → named ≡ true → lost ≡ false → (name
 is_left_on named lost is none = and_from named (not lost) is (ap not none)
 
 module _ (x : Change) (d v w : Raid) (vals : ℕ → ℕ → Values) (l : LogView) (on lost : List ℕ) (a b : Seen)
-    (commit : Commits x d v w l on lost a b) (stages : Stages x d v w vals l.added a b) (p : Promise) (promised : IsPromised p w) (owned : OwnsCopies p (changed x d).state) (stands : Stands d v p vals a) where
+    (commit : Commits x d v w l on lost a b) (p : Promise) (stages : Stages x d v w p vals l.added a b) (promised : IsPromised p w) (owned : OwnsCopies p (changed x d).state) (stands : Stands d v p vals a) where
   abbrev t : State
   t = (changed x d).state
 
@@ -94,7 +94,7 @@ module _ (x : Change) (d v w : Raid) (vals : ℕ → ℕ → Values) (l : LogVie
   }
 
   stage : (n : ℕ) → p.live n ≡ true → n < d.state.made → StagesArray d.state (changed x d).state (d.arrays n) ((changed x d).arrays n) v p n (vals n) l.added a
-  stage n is low = stages.old p promised stands n is low
+  stage n is low = stages.old promised stands n is low
 
   small : (n : ℕ) → p.live n ≡ true → n < d.state.made → n < 16
   small n is low = (stands.arrays n is low).few
@@ -106,7 +106,7 @@ module _ (x : Change) (d v w : Raid) (vals : ℕ → ℕ → Values) (l : LogVie
         rests_same (changed x d).state ((changed x d).arrays n) p n (vals n) r (put a.sectors l.added before) (agree n (small n is low)) (stage n is low).number
         ((stage n is low).shows before picks (stands.images before picks n is low))
     | inr high ↦
-        let new = stages.new p promised stands n is high made in
+        let new = stages.new promised stands n is high made in
         rests_same (changed x d).state ((changed x d).arrays n) p n (vals n) r (put a.sectors l.added before) (agree n new.few) new.number (new.shows before picks)
   ]
 
@@ -300,11 +300,11 @@ module _ (x : Change) (d v w : Raid) (vals : ℕ → ℕ → Values) (l : LogVie
     images = images;
     arrays = λ n is made. elim (cases_lt n d.state.made) [
       | inl low ↦ array_after n is low
-      | inr high ↦ (stages.new p promised stands n is high made).stands
+      | inr high ↦ (stages.new promised stands n is high made).stands
     ];
     alike = λ marked n is made. elim (cases_lt n d.state.made) [
       | inl low ↦ alike_after n is low marked
-      | inr high ↦ (stages.new p promised stands n is high made).same marked
+      | inr high ↦ (stages.new promised stands n is high made).same marked
     ];
     slices = λ n place u made few there.
         live_after commit.call.stays (live_on commit.lasting commit.call.stays
@@ -312,12 +312,12 @@ module _ (x : Change) (d v w : Raid) (vals : ℕ → ℕ → Values) (l : LogVie
   }
 
 pub commit_makes : (x : Change) (d v w : Raid) (vals : ℕ → ℕ → Values) (l : LogView) (on lost : List ℕ) (a b : Seen)
-    → Commits x d v w l on lost a b → Stages x d v w vals l.added a b → Makes (x ∷ []) d v w vals vals a b
+    → Commits x d v w l on lost a b → ((p : Promise) → Stages x d v w p vals l.added a b) → Makes (x ∷ []) d v w vals vals a b
 commit_makes x d v w vals l on lost a b commit stages = record {
   due = (commit.due, tt);
   stays = commit.call.stays;
   back = commit.back;
   grows = λ n y u may. may;
-  stops = λ p suits promised stands traced. stops x d v w vals l on lost a b commit stages p promised suits.owned.0 stands traced;
-  after = λ p suits promised stands. after x d v w vals l on lost a b commit stages p promised suits.owned.0 stands;
+  stops = λ p suits promised stands traced. stops x d v w vals l on lost a b commit p (stages p) promised suits.owned.0 stands traced;
+  after = λ p suits promised stands. after x d v w vals l on lost a b commit p (stages p) promised suits.owned.0 stands;
 }

@@ -10,7 +10,7 @@ use Rattle.array_model.specs.declared.Seat.TheVariants.{Missing}
 use Rattle.array_model.specs.View.{member_by_seat, member_on, place_at, seat_unless, shape_of, View}
 use Rattle.log_laws.specs.View.{names}
 use Rattle.raid_laws.specs.Book.{after_same, after_then, IsAfter}
-use Rattle.transition_laws.specs.Changes.{Along, AreKeeping, by, Change, changed, closed, enlists, failed, FollowsView, is_keeping, lacking, makes, readied, seats_without, steps, wrote}
+use Rattle.transition_laws.specs.Changes.{Along, AreKeeping, by, Change, changed, closed, enlists, failed, FollowsView, is_keeping, lacking, makes, readied, rewritten, seats_without, steps, wrote}
 use Rattle.array_core.specs.Superblocks.{settled}
 use Rattle.sync_laws.specs.Steps.{resynced}
 use Rattle.raid_laws.specs.Works.{closed as closed_state}
@@ -53,7 +53,7 @@ follows_then v w z one two = record {
 
 -- ---- seats
 
-get_without : (lost : List ℕ) (place : ℕ → ℕ) (k j : ℕ) (seats : List Seat)
+pub get_without : (lost : List ℕ) (place : ℕ → ℕ) (k j : ℕ) (seats : List Seat)
     → slice_get (seats_without lost place k seats) j ≡ option_map (seat_unless (names lost) (place (k + j))) (slice_get seats j)
 unfolding seats_without
 get_without lost place k j [] = refl
@@ -66,8 +66,8 @@ unless_none true o is = absurd (both_ways true is refl)
 unless_none false None is = refl
 unless_none false (Some seat) is = refl
 
-member_kept : (lost : List ℕ) (u : View) (j : ℕ) → names lost (place_at u j) ≡ false → member_on (settled (lacking lost u)) j ≡ member_on u j
-member_kept lost u j kept =
+member_kept : (lost : List ℕ) (events : ℕ) (u : View) (j : ℕ) → names lost (place_at u j) ≡ false → member_on (rewritten events (lacking lost u)) j ≡ member_on u j
+member_kept lost events u j kept =
     ap (λ (o : Option Seat). member_by_seat u.truth.size (place_at u j) o)
     (get_without lost (place_at u) 0 j u.seats
     ∙ ap (λ i. option_map (seat_unless (names lost) (place_at u i)) (slice_get u.seats j)) (let e : 0 + j ≡ j = omega arith in e)
@@ -105,11 +105,11 @@ not_named current false is = refl
 
 -- ---- each change
 
-view_failed : (s : State) (lost : List ℕ) (u : View) → FollowsView (is_current (marked lost s)) u (settled (lacking lost u))
-view_failed s lost u = record {
+view_failed : (s : State) (lost : List ℕ) (events : ℕ) (u : View) → FollowsView (is_current (marked lost s)) u (rewritten events (lacking lost u))
+view_failed s lost events u = record {
   frame = refl;
-  reach = members_reach (is_current (marked lost s)) u (settled (lacking lost u)) refl refl
-      (λ j is. member_kept lost u j (not_named (is_current s (place_at u j)) (names lost (place_at u j)) (sym (current_marked lost s (place_at u j)) ∙ is)));
+  reach = members_reach (is_current (marked lost s)) u (rewritten events (lacking lost u)) refl refl
+      (λ j is. member_kept lost events u j (not_named (is_current s (place_at u j)) (names lost (place_at u j)) (sym (current_marked lost s (place_at u j)) ∙ is)));
   resync = omega arith;
   young = refl;
 }
@@ -141,7 +141,7 @@ follows_change (makes next) v keeping = absurd keeping
 follows_change readied v keeping = absurd keeping
 follows_change closed v keeping = record { after = after_closed v.state; views = λ n. view_same (is_current (closed_state v.state)) (v.arrays n) }
 follows_change (enlists place units plan joining) v keeping = absurd keeping
-follows_change (failed lost) v keeping = record { after = after_marked lost v.state; views = λ n. view_failed v.state lost (v.arrays n) }
+follows_change (failed lost events) v keeping = record { after = after_marked lost v.state; views = λ n. view_failed v.state lost (events n) (v.arrays n) }
 follows_change (wrote n) v keeping = follows_same v
 
 pub follows_by : (xs : List Change) (v : Raid) → AreKeeping xs v → Follows v (by xs v)

@@ -6,10 +6,12 @@ pub mod Committing
 pub mod TurnMakes
 pub mod ReadMakes
 pub mod NotedMakes
+pub mod SettledMakes
 pub mod HeededMakes
 pub mod StepMakes
 pub mod SteppedMakes
 pub mod WriteMakes
+pub mod UndoneMakes
 pub mod Follows
 pub mod MomentsOf
 pub mod Closed
@@ -17,6 +19,9 @@ pub mod ClosedMakes
 pub mod ClosedMoments
 pub mod Rewritten
 pub mod MarkedMakes
+pub mod RunsOf
+pub mod OverMakes
+pub mod LossesMade
 pub mod Readied
 pub mod ReshapeSectors
 pub mod ReshapeHolds

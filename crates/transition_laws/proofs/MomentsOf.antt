@@ -85,14 +85,14 @@ module _ (v u e : Raid) (p : Promise) (vals : ℕ → ℕ → Values) (sectors :
             (subst (KeepsReachOn (is_current e.state) (shape_of (u.arrays n))) (sym shape_same) (last.views n).reach)),
       )
 
-  pub lacking_at : p.lacks n ≡ true → LackingFrom (v.arrays n).resync n (replayed sectors c)
-  lacking_at wanted s shape t state is lacks truth =
+  pub lacking_at : (v.arrays n).young ≡ false → p.lacks n ≡ true → LackingFrom (v.arrays n).resync n (replayed sectors c)
+  lacking_at young wanted s shape t state is lacks truth =
       let more = (first.views n).resync in
-      let at = shows.lacks wanted (subst (λ (z : Shape). 0 < lacking_in z) (shape_at s shape state is) lacks) t (truth_at s t state truth) in
+      let at = shows.lacks ((first.views n).young ∙ young) wanted (subst (λ (z : Shape). 0 < lacking_in z) (shape_at s shape state is) lacks) t (truth_at s t state truth) in
       omega (arith, more, at)
 
-  pub rows_at : p.kept n ≡ true → LeavesFrom (v.arrays n).resync n (replayed sectors c)
-  rows_at kept s t state truth = let more = (first.views n).resync in let at = shows.rows kept t (truth_at s t state truth) in omega (arith, more, at)
+  pub rows_at : (v.arrays n).young ≡ false → p.kept n ≡ true → LeavesFrom (v.arrays n).resync n (replayed sectors c)
+  rows_at young kept s t state truth = let more = (first.views n).resync in let at = shows.rows ((first.views n).young ∙ young) kept t (truth_at s t state truth) in omega (arith, more, at)
 
 -- ---- calls
 
@@ -167,8 +167,8 @@ module _ (xs : List Change) (v w : Raid) (a b : Seen) (called : IsCalled xs v w 
       record {
         shows = record {
           says = record { shape_is = at.1.shape_is; value = λ y alive. at.1.value y (covered y alive).0; is_sound = at.1.is_sound };
-          rows = λ is u truth. (kept_rows is).images r left s u at.0 truth;
-          lacks = λ is lacking u truth. (lacking_rows is).images r left s (shape_of (v.arrays n)) u at.0 at.1.shape_is lacking truth;
+          rows = λ old is u truth. (kept_rows is).images r left s u at.0 truth;
+          lacks = λ old is lacking u truth. (lacking_rows is).images r left s (shape_of (v.arrays n)) u at.0 at.1.shape_is lacking truth;
         };
         truth = λ u is. stood.holds.truth r left u (own_truth u is);
         mark = λ marked u is. stood.holds.mark marked r left u (own_truth u is);
@@ -304,12 +304,12 @@ module _ (xs : List Change) (v w : Raid) (a b : Seen) (called : IsCalled xs v w 
         leaves_weaker (λ c. LackingFrom (v.arrays n).resync n (replayed a.sectors c)) (λ c. IsInside a.sectors c → LackingFrom (v.arrays n).resync n (replayed a.sectors c))
         (λ c from inside. from)
         (each_moment (λ c. LackingFrom (v.arrays n).resync n (replayed a.sectors c))
-        (λ c u first last low holds. lacking_at v u (by xs v) (promise_of n spent kept lacks base) called.vals a.sectors c n first last holds (eq-eqb n n refl) low is)
+        (λ c u first last low holds. lacking_at v u (by xs v) (promise_of n spent kept lacks base) called.vals a.sectors c n first last holds (eq-eqb n n refl) low young is)
         traced);
     after = record {
       young = young_after young;
       images = each_after (λ k. LackingFrom k n)
-          (λ c holds. let e = by xs v in lacking_at e e e (promise_of n spent kept lacks base) called.vals b.sectors c n (follows_same e) (follows_same e) holds (eq-eqb n n refl) low_by is);
+          (λ c holds. let e = by xs v in lacking_at e e e (promise_of n spent kept lacks base) called.vals b.sectors c n (follows_same e) (follows_same e) holds (eq-eqb n n refl) low_by (((follows_by xs v called.keeping).views n).young ∙ young) is);
     };
   }
 
@@ -320,13 +320,13 @@ module _ (xs : List Change) (v w : Raid) (a b : Seen) (called : IsCalled xs v w 
         leaves_weaker (λ c. LeavesFrom (v.arrays n).resync n (replayed a.sectors c)) (λ c. IsInside a.sectors c → LeavesFrom (v.arrays n).resync n (replayed a.sectors c))
         (λ c from inside. from)
         (each_moment (λ c. LeavesFrom (v.arrays n).resync n (replayed a.sectors c))
-        (λ c u first last low holds. rows_at v u (by xs v) (promise_of n spent kept lacks base) called.vals a.sectors c n first last holds (eq-eqb n n refl) low is)
+        (λ c u first last low holds. rows_at v u (by xs v) (promise_of n spent kept lacks base) called.vals a.sectors c n first last holds (eq-eqb n n refl) low young is)
         traced);
     after = record {
       settled = settled;
       young = young_after young;
       images = each_after (λ k. LeavesFrom k n)
-          (λ c holds. let e = by xs v in rows_at e e e (promise_of n spent kept lacks base) called.vals b.sectors c n (follows_same e) (follows_same e) holds (eq-eqb n n refl) low_by is);
+          (λ c holds. let e = by xs v in rows_at e e e (promise_of n spent kept lacks base) called.vals b.sectors c n (follows_same e) (follows_same e) holds (eq-eqb n n refl) low_by (((follows_by xs v called.keeping).views n).young ∙ young) is);
     };
   }
 

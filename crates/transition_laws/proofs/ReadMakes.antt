@@ -1,5 +1,5 @@
 -- Calls that write nothing make no change of the book, whoever goes in them.
-use Rattle.std.proofs.Common.{◌≡◌, ℕ, ◌<◌, Bool, true, false, [], refl, sym, ap, subst, ◌∙◌, inl, inr}
+use Rattle.std.proofs.Common.{◌≡◌, ℕ, ◌<◌, Bool, true, false, [], refl, sym, ap, subst, ◌∙◌, inl, inr, arith}
 use Rattle.rack.specs.Values.{Values}
 use Rattle.pool_state.specs.declared.contents.State.{State}
 use Rattle.rack.specs.Seen.{IsPick, Seen}
@@ -7,7 +7,7 @@ use Rattle.rack.specs.Joins.{leaves_weaker}
 use Rattle.rack.specs.Sequences.{OnlyReads}
 use Rattle.array_image.specs.Arrays.{replayed}
 use Rattle.array_image.specs.Left.{IsClosed, IsInside}
-use Rattle.array_image.specs.SoundArray.{first_unsynced, IsWrittenSuper}
+use Rattle.array_image.specs.SoundArray.{first_unsynced}
 use Rattle.array_image.specs.States.{is_current}
 use Rattle.log_laws.specs.Kept.{LogKept}
 use Rattle.log_laws.proofs.HeldCopies.{holds_keeps}
@@ -22,10 +22,10 @@ use Rattle.array_model.proofs.Keeping.{keeping_calls, left_before, pick_before}
 use Rattle.transition_laws.specs.Holds.{has_sector, HoldsBook, IsFrom, IsPromised, IsSameArrayAs, is_sector, moved_to, Promise, RestsArrays, spent_at, Stands, StandsArray}
 use Rattle.transition_laws.specs.Makes.{Makes, Suits}
 use Rattle.raid_laws.specs.Moves.{AreMarked}
-use Rattle.raid_laws.specs.Raid.{gone_in, is_over, Raid}
+use Rattle.raid_laws.specs.Raid.{gone_in, is_over, IsWritten, Raid}
 use Rattle.raid_laws.proofs.Noted.{live_later}
 use Rattle.transition_laws.proofs.Shown.{members_of, spent_other, stands_book}
-use Rattle.transition_laws.proofs.Standing.{holds_of}
+use Rattle.transition_laws.proofs.Standing.{earlier_then, holds_of}
 use Rattle.std.proofs.lemmas.Bool.{cases_eq}
 use Rattle.raid_laws.proofs.Since.{each_read}
 
@@ -78,13 +78,40 @@ read_log d v w a b lasting reads number gone log =
 
 -- ---- a call of one array
 
+-- What such a call leaves of an array but for its seats and the places that went: its truth may get events, and other rows that it leaves.
+pub record KeepsArray (u w : View) : Type 0 where
+  pub number : w.number ≡ u.number
+  pub truth : IsEarlier u.truth w.truth
+  pub frame : frame_of w.truth ≡ frame_of u.truth
+  pub roles : w.truth.roles.items ≡ u.truth.roles.items
+  pub disks : w.truth.raid_disks ≡ u.truth.raid_disks
+  pub resync : w.resync ≡ u.resync
+  pub young : w.young ≡ u.young
+  pub mark : w.marked ≡ true → u.marked ≡ true
+  pub sectors : (y : ℕ) → has_sector w y ≡ has_sector u y
+
+-- so it does where its truth stays
+pub keeps_noted : (u w : View) → IsSameButSeats u w → KeepsArray u w
+keeps_noted u w same = record {
+  number = same.number;
+  truth = subst (IsEarlier u.truth) (sym same.truth) (record { fields = refl; events = omega arith });
+  frame = ap frame_of same.truth;
+  roles = ap (λ (t : Super). t.roles.items) same.truth;
+  disks = ap (λ (t : Super). t.raid_disks) same.truth;
+  resync = same.resync;
+  young = same.young;
+  mark = λ marked. sym same.marked ∙ marked;
+  sectors = λ y i. is_sector (frame_of (same.truth i)) (moved_to (same.truth i)) (same.young i) (first_unsynced (same.truth i)) y;
+}
+
 -- A call of array m that writes nothing: whoever goes is noted, and what it holds stays.
 pub record ReadsOne (m : ℕ) (d v w : Raid) (vals : ℕ → ℕ → Values) (a b : Seen) : Type 0 where
   pub lasting : a.lasting
   pub reads : OnlyReads a b
   pub state : w.state ≡ v.state
   pub others : (n : ℕ) → (n ≡ m → ⊥) → w.arrays n ≡ v.arrays n
-  pub noted : IsSameButSeats (v.arrays m) (w.arrays m)
+  pub noted : KeepsArray (v.arrays m) (w.arrays m)
+  pub written : IsWritten (v.arrays m) → IsWritten (w.arrays m)
   pub shape : AreMarked w → AreMarked v × (shape_of (w.arrays m) ≡ shape_of (v.arrays m))
   pub kept : (p : Promise) → IsPromised p w → Stands d v p vals a → LogKept d.state w.number (gone_in w) b
   pub holds :
@@ -104,7 +131,7 @@ module _ (m : ℕ) (d v w : Raid) (vals : ℕ → ℕ → Values) (a b : Seen) (
   ]
 
   own_sectors : (y : ℕ) → has_sector (w.arrays m) y ≡ has_sector (v.arrays m) y
-  own_sectors y = λ i. is_sector (frame_of (call.noted.truth i)) (moved_to (call.noted.truth i)) (call.noted.young i) (first_unsynced (call.noted.truth i)) y
+  own_sectors y = call.noted.sectors y
 
   module _ (p : Promise) (promised : IsPromised p w) where
     low_in : (n : ℕ) → n < v.state.made → n < w.state.made
@@ -139,14 +166,14 @@ module _ (m : ℕ) (d v w : Raid) (vals : ℕ → ℕ → Values) (a b : Seen) (
             number = number;
             book_number = at.book_number;
             few = at.few;
-            written = subst (λ k. IsWrittenSuper k (w.arrays m).truth) (sym call.noted.number) (subst (IsWrittenSuper (v.arrays m).number) (sym call.noted.truth) at.written);
+            written = call.written at.written;
             members = members_of d.state m (shape_of (d.arrays m)) (shape_of (w.arrays m)) (w.arrays m).resync (may_vary (w.arrays m)) (vals m) (spent_at p m (d.arrays m)) b
                 (subst (λ k. HoldsShape d.state k (shape_of (d.arrays m)) (shape_of (w.arrays m)) (w.arrays m).resync (may_vary (w.arrays m)) (vals m) (spent_at p m (d.arrays m)) b) number after.shape);
             closed = λ none. subst (λ k. IsClosed k b) number (after.closed none);
-            truth = subst (IsEarlier (d.arrays m).truth) (sym call.noted.truth) at.truth;
-            mark = λ marked. at.mark (sym call.noted.marked ∙ marked);
-            roles = ap (λ (t : Super). t.roles.items) call.noted.truth ∙ at.roles;
-            disks = ap (λ (t : Super). t.raid_disks) call.noted.truth ∙ at.disks;
+            truth = earlier_then (d.arrays m).truth (v.arrays m).truth (w.arrays m).truth at.truth call.noted.truth;
+            mark = λ marked. at.mark (call.noted.mark marked);
+            roles = call.noted.roles ∙ at.roles;
+            disks = call.noted.disks ∙ at.disks;
             sectors = sectors;
           }
 
@@ -184,7 +211,7 @@ module _ (m : ℕ) (d v w : Raid) (vals : ℕ → ℕ → Values) (a b : Seen) (
           let one = stands.alike both.0 m live low in
           record {
             shape = both.1 ∙ one.shape;
-            frame = ap frame_of call.noted.truth ∙ one.frame;
+            frame = call.noted.frame ∙ one.frame;
             resync = call.noted.resync ∙ one.resync;
             young = call.noted.young ∙ one.young;
           })

@@ -45,8 +45,8 @@ rests_readied s u p n vals r ready shows =
     let was : (t : Super) → truth_in (with_ready s) r n ≡ Some t → truth_in s r n ≡ Some t = λ t is. sym (truth_readied s r n) ∙ is in
     record {
       shows = record {
-        rows = λ kept t is. shows.shows.rows kept t (was t is);
-        lacks = λ wanted some t is. shows.shows.lacks wanted some t (was t is);
+        rows = λ old kept t is. shows.shows.rows old kept t (was t is);
+        lacks = λ old wanted some t is. shows.shows.lacks old wanted some t (was t is);
         says = record {
           shape_is = shape_readied s r n ∙ shows.shows.says.shape_is;
           value = shows.shows.says.value;
@@ -58,18 +58,18 @@ rests_readied s u p n vals r ready shows =
       alone = λ place current other. super_readied s r u.number place ∙ shows.alone place current other;
     }
 
-pub stages_readied : (d v w : Raid) (vals : ℕ → ℕ → Values) (xs : List Target) (a b : Seen) → ((p : Promise) → IsPromised p w → (n : ℕ) → p.live n ≡ true → n < d.state.made → n < d.state.joined)
+pub stages_readied : (d v w : Raid) (vals : ℕ → ℕ → Values) (xs : List Target) (a b : Seen) → (p : Promise) → (IsPromised p w → (n : ℕ) → p.live n ≡ true → n < d.state.made → n < d.state.joined)
     → ((q : ℕ) → is_current d.state q ≡ true → gone_in v q ≡ false)
-    → ((n place u : ℕ) → n < 16 → look xs (member_slice place n) u ≡ None) → Stages readied d v w vals xs a b
-stages_readied d v w vals xs a b ready none others = record {
-  new = λ p promised stands n live high low. absurd (omega (arith, high, low));
-  old = λ p promised stands n live low.
+    → ((n place u : ℕ) → n < 16 → look xs (member_slice place n) u ≡ None) → Stages readied d v w p vals xs a b
+stages_readied d v w vals xs a b p ready none others = record {
+  new = λ promised stands n live high low. absurd (omega (arith, high, low));
+  old = λ promised stands n live low.
       let at = stands.arrays n live low in
       let other : (changed readied d).arrays n ≡ d.arrays n =
-      ap (λ (t : Bool). if t then (record (d.arrays n) { young = false }) else d.arrays n) (ne_eqb n d.state.joined (λ same. let before = ready p promised n live low in omega (arith, before, same))) in
+      ap (λ (t : Bool). if t then (record (d.arrays n) { young = false }) else d.arrays n) (ne_eqb n d.state.joined (λ same. let before = ready promised n live low in omega (arith, before, same))) in
       let old : StagesArray d.state (with_ready d.state) (d.arrays n) (d.arrays n) v p n (vals n) xs a = record {
         shows = λ c picks shows.
-            rests_readied d.state (d.arrays n) p n (vals n) (put a.sectors xs c) (ready p promised n live low)
+            rests_readied d.state (d.arrays n) p n (vals n) (put a.sectors xs c) (ready promised n live low)
             (rests_same d.state (d.arrays n) p n (vals n) (put a.sectors xs c) (replayed a.sectors c)
             (idle_agrees d v p vals xs a n c stands none (λ place u. others n place u at.few) picks) at.book_number shows);
         number = at.book_number;

@@ -14,7 +14,7 @@ use Rattle.array_image.specs.Stripes.{capacity, Layout, parity, position_in, sec
 use Rattle.array_image.specs.Supers.{is_reshaping}
 use Rattle.array_model.specs.Says.{Holds}
 use Rattle.array_model.specs.View.{IsArray, sectors_of, shape_of, View}
-use Rattle.reshape_laws.specs.Ahead.{ahead}
+use Rattle.reshape_laws.specs.Ahead.{ahead_by}
 use Rattle.reshape_laws.proofs.Addresses.{old_count}
 use Rattle.reshape_laws.proofs.PastEnd.{NoneCounts, none_source, none_value, past_sector}
 use Rattle.raid_laws.specs.Raid.{Raid}
@@ -102,15 +102,15 @@ module _ (v : View) (is_array : IsArray v) (reshaping : is_reshaping v.truth ≡
       single u (inl is) = is
       single u (inr older) = elim older [ ]
 
--- Array m of a run, in a reshape, holds what is promised once its next row is moved, where zeros stand past its end.
-pub ahead_holds : (v : Raid) (m events : ℕ) (p : Promise) (vals : ℕ → ℕ → Values) (a : Seen) → Stands v v p vals a → p.live m ≡ true → m < v.state.made
+-- Array m of a run, in a reshape, holds what is promised once its next rows are moved, where zeros stand past its end.
+pub ahead_holds : (v : Raid) (m many events : ℕ) (p : Promise) (vals : ℕ → ℕ → Values) (a : Seen) → Stands v v p vals a → p.live m ≡ true → m < v.state.made
     → IsArray (v.arrays m) → is_reshaping (v.arrays m).truth ≡ true → (v.arrays m).young ≡ false
     → ((k : Member) → Among k (shape_of (v.arrays m)).members → k.reach ≤ (v.arrays m).truth.size)
     → ((y : ℕ) → sectors_of (v.arrays m) ≤ y → (vals m y).current ≡ zeros 512)
-    → Holds v.state (shape_of (v.arrays m)) (v.arrays m) (vals m) (spent_at p m (ahead (v.arrays m) events)) a
-ahead_holds v m events p vals a stands live low is_array reshaping young reach zeroed =
-    holds_past (v.arrays m) is_array reshaping reach v.state (vals m) (spent_at p m (v.arrays m)) (spent_at p m (ahead (v.arrays m) events)) a
-    (λ y alive. of y (unspent_parts p.growing (has_sector (ahead (v.arrays m) events) y) (p.spent m y) alive)) (holds_of v v p vals a stands m live low)
+    → Holds v.state (shape_of (v.arrays m)) (v.arrays m) (vals m) (spent_at p m (ahead_by (v.arrays m) many events)) a
+ahead_holds v m many events p vals a stands live low is_array reshaping young reach zeroed =
+    holds_past (v.arrays m) is_array reshaping reach v.state (vals m) (spent_at p m (v.arrays m)) (spent_at p m (ahead_by (v.arrays m) many events)) a
+    (λ y alive. of y (unspent_parts p.growing (has_sector (ahead_by (v.arrays m) many events) y) (p.spent m y) alive)) (holds_of v v p vals a stands m live low)
   where
     moved : moved_to (v.arrays m).truth ≡ (v.arrays m).truth.reshape_position
     moved = ap (λ (b : Bool). if b then (v.arrays m).truth.reshape_position else 0) reshaping
@@ -122,7 +122,7 @@ ahead_holds v m events p vals a stands live low is_array reshaping young reach z
         (sym (steady (v.arrays m) (sectors_of (v.arrays m)) (v.arrays m).truth.reshape_position young refl moved y) ∙ none) in
         (ltb-false y (v.arrays m).truth.reshape_position parts.1, ltb-false y (sectors_of (v.arrays m)) parts.0)
 
-    of : (y : ℕ) → ((p.growing ≡ true) × (has_sector (ahead (v.arrays m) events) y ≡ true) × (p.spent m y ≡ false)) ⊎ ((p.growing ≡ false) × (p.spent m y ≡ false))
+    of : (y : ℕ) → ((p.growing ≡ true) × (has_sector (ahead_by (v.arrays m) many events) y ≡ true) × (p.spent m y ≡ false)) ⊎ ((p.growing ≡ false) × (p.spent m y ≡ false))
         → (spent_at p m (v.arrays m) y ≡ false)
         ⊎ ((((v.arrays m).truth.reshape_position ≤ y) × (sectors_of (v.arrays m) ≤ y)) × ((vals m y).current ≡ zeros 512))
     of y (inr all) = inl (ap (λ g. (g && not (has_sector (v.arrays m) y)) || p.spent m y) all.0 ∙ all.1)

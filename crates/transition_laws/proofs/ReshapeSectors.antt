@@ -13,7 +13,7 @@ use Rattle.array_image.specs.Supers.{is_reshaping}
 use Rattle.array_model.specs.declared.Seat.{Seat}
 use Rattle.array_model.specs.View.{IsArray, sectors_of, shape_of, spent_in, View}
 use Rattle.raid_laws.proofs.Seated.{or_last}
-use Rattle.reshape_laws.specs.Ahead.{ahead, begun, finished, taken_over}
+use Rattle.reshape_laws.specs.Ahead.{ahead_by, begun, finished, taken_over}
 use Rattle.reshape_laws.proofs.Finishing.{no_mirror}
 use Rattle.pool_state.specs.declared.contents.State.{State}
 use Rattle.transition_laws.specs.Changes.{Maintains}
@@ -66,15 +66,15 @@ begun_sectors v events place seat device young not_reshaping striped y =
     let same : sectors_of next ≡ size = ap (λ k. (k - 1) * v.truth.size) (let e : v.truth.raid_disks + 1 - 1 ≡ v.truth.raid_disks = omega arith in e) in
     steady v size 0 young was (unmoved v not_reshaping) y ∙ sym (steady next size 0 young same refl y)
 
--- a row is moved
-pub ahead_sectors : (v : View) (events : ℕ) → v.young ≡ false → (y : ℕ) → has_sector v y ≡ true → has_sector (ahead v events) y ≡ true
-ahead_sectors v events young y has =
-    let next = ahead v events in
+-- rows are moved
+pub ahead_sectors : (v : View) (many events : ℕ) → v.young ≡ false → (y : ℕ) → has_sector v y ≡ true → has_sector (ahead_by v many events) y ≡ true
+ahead_sectors v many events young y has =
+    let next = ahead_by v many events in
     let more : moved_to v.truth ≤ moved_to next.truth = further (is_reshaping v.truth) in
     steady next (sectors_of v) (moved_to next.truth) young refl refl y
     ∙ wider (nat_lt y (sectors_of v)) (moved_to v.truth) (moved_to next.truth) more (sym (steady v (sectors_of v) (moved_to v.truth) young refl refl y) ∙ has)
   where
-    further : (b : Bool) → (if b then v.truth.reshape_position else 0) ≤ (if b then (ahead v events).truth.reshape_position else 0)
+    further : (b : Bool) → (if b then v.truth.reshape_position else 0) ≤ (if b then (ahead_by v many events).truth.reshape_position else 0)
     further true = omega arith
     further false = omega arith
 
@@ -112,10 +112,10 @@ final_at v y reshaping low =
     ∙ ap (λ (b : Bool). if b then final_layout v.truth else first_layout v.truth) (lt-ltb y v.truth.reshape_position low)
 
 -- the sectors that are moved already are spent where they were
-pub ahead_spent : (v : View) (events y : ℕ) → is_reshaping v.truth ≡ true → y < v.truth.reshape_position → spent_in (ahead v events) y ≡ spent_in v y
+pub ahead_spent : (v : View) (many events y : ℕ) → is_reshaping v.truth ≡ true → y < v.truth.reshape_position → spent_in (ahead_by v many events) y ≡ spent_in v y
 unfolding shape_of
-ahead_spent v events y reshaping low =
-    let next = ahead v events in
+ahead_spent v many events y reshaping low =
+    let next = ahead_by v many events in
     let more : y < next.truth.reshape_position = omega (arith, low) in
     ap (λ l. spent_with (wanting (sector_in l y) (shape_of v).members) (nat_lt (row_at (sector_in l y)) v.resync)) (final_at next y reshaping more ∙ sym (final_at v y reshaping low))
 
@@ -133,8 +133,12 @@ taken_new s v events mirrored step = both_ways (is_mirror v.truth) (sym (ap (λ 
 pub begun_new : (s : State) (v : View) (events place : ℕ) (seat : Seat) (device : Id) → Maintains s v (begun v events place seat device) → ⊥
 begun_new s v events place seat device step = let more = step.geometry.disks in omega (arith, more)
 
-pub ahead_new : (s : State) (v : View) (events : ℕ) → IsArray v → Maintains s v (ahead v events) → ⊥
-ahead_new s v events is_array step = let least = is_array.least in let far = step.geometry.position in omega (arith, least, far)
+pub ahead_new : (s : State) (v : View) (many events : ℕ) → IsArray v → 0 < many → Maintains s v (ahead_by v many events) → ⊥
+ahead_new s v many events is_array some step =
+    let least = is_array.least in
+    let far = step.geometry.position in
+    let more : 128 * (v.truth.raid_disks - 1) ≤ 128 * many * (v.truth.raid_disks - 1) = mul-le-mul_right (v.truth.raid_disks - 1) (omega (arith, some)) in
+    omega (arith, least, far, more)
 
 pub finished_new : (s : State) (v : View) (events : ℕ) → is_reshaping v.truth ≡ true → Maintains s v (finished v events) → ⊥
 finished_new s v events reshaping step = both_ways (is_reshaping v.truth) (sym (ap (λ f. bit_and f 4 == 4) step.geometry.features)) reshaping

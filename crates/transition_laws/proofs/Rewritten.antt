@@ -25,21 +25,20 @@ use Rattle.transition_laws.proofs.Shown.{spent_other, stands_shape}
 
 -- What is known of array n before the commit: its members are settled, its superblocks are among the targets, and the run has already the array that
 -- the book will have.
-pub record IsRestated (lost : List ℕ) (d v : Raid) (n : ℕ) (xs : List Target) (a : Seen) : Type 0 where
+pub record IsRestated (lost : List ℕ) (events : ℕ → ℕ) (d v : Raid) (n : ℕ) (xs : List Target) (a : Seen) : Type 0 where
   pub few : n < 16
-  pub number : ((changed (failed lost) d).arrays n).number ≡ n
+  pub number : ((changed (failed lost events) d).arrays n).number ≡ n
   pub restates : Restates (marked lost d.state) (shape_of (v.arrays n)) false (v.arrays n) xs a n
   pub settled : IsSettled (shape_of (v.arrays n)) n a.held
   pub unmarked : (v.arrays n).marked ≡ false
-  pub shape : shape_of ((changed (failed lost) d).arrays n) ≡ shape_of (v.arrays n)
-  pub fields : array_fields (v.arrays n).truth ≡ array_fields ((changed (failed lost) d).arrays n).truth
+  pub shape : shape_of ((changed (failed lost events) d).arrays n) ≡ shape_of (v.arrays n)
+  pub fields : array_fields (v.arrays n).truth ≡ array_fields ((changed (failed lost events) d).arrays n).truth
   pub same_number : (v.arrays n).number ≡ n
-  pub disks : (v.arrays n).truth.raid_disks ≡ ((changed (failed lost) d).arrays n).truth.raid_disks
-  pub roles : (v.arrays n).truth.roles.items ≡ ((changed (failed lost) d).arrays n).truth.roles.items
+  pub disks : (v.arrays n).truth.raid_disks ≡ ((changed (failed lost events) d).arrays n).truth.raid_disks
+  pub roles : (v.arrays n).truth.roles.items ≡ ((changed (failed lost events) d).arrays n).truth.roles.items
   pub resync : (v.arrays n).resync ≡ (d.arrays n).resync
   pub young : (v.arrays n).young ≡ (d.arrays n).young
-  -- of an array that isn't young
-  pub rows : (v.arrays n).resync ≤ first_unsynced (v.arrays n).truth
+  pub rows : (v.arrays n).young ≡ false → (v.arrays n).resync ≤ first_unsynced (v.arrays n).truth
 
 -- superblocks with the same fields are as far in a reshape
 fields_moved : (t u : Super) → array_fields t ≡ array_fields u → moved_to t ≡ moved_to u
@@ -48,19 +47,19 @@ fields_moved t u same = sym (stripped t) ∙ ap moved_to same ∙ stripped u
     stripped : (t : Super) → moved_to (array_fields t) ≡ moved_to t
     stripped t = ap (λ (k : ℕ). if k == 4 then t.reshape_position else 0) (and_assoc 4 t.feature_map 0xfffffffd)
 
-stage_failed : (lost : List ℕ) (d v : Raid) (p : Promise) (vals : ℕ → ℕ → Values) (xs : List Target) (a : Seen) (n : ℕ) → NoData xs → IsRestated lost d v n xs a
-    → Stands d v p vals a → p.live n ≡ true → n < d.state.made → StagesArray d.state (marked lost d.state) (d.arrays n) ((changed (failed lost) d).arrays n) v p n (vals n) xs a
-stage_failed lost d v p vals xs a n none is stands live low =
+stage_failed : (lost : List ℕ) (events : ℕ → ℕ) (d v : Raid) (p : Promise) (vals : ℕ → ℕ → Values) (xs : List Target) (a : Seen) (n : ℕ) → NoData xs → IsRestated lost events d v n xs a
+    → Stands d v p vals a → p.live n ≡ true → n < d.state.made → StagesArray d.state (marked lost d.state) (d.arrays n) ((changed (failed lost events) d).arrays n) v p n (vals n) xs a
+stage_failed lost events d v p vals xs a n none is stands live low =
     let held = stands_shape d v p vals a stands n live low in
-    let e = changed (failed lost) d in
+    let e = changed (failed lost events) d in
     let run_sectors : (y : ℕ) → has_sector (v.arrays n) y ≡ has_sector (e.arrays n) y =
     λ y i. is_sector (fields_frame (v.arrays n).truth (e.arrays n).truth is.fields i) (fields_moved (v.arrays n).truth (e.arrays n).truth is.fields i) (is.young i) (ap first_unsynced is.fields i) y in
     let same_sectors : (y : ℕ) → has_sector (d.arrays n) y ≡ has_sector (e.arrays n) y =
     λ y. sym ((stands.arrays n live low).sectors y) ∙ run_sectors y in
-    let rows : (c : Image) → Picks a c → (u : Super) → truth_in (marked lost d.state) (put a.sectors xs c) n ≡ Some u → (d.arrays n).resync ≤ first_unsynced u =
-    λ c picks u at.
+    let rows : (d.arrays n).young ≡ false → (c : Image) → Picks a c → (u : Super) → truth_in (marked lost d.state) (put a.sectors xs c) n ≡ Some u → (d.arrays n).resync ≤ first_unsynced u =
+    λ old c picks u at.
     let first = ap first_unsynced (is.restates.truth c picks u at) in
-    let low = is.rows in
+    let low = is.rows (is.young ∙ old) in
     let same = is.resync in
     omega (arith, first, low, same) in
     record {
@@ -68,8 +67,8 @@ stage_failed lost d v p vals xs a n none is stands live low =
         shows = record {
           says = subst (λ (shape : Shape). Says (marked lost d.state) n shape (vals n) (spent_at p n (e.arrays n)) (put a.sectors xs c)) (sym is.shape)
               (put_says (marked lost d.state) (shape_of (v.arrays n)) false (v.arrays n) (vals n) (spent_at p n (e.arrays n)) xs a n c is.few is.restates none picks is.settled held.open_left (λ y alive. held.current y (spent_other p n (d.arrays n) (e.arrays n) same_sectors y ∙ alive)));
-          rows = λ kept u at. rows c picks u at;
-          lacks = λ wanted some u at. rows c picks u at;
+          rows = λ old kept u at. rows old c picks u at;
+          lacks = λ old wanted some u at. rows old c picks u at;
         };
         truth = λ u at. earlier_same u (e.arrays n).truth (is.restates.truth c picks u at ∙ is.fields);
         mark = λ marked. absurd (both_ways false refl marked);
@@ -93,9 +92,9 @@ stage_failed lost d v p vals xs a n none is stands live low =
       };
     }
 
-pub stages_failed : (lost : List ℕ) (d v w : Raid) (vals : ℕ → ℕ → Values) (xs : List Target) (a b : Seen) → NoData xs
-    → ((p : Promise) → IsPromised p w → Stands d v p vals a → (n : ℕ) → p.live n ≡ true → n < d.state.made → IsRestated lost d v n xs a) → Stages (failed lost) d v w vals xs a b
-stages_failed lost d v w vals xs a b none are = record {
-  old = λ p promised stands n live low. stage_failed lost d v p vals xs a n none (are p promised stands n live low) stands live low;
-  new = λ p promised stands n live high low. absurd (omega (arith, high, low));
+pub stages_failed : (lost : List ℕ) (events : ℕ → ℕ) (d v w : Raid) (vals : ℕ → ℕ → Values) (xs : List Target) (a b : Seen) → NoData xs
+    → (p : Promise) → (IsPromised p w → Stands d v p vals a → (n : ℕ) → p.live n ≡ true → n < d.state.made → IsRestated lost events d v n xs a) → Stages (failed lost events) d v w p vals xs a b
+stages_failed lost events d v w vals xs a b none p are = record {
+  old = λ promised stands n live low. stage_failed lost events d v p vals xs a n none (are promised stands n live low) stands live low;
+  new = λ promised stands n live high low. absurd (omega (arith, high, low));
 }

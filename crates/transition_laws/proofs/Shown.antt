@@ -33,8 +33,8 @@ shows_same s u p n vals c e agree shows =
     λ t is. sym (truth_by_supers s c e n (supers_same s c e n agree)) ∙ is in
     record {
       says = says_same s n (shape_of u) vals (spent_at p n u) c e agree shows.says;
-      rows = λ is_kept t is. shows.rows is_kept t (truth t is);
-      lacks = λ wanted some t is. shows.lacks wanted some t (truth t is);
+      rows = λ old is_kept t is. shows.rows old is_kept t (truth t is);
+      lacks = λ old wanted some t is. shows.lacks old wanted some t (truth t is);
     }
 
 pub rests_same : (s : State) (u : View) (p : Promise) (n : ℕ) (vals : ℕ → Values) (c e : Image) → Agree n c e → u.number ≡ n

@@ -12,7 +12,7 @@ use Rattle.transition_laws.specs.Holds.{Promise, RestsArray, Stands, StandsArray
 use Rattle.raid_laws.specs.Raid.{gone_in, Raid, Stood}
 use Rattle.transition_laws.proofs.Shown.{rests_same, stands_shape}
 
-earlier_then : (t u w : Super) → IsEarlier t u → IsEarlier u w → IsEarlier t w
+pub earlier_then : (t u w : Super) → IsEarlier t u → IsEarlier u w → IsEarlier t w
 earlier_then t u w one two = record { fields = one.fields ∙ two.fields; events = let first = one.events in let second = two.events in omega (arith, first, second) }
 
 module _ (d v : Raid) (p : Promise) (vals : ℕ → ℕ → Values) (x : Seen) (stands : Stands d v p vals x) (n : ℕ) (live : p.live n ≡ true) (low : n < d.state.made) where

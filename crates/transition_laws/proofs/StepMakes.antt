@@ -193,15 +193,15 @@ module _ (m : ℕ) (next : View) (v w : Raid) (vals : ℕ → ℕ → Values) (a
             value = λ y alive. says.value y (spent_more p.growing (p.spent m y) (has_sector (v.arrays m) y) (has_sector next y) (call.sectors y) alive);
             is_sound = says.is_sound;
           };
-          rows = λ is_kept t is. was.rows is_kept t (truth t is);
-          lacks = λ wanted some t is. was.lacks wanted some t (truth t is);
+          rows = λ old is_kept t is. was.rows old is_kept t (truth t is);
+          lacks = λ old wanted some t is. was.lacks old wanted some t (truth t is);
         }
 
     -- with these fields they show it once the step is done
     shows_new : (r : Image) → Says v.state m (shape_of next) (vals m) (spent_at p m next) r → HasFields v.state m next.truth r → ShowsArray v.state next p m (vals m) r
     shows_new r says fields =
         let rows : (t : Super) → truth_in v.state r m ≡ Some t → next.resync ≤ first_unsynced t = λ t is. let low = call.rows in let at = ap first_unsynced (fields t is) in omega (arith, low, at) in
-        record { says = says; rows = λ is_kept. rows; lacks = λ wanted some. rows }
+        record { says = says; rows = λ old is_kept. rows; lacks = λ old wanted some. rows }
 
     own : (r : Image) → SaysEither (v.arrays m) next v.state (vals m) (spent_at p m next) a r → ShowsArray v.state (v.arrays m) p m (vals m) r ⊎ ShowsArray v.state next p m (vals m) r
     own r either = elim either [

@@ -25,7 +25,7 @@ use Rattle.raid_laws.proofs.Written.{may_commit, opened}
 use Rattle.transition_laws.specs.Changes.{steps}
 use Rattle.transition_laws.specs.Holds.{has_sector, IsPromised, is_sector, moved_to, Promise, Stands}
 use Rattle.transition_laws.specs.Makes.{Makes}
-use Rattle.transition_laws.proofs.ReadMakes.{read_one_makes}
+use Rattle.transition_laws.proofs.ReadMakes.{keeps_noted, read_one_makes}
 use Rattle.transition_laws.proofs.StepMakes.{holds_next, step_makes, steps_become, StepsOnce}
 
 step_noted : (d : Bool) (u next z : View) (a b : Seen) → Stepped u next z a b d → d ≡ true → Notes next z a b
@@ -125,7 +125,8 @@ module _ (v : Raid) (f : ℕ → View) (next : View) (number m : ℕ) (a b : See
         reads = call.steps.idle is;
         state = refl;
         others = call.others;
-        noted = noted_as_it_was.same;
+        noted = keeps_noted (v.arrays m) (f m) noted_as_it_was.same;
+        written = one.written;
         shape = λ are. (
           λ q current. heeded_gone v call.heeded q,
           sym (next_shape v f m a b (v.arrays m) set call.low call.goes.stays (next_same v.state m (v.arrays m) a (set.arrays m call.low)) noted_as_it_was are),

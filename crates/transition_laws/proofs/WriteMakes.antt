@@ -71,7 +71,7 @@ module _ (m : ℕ) (v w : Raid) (vals now : ℕ → ℕ → Values) (a b : Seen)
   unkept is = both_ways (m == m) (or_parts (m == m) false (suits.free m is)).0 (eq-eqb m m refl)
 
   shows : (r : Image) → Says v.state m (shape_of (v.arrays m)) (now m) (spent_at p m (v.arrays m)) r → ShowsArray v.state (v.arrays m) p m (now m) r
-  shows r says = record { says = says; rows = λ is. absurd (unkept is); lacks = λ wanted some. absurd (call.whole some) }
+  shows r says = record { says = says; rows = λ old is. absurd (unkept is); lacks = λ old wanted some. absurd (call.whole some) }
 
   sectors : (y : ℕ) → has_sector (w.arrays m) y ≡ has_sector (v.arrays m) y
   sectors y = λ i. is_sector (frame_of (call.truth i)) (moved_to (call.truth i)) (call.young i) (first_unsynced (call.truth i)) y

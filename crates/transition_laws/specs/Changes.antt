@@ -8,7 +8,7 @@ use Rattle.array_image.specs.States.{is_current}
 use Rattle.array_model.specs.declared.Seat.{Seat}
 use Rattle.array_model.specs.View.{HasGeometry, View, place_at, seat_unless, shape_of}
 use Rattle.array_core.specs.Seats.{ready, renewed}
-use Rattle.array_core.specs.Superblocks.{settled}
+use Rattle.array_core.specs.Superblocks.{left_offset}
 use Rattle.log_laws.specs.View.{names}
 use Rattle.raid_laws.specs.Enlisting.{next_drive}
 use Rattle.raid_laws.specs.Frames.{frame_of}
@@ -30,8 +30,8 @@ pub data Change : Type 0 where
   closed : Change
   -- a place, which may be the next one, has a new drive of so many units by this plan; its members of these arrays are rebuilt from their start
   enlists : (place units : ℕ) → Plan → (ℕ → Bool) → Change
-  -- places are marked, and all superblocks written anew; with no place it is the rewriting alone
-  failed : List ℕ → Change
+  -- places are marked, and all superblocks written anew, each array's with so many events; with no place it is the rewriting alone
+  failed : List ℕ → (events : ℕ → ℕ) → Change
   -- array n is written: nothing of the book changes, but what it promises of rows
   wrote : ℕ → Change
 
@@ -48,6 +48,10 @@ seats_without lost place k (seat ∷ others) = seat_unless (names lost) (place k
 
 abbrev pub lacking : List ℕ → View → View
 lacking lost u = record u { seats = seats_without lost (place_at u) 0 u.seats }
+
+-- the array with its superblocks written anew: they have so many events, and leave just the rows that are left in it
+abbrev pub rewritten : ℕ → View → View
+rewritten events u = record u { truth = record u.truth { events = events; resync_offset = left_offset u }; marked = false }
 
 -- the list with a drive on a place, which may be the next one
 abbrev pub put_drive : ℕ → Drive → List Drive → List Drive
@@ -80,7 +84,7 @@ changed (enlists place units plan joining) v = record v {
   state = enlisted place units plan v.state;
   arrays = λ k. if joining k then renewed place (next_drive v.state) (v.arrays k) else v.arrays k;
 }
-changed (failed lost) v = record v { state = marked lost v.state; arrays = λ k. settled (lacking lost (v.arrays k)) }
+changed (failed lost events) v = record v { state = marked lost v.state; arrays = λ k. rewritten (events k) (lacking lost (v.arrays k)) }
 changed (wrote n) v = v
 
 abbrev pub by : List Change → Raid → Raid
@@ -95,7 +99,7 @@ is_due (makes next) v = next.young ≡ true
 is_due readied v = v.state.joined < v.state.made
 is_due closed v = v.state.plan ≡ Nothing → ⊥
 is_due (enlists place units plan joining) v = place ≤ length v.state.drives.items
-is_due (failed lost) v = Unit {0}
+is_due (failed lost events) v = Unit {0}
 is_due (wrote n) v = Unit {0}
 
 abbrev pub AreDue : List Change → Raid → Type 0
@@ -109,7 +113,7 @@ soils (makes next) n = false
 soils readied n = false
 soils closed n = false
 soils (enlists place units plan joining) n = false
-soils (failed lost) n = false
+soils (failed lost events) n = false
 soils (wrote m) n = m == n
 
 abbrev pub soil : List Change → ℕ → Bool
@@ -136,7 +140,7 @@ is_keeping (makes next) v = ⊥
 is_keeping readied v = ⊥
 is_keeping closed v = Unit {0}
 is_keeping (enlists place units plan joining) v = ⊥
-is_keeping (failed lost) v = Unit {0}
+is_keeping (failed lost events) v = Unit {0}
 is_keeping (wrote n) v = Unit {0}
 
 abbrev pub AreKeeping : List Change → Raid → Type 0

@@ -71,11 +71,11 @@ pub record IsPromised (p : Promise) (w : Raid) : Type 0 where
   pub covers : (n : ℕ) → p.live n ≡ true → n < w.state.made → Covers (w.arrays n) (spent_at p n (w.arrays n))
 
 -- Replayed contents show array n, such as a book of this state has it: its shape, by superblocks that agree, and each sector that isn't spent has one of
--- its values. They leave no rows to resync but the book's in an array that isn't written, and in one that lacks a member.
+-- its values. Unless it is young, they leave no rows to resync but the book's where it isn't written, and where it lacks a member.
 pub record ShowsArray (s : State) (u : View) (p : Promise) (n : ℕ) (vals : ℕ → Values) (r : Image) : Type 0 where
   pub says : Says s n (shape_of u) vals (spent_at p n u) r
-  pub rows : p.kept n ≡ true → (t : Super) → truth_in s r n ≡ Some t → u.resync ≤ first_unsynced t
-  pub lacks : p.lacks n ≡ true → 0 < lacking_in (shape_of u) → (t : Super) → truth_in s r n ≡ Some t → u.resync ≤ first_unsynced t
+  pub rows : u.young ≡ false → p.kept n ≡ true → (t : Super) → truth_in s r n ≡ Some t → u.resync ≤ first_unsynced t
+  pub lacks : u.young ≡ false → p.lacks n ≡ true → 0 < lacking_in (shape_of u) → (t : Super) → truth_in s r n ≡ Some t → u.resync ≤ first_unsynced t
 
 -- So do those that a stop between calls leaves; their superblocks are the book's or earlier ones, and nobody else has one.
 pub record RestsArray (s : State) (u : View) (p : Promise) (n : ℕ) (vals : ℕ → Values) (r : Image) : Type 0 where

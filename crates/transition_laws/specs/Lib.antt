@@ -1,4 +1,6 @@
 pub mod Changes
 pub mod Holds
+pub mod Losses
 pub mod Makes
+pub mod Reshaping
 pub mod Stages

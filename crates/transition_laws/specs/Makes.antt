@@ -95,6 +95,23 @@ suits_parts p xs ys d suits =
           )
     ]
 
+-- what a stop in two calls in a row leaves, by what one leaves in each
+pub stops_then : (xs ys : List Change) (d : Raid) (p : Promise) (now last : ℕ → ℕ → Values) (a b c : Seen) → Stays a b → Grows now last
+    → Leaves a b (λ i. IsInside a.sectors i → HoldsAlong xs d p now a.sectors i) → Leaves b c (λ i. IsInside b.sectors i → HoldsAlong ys (by xs d) p last b.sectors i)
+    → Leaves a c (λ i. IsInside a.sectors i → HoldsAlong (xs ++ ys) d p last a.sectors i)
+stops_then xs ys d p now last a b c stays grows one two =
+    leaves_then (λ i. IsInside a.sectors i → HoldsAlong (xs ++ ys) d p last a.sectors i)
+    (leaves_weaker (λ i. IsInside a.sectors i → HoldsAlong xs d p now a.sectors i) (λ i. IsInside a.sectors i → HoldsAlong (xs ++ ys) d p last a.sectors i)
+    (λ i at inside.
+    along_first xs ys d (λ u. HoldsBook u p last a.sectors i)
+    (along_weaker xs d (λ u. HoldsBook u p now a.sectors i) (λ u. HoldsBook u p last a.sectors i) (λ u. holds_more u p now last a.sectors i grows) (at inside)))
+    one)
+    (leaves_weaker (λ i. IsInside b.sectors i → HoldsAlong ys (by xs d) p last b.sectors i) (λ i. IsInside a.sectors i → HoldsAlong (xs ++ ys) d p last a.sectors i)
+    (λ i at inside.
+    along_last xs ys d (λ u. HoldsBook u p last a.sectors i)
+    (subst (λ (sectors : ℕ → ℕ). HoldsAlong ys (by xs d) p last sectors i) (λ k e. stays.sectors e k) (at (λ e t out. inside e t (subst (λ k. k ≤ t) (stays.sectors e) out)))))
+    two)
+
 pub makes_then : (xs ys : List Change) (d v w z : Raid) (vals now last : ℕ → ℕ → Values) (a b c : Seen)
     → Makes xs d v w vals now a b → Makes ys (by xs d) w z now last b c → Makes (xs ++ ys) d v z vals last a c
 makes_then xs ys d v w z vals now last a b c one two = record {
@@ -108,18 +125,7 @@ makes_then xs ys d v w z vals now last a b c one two = record {
       let parts = suits_parts p xs ys d suits in
       let early = two.back p parts.1 promised in
       let mid = one.after p parts.0 early stands in
-      leaves_then (λ i. IsInside a.sectors i → HoldsAlong (xs ++ ys) d p last a.sectors i)
-      (leaves_weaker (λ i. IsInside a.sectors i → HoldsAlong xs d p now a.sectors i) (λ i. IsInside a.sectors i → HoldsAlong (xs ++ ys) d p last a.sectors i)
-      (λ i at inside.
-      along_first xs ys d (λ u. HoldsBook u p last a.sectors i)
-      (along_weaker xs d (λ u. HoldsBook u p now a.sectors i) (λ u. HoldsBook u p last a.sectors i) (λ u. holds_more u p now last a.sectors i two.grows) (at inside)))
-      (one.stops p parts.0 early stands traced))
-      (leaves_weaker (λ i. IsInside b.sectors i → HoldsAlong ys (by xs d) p last b.sectors i) (λ i. IsInside a.sectors i → HoldsAlong (xs ++ ys) d p last a.sectors i)
-      (λ i at inside.
-      along_last xs ys d (λ u. HoldsBook u p last a.sectors i)
-      (subst (λ (sectors : ℕ → ℕ). HoldsAlong ys (by xs d) p last sectors i) (λ k e. one.stays.sectors e k)
-      (at (λ e t out. inside e t (subst (λ k. k ≤ t) (one.stays.sectors e) out)))))
-      (two.stops p parts.1 promised mid (one.stays.traced traced)));
+      stops_then xs ys d p now last a b c one.stays two.grows (one.stops p parts.0 early stands traced) (two.stops p parts.1 promised mid (one.stays.traced traced));
   after = λ p suits promised stands.
       let parts = suits_parts p xs ys d suits in
       subst (λ (u : Raid). Stands u z p last c) (sym (by_joined xs ys d))

@@ -46,11 +46,12 @@ pub record StagesNew (x : Change) (d w : Raid) (p : Promise) (n : ℕ) (vals : �
   pub stands : StandsArray ((changed x d).arrays n) (w.arrays n) n vals (spent_at p n ((changed x d).arrays n)) b
   pub same : AreMarked w → IsSameArrayAs ((changed x d).arrays n) (w.arrays n)
 
-pub record Stages (x : Change) (d v w : Raid) (vals : ℕ → ℕ → Values) (xs : List Target) (a b : Seen) : Type 0 where
-  pub old : (p : Promise) → IsPromised p w → Stands d v p vals a → (n : ℕ) → p.live n ≡ true → n < d.state.made
+-- What a commit owes for a promise.
+pub record Stages (x : Change) (d v w : Raid) (p : Promise) (vals : ℕ → ℕ → Values) (xs : List Target) (a b : Seen) : Type 0 where
+  pub old : IsPromised p w → Stands d v p vals a → (n : ℕ) → p.live n ≡ true → n < d.state.made
       → StagesArray d.state (changed x d).state (d.arrays n) ((changed x d).arrays n) v p n (vals n) xs a
   pub new :
-      (p : Promise) → IsPromised p w → Stands d v p vals a → (n : ℕ) → p.live n ≡ true → d.state.made ≤ n → n < (changed x d).state.made
+      IsPromised p w → Stands d v p vals a → (n : ℕ) → p.live n ≡ true → d.state.made ≤ n → n < (changed x d).state.made
       → StagesNew x d w p n (vals n) xs a b
 
 -- The commit, where the log brings the changed state, and whoever went in it is noted.

@@ -3,13 +3,17 @@
 //!
 //! **What it defines.** A `Change` of the book and the book `changed` by it (`specs/Changes.antt`); contents that hold a book, a run that
 //! stands by it, and what is promised of values (`HoldsBook`, `Stands`, `Promise`: `specs/Holds.antt`); `Makes xs d v w ..`, calls that make
-//! the changes xs of the book d, between the runs v and w (`specs/Makes.antt`); and what a commit owes that makes one (`specs/Stages.antt`).
+//! the changes xs of the book d, between the runs v and w (`specs/Makes.antt`); what a commit owes that makes one (`specs/Stages.antt`); a run of a book
+//! in which whoever went isn't marked yet, and calls that mark losses alone (`IsRunOf`, `MakesLosses`: `specs/Losses.antt`); and what a reshape asks for
+//! (`specs/Reshaping.antt`).
 //!
 //! **What its lemmas say.** Calls in a row make their changes in a row (`makes_then`, `specs/Makes.antt`). A commit whose targets stage a
 //! change makes it (`commit_makes`), whoever goes in it (`committing_makes`): the plan's end, the marking of losses, an array that gets
 //! ready (`close_makes`, `mark_makes`, `stages_readied`). A call of one array that shows it as it was or as it will be makes that change
 //! (`turn_makes`): a step of maintenance or of a reshape, and a write (`step_makes`, `stepped_makes`, `write_makes`). Calls that write
-//! nothing, and losses that are noted and heeded, make none (`read_one_makes`, `idle_makes`, `noted_makes`, `heeded_makes`). A reshape brings
+//! nothing, that leave an array's values and superblocks, and losses that are noted, settled and heeded, make none (`read_one_makes`, `idle_makes`,
+//! `undone_makes`, `noted_makes`, `settle_makes`, `heeded_makes`). Each turn of the mending of losses makes a mark, of each book that the run has
+//! (`proofs/LossesMade.antt`). A reshape brings
 //! an array its sectors with the rows that it moves, as zeros (`proofs/ReshapeSectors.antt`, `proofs/ReshapeHolds.antt`). What `raid_laws`
 //! says of calls follows where changes leave drives and arrays as they are: `KeepsMoments` by `moments_of`, `KeepsRows` by `rows`
 //! (`proofs/MomentsOf.antt`).

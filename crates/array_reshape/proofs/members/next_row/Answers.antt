@@ -9,4 +9,4 @@ returns-clause-inside c =
     let v = c.args.array.now in
     subst (λ (n : ℕ). c.truth-truth.result.now.reshape_position / (128 * (n - 1)) < rows_of v) (sym c.from.ensures)
     (subst (λ (t : Super). t.reshape_position / (128 * (t.raid_disks - 1)) < rows_of v) (sym c.truth-truth.ensures)
-    (row_left v 0 c.rules.ensures c.requires.reshaping c.requires.left))
+    (row_left v c.rules.ensures c.requires.reshaping c.requires.left))

@@ -10,7 +10,7 @@ use Rattle.array_model.specs.View.{View}
 use Rattle.array_model.specs.Members.{HasSlices}
 use Rattle.pool_state.specs.declared.contents.Work.TheVariants.{Begin}
 use Rattle.reshape_laws.specs.Reshapes.{joined, lacks_joined, lacks_two}
-use Rattle.growth_laws.specs.Growing.{Lacks, drive_id, lacks}
+use Rattle.growth_laws.specs.Growing.{Lacks, change_of, drive_id, lacks}
 use Rattle.growth_laws.proofs.Due.{begin_parts, may_begin}
 use Rattle.growth_laws.proofs.Steps.{grows_one}
 use Rattle.raid_rack.specs.RaidRack.{no_array, raid_by}
@@ -141,7 +141,7 @@ returns-then-not-lacked-clause-grows g c =
     let element = c.index-deref-number.is ∙ same_element c.deref.result.now a.all.items n _ no_array c.deref.ensures.0 (omega (arith, count, low)) in
     let lacking : c.lacks_with-lacked.result ≡ lacks_joined ((raid_by a).arrays n) c.current_places-on.result.items place =
     c.lacks_with-lacked.ensures ∙ ap (λ (u : View). lacks_joined u c.current_places-on.result.items place) element in
-    grows_answered (Begin n place) (Lacks (Begin n place)) a (record a { all = all; log = c.begin.new.log }) c.mend.new.self x (g.S.Rack.seen c.begin.new.rack) (g.S.Rack.seen c.mend.new.rack) n
+    grows_answered (change_of (Begin n place)) (Lacks (Begin n place)) a (record a { all = all; log = c.begin.new.log }) c.mend.new.self x (g.S.Rack.seen c.begin.new.rack) (g.S.Rack.seen c.mend.new.rack) n
     (joined ((raid_by a).arrays n) (current_places a.state) place (drive_id a.state place)) c.begin.new.array c.begin.ensures.reshapes.steps.is_done (is_ok c.begin.result) _
     refl low called (called_own a all n c.begin.new.array count low all_is) c.begin.ensures.reshapes.steps.answer
     (refused_after _ (lacks_two c.begin.new.array) _ c.begin.result c.begin.ensures.refused
@@ -194,7 +194,7 @@ returns-else-not-lacked-clause-grows g c =
     let element = c.index-deref-number.is ∙ same_element c.deref.result.now a.all.items n _ no_array c.deref.ensures.0 (omega (arith, count, low)) in
     let lacking : c.lacks_with-lacked.result ≡ lacks_joined ((raid_by a).arrays n) c.current_places-on.result.items place =
     c.lacks_with-lacked.ensures ∙ ap (λ (u : View). lacks_joined u c.current_places-on.result.items place) element in
-    grows_one (Begin n place) (Lacks (Begin n place)) (raid_by a) (raid_by (record a { all = all; log = c.begin.new.log })) (raid_by c.mend.new.self) n
+    grows_one (change_of (Begin n place)) (Lacks (Begin n place)) (raid_by a) (raid_by (record a { all = all; log = c.begin.new.log })) (raid_by c.mend.new.self) n
     (joined ((raid_by a).arrays n) (current_places a.state) place (drive_id a.state place)) x (g.S.Rack.seen c.begin.new.rack) (g.S.Rack.seen c.mend.new.rack)
     c.begin.ensures.reshapes.steps.is_done (not c.lacks_with-lacked.result) refl called.stays called.calls
     (λ is. absurd (both_ways (not c.lacks_with-lacked.result) (ap not c.if-not-lacked.false) is))

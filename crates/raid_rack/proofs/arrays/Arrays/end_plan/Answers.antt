@@ -7,8 +7,10 @@ use Rattle.log_laws.specs.View.{LogView}
 use Rattle.array_core.specs.Seats.{gone as without}
 use Rattle.raid_laws.specs.Losses.{AddsCopies}
 use Rattle.raid_rack.proofs.Mended.{each_items}
-use Rattle.raid_rack.proofs.Worked.{close_places, closed_copied, closes_alone, closes_empty, closes_one, closes_raise, closing_of, copies_distinct, copies_had, copies_valid, has_closed}
+use Rattle.raid_rack.proofs.Worked.{close_places, closed_copied, closes_alone, closes_empty, closes_one, closes_raise, closes_turn, closing_of, copies_distinct, copies_had, copies_valid, has_closed}
 use Rattle.raid_rack.proofs.TruthTurns.{closed_truths}
+use Rattle.raid_rack.specs.RaidRack.{raid_by}
+use Rattle.transition_laws.proofs.LossesMade.{no_losses}
 use Rattle.raid_rack.proofs.arrays.Arrays.end_plan.Goals as goal
 
 pub returns-then-is_empty-clause-closes : goal.returns-then-is_empty-clause-closes
@@ -140,3 +142,30 @@ returns-clause-truths g c =
     let one = has_closed a (with_items a.all c.note_gone.new.arrays) c.end_plan.new.state c.commit-gone.new.self c.add_copies.new.log on gone x y c.requires.running closing
     c.end_plan.ensures after.1 (ap (λ (l : LogView). l.number) c.commit-gone.ensures.log) in
     closed_truths a _ c.mend.new.self x y (g.S.Rack.seen c.mend.new.rack) one c.mend.ensures.truths
+
+pub returns-then-is_empty-clause-contents : goal.returns-then-is_empty-clause-contents
+returns-then-is_empty-clause-contents g c due =
+    let a = c.args.self.now in
+    let x = g.S.Rack.seen c.args.rack.now in
+    let on = c.current_places-on.result.items in
+    let b = record a { state = c.end_plan.new.state; log = c.clear.new.self } in
+    closes_turn a b b x x x
+    (closes_empty a c.end_plan.new.state c.clear.new.self on x c.requires.running c.requires.heeded c.end_plan.ensures c.current_places-on.ensures
+    (eqb-true (length on) 0 (sym c.if-is_empty.ensures)) (ap (λ (l : LogView). l.number) c.clear.ensures))
+    (λ d run. no_losses d (raid_by b) x c.requires.running.set.fit run) due
+
+pub returns-clause-contents : goal.returns-clause-contents
+returns-clause-contents g c due =
+    let a = c.args.self.now in
+    let x = g.S.Rack.seen c.args.rack.now in
+    let y = g.S.Rack.seen c.commit-gone.new.rack in
+    let on = c.current_places-on.result.items in
+    let gone = c.commit-gone.result.items in
+    let after = each_items a.all c.as_mut_slice.result.now c.note_gone.new.arrays (without gone) c.as_mut_slice.ensures.value c.note_gone.ensures in
+    let closing = closing_of a (with_items a.all c.note_gone.new.arrays) c.end_plan.new.state c.add_copies.new.log on gone x y c.requires.running c.requires.heeded
+    c.end_plan.ensures c.current_places-on.ensures
+    (subst (λ (xs : List Target). AddsCopies c.end_plan.new.state on xs c.add_copies.new.log.added) (ap (λ (l : LogView). l.added) c.clear.ensures) c.add_copies.ensures.added)
+    (ap (λ (l : LogView). l.number) c.add_copies.ensures.log ∙ ap (λ (l : LogView). l.number) c.clear.ensures) c.commit-gone.ensures.commits after.0 in
+    let one = has_closed a (with_items a.all c.note_gone.new.arrays) c.end_plan.new.state c.commit-gone.new.self c.add_copies.new.log on gone x y c.requires.running closing
+    c.end_plan.ensures after.1 (ap (λ (l : LogView). l.number) c.commit-gone.ensures.log) in
+    closes_turn a _ c.mend.new.self x y (g.S.Rack.seen c.mend.new.rack) one c.mend.ensures.losses due

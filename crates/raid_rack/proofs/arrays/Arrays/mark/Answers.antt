@@ -32,7 +32,7 @@ returns-then-ne-clause-ends g c =
     let s = c.settle_all.new.self in
     let y = g.S.Rack.seen c.settle_all.new.rack in
     let gone_is : c.newly_gone-gone.result.items ≡ newly_gone s.state s.all.items = c.newly_gone-gone.ensures ∙ ap (newly_gone s.state) c.as_slice.ensures.value in
-    ends_early a _ s lost x y turn noted c.settle_all.ensures.settles c.settle_all.ensures.running
+    ends_early a _ s lost x y turn noted c.settle_all.ensures.settles c.settle_all.ensures.book c.settle_all.ensures.running
     (λ same.
     other_text c.as_slice-2.result.now c.as_slice-3.result.now (sym (not_of_true _ (sym c.ne.ensures ∙ c.if-ne.true)))
     (c.as_slice-2.ensures.value ∙ gone_is ∙ same ∙ sym c.as_slice-3.ensures.value))
@@ -54,7 +54,7 @@ returns-then-is_empty-clause-ends g c =
     ∙ c.as_slice-3.ensures.value in
     let t = c.mark_missing.new.state in
     let on = c.current_places-on.result.items in
-    ends_empty a _ s t lost on x y noted c.settle_all.ensures.settles c.settle_all.ensures.running same c.mark_missing.ensures c.current_places-on.ensures
+    ends_empty a _ s t lost on x y noted c.settle_all.ensures.settles c.settle_all.ensures.book c.settle_all.ensures.running same c.mark_missing.ensures c.current_places-on.ensures
     (eqb-true (length on) 0 (sym c.if-is_empty.ensures))
 
 pub add_copies-requires-clause-valid : goal.add_copies-requires-clause-valid
@@ -178,5 +178,5 @@ returns-clause-ends g c =
     c.add_copies.ensures.added (ap (λ (m : LogView). m.number) c.add_copies.ensures.log) in
     let after = each_items s.all c.as_mut_slice-2.result.now c.note_gone-2.new.arrays (without c.commit-gone.result.items) c.as_mut_slice-2.ensures.value c.note_gone-2.ensures in
     ends_turn a _ s (with_items s.all c.note_gone-2.new.arrays) c.commit-gone.new.self l t lost on c.commit-gone.result.items x y (g.S.Rack.seen c.commit-gone.new.rack)
-    noted c.settle_all.ensures.settles c.settle_all.ensures.running c.mark_missing.ensures marking c.commit-gone.ensures.commits after.0 after.1
+    noted c.settle_all.ensures.settles c.settle_all.ensures.book c.settle_all.ensures.running c.mark_missing.ensures marking c.commit-gone.ensures.commits after.0 after.1
     (ap (λ (m : LogView). m.number) c.commit-gone.ensures.log)

@@ -10,6 +10,8 @@ use Rattle.raid_rack.proofs.Turned.{none_newly}
 use Rattle.raid_rack.proofs.Rounds.{done_agree, newly_unmarked, turns_first, turns_next, turns_done, no_length, some_length}
 use Rattle.raid_rack.proofs.TruthTurns.{done_truths, turn_truths}
 use Rattle.raid_laws.proofs.Unlost.{unlost_same, unlost_then}
+use Rattle.transition_laws.specs.Changes.{by}
+use Rattle.transition_laws.proofs.LossesMade.{losses_then, no_losses}
 use Rattle.raid_rack.proofs.arrays.Arrays.mark_all.Goals as goal
 
 pub loop-turn-init : goal.loop-turn-init
@@ -21,6 +23,7 @@ loop-turn-init g c = record {
   idle = λ are. (refl, refl);
   supers = inl refl;
   truths = inl (refl, refl);
+  losses = λ d run. no_losses d (raid_by c.args.self.now) (g.S.Rack.seen c.args.rack.now) c.requires.running.set.fit run;
   unlost = unlost_same c.args.self.now.state (g.S.Rack.seen c.args.rack.now);
   runs = g.met.S.Rack.runs_same c.args.rack.now;
 }
@@ -72,6 +75,10 @@ loop-turn-preserved g c =
           inv.moves c.mark.ensures.ends.moves c.mark.ensures.ends.supers);
       truths = inr (turn_truths (raid_by c.args.self.now) (raid_by s) (raid_by c.mark.new.self) (g.S.Rack.seen c.args.rack.now) (g.S.Rack.seen c.loop-turn.rack) (g.S.Rack.seen c.mark.new.rack)
           c.requires.running.set.lasting inv.moves c.mark.ensures.ends.truths);
+      losses = λ d run.
+          let early = inv.losses d run in
+          losses_then d (raid_by c.args.self.now) (raid_by s) (raid_by c.mark.new.self) (g.S.Rack.seen c.args.rack.now) (g.S.Rack.seen c.loop-turn.rack) (g.S.Rack.seen c.mark.new.rack)
+          early (c.mark.ensures.ends.losses (by early.changes d) early.run) (λ are. subst (λ (a : Arrays). AreMarked (raid_by a)) (sym (inv.idle are).0) are);
       unlost = unlost_then c.args.self.now.state s.state c.mark.new.self.state (g.S.Rack.seen c.args.rack.now) (g.S.Rack.seen c.loop-turn.rack) (g.S.Rack.seen c.mark.new.rack)
           inv.moves.stays c.mark.ensures.ends.moves.stays inv.moves.book c.mark.ensures.ends.moves.book inv.unlost c.mark.ensures.ends.unlost;
       runs = g.met.S.Rack.runs_then _ _ _ inv.runs c.mark.ensures.runs;
@@ -125,3 +132,9 @@ returns-then-is_empty-clause-unlost g c = c.loop-turn.invariant.unlost
 
 pub returns-clause-unlost : goal.returns-clause-unlost
 returns-clause-unlost g c = c.loop-turn.invariant.unlost
+
+pub returns-then-is_empty-clause-losses : goal.returns-then-is_empty-clause-losses
+returns-then-is_empty-clause-losses g c = c.loop-turn.invariant.losses
+
+pub returns-clause-losses : goal.returns-clause-losses
+returns-clause-losses g c = c.loop-turn.invariant.losses

@@ -3,6 +3,7 @@ use Rattle.array_core.specs.Seats.{heeded}
 use Rattle.raid_rack.proofs.Mended.{each_items}
 use Rattle.raid_rack.proofs.Rounds.{heeds, heeds_agree, heeds_raise, idle_by}
 use Rattle.raid_rack.proofs.TruthTurns.{heeds_makes, heeds_truths}
+use Rattle.raid_rack.proofs.Rounds.{heeds_losses}
 use Rattle.raid_rack.proofs.arrays.Arrays.mend.Goals as goal
 
 pub returns-clause-mends : goal.returns-clause-mends
@@ -56,3 +57,10 @@ returns-clause-makes g c =
 
 pub returns-clause-unlost : goal.returns-clause-unlost
 returns-clause-unlost g c = c.mark_all.ensures.unlost
+
+pub returns-clause-losses : goal.returns-clause-losses
+returns-clause-losses g c d run =
+    let s = c.mark_all.new.self in
+    let each = each_items s.all c.as_mut_slice.result.now c.heed_all.new.arrays heeded c.as_mut_slice.ensures.value c.heed_all.ensures in
+    heeds_losses d c.args.self.now s (with_items s.all c.heed_all.new.arrays) (g.S.Rack.seen c.args.rack.now) (g.S.Rack.seen c.mark_all.new.rack) c.mark_all.ensures.running
+    c.mark_all.ensures.marked each.0 (c.mark_all.ensures.losses d run)

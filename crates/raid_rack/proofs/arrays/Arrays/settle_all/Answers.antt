@@ -6,6 +6,7 @@ use Rattle.raid_laws.specs.Settling.{SettlesTo}
 use Rattle.raid_rack.specs.RaidRack.{no_array, raid_by}
 use Rattle.raid_laws.proofs.Settling.{settles_first}
 use Rattle.raid_rack.proofs.Steps.{same_element, items_set, length_set, settle_slices, settle_step}
+use Rattle.transition_laws.proofs.SettledMakes.{settles_book_first}
 use Rattle.raid_rack.proofs.arrays.Arrays.settle_all.Goals as goal
 
 pub loop-n-init : goal.loop-n-init
@@ -14,6 +15,7 @@ loop-n-init g c =
     let x = g.S.Rack.seen c.args.rack.now in
     record {
       settles = subst (λ xs. SettlesTo v v x x 0 xs) (sym c.requires.empty) (settles_first v x c.requires.running.set);
+      book = settles_book_first v x c.requires.running.set.fit;
       count = c.requires.running.count;
       same = refl;
       log = refl;
@@ -38,11 +40,13 @@ loop-n-preserved g c =
     let count = c.requires.running.count in
     let made : c.loop-n.n < c.args.self.now.state.made = omega (arith, low, end, count) in
     let items = items_set c.loop-n.self.all c.deref_mut.result.now c.loop-n.n c.settle.new.self c.deref_mut.ensures.value in
+    let step = settle_step c.args.self.now c.loop-n.self _ c.settle.new.log (g.S.Rack.seen c.args.rack.now) (g.S.Rack.seen c.loop-n.rack) (g.S.Rack.seen c.settle.new.rack) c.loop-n.n _ c.settle.new.self
+    c.requires.running inv.settles inv.book inv.count made
+    (same_element c.deref_mut.result.now c.loop-n.self.all.items c.loop-n.n c.index-deref_mut-n.result no_array c.deref_mut.ensures.value (let same = inv.count in omega (arith, made, same)))
+    items c.settle.ensures.settles c.settle.ensures.reads c.settle.ensures.view c.settle.ensures.added c.settle.ensures.log in
     record {
-      settles = settle_step c.args.self.now c.loop-n.self _ c.settle.new.log (g.S.Rack.seen c.args.rack.now) (g.S.Rack.seen c.loop-n.rack) (g.S.Rack.seen c.settle.new.rack) c.loop-n.n _ c.settle.new.self
-          c.requires.running inv.settles inv.count made
-          (same_element c.deref_mut.result.now c.loop-n.self.all.items c.loop-n.n c.index-deref_mut-n.result no_array c.deref_mut.ensures.value (let same = inv.count in omega (arith, made, same)))
-          items c.settle.ensures.settles c.settle.ensures.reads c.settle.ensures.view c.settle.ensures.added c.settle.ensures.log;
+      settles = step.0;
+      book = step.1;
       count = ap length items ∙ length_set c.loop-n.self.all.items c.loop-n.n c.settle.new.self ∙ inv.count;
       same = ap (λ (a : Arrays). record a { all = with_items c.loop-n.self.all (slice_set c.deref_mut.result.now c.loop-n.n c.settle.new.self); log = c.settle.new.log }) inv.same;
       log = c.settle.ensures.log ∙ ap (λ (l : LogView). record l { added = c.settle.new.log.added }) inv.log;

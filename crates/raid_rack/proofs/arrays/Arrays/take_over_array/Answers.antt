@@ -134,7 +134,7 @@ returns-clause-grows g c =
     grows_behind (change_of (TakeOver n)) (Lacks (TakeOver n)) (Lacks (TakeOver n)) v (raid_by a) (raid_by c.mend.new.self) x y z _ moves.stays.faults
     (stays_then c.take_over.ensures.goes.stays c.mend.ensures.mends.moves.stays).faults
     (moves_lose v (raid_by a) x y moves) (moves_caused v (raid_by a) x y moves) (λ mid w is. is)
-    (grows_answered (TakeOver n) (Lacks (TakeOver n)) a (record a { all = all; log = c.take_over.new.log }) c.mend.new.self y (g.S.Rack.seen c.take_over.new.rack) z n
+    (grows_answered (change_of (TakeOver n)) (Lacks (TakeOver n)) a (record a { all = all; log = c.take_over.new.log }) c.mend.new.self y (g.S.Rack.seen c.take_over.new.rack) z n
     (taken (raid_by a) n) c.take_over.new.array c.take_over.ensures.reshapes.steps.is_done (is_ok c.take_over.result) _
     refl low called (called_own a all n c.take_over.new.array count low all_is) c.take_over.ensures.reshapes.steps.answer
     (answered_refused (lacks_two c.take_over.new.array) _ c.take_over.result c.take_over.ensures.refused) c.mend.ensures.mends does.longer (ap not c.lacks.ensures) inr)

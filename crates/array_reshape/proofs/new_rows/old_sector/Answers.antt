@@ -5,7 +5,7 @@ use Rattle.reshape_laws.proofs.Old.{read_old, read_only}
 use Rattle.md_super.specs.declared.superblock.Super.{Super}
 use Rattle.array_model.specs.View.{sectors_of}
 use Rattle.reshape_laws.proofs.RowCall.{blank_zeros, rows_same, spent_two}
-use Rattle.array_reshape.proofs.rows.old_sector.Goals as goal
+use Rattle.array_reshape.proofs.new_rows.old_sector.Goals as goal
 
 pub returns-then-x-sectors-clause-notes : goal.returns-then-x-sectors-clause-notes
 returns-then-x-sectors-clause-notes g c = notes_none c.args.array.now _ _

@@ -5,7 +5,7 @@ use Rattle.array_image.specs.Places.{data_sector}
 use Rattle.log_laws.specs.View.{LogView}
 use Rattle.reshape_laws.specs.Rows.{is_absent}
 use Rattle.reshape_laws.proofs.Pieces.{no_pieces, one_piece}
-use Rattle.array_reshape.proofs.rows.stage_if.Goals as goal
+use Rattle.array_reshape.proofs.new_rows.stage_if.Goals as goal
 
 pub returns-then-is_absent-clause-added : goal.returns-then-is_absent-clause-added
 returns-then-is_absent-clause-added c =

@@ -1,4 +1,4 @@
-use Rattle.std.proofs.Common.{ap, ◌≡◌, ◌<◌, ◌∙◌, ℕ, sym, subst, refl, arith}
+use Rattle.std.proofs.Common.{ap, ◌≡◌, ◌≤◌, ◌*◌, ◌<◌, ◌∙◌, ℕ, sym, subst, refl, arith}
 use Rattle.rack.proofs.Reading.{only_reads_join, only_reads_start}
 use Rattle.log_laws.specs.View.{LogView}
 use Rattle.md_super.specs.declared.superblock.Super.{Super}
@@ -6,12 +6,12 @@ use Rattle.array_model.proofs.Reading.{slices_then}
 use Rattle.array_model.proofs.Views.{notes_none, notes_then}
 use Rattle.raid_map.specs.LeftSymmetric.{IsMemberCount, parity_at}
 use Rattle.array_image.specs.Supers.{is_reshaping}
-use Rattle.reshape_laws.specs.Ahead.{InRow, next_row}
-use Rattle.reshape_laws.specs.Rows.{AddsData, OfOne}
+use Rattle.reshape_laws.specs.Ahead.{next_row}
+use Rattle.reshape_laws.specs.Rows.{AddsData, OfOne, data_count}
 use Rattle.reshape_laws.proofs.Pieces.{pieces_by, pieces_length}
-use Rattle.reshape_laws.proofs.RowCall.{blank_zeros, few_disks, member_count, rows_same}
-use Rattle.reshape_laws.proofs.RowPieces.{data_next, data_none, sector_pieces}
-use Rattle.array_reshape.proofs.rows.stage_sector.Goals as goal
+use Rattle.reshape_laws.proofs.RowCall.{blank_zeros, member_count, rows_same}
+use Rattle.reshape_laws.proofs.RowPieces.{count_few, data_next, data_none, sector_pieces}
+use Rattle.array_reshape.proofs.new_rows.stage_sector.Goals as goal
 
 pub loop-position-init : goal.loop-position-init
 loop-position-init g c = (
@@ -29,17 +29,17 @@ stage_piece-requires g c =
     let notes = c.loop-position.invariant.1 in
     let room = c.requires.room in
     let low = c.loop-position-test.true in
-    let most = few_disks v c.rules.ensures in
+    let few = count_few v.truth.raid_disks c.args.sector c.loop-position.position in
     let disks : c.truth.result.now.raid_disks ≡ c.args.array.now.truth.raid_disks = ap (λ (t : Super). t.raid_disks) c.truth.ensures in
-    let long = pieces_length v _ _ c.loop-position.position c.args.log.now.added c.loop-position.log.added c.loop-position.invariant.3.adds in
+    let long = pieces_length v _ _ (data_count v.truth.raid_disks c.args.sector c.loop-position.position) c.args.log.now.added c.loop-position.log.added c.loop-position.invariant.3.adds in
     record {
       slices = slices_then v u (g.R.Rack.seen c.args.rack.now) (g.R.Rack.seen c.loop-position.rack) c.loop-position.invariant.0.stays notes c.requires.slices;
       reshaping = ap is_reshaping notes.same.truth ∙ c.requires.reshaping;
       synced = rows_same v u notes.same c.requires.synced;
       position = subst (λ (t : Super). c.loop-position.position < t.raid_disks) (sym notes.same.truth) (omega (arith, low, disks));
       sector = subst (λ (t : Super). c.args.sector < t.size) (sym notes.same.truth) c.requires.sector;
-      row = subst (λ (t : Super). InRow (next_row (record v { truth = t })) c.args.sector) (sym notes.same.truth) c.requires.row;
-      room = omega (arith, room, long, low, most, disks);
+      row = subst (λ (t : Super). next_row (record v { truth = t }) * 128 ≤ c.args.sector) (sym notes.same.truth) c.requires.row;
+      room = omega (arith, room, long, low, few, disks);
     }
 
 pub returns-then-not-stage_piece-clause-reads : goal.returns-then-not-stage_piece-clause-reads
@@ -80,7 +80,7 @@ returns-clause-added g c = λ is.
     let last = c.loop-position.auto.position-end in
     let disks : c.truth.result.now.raid_disks ≡ c.args.array.now.truth.raid_disks = ap (λ (t : Super). t.raid_disks) c.truth.ensures in
     let at : c.loop-position.position ≡ c.args.array.now.truth.raid_disks = omega (arith, end, last, disks) in
-    sector_pieces v a c.args.sector c.parity_on.result c.args.absent c.loop-position.sum c.args.log.now.added c.loop-position.log.added c.stage_if.new.log.added c.rules.ensures (few_disks v c.rules.ensures)
+    sector_pieces v a c.args.sector c.parity_on.result c.args.absent c.loop-position.sum c.args.log.now.added c.loop-position.log.added c.stage_if.new.log.added c.rules.ensures
     (c.parity_on.ensures.parity ∙ ap (λ (n : ℕ). parity_at n c.args.sector) disks) (subst (λ (n : ℕ). c.parity_on.result < n) disks c.parity_on.ensures.member)
     (subst (λ n. AddsData v a c.args.sector n c.args.absent c.loop-position.sum c.args.log.now.added c.loop-position.log.added) at c.loop-position.invariant.3)
     (pieces_by v u (OfOne c.args.sector c.parity_on.result c.args.absent) (OfOne c.args.sector c.parity_on.result c.args.absent) (λ t j w. w ≡ c.loop-position.sum) (λ t j w. w ≡ c.loop-position.sum)

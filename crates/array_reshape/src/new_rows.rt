@@ -1,4 +1,4 @@
-//! What is added to the log for a new row.
+//! What is added to the log for new rows.
 
 ghost use Rattle.std.specs.Prelude.{◌≡◌, ◌<◌, ◌≤◌, ◌+◌, ◌-◌, ◌*◌, ◌^◌, ℕ, Option, List, length, true, false, not};
 ghost use Rattle.rack.specs.Sequences.{OnlyReads};
@@ -8,7 +8,7 @@ ghost use Rattle.array_model.specs.View.{View, rows_of};
 ghost use Rattle.array_model.specs.Members.{HasSlices, Notes};
 ghost use Rattle.log_laws.specs.View.{most_sectors};
 ghost use Rattle.array_core.specs.Stands.{blank};
-ghost use Rattle.reshape_laws.specs.Ahead.{InRow, next_row};
+ghost use Rattle.reshape_laws.specs.Ahead.{next_row};
 ghost use Rattle.reshape_laws.specs.Reshapes.{lacks_two};
 ghost use Rattle.reshape_laws.specs.Rows.{AddsPiece, AddsPieces, IsNewBytes, IsOld, OfOne, OfSector, OfSectors, is_absent};
 
@@ -90,7 +90,7 @@ fn old_sector<R: Rack>(array: &mut Array, rack: &mut R, x: u64, into: &mut [u8; 
     }
 }
 
-/// Adds a member's sector of a row to the log and to a sum, unless it is the parity. The answer is false where it can't be had.
+/// Adds a member's sector of the next rows to the log and to a sum, unless it is the parity. The answer is false where it can't be had.
 fn stage_piece<R: Rack>(
     array: &mut Array,
     rack: &mut R,
@@ -105,7 +105,7 @@ fn stage_piece<R: Rack>(
     requires synced { array.old.resync ≡ rows_of array.old }
     requires position { position < array.old.truth.raid_disks }
     requires sector { sector < array.old.truth.size }
-    requires row { InRow (next_row array.old) sector }
+    requires row { next_row array.old * 128 ≤ sector }
     requires room { length log.old.added < most_sectors }
     ensures reads { OnlyReads (R.seen rack.old) (R.seen rack.new) }
     ensures notes { Notes array.old array.new (R.seen rack.old) (R.seen rack.new) }
@@ -140,12 +140,12 @@ fn stage_sector<R: Rack>(
     requires reshaping { is_reshaping array.old.truth ≡ true }
     requires synced { array.old.resync ≡ rows_of array.old }
     requires sector { sector < array.old.truth.size }
-    requires row { InRow (next_row array.old) sector }
-    requires room { length log.old.added + 17 ≤ most_sectors }
+    requires row { next_row array.old * 128 ≤ sector }
+    requires room { length log.old.added + array.old.truth.raid_disks ≤ most_sectors }
     ensures reads { OnlyReads (R.seen rack.old) (R.seen rack.new) }
     ensures notes { Notes array.old array.new (R.seen rack.old) (R.seen rack.new) }
     ensures runs { R.runs rack.old rack.new }
-    ensures added { result ≡ true → AddsPieces array.old (OfSector sector array.old.truth.raid_disks absent) (IsNewBytes array.old (R.seen rack.old)) 17 log.old.added log.new.added }
+    ensures added { result ≡ true → AddsPieces array.old (OfSector sector array.old.truth.raid_disks absent) (IsNewBytes array.old (R.seen rack.old)) array.old.truth.raid_disks log.old.added log.new.added }
     ensures lost { result ≡ false → lacks_two array.new ≡ true }
     ensures log { log.new ≡ record log.old { added = log.new.added } }
 {
@@ -172,28 +172,29 @@ fn parity_on(members: u32, sector: u64) -> u32
     place(members, first).parity
 }
 
-/// Adds the sectors of a new row to the log. The answer is false where one can't be had.
+/// Adds the sectors of so many new rows to the log. The answer is false where one can't be had.
 fn stage_sectors<R: Rack>(
     array: &mut Array,
     rack: &mut R,
     log: &mut Log,
-    row: u64,
+    first: u64,
+    rows: u64,
     absent: Option<u32>,
 ) -> bool
     requires slices { HasSlices array.old (R.seen rack.old) }
     requires reshaping { is_reshaping array.old.truth ≡ true }
     requires synced { array.old.resync ≡ rows_of array.old }
-    requires row { (row ≡ next_row array.old) × (row < rows_of array.old) }
-    requires room { length log.old.added + 2176 ≤ most_sectors }
+    requires rows { (first ≡ next_row array.old) × (first + rows ≤ rows_of array.old) }
+    requires room { length log.old.added + rows * 128 * array.old.truth.raid_disks ≤ most_sectors }
     ensures reads { OnlyReads (R.seen rack.old) (R.seen rack.new) }
     ensures notes { Notes array.old array.new (R.seen rack.old) (R.seen rack.new) }
     ensures runs { R.runs rack.old rack.new }
-    ensures added { result ≡ true → AddsPieces array.old (OfSectors array.old.truth.raid_disks (row * 128) 128 absent) (IsNewBytes array.old (R.seen rack.old)) 2176 log.old.added log.new.added }
+    ensures added { result ≡ true → AddsPieces array.old (OfSectors array.old.truth.raid_disks (first * 128) (rows * 128) absent) (IsNewBytes array.old (R.seen rack.old)) (rows * 128 * array.old.truth.raid_disks) log.old.added log.new.added }
     ensures lost { result ≡ false → lacks_two array.new ≡ true }
     ensures log { log.new ≡ record log.old { added = log.new.added } }
 {
     array.rules();
-    for sector in row * CHUNK_SECTORS..row * CHUNK_SECTORS + CHUNK_SECTORS {
+    for sector in first * CHUNK_SECTORS..(first + rows) * CHUNK_SECTORS {
         if !stage_sector(array, rack, log, sector, absent) {
             return false;
         }
@@ -201,27 +202,28 @@ fn stage_sectors<R: Rack>(
     true
 }
 
-/// Adds a new row to the log. The answer is false where two members are missing.
-pub(crate) fn stage_row<R: Rack>(
+/// Adds so many new rows to the log. The answer is false where two members are missing.
+pub(crate) fn stage_rows<R: Rack>(
     array: &mut Array,
     rack: &mut R,
     log: &mut Log,
-    row: u64,
+    first: u64,
+    rows: u64,
     absent: Option<u32>,
 ) -> bool
     requires slices { HasSlices array.old (R.seen rack.old) }
     requires reshaping { is_reshaping array.old.truth ≡ true }
     requires synced { array.old.resync ≡ rows_of array.old }
-    requires row { (row ≡ next_row array.old) × (row < rows_of array.old) }
-    requires room { length log.old.added + 2176 ≤ most_sectors }
+    requires rows { (first ≡ next_row array.old) × (first + rows ≤ rows_of array.old) }
+    requires room { length log.old.added + rows * 128 * array.old.truth.raid_disks ≤ most_sectors }
     ensures reads { OnlyReads (R.seen rack.old) (R.seen rack.new) }
     ensures notes { Notes array.old array.new (R.seen rack.old) (R.seen rack.new) }
     ensures runs { R.runs rack.old rack.new }
-    ensures added { result ≡ true → AddsPieces array.old (OfSectors array.old.truth.raid_disks (row * 128) 128 absent) (IsNewBytes array.old (R.seen rack.old)) 2176 log.old.added log.new.added }
+    ensures added { result ≡ true → AddsPieces array.old (OfSectors array.old.truth.raid_disks (first * 128) (rows * 128) absent) (IsNewBytes array.old (R.seen rack.old)) (rows * 128 * array.old.truth.raid_disks) log.old.added log.new.added }
     ensures answer { result ≡ not (lacks_two array.new) }
     ensures log { log.new ≡ record log.old { added = log.new.added } }
 {
-    if !stage_sectors(array, rack, log, row, absent) {
+    if !stage_sectors(array, rack, log, first, rows, absent) {
         return false;
     }
     !lacks_two(array)

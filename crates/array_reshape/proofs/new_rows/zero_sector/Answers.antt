@@ -1,6 +1,6 @@
 use Rattle.std.proofs.Common.{refl}
 use Rattle.array_core.specs.Stands.{blank}
-use Rattle.array_reshape.proofs.rows.zero_sector.Goals as goal
+use Rattle.array_reshape.proofs.new_rows.zero_sector.Goals as goal
 
 pub returns : goal.returns
 unfolding blank

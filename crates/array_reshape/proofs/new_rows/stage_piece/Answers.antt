@@ -1,4 +1,4 @@
-use Rattle.std.proofs.Common.{◌≡◌, Bool, if◌then◌else◌, None, Some, sym, ap, subst, ◌∙◌, arith}
+use Rattle.std.proofs.Common.{◌≡◌, ◌≤◌, ◌==◌, Bool, if◌then◌else◌, None, Some, sym, ap, subst, ◌∙◌, arith}
 use Rattle.std.proofs.lemmas.Bool.{ne_eqb}
 use Rattle.md_super.specs.declared.superblock.Super.{Super}
 use Rattle.raid_map.specs.LeftSymmetric.{StandsAt, parity_at}
@@ -7,7 +7,7 @@ use Rattle.array_model.proofs.Views.{notes_none}
 use Rattle.reshape_laws.specs.Rows.{IsOld, OfOne, OfOneData}
 use Rattle.reshape_laws.proofs.Pieces.{pieces_by}
 use Rattle.reshape_laws.proofs.RowCall.{no_piece, stands_left, stands_on}
-use Rattle.array_reshape.proofs.rows.stage_piece.Goals as goal
+use Rattle.array_reshape.proofs.new_rows.stage_piece.Goals as goal
 
 pub returns-in_default-clause-notes : goal.returns-in_default-clause-notes
 returns-in_default-clause-notes g c = notes_none c.args.array.now _ _
@@ -40,8 +40,10 @@ returns-clause-added g c = λ is.
       old = λ other. subst (λ y. IsOld v a y bytes) (stands_on v.truth.raid_disks x c.args.position c.args.sector c.rules.ensures.least c.requires.position stands) (c.old_sector.ensures.old c.if-not-old_sector.false);
       sum_is = c.xor_into.ensures ∙ sym (ap (λ (b : Bool). xor c.args.sum.now (if b then zeros 512 else bytes)) (ne_eqb c.args.position (parity_at v.truth.raid_disks c.args.sector) apart));
       adds =
-          pieces_by v u (OfOne c.args.sector c.args.position c.args.absent) (OfOneData v.truth.raid_disks c.args.sector c.args.position c.args.absent) (λ t j w. w ≡ bytes) (λ t j w. w ≡ bytes) 1 1
-          c.args.log.now.added c.stage_if.new.log.added c.old_sector.ensures.notes.same (omega arith)
+          pieces_by v u (OfOne c.args.sector c.args.position c.args.absent) (OfOneData v.truth.raid_disks c.args.sector c.args.position c.args.absent) (λ t j w. w ≡ bytes) (λ t j w. w ≡ bytes)
+          1 (if c.args.position == parity_at v.truth.raid_disks c.args.sector then 0 else 1)
+          c.args.log.now.added c.stage_if.new.log.added c.old_sector.ensures.notes.same
+          (subst (λ (b : Bool). 1 ≤ (if b then 0 else 1)) (sym (ne_eqb c.args.position (parity_at v.truth.raid_disks c.args.sector) apart)) (omega arith))
           (λ t j is. (is.0, is.1, is.2, λ at. apart (sym is.1 ∙ at ∙ ap (parity_at v.truth.raid_disks) is.0)))
           (λ t j is. (is.0, is.1, is.2))
           (λ t j w is same. same) c.stage_if.ensures.added;

@@ -2,7 +2,7 @@ use Rattle.std.proofs.Common.{◌*◌, ◌-◌, ◌/◌, ◌<◌, ℕ, ap, subst
 use Rattle.raid_map.specs.LeftSymmetric.{parity_at}
 use Rattle.raid_map.proofs.Rows.{row_members_differ}
 use Rattle.reshape_laws.proofs.RowCall.{parity_first}
-use Rattle.array_reshape.proofs.rows.parity_on.Goals as goal
+use Rattle.array_reshape.proofs.new_rows.parity_on.Goals as goal
 
 pub returns-clause-parity : goal.returns-clause-parity
 returns-clause-parity c =

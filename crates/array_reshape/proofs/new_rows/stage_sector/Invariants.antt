@@ -2,7 +2,7 @@ use Rattle.std.proofs.Common.{◌≡◌}
 use Rattle.rack.specs.Sequences.{OnlyReads}
 use Rattle.array_model.specs.Members.{Notes}
 use Rattle.reshape_laws.specs.Rows.{AddsData}
-use Rattle.array_reshape.proofs.rows.stage_sector.Given as goal
+use Rattle.array_reshape.proofs.new_rows.stage_sector.Given as goal
 
 abbrev pub invariant-loop-position : goal.invariant-loop-position
 invariant-loop-position g l =
