@@ -25,3 +25,4 @@ pub mod LossesMade
 pub mod Readied
 pub mod ReshapeSectors
 pub mod ReshapeHolds
+pub mod CleanMakes

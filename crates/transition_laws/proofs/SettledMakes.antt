@@ -74,7 +74,7 @@ sectors_by : (has young : Bool) (row before after : ℕ) → (young ≡ true →
 sectors_by has true row before after same = ap (λ k. has && nat_lt row k) (same refl)
 sectors_by has false row before after same = refl
 
-settled_sectors : (u : View) → u.truth.size < 2 ^ 48 → (y : ℕ) → has_sector (settled u) y ≡ has_sector u y
+pub settled_sectors : (u : View) → u.truth.size < 2 ^ 48 → (y : ℕ) → has_sector (settled u) y ≡ has_sector u y
 settled_sectors u small y =
     sectors_by _ u.young (row_at (sector_in (frame_of u.truth).layout y)) (first_unsynced u.truth) (first_unsynced (settled_truth u)) (zeroed_again u small)
 
