@@ -27,7 +27,7 @@ use Rattle.transition_laws.specs.Changes.{changed, steps}
 use Rattle.transition_laws.specs.Holds.{IsPromised, Promise, spent_at, Stands}
 use Rattle.transition_laws.specs.Losses.{IsRunArray, IsRunOf, MakesLosses}
 use Rattle.transition_laws.specs.Makes.{Makes, makes_then}
-use Rattle.transition_laws.proofs.CleanMakes.{clean_makes, settled_shape}
+use Rattle.transition_laws.proofs.RenewMakes.{renew_makes, settled_renewed, settled_shape}
 use Rattle.transition_laws.proofs.ReadMakes.{keeps_noted, read_log, read_one_makes}
 use Rattle.transition_laws.proofs.RunsOf.{run_loses, run_of_itself}
 use Rattle.transition_laws.proofs.SettledMakes.{settled_sectors}
@@ -89,7 +89,7 @@ module _ (v : Raid) (f : ℕ → View) (m : ℕ) (a b : Seen) (set : IsSet v a) 
 
     written_makes : (vals : ℕ → ℕ → Values) → Makes (steps m (settled (v.arrays m)) ∷ []) v v (called v f v.number) vals vals a b
     written_makes vals =
-        clean_makes m v (called v f v.number) vals a b
+        renew_makes m (settled (v.arrays m)) v (called v f v.number) vals a b
         (record {
           few = let there = low in let most = set.most in omega (arith, there, most);
           low = low;
@@ -118,7 +118,7 @@ module _ (v : Raid) (f : ℕ → View) (m : ℕ) (a b : Seen) (set : IsSet v a) 
               kept_more v.state v.number (λ q. false) (gone_in (called v f v.number)) b (λ q none. absurd (both_ways false refl none))
               (call.kept (subst (λ g. LogKept v.state v.number g a) (λ i q. heeded_gone v call.heeded q i) stands.log));
           number = (set.arrays m low).number;
-          is_array = (set.arrays m low).is_array;
+          renewed = settled_renewed (v.arrays m) (set.arrays m low).is_array;
           noted = noted;
           written = one.views.written;
           lost = λ are. record {

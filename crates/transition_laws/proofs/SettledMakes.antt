@@ -119,7 +119,7 @@ module _ (v : Raid) (f : ℕ → View) (m : ℕ) (b c : Seen) (set : IsSet v b) 
         spares = call.views.spent;
       })
 
-suits_none : (p : Promise) (d : Raid) → Suits p [] d
+pub suits_none : (p : Promise) (d : Raid) → Suits p [] d
 suits_none p d = record { free = λ n kept. refl; owned = tt; growing = inr tt }
 
 pub settles_book_first : (v : Raid) (x : Seen) → x.fit → SettlesBook v v 0 x x
