@@ -8,6 +8,7 @@ pub mod Beginning
 pub mod Room
 pub mod Due
 pub mod Turning
+pub mod CleanTurn
 pub mod ReshapeMakes
 pub mod ReshapeDue
 pub mod Stating

@@ -6,7 +6,7 @@ use Rattle.rack.specs.Seen.{Seen}
 use Rattle.pool_state.specs.declared.contents.State.{State}
 use Rattle.array_image.specs.Arrays.{Member}
 use Rattle.array_image.specs.Held.{Among}
-use Rattle.array_image.specs.SoundArray.{first_unsynced}
+use Rattle.array_image.specs.SoundArray.{array_fields, first_unsynced}
 use Rattle.array_image.specs.States.{current_places, is_current}
 use Rattle.log_laws.specs.Kept.{LogKept}
 use Rattle.log_laws.specs.View.{names}
@@ -38,7 +38,7 @@ use Rattle.transition_laws.specs.Makes.{makes_then}
 use Rattle.transition_laws.proofs.ReadMakes.{keeps_noted}
 use Rattle.transition_laws.proofs.RunsOf.{run_loses, run_of_itself}
 use Rattle.transition_laws.proofs.Shown.{spent_other}
-use Rattle.transition_laws.proofs.UndoneMakes.{LeavesOne, undone_makes}
+use Rattle.transition_laws.proofs.RenewMakes.{RenewsOne, same_renewed, supers_truths, undone_makes}
 use Rattle.transition_laws.proofs.StepMakes.{reshapes_become, step_makes, StepsOnce}
 use Rattle.growth_laws.specs.Growing.{MakesTurn}
 use Rattle.growth_laws.proofs.Becoming.{IsAtRest}
@@ -221,7 +221,7 @@ module _ (v : Raid) (f : ℕ → View) (next : View) (number m : ℕ) (a b : See
     further_before : IsFurther v (called v f number)
     further_before = further_read v f m a b call.set views_before.views number call.later
 
-    pub reshape_undone : (vals : ℕ → ℕ → Values) → IsWritten (v.arrays m) → LeavesOne m v (called v f number) vals a b
+    pub reshape_undone : (vals : ℕ → ℕ → Values) → IsWritten (v.arrays m) → RenewsOne m (v.arrays m) v (called v f number) vals a b
     reshape_undone vals written = record {
       few = let there = low in let most = call.set.most in omega (arith, there, most);
       low = low;
@@ -243,7 +243,10 @@ module _ (v : Raid) (f : ℕ → View) (next : View) (number m : ℕ) (a b : See
       };
       someone = λ n goes. someone_left (called v f number) n goes;
       acts = λ p promised stands spent covers. call.reshapes.undone is v.state (vals m) spent covers (allowed written further_before p promised vals stands);
-      supers = call.reshapes.kept_supers is;
+      truths = λ p promised stands spent covers.
+          supers_truths v.state (v.arrays m).number (λ t. array_fields t ≡ array_fields (v.arrays m).truth)
+          (Holds v.state (shape_of (v.arrays m)) (v.arrays m) (vals m) spent a) a b (call.reshapes.kept_supers is);
+      renewed = same_renewed (v.arrays m) call.rest.unmarked (let rows = call.rest.rows in omega (arith, rows));
       kept = λ p promised stands.
           kept_more v.state number (has_gone (f m)) (gone_in (called v f number)) b (λ q went. gone_from (called v f number) q m (call.few q went) low went)
           (call.reshapes.kept v.state (allowed written further_before p promised vals stands));

@@ -12,7 +12,7 @@ use Rattle.array_image.specs.States.{current_places, is_current}
 use Rattle.array_image.specs.Supers.{is_reshaping}
 use Rattle.array_model.specs.View.{View, rows_of, sectors_of}
 use Rattle.array_core.specs.Seats.{seat_of}
-use Rattle.array_core.specs.Superblocks.{raised}
+use Rattle.array_core.specs.Superblocks.{raised, settled}
 use Rattle.sync_laws.specs.Rows.{lacks_two as lacks_two_in}
 use Rattle.sync_laws.specs.Steps.{DoesRows, if_done, rebuilt, resynced, zeroed}
 use Rattle.reshape_laws.specs.Ahead.{ahead_by, finished, next_row, taken_over}
@@ -173,6 +173,10 @@ pub record MakesTurn (change : Change) (is_done : Bool) (Fits : (ℕ → ℕ →
 -- of any values
 abbrev pub AnyValues : (ℕ → ℕ → Values) → Type 0
 AnyValues vals = Unit {0}
+
+-- Array n's superblocks are written one after the other, with one more event and the rows that are left in it, or nothing is; and losses after it.
+abbrev pub MakesClean : ℕ → Raid → Raid → Seen → Seen → Type 0
+MakesClean n v w a b = (is_done : Bool) × MakesTurn (steps n (settled (v.arrays n))) is_done AnyValues v w a b
 
 -- A step of array n's reshape, with what contents hold in its call: the change is made, by the book before its commit.
 pub record MakesReshape (change : Raid → Change) (Lacks : Raid → Raid → Type 0) (n : ℕ) (v w : Raid) (a b : Seen) (answered : Bool) : Type 0 where

@@ -14,6 +14,7 @@ ghost use Rattle.raid_laws.specs.Unlost.{KeepsUnlost};
 ghost use Rattle.raid_laws.specs.Losses as spec;
 ghost use Rattle.raid_laws.specs.Raid.{Raid};
 ghost use Rattle.transition_laws.specs.Losses.{IsRunOf, MakesLosses, SettlesBook};
+ghost use Rattle.growth_laws.specs.Growing.{MakesClean};
 
 use crate::arrays::Arrays;
 use crate::losses::{add_copies, heed_all, newly_gone, note_gone};
@@ -217,6 +218,7 @@ impl Arrays {
         requires heeded { IsHeeded (raid_by self.old) }
         requires number { number < self.old.state.made }
         ensures cleans { Cleans (λ n. n == number) (raid_by self.old) (raid_by self.new) (S.seen rack.old) (S.seen rack.new) }
+        ensures contents { MakesClean number (raid_by self.old) (raid_by self.new) (S.seen rack.old) (S.seen rack.new) }
         ensures unlost { KeepsUnlost self.old.state self.new.state (S.seen rack.old) (S.seen rack.new) }
         ensures raises { RaisesBy 18 (raid_by self.old) (raid_by self.new) }
         ensures truths { KeepsTruths (raid_by self.old) (raid_by self.new) (S.seen rack.old) (S.seen rack.new) }

@@ -11,7 +11,6 @@ pub mod HeededMakes
 pub mod StepMakes
 pub mod SteppedMakes
 pub mod WriteMakes
-pub mod UndoneMakes
 pub mod Follows
 pub mod MomentsOf
 pub mod Closed
@@ -25,3 +24,4 @@ pub mod LossesMade
 pub mod Readied
 pub mod ReshapeSectors
 pub mod ReshapeHolds
+pub mod RenewMakes

@@ -1,5 +1,5 @@
 -- What the mending of losses makes of a book: each turn of it, turns in a row, and the heeding after them.
-use Rattle.std.proofs.Common.{◌≡◌, ℕ, ◌<◌, Bool, true, false, ◌&&◌, not, List, [], ◌∷◌, ◌++◌, None, refl, sym, ap, ap₂, subst, ◌∙◌, inr, arith}
+use Rattle.std.proofs.Common.{◌≡◌, ℕ, ◌<◌, Bool, true, false, ◌&&◌, not, List, [], ◌∷◌, ◌++◌, None, refl, sym, ap, ap₂, subst, ◌∙◌, arith}
 use Rattle.std.proofs.lemmas.Bool.{both_ways}
 use Rattle.rack.specs.Values.{Values}
 use Rattle.rack.specs.Seen.{Image, Seen}
@@ -34,18 +34,16 @@ use Rattle.raid_laws.proofs.Staged.{staged_array}
 use Rattle.transition_laws.specs.Changes.{by, by_joined, Change, failed}
 use Rattle.transition_laws.specs.Holds.{HoldsBook, IsPromised, Promise, Stands}
 use Rattle.transition_laws.specs.Losses.{AreLosses, IsRunOf, MakesLosses, SettlesBook}
-use Rattle.transition_laws.specs.Makes.{Makes, makes_then, Suits}
+use Rattle.transition_laws.specs.Makes.{Makes, makes_then}
 use Rattle.transition_laws.proofs.Committing.{book_with}
 use Rattle.transition_laws.proofs.HeededMakes.{heeded_makes}
 use Rattle.transition_laws.proofs.MarkedMakes.{mark_makes}
 use Rattle.transition_laws.proofs.OverMakes.{over_makes}
 use Rattle.transition_laws.proofs.Rewritten.{IsRestated}
 use Rattle.transition_laws.proofs.RunsOf.{marked_shape, run_loses, run_marked}
+use Rattle.transition_laws.proofs.SettledMakes.{suits_none}
 use Rattle.transition_laws.proofs.Shown.{stands_shape}
 use Rattle.transition_laws.proofs.Standing.{holds_of}
-
-suits_none : (p : Promise) (d : Raid) → Suits p [] d
-suits_none p d = record { free = λ n kept. refl; owned = tt; growing = inr tt }
 
 -- ---- the commit of a turn
 

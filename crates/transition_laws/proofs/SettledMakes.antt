@@ -74,7 +74,7 @@ sectors_by : (has young : Bool) (row before after : ℕ) → (young ≡ true →
 sectors_by has true row before after same = ap (λ k. has && nat_lt row k) (same refl)
 sectors_by has false row before after same = refl
 
-settled_sectors : (u : View) → u.truth.size < 2 ^ 48 → (y : ℕ) → has_sector (settled u) y ≡ has_sector u y
+pub settled_sectors : (u : View) → u.truth.size < 2 ^ 48 → (y : ℕ) → has_sector (settled u) y ≡ has_sector u y
 settled_sectors u small y =
     sectors_by _ u.young (row_at (sector_in (frame_of u.truth).layout y)) (first_unsynced u.truth) (first_unsynced (settled_truth u)) (zeroed_again u small)
 
@@ -119,7 +119,7 @@ module _ (v : Raid) (f : ℕ → View) (m : ℕ) (b c : Seen) (set : IsSet v b) 
         spares = call.views.spent;
       })
 
-suits_none : (p : Promise) (d : Raid) → Suits p [] d
+pub suits_none : (p : Promise) (d : Raid) → Suits p [] d
 suits_none p d = record { free = λ n kept. refl; owned = tt; growing = inr tt }
 
 pub settles_book_first : (v : Raid) (x : Seen) → x.fit → SettlesBook v v 0 x x

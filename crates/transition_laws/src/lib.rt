@@ -10,11 +10,10 @@
 //! **What its lemmas say.** Calls in a row make their changes in a row (`makes_then`, `specs/Makes.antt`). A commit whose targets stage a
 //! change makes it (`commit_makes`), whoever goes in it (`committing_makes`): the plan's end, the marking of losses, an array that gets
 //! ready (`close_makes`, `mark_makes`, `stages_readied`). A call of one array that shows it as it was or as it will be makes that change
-//! (`turn_makes`): a step of maintenance or of a reshape, and a write (`step_makes`, `stepped_makes`, `write_makes`). Calls that write
-//! nothing, that leave an array's values and superblocks, and losses that are noted, settled and heeded, make none (`read_one_makes`, `idle_makes`,
-//! `undone_makes`, `noted_makes`, `settle_makes`, `heeded_makes`). Each turn of the mending of losses makes a mark, of each book that the run has
-//! (`proofs/LossesMade.antt`). A reshape brings
-//! an array its sectors with the rows that it moves, as zeros (`proofs/ReshapeSectors.antt`, `proofs/ReshapeHolds.antt`). What `raid_laws`
-//! says of calls follows where changes leave drives and arrays as they are: `KeepsMoments` by `moments_of`, `KeepsRows` by `rows`
-//! (`proofs/MomentsOf.antt`).
+//! (`turn_makes`): a step of maintenance or of a reshape, a cleaning, and a write (`step_makes`, `stepped_makes`, `renew_makes`,
+//! `write_makes`). Calls that write nothing, calls that leave an array's values and superblocks, and losses that are noted, settled and
+//! heeded, make none (`read_one_makes`, `idle_makes`, `undone_makes`, `noted_makes`, `settle_makes`, `heeded_makes`). Each turn of the
+//! mending of losses makes one mark at most, of each book that the run has (`proofs/LossesMade.antt`). A reshape brings an array its sectors
+//! with the rows that it moves, as zeros (`proofs/ReshapeSectors.antt`, `proofs/ReshapeHolds.antt`). What `raid_laws` says of calls follows
+//! where changes leave drives and arrays as they are: `KeepsMoments` by `moments_of`, `KeepsRows` by `rows` (`proofs/MomentsOf.antt`).
 #![tactic(auto)]

@@ -10,6 +10,7 @@ use Rattle.raid_rack.proofs.Steps.{same_element, items_set}
 use Rattle.raid_rack.proofs.Cleanings.{clean_call, clean_running, cleans_one}
 use Rattle.raid_rack.proofs.TruthTurns.{truths_write}
 use Rattle.raid_laws.proofs.Unlost.{unlost_still, unlost_then}
+use Rattle.growth_laws.proofs.CleanTurn.{clean_turn}
 use Rattle.raid_rack.proofs.arrays.Arrays.clean_array.Goals as goal
 
 pub mend-requires : goal.mend-requires
@@ -92,3 +93,21 @@ returns-clause-unlost g c =
     unlost_then s s c.mend.new.self.state x y (g.S.Rack.seen c.mend.new.rack) c.clean.ensures.goes.stays c.mend.ensures.mends.moves.stays (after_same s)
     c.mend.ensures.mends.moves.book
     (unlost_still s s x y refl (λ p live. c.clean.ensures.elsewhere [] (log_slice p) 0 live (inl (omega arith, refl)))) c.mend.ensures.unlost
+
+pub returns-clause-contents : goal.returns-clause-contents
+returns-clause-contents g c =
+    let a = c.args.self.now in
+    let n = c.args.number in
+    let x = g.S.Rack.seen c.args.rack.now in
+    let y = g.S.Rack.seen c.clean.new.rack in
+    let count = c.requires.running.count in
+    let low = c.requires.number in
+    let items = items_set a.all c.deref_mut.result.now n c.clean.new.self c.deref_mut.ensures.value in
+    let all = with_items a.all (slice_set c.deref_mut.result.now n c.clean.new.self) in
+    let e = c.clean.ensures in
+    clean_turn (raid_by a) (λ k. get_or all.items k no_array) n x y c.requires.running.set
+    (clean_call a all x y n _ c.clean.new.self c.requires.running c.requires.heeded low
+    (same_element c.deref_mut.result.now a.all.items n _ no_array c.deref_mut.ensures.value (omega (arith, count, low)))
+    items
+    (record { cleans = e.cleans; truths = e.leaves; view = e.view; goes = e.goes; elsewhere = e.elsewhere; supers = e.others; settled = e.settled; kept = e.kept }))
+    (raid_by c.mend.new.self) (g.S.Rack.seen c.mend.new.rack) c.mend.ensures.losses
