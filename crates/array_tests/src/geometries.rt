@@ -13,8 +13,11 @@ use shr_base::Id;
 use std::alloc::Global;
 use std::test::Fail;
 
-/// The sectors of a member's data: 17 rows.
-pub(crate) const SIZE: u64 = 2048 + 128;
+/// The rows of a member's data: more than a record of the log has.
+pub(crate) const ROWS: u64 = 40;
+
+/// The sectors of a member's data.
+pub(crate) const SIZE: u64 = ROWS * 128;
 
 /// The number of the array.
 pub(crate) const NUMBER: u32 = 3;
@@ -81,14 +84,14 @@ impl Geometry {
         }
     }
 
-    /// The array of that superblock on each place.
-    pub(crate) fn open(self, alloc: Global) -> Result<Array, Fail> {
+    /// The array of that superblock on each place, as one that was made before or as a young one.
+    pub(crate) fn open(self, alloc: Global, young: bool) -> Result<Array, Fail> {
         let seen = self.superblock();
         let mut found = Vec::new(alloc);
         for place in 0..16 {
             found.push(on(place, &seen))?;
         }
-        Ok(open(found.as_slice())?)
+        Ok(open(found.as_slice(), young)?)
     }
 }
 
@@ -156,8 +159,8 @@ fn on(place: u32, seen: &Super) -> Found
     }
 }
 
-fn open(found: &[Found]) -> Result<Array, ArrayFault>
+fn open(found: &[Found], young: bool) -> Result<Array, ArrayFault>
     requires { list_all (λ f. option_map_or is_truth f.seen true) found.now ≡ true }
 {
-    Array::open(NUMBER, found, false)
+    Array::open(NUMBER, found, young)
 }

@@ -1,6 +1,8 @@
 //! Calls of an array over a bay that has the slices of all places.
 
-ghost use Rattle.std.specs.Prelude.{◌≡◌, ◌<◌, true};
+ghost use Rattle.std.specs.Prelude.{◌≡◌, ◌<◌, true, false};
+ghost use Rattle.array_image.specs.SoundArray.{first_unsynced};
+ghost use Rattle.array_model.specs.View.{rows_of};
 ghost use Rattle.array_model.specs.Members.{HasSlices};
 ghost use Rattle.sync_laws.specs.Steps.{HasRowLeft};
 ghost use Rattle.log_laws.specs.Phases.{AreLogs};
@@ -9,7 +11,7 @@ ghost use Rattle.rack_mem.specs.Memory.{seen_of};
 
 use crate::geometries::{Geometry, NUMBER, SIZE};
 use array_core::{Array, Seat, Spent};
-use array_sync::rebuild_row;
+use array_sync::{rebuild_rows, resync_rows, zero_rows};
 use commit_log::Log;
 use rack::{Bay, Name, Places, Rack};
 use rack_mem::{DiskSpec, MemBay};
@@ -57,6 +59,23 @@ fn has_row_left(array: &Array, place: u32) -> bool
         Some(Seat::Rebuilding { to }) => to < array.truth().size && to % 128 == 0,
         Some(Seat::Whole) | Some(Seat::Missing) | None => false,
     }
+}
+
+/// The first row that an array's superblocks leave to resync or to zero.
+pub(crate) fn first_unsynced(array: &Array) -> u64
+    ensures { result ≡ first_unsynced array.now.truth }
+{
+    let truth = array.truth();
+    if truth.resync_offset < truth.size {
+        truth.resync_offset / 128
+    } else {
+        truth.size / 128
+    }
+}
+
+/// The slice of the array on a place.
+fn slice_of(place: u32) -> u32 {
+    place.saturating_mul(17).saturating_add(NUMBER + 1)
 }
 
 /// All slices of sixteen places as disks of a bay, which keeps so many calls. Those of these numbers fail.
@@ -115,7 +134,7 @@ impl Run {
         room: u64,
     ) -> Result<Run, Fail> {
         Ok(Run {
-            array: geometry.open(alloc)?,
+            array: geometry.open(alloc, false)?,
             bay: bay(rt, alloc, failing, room)?,
             log: Log::make(alloc)?,
             on: first_places(geometry.members(), None),
@@ -146,16 +165,77 @@ impl Run {
             && are_logs(&self.bay, self.on.as_slice())
     }
 
-    /// Rebuilds a row of a member, once all that it needs has been tested.
-    pub(crate) fn rebuild(&mut self, rt: &impl Abort, place: u32) -> Result<(), Spent> {
-        assert!(rt; self.is_ready() && has_row_left(&self.array, place));
+    /// The array is young, and each row of it is left to zero.
+    pub(crate) fn make_young(&mut self, alloc: Global, geometry: Geometry) -> Result<(), Fail> {
+        self.array = geometry.open(alloc, true)?;
+        self.leave_rows();
+        Ok(())
+    }
+
+    /// Each row is left to resync, or to zero.
+    pub(crate) fn leave_rows(&mut self) {
+        let change = self.array.resynced_to(0);
+        self.array.adopt(&change);
+    }
+
+    /// Writes a value into a member's data alone.
+    pub(crate) fn spoil(&mut self, rt: &impl Abort, place: u32, sector: u64, value: u64) {
+        assert!(rt; self.is_ready() && place < 16 && sector < SIZE);
+        let slice = slice_of(place);
+        assert!(rt; slice < self.bay.disks());
+        assert!(rt; self.bay.sectors(slice) > 2048 + sector);
+        assert!(rt;
+            self.bay
+                .write(slice, 2048 + sector, &sector_of(value))
+                .is_ok()
+        );
+    }
+
+    /// What a member's data holds at a sector.
+    pub(crate) fn held(&self, place: u32, sector: u64) -> [u8; 512] {
+        self.bay
+            .sector_now(slice_of(place), sector.saturating_add(2048))
+    }
+
+    /// Rebuilds rows of a member, once all that it needs has been tested.
+    pub(crate) fn rebuild(&mut self, rt: &impl Abort, place: u32, most: u64) -> Result<u64, Spent> {
+        assert!(rt; self.is_ready() && has_row_left(&self.array, place) && most > 0);
         self.log.clear();
-        rebuild_row(
+        rebuild_rows(
             &mut self.array,
             &mut self.bay,
             &mut self.log,
             &self.on,
             place,
+            most,
+        )
+    }
+
+    /// Resyncs rows, once all that it needs has been tested.
+    pub(crate) fn resync(&mut self, rt: &impl Abort, most: u64) -> Result<u64, Spent> {
+        assert!(rt; self.is_ready() && !self.array.is_young() && most > 0);
+        assert!(rt; self.array.resync_from() < self.array.rows());
+        self.log.clear();
+        resync_rows(
+            &mut self.array,
+            &mut self.bay,
+            &mut self.log,
+            &self.on,
+            most,
+        )
+    }
+
+    /// Zeroes rows, once all that it needs has been tested.
+    pub(crate) fn zero(&mut self, rt: &impl Abort, most: u64) -> Result<u64, Spent> {
+        assert!(rt; self.is_ready() && self.array.is_young() && most > 0);
+        assert!(rt; first_unsynced(&self.array) < self.array.rows());
+        self.log.clear();
+        zero_rows(
+            &mut self.array,
+            &mut self.bay,
+            &mut self.log,
+            &self.on,
+            most,
         )
     }
 
