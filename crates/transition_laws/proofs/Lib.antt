@@ -19,6 +19,7 @@ pub mod ClosedMoments
 pub mod Rewritten
 pub mod MarkedMakes
 pub mod RunsOf
+pub mod OwnBook
 pub mod OverMakes
 pub mod LossesMade
 pub mod Readied

@@ -13,7 +13,8 @@
 //! (`turn_makes`): a step of maintenance or of a reshape, a cleaning, and a write (`step_makes`, `stepped_makes`, `renew_makes`,
 //! `write_makes`). Calls that write nothing, calls that leave an array's values and superblocks, and losses that are noted, settled and
 //! heeded, make none (`read_one_makes`, `idle_makes`, `undone_makes`, `noted_makes`, `settle_makes`, `heeded_makes`). Each turn of the
-//! mending of losses makes one mark at most, of each book that the run has (`proofs/LossesMade.antt`). A reshape brings an array its sectors
+//! mending of losses makes one mark at most, of each book that the run has (`proofs/LossesMade.antt`). Where whoever went is marked, the run
+//! stands by the book of just its arrays, so a call may follow (`stands_own`, `proofs/OwnBook.antt`). A reshape brings an array its sectors
 //! with the rows that it moves, as zeros (`proofs/ReshapeSectors.antt`, `proofs/ReshapeHolds.antt`). What `raid_laws` says of calls follows
 //! where changes leave drives and arrays as they are: `KeepsMoments` by `moments_of`, `KeepsRows` by `rows` (`proofs/MomentsOf.antt`).
 #![tactic(auto)]
