@@ -1,24 +1,24 @@
 -- The first rows that are left are done, as many as are of one array and of one kind: so many works of the list are gone, and the next is
 -- one of them until the last of them is done.
-use Rattle.std.proofs.Common.{◌≡◌, ℕ, zero, suc, ◌-◌, ◌<◌, ◌≤◌, ◌==◌, Bool, true, false, if◌then◌else◌, List, [], ◌∷◌, ◌++◌, drop, length, replicate, slice_get, Option, Some, None, inl, inr, refl, sym, ap, subst, ◌∙◌, arith, append_assoc}
+use Rattle.std.proofs.Common.{◌≡◌, ℕ, zero, suc, ◌-◌, ◌<◌, ◌≤◌, ◌==◌, nat_lt, Bool, true, false, if◌then◌else◌, List, [], ◌∷◌, ◌++◌, drop, length, replicate, slice_get, Option, Some, None, inl, inr, refl, sym, ap, subst, ◌∙◌, arith, append_assoc}
 use Rattle.std.specs.List.{flat_map}
 use Rattle.std.specs.Option.{option_map_or}
-use Rattle.std.proofs.lemmas.Bool.{both_ways, eqb-true}
+use Rattle.std.proofs.lemmas.Bool.{both_ways, cases_Bool, eqb-true}
 use Rattle.pool_state.specs.declared.contents.State.{State}
 use Rattle.pool_state.specs.declared.contents.Work.{Work}
 use Rattle.pool_state.specs.declared.contents.Work.TheVariants.{Resync, Rebuild, TakeOver, Begin, Reshape, Finish, Make, Zero, Ready, Extend, Close}
 use Rattle.growth_plan.specs.declared.ArrayNow.{ArrayNow}
 use Rattle.growth_plan.specs.declared.Progress.{Progress}
 use Rattle.growth_plan.specs.Book.{Standing, standing}
-use Rattle.growth_plan.specs.Target.{joining}
-use Rattle.growth_plan.specs.Works.{resyncs, rebuilt, rebuilds, rebuilds_on, growths, makes, extends, closes, works_left}
-use Rattle.growth_plan.specs.Doing.{change, rows_rebuilt, rows_resynced}
+use Rattle.growth_plan.specs.Target.{joining, new_layer}
+use Rattle.growth_plan.specs.Works.{resyncs, rebuilt, rebuilds, rebuilds_on, reshapes, is_mirror, joins, growths, rows_of, zeros, makes, extends, closes, works_left}
+use Rattle.growth_plan.specs.Doing.{change, rows_rebuilt, rows_reshaped, rows_resynced}
 use Rattle.growth_plan.proofs.Beginning.{BeginsNot, both_early, copies_early, each_early, either_early, growths_early, is_growing, makes_early, maybe_early, none_early, one_early}
 use Rattle.growth_plan.proofs.Heads.{first_copy, first_part}
 use Rattle.growth_plan.proofs.OneArray.{put}
-use Rattle.growth_plan.proofs.Parts.{above_it, at, field-at, first_at, head_gone}
+use Rattle.growth_plan.proofs.Parts.{above_it, at, field-at, first_at, head_gone, swapped}
 use Rattle.std.proofs.lemmas.List.{drop-append-le, drop-replicate, length-replicate}
-use Rattle.growth_plan.proofs.RowsDone.{first_rebuild, rebuilds_done, rebuilds_of, resyncs_done}
+use Rattle.growth_plan.proofs.RowsDone.{change_at, first_rebuild, rebuilds_done, rebuilds_of, resyncs_done}
 
 -- ---- rows of maintenance
 
@@ -249,3 +249,133 @@ rebuild_stays s p m place rows first few =
     ap (λ (ws : List Work). slice_get ws 0) (first_rebuilds s p m place rows first (omega (arith, few)))
     ∙ ap (λ (ws : List Work). slice_get (drop rows ws) 0) all ∙ copies_gone rows one.now.rebuild own (back ++ rest) less
     ∙ ap (λ (i : ℕ). Some (Rebuild i place)) (sym one.at)
+
+-- ---- rows to move
+
+abbrev is_reshape : Work → Bool
+is_reshape (Resync n) = false
+is_reshape (Rebuild n place) = false
+is_reshape (TakeOver n) = false
+is_reshape (Begin n place) = false
+is_reshape (Reshape n) = true
+is_reshape (Finish n) = false
+is_reshape (Make n height) = false
+is_reshape (Zero n) = false
+is_reshape (Ready n) = false
+is_reshape Extend = false
+is_reshape Close = false
+
+zeros_no_move : (number rows : ℕ) → BeginsNot is_reshape (zeros number rows)
+zeros_no_move number rows =
+    both_early is_reshape (replicate rows (Zero number)) (Ready number ∷ []) (copies_early is_reshape rows (Zero number) refl)
+    (one_early is_reshape (Ready number) [] refl)
+
+-- works behind those of the arrays that stand don't begin with one
+later_no_move : (s : State) (p : Progress) → BeginsNot is_reshape (makes s p.arrays.items ++ (extends s p ++ closes s))
+later_no_move s p =
+    both_early is_reshape (makes s p.arrays.items) (extends s p ++ closes s)
+    (either_early is_reshape (nat_lt s.joined s.made) (zeros s.joined (option_map_or (λ array. array.zero) (slice_get p.arrays.items s.joined) 0))
+    (option_map_or (λ layer. Make s.made layer.height ∷ zeros s.made (rows_of s layer.height)) (new_layer s p.arrays.items) [])
+    (zeros_no_move s.joined (option_map_or (λ array. array.zero) (slice_get p.arrays.items s.joined) 0))
+    (maybe_early is_reshape (λ layer. Make s.made layer.height ∷ zeros s.made (rows_of s layer.height)) (new_layer s p.arrays.items)
+    (λ layer. one_early is_reshape (Make s.made layer.height) (zeros s.made (rows_of s layer.height)) refl)))
+    (both_early is_reshape (extends s p) (closes s)
+    (either_early is_reshape _ (Extend ∷ []) [] (one_early is_reshape Extend [] refl) (none_early is_reshape))
+    (either_early is_reshape _ (Close ∷ []) [] (one_early is_reshape Close [] refl) (none_early is_reshape)))
+
+-- what takes a drive into an array doesn't begin with one
+joins_no_move : (below : List ArrayNow) (x : ArrayNow) (place : Option ℕ) → BeginsNot is_reshape (option_map_or (joins (at below x)) place [])
+joins_no_move below x place =
+    maybe_early is_reshape (joins (at below x)) place
+    (λ p.
+    both_early is_reshape (if is_mirror x then TakeOver (length below) ∷ [] else []) (Begin (length below) p ∷ reshapes (length below) x.rows)
+    (either_early is_reshape (is_mirror x) (TakeOver (length below) ∷ []) [] (one_early is_reshape (TakeOver (length below)) [] refl) (none_early is_reshape))
+    (one_early is_reshape (Begin (length below) p) (reshapes (length below) x.rows) refl))
+
+-- an array whose works begin with one is reshaping, and it is one of its own
+begins_reshaping : (reshaping : Bool) (n rows m : ℕ) (others more : List Work) → BeginsNot is_reshape others →
+    (if reshaping then reshapes n rows else []) ++ others ≡ Reshape m ∷ more → (reshaping ≡ true) × (m ≡ n)
+begins_reshaping true n zero m others more early is = absurd (let bad : Finish n ≡ Reshape m = cc is in cc bad)
+begins_reshaping true n (suc rows) m others more early is =
+    let same : Reshape n ≡ Reshape m = cc is in
+    (refl, cc same)
+begins_reshaping false n rows m others more early is =
+    absurd (both_ways (is_reshape (Reshape m)) (early (Reshape m) (ap (λ (ws : List Work). slice_get ws 0) is)) refl)
+
+-- array m is reshaping, nothing is left to resync or to rebuild, and no array below it has to grow
+record FirstMove (s : State) (p : Progress) (m : ℕ) : Type 0 where
+  pub one : FirstRow (growths s) p.arrays.items m
+  pub synced : flat_map resyncs (standing p.arrays.items) ≡ []
+  pub whole : flat_map (rebuilds s) (standing p.arrays.items) ≡ []
+  pub on : one.now.reshaping ≡ true
+
+move_first : (s : State) (p : Progress) (m : ℕ) → slice_get (works_left s p) 0 ≡ Some (Reshape m) → FirstMove s p m
+move_first s p m first =
+    let w = Reshape m in
+    let rest = drop 1 (works_left s p) in
+    let b = flat_map (rebuilds s) (standing p.arrays.items) in
+    let g = flat_map (growths s) (standing p.arrays.items) in
+    let later = makes s p.arrays.items ++ (extends s p ++ closes s) in
+    elim (first_part w rest (flat_map resyncs (standing p.arrays.items)) (b ++ (g ++ later)) (begins (works_left s p) w first)) [
+      | inr here ↦
+          let found = first_at resyncs p.arrays.items w here.more here.here in
+          let copy = first_copy found.now.resync (Resync (length found.below)) w found.more found.here in
+          absurd (both_ways (is_reshape w) (ap is_reshape copy.0) refl)
+      | inl none ↦
+          elim (first_part w rest b (g ++ later) none.1) [
+            | inr here ↦
+                let found = first_at (rebuilds s) p.arrays.items w here.more here.here in
+                let row = first_rebuild (rebuilt s) found.below found.now w found.more found.here in
+                absurd (both_ways (is_reshape w) (ap is_reshape row.1) refl)
+            | inl past ↦
+                elim (first_part w rest g later past.1) [
+                  | inr here ↦
+                      let found = first_at (growths s) p.arrays.items w here.more here.here in
+                      let x = found.now in
+                      let own = begins_reshaping x.reshaping (length found.below) x.reshape m
+                      (option_map_or (joins (at found.below x)) (joining s (at found.below x)) []) found.more
+                      (joins_no_move found.below x (joining s (at found.below x))) found.here in
+                      record {
+                        one = record { below = found.below; now = x; above = found.above; arrays_are = found.arrays_are; quiet = found.quiet; at = own.1 };
+                        synced = none.0;
+                        whole = past.0;
+                        on = own.0;
+                      }
+                  | inl gone ↦ absurd (both_ways (is_reshape w) (later_no_move s p w (ap (λ (ws : List Work). slice_get ws 0) gone.1)) refl)
+                ]
+          ]
+    ]
+
+move_is_first : (reshaping : Bool) (n rows : ℕ) (others back rest : List Work) → reshaping ≡ true → 0 < rows →
+    slice_get ((((if reshaping then reshapes n rows else []) ++ others) ++ back) ++ rest) 0 ≡ Some (Reshape n)
+move_is_first true n zero others back rest on some = absurd (omega (arith, some))
+move_is_first true n (suc rows) others back rest on some = refl
+move_is_first false n rows others back rest on some = absurd (both_ways false refl on)
+
+-- until the last row of the array is moved they do so still
+pub reshape_stays : (s : State) (p : Progress) (m rows : ℕ) → slice_get (works_left s p) 0 ≡ Some (Reshape m) →
+    rows < option_map_or (λ (a : ArrayNow). a.reshape) (slice_get p.arrays.items m) 0 →
+    slice_get (works_left s (put p (change m (rows_reshaped rows) p.arrays.items))) 0 ≡ Some (Reshape m)
+reshape_stays s p m rows first few =
+    let it = move_first s p m first in
+    let one = it.one in
+    let x = one.now in
+    let y = rows_reshaped rows x in
+    let ys = one.below ++ y ∷ one.above in
+    let less = subst (λ k. rows < k) (row_number (growths s) p.arrays.items m one (λ a. a.reshape)) few in
+    let others = option_map_or (joins (at one.below y)) (joining s (at one.below y)) [] in
+    let mine = (if x.reshaping then reshapes (length one.below) (x.reshape - rows) else []) ++ others in
+    let back = flat_map (growths s) (above_it one.below x one.above) in
+    let later = makes s ys ++ (extends s (put p ys) ++ closes s) in
+    let synced : flat_map resyncs (standing ys) ≡ [] =
+    swapped resyncs one.below one.above x y refl refl ∙ ap (λ (xs : List ArrayNow). flat_map resyncs (standing xs)) (sym one.arrays_are) ∙ it.synced in
+    let whole : flat_map (rebuilds s) (standing ys) ≡ [] =
+    swapped (rebuilds s) one.below one.above x y refl refl ∙ ap (λ (xs : List ArrayNow). flat_map (rebuilds s) (standing xs)) (sym one.arrays_are) ∙ it.whole in
+    let grown : flat_map (growths s) (standing ys) ≡ mine ++ back = head_gone (growths s) one.below one.above x y mine refl one.quiet refl in
+    ap (λ (i : ℕ). slice_get (works_left s (put p (change i (rows_reshaped rows) p.arrays.items))) 0) one.at
+    ∙ ap (λ (xs : List ArrayNow). slice_get (works_left s (put p xs)) 0) (change_at (rows_reshaped rows) p.arrays.items one.below one.above x one.arrays_are)
+    ∙ ap (λ (ws : List Work). slice_get (ws ++ (flat_map (rebuilds s) (standing ys) ++ (flat_map (growths s) (standing ys) ++ later))) 0) synced
+    ∙ ap (λ (ws : List Work). slice_get (ws ++ (flat_map (growths s) (standing ys) ++ later)) 0) whole
+    ∙ ap (λ (ws : List Work). slice_get (ws ++ later) 0) grown
+    ∙ move_is_first x.reshaping (length one.below) (x.reshape - rows) others back later it.on (omega (arith, less))
+    ∙ ap (λ (i : ℕ). Some (Reshape i)) (sym one.at)

@@ -32,6 +32,10 @@ rows_resynced rows a = record a { resync = a.resync - rows }
 abbrev pub rows_rebuilt : ℕ → ArrayNow → ArrayNow
 rows_rebuilt rows a = record a { rebuild = a.rebuild - rows; rebuilding = if a.rebuild == rows then 0 else a.rebuilding }
 
+-- so many rows are moved
+abbrev pub rows_reshaped : ℕ → ArrayNow → ArrayNow
+rows_reshaped rows a = record a { reshape = a.reshape - rows }
+
 -- a place among others, which are in ascending order
 abbrev pub inserted : ℕ → List ℕ → List ℕ
 inserted place [] = place ∷ []
@@ -63,7 +67,7 @@ after (Resync n) s p = with_arrays s p (change n (rows_resynced 1) p.arrays.item
 after (Rebuild n place) s p = with_arrays s p (change n (rows_rebuilt 1) p.arrays.items)
 after (TakeOver n) s p = with_arrays s p (change n (λ a. record a { level = pos 5 }) p.arrays.items)
 after (Begin n place) s p = with_arrays s p (change n (begun place) p.arrays.items)
-after (Reshape n) s p = with_arrays s p (change n (λ a. record a { reshape = a.reshape - 1 }) p.arrays.items)
+after (Reshape n) s p = with_arrays s p (change n (rows_reshaped 1) p.arrays.items)
 after (Finish n) s p = with_arrays s p (change n (λ a. record a { reshaping = false }) p.arrays.items)
 after (Make n height) s p =
     with_arrays (record s { made = s.made + 1 }) p (p.arrays.items ++ new_array s p.arrays.items height ∷ [])

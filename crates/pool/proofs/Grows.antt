@@ -165,31 +165,58 @@ many_then n k x y z any (inr over) (inr works) =
     let first = first_in k y.linear z.linear (book y) (book z) any works in
     absurd (none_first (works_of y) first.0 over.3 first.1)
 
+-- a work can't be done once so many are
+pub stops_behind : {R : Type 0} (seen : R → Seen) (shelf : R → Shelf) (runs : R → R → Type 0) (most k : ℕ) (p r : Pool R) (mid : Raid) (work : Work) (array : ℕ) → k < most
+    → (volume (view seen shelf p)).fit → KeepsGrowing 1 (view seen shelf p) (view seen shelf r) → (view seen shelf r).linear ≡ (view seen shelf p).linear
+    → DoesWorks k (view seen shelf p).linear (book (view seen shelf p)) (view seen shelf p).linear mid → slice_get (works_by (view seen shelf p).linear mid) 0 ≡ Some work
+    → IsRefused seen runs (view seen shelf p).slices (bay_in p) (view seen shelf p).linear work mid (book (view seen shelf r)) array
+    → StopsGrowing most (view seen shelf p) (view seen shelf r) runs array
+stops_behind seen shelf runs most k p r mid work array few fit keeps still done first refused =
+    let x = view seen shelf p in
+    let z = view seen shelf r in
+    record {
+      works = k;
+      few = few;
+      mid = mid;
+      done = subst (λ (l : Linear). DoesWorks k x.linear (book x) l mid) (sym still) done;
+      work = work;
+      first = subst (λ (l : Linear). slice_get (works_by l mid) 0 ≡ Some work) (sym still) first;
+      slices = x.slices;
+      seats = λ place. refl;
+      bay = bay_in p;
+      goes = (keeps_none x fit).goes;
+      goes_on = keeps.goes;
+      stuck = subst (λ (l : Linear). IsRefused seen runs x.slices (bay_in p) l work mid (book z) array) (sym still) refused;
+    }
+
 -- a work is the first one
-pub first_tried : (most : ℕ) (x y : View) (runs : x.bays.one → x.bays.one → Type 0) (bay : x.bays.one) (work : Work) (r : Result (Unit {0}) Stuck) → 0 < most
-    → slice_get (works_of x) 0 ≡ Some work → TriesWork work x y runs bay r → TriesFirst most x y runs bay (one_done r)
-first_tried most x y runs bay work r any first tries = record { keeps = tries.keeps; some = some_of r; done = done_of r tries; stuck = stuck_of r tries }
+pub first_tried : {R : Type 0} (seen : R → Seen) (shelf : R → Shelf) (runs : R → R → Type 0) (most : ℕ) (p q : Pool R) (work : Work) (r : Result (Unit {0}) Stuck) → 0 < most
+    → (volume (view seen shelf p)).fit → slice_get (works_of (view seen shelf p)) 0 ≡ Some work → TriesWork work (view seen shelf p) (view seen shelf q) runs (bay_in p) r
+    → TriesFirst most (view seen shelf p) (view seen shelf q) runs (one_done r)
+first_tried seen shelf runs most p q work r any fit first tries = record { keeps = tries.keeps; some = some_of r; done = done_of r tries; stuck = stuck_of r tries }
   where
     some_of : (r : Result (Unit {0}) Stuck) → IfOk (one_done r) (λ count. (0 < count) × (count ≤ most))
     some_of (Err e) = tt
     some_of (Ok u) = (omega arith, omega (arith, any))
 
-    done_of : (r : Result (Unit {0}) Stuck) → TriesWork work x y runs bay r
-        → IfOk (one_done r) (λ count. HasNone x y ⊎ DoesWorks count x.linear (book x) y.linear (book y))
+    done_of : (r : Result (Unit {0}) Stuck) → TriesWork work (view seen shelf p) (view seen shelf q) runs (bay_in p) r
+        → IfOk (one_done r)
+        (λ count.
+        HasNone (view seen shelf p) (view seen shelf q)
+        ⊎ DoesWorks count (view seen shelf p).linear (book (view seen shelf p)) (view seen shelf q).linear (book (view seen shelf q)))
     done_of (Err e) tries = tt
     done_of (Ok u) tries = inr (more none (record { work = work; first = first; done = tries.done.0; linear = tries.done.1 }))
 
-    stuck_of : (r : Result (Unit {0}) Stuck) → TriesWork work x y runs bay r
-        → IfErr (one_done r)
-        (λ e. (y.linear ≡ x.linear)
-        × ((work : Work) × (slice_get (works_of x) 0 ≡ Some work) × IsRefused x.bays.seen runs x.slices bay x.linear work (book x) (book y) e.array))
+    stuck_of : (r : Result (Unit {0}) Stuck) → TriesWork work (view seen shelf p) (view seen shelf q) runs (bay_in p) r
+        → IfErr (one_done r) (λ e. StopsGrowing most (view seen shelf p) (view seen shelf q) runs e.array)
     stuck_of (Ok u) tries = tt
-    stuck_of (Err e) tries = (tries.stuck.0, (work, first, tries.stuck.1))
+    stuck_of (Err e) tries =
+        stops_behind seen shelf runs most 0 p q (book (view seen shelf p)) work e.array any fit tries.keeps tries.stuck.0 none first tries.stuck.1
 
 -- none is left
-pub none_tried : (most : ℕ) (x : View) (runs : x.bays.one → x.bays.one → Type 0) (bay : x.bays.one) → 0 < most → (volume x).fit → slice_get (works_of x) 0 ≡ None
-    → TriesFirst most x x runs bay (Ok most)
-none_tried most x runs bay any fit none_left = record {
+pub none_tried : (most : ℕ) (x : View) (runs : x.bays.one → x.bays.one → Type 0) → 0 < most → (volume x).fit → slice_get (works_of x) 0 ≡ None
+    → TriesFirst most x x runs (Ok most)
+none_tried most x runs any fit none_left = record {
   keeps = keeps_more 0 1 x x (omega arith) (keeps_none x fit);
   some = (any, omega arith);
   done = inl (empty (works_of x) none_left, refl, refl);
@@ -200,37 +227,43 @@ none_tried most x runs bay any fit none_left = record {
     empty [] is = refl
     empty (work ∷ works) is = absurd (let bad : Some work ≡ None = is in cc bad)
 
--- it can't be done
-pub stops_growing : {R : Type 0} (seen : R → Seen) (shelf : R → Shelf) (runs : R → R → Type 0) (n count : ℕ) (p q r : Pool R) (array : ℕ) → n < count
-    → KeepsGrowing n (view seen shelf p) (view seen shelf q) → KeepsGrowing 1 (view seen shelf q) (view seen shelf r) → DoesMany n (view seen shelf p) (view seen shelf q)
-    → ((view seen shelf r).linear ≡ (view seen shelf q).linear)
-    × ((work : Work) × (slice_get (works_of (view seen shelf q)) 0 ≡ Some work)
-    × IsRefused seen runs (view seen shelf q).slices (bay_in q) (view seen shelf q).linear work (book (view seen shelf q)) (book (view seen shelf r)) array)
-    → StopsGrowing count (view seen shelf p) (view seen shelf r) runs array
-stops_growing seen shelf runs n count p q r array few before after (inr over) stuck = absurd (none_first (works_of (view seen shelf q)) stuck.1.0 over.3 stuck.1.1)
-stops_growing seen shelf runs n count p q r array few before after (inl done) stuck =
+-- where none is left, none is first behind works in a row
+none_behind : (n : ℕ) (l m : Linear) (v w : Raid) (work : Work) → DoesWorks n l v m w → works_by l v ≡ [] → slice_get (works_by m w) 0 ≡ Some work → ⊥
+none_behind zero l m v w work none empty first = none_first (works_by l v) work empty first
+none_behind (suc n) l m v w work done empty first =
+    let one = first_in (suc n) l m v w (omega arith) done in none_first (works_by l v) one.0 empty one.1
+
+-- it can't be done, or one of those behind it
+pub stops_growing : {R : Type 0} (seen : R → Seen) (shelf : R → Shelf) (runs : R → R → Type 0) (n most count : ℕ) (p q r : Pool R) (array : ℕ) → n + most ≤ count
+    → KeepsGrowing n (view seen shelf p) (view seen shelf q) → DoesMany n (view seen shelf p) (view seen shelf q)
+    → StopsGrowing most (view seen shelf q) (view seen shelf r) runs array → StopsGrowing count (view seen shelf p) (view seen shelf r) runs array
+stops_growing seen shelf runs n most count p q r array few before (inr over) stops =
+    let y = view seen shelf q in
+    absurd (none_behind stops.works y.linear (view seen shelf r).linear (book y) stops.mid stops.work stops.done over.3 stops.first)
+stops_growing seen shelf runs n most count p q r array few before (inl done) stops =
     let x = view seen shelf p in
     let y = view seen shelf q in
     let z = view seen shelf r in
+    let fewer = stops.few in
     record {
-      works = n;
-      few = few;
-      mid = book y;
-      done = subst (λ (l : Linear). DoesWorks n x.linear (book x) l (book y)) (sym stuck.0) done;
-      work = stuck.1.0;
-      first = subst (λ (l : Linear). slice_get (works_by l (book y)) 0 ≡ Some stuck.1.0) (sym stuck.0) stuck.1.1;
-      slices = y.slices;
-      seats = before.seats;
-      bay = bay_in q;
-      goes = before.goes;
-      goes_on = after.goes;
-      stuck = subst (λ (l : Linear). IsRefused seen runs y.slices (bay_in q) l stuck.1.0 (book y) (book z) array) (sym stuck.0) stuck.1.2;
+      works = stops.works + n;
+      few = omega (arith, few, fewer);
+      mid = stops.mid;
+      done = works_then n stops.works x.linear y.linear z.linear (book x) (book y) stops.mid done stops.done;
+      work = stops.work;
+      first = stops.first;
+      slices = stops.slices;
+      seats = λ place. stops.seats place ∙ before.seats place;
+      bay = stops.bay;
+      goes = goes_then x.bay y.bay (seen stops.bay) before.goes stops.goes;
+      goes_on = stops.goes_on;
+      stuck = stops.stuck;
     }
 
 -- ---- a work that the arrays do
 
 -- by its change
-turned_done : (seconds : ℕ) (work : Work) (L : Raid → Raid → Type 0) (v w : Raid) → Turns (change_in seconds work) L v w true → IsDone work v w
+pub turned_done : (seconds : ℕ) (work : Work) (L : Raid → Raid → Type 0) (v w : Raid) → Turns (change_in seconds work) L v w true → IsDone work v w
 turned_done seconds work L v w turns =
     let after = subst (λ t. LosesBook (if t then changed (change_in seconds work turns.mid) turns.mid else turns.mid) w) (turns.answer refl) turns.after in
     record {
@@ -312,6 +345,40 @@ extend_done v w loses = record {
       | inr other ↦ ap (λ t. if t then v.arrays 0 else v.arrays n) (ne_eqb n 0 other)
     ]
 
+-- ---- what a work of a growth keeps
+
+pub grown_keeps : {R : Type 0} (seen : R → Seen) (shelf : R → Shelf) (runs : R → R → Type 0) (names : KeepNames shelf runs) (p : Pool R) (new : RaidRack R) (work : Work)
+    → (volume (view seen shelf p)).fit → (ok : Bool) → (is_due_to_grow (raid_in (arrays_of p)) work ≡ false → (ok ≡ false) × (new ≡ arrays_of p))
+    → (is_due_to_grow (raid_in (arrays_of p)) work ≡ true
+    → GetsLonger (raid_in (arrays_of p)) (raid_in new) × AreCaused (raid_in (arrays_of p)) (raid_in new) (slices_seen seen (arrays_of p)) (slices_seen seen new))
+    → IsFit (arrays_in new) (slices_seen seen new) → (k : ℕ) → k ≤ 2 ^ 20 → RaisesBy k (raid_in (arrays_of p)) (raid_in new)
+    → ((place : ℕ) → seat_of (tables (slices_in new)) place ≡ seat_of (view seen shelf p).slices place) → Goes (view seen shelf p).bay (seen (below_of (slices_in new)))
+    → runs (bay_in p) (below_of (slices_in new)) → KeepsGrowing 1 (view seen shelf p) (view seen shelf (with_arrays p new))
+grown_keeps {R} seen shelf runs names p new work fit ok idle grows after k few raises seats goes ran =
+    keeps_by (view seen shelf p) (view seen shelf (with_arrays p new)) fit (
+      after,
+      inside_longer (linear p.volume) _ _ (view seen shelf p).refused (view seen shelf (with_arrays p new)).refused (raid_in (arrays_of p)) (raid_in new) (slices_seen seen (arrays_of p)) (slices_seen seen new)
+          longer fit.1 low,
+    )
+    longer seats goes (names (bay_in p) (below_of (slices_in new)) ran) caused k few raises
+  where
+    longer : GetsLonger (raid_in (arrays_of p)) (raid_in new)
+    longer = elim (cases_Bool (is_due_to_grow (raid_in (arrays_of p)) work)) [
+      | inl due ↦ (grows due).0
+      | inr not_due ↦ subst (λ (k : RaidRack R). GetsLonger (raid_in (arrays_of p)) (raid_in k)) (sym (idle not_due).1) (same_long (raid_in (arrays_of p)))
+    ]
+
+    caused : AreCaused (raid_in (arrays_of p)) (raid_in new) (slices_seen seen (arrays_of p)) (slices_seen seen new)
+    caused = elim (cases_Bool (is_due_to_grow (raid_in (arrays_of p)) work)) [
+      | inl due ↦ (grows due).1
+      | inr not_due ↦
+          subst (λ (k : RaidRack R). AreCaused (raid_in (arrays_of p)) (raid_in k) (slices_seen seen (arrays_of p)) (slices_seen seen k)) (sym (idle not_due).1)
+          (record { left = λ place is. is; cause = λ place was now. absurd (both_ways (is_left (raid_in (arrays_of p)) place) now was) })
+    ]
+
+    low : (e : ℕ) → e < extents_of (linear p.volume).runs → (place_of_extent (linear p.volume).runs e).array < (raid_in (arrays_of p)).state.made
+    low e below = let own = fit.1.placed e below in let most = fit.1.arrays in omega (arith, own, most)
+
 -- ---- a work of the arrays, tried
 
 module _ {R : Type 0} (seen : R → Seen) (shelf : R → Shelf) (runs : R → R → Type 0) (names : KeepNames shelf runs) (p : Pool R) (new : RaidRack R) (work : Work)
@@ -366,28 +433,11 @@ module _ {R : Type 0} (seen : R → Seen) (shelf : R → Shelf) (runs : R → R 
       → ((w : Raid) (array : ℕ) → array ≡ array_of work → IsRefusedGrowth seen runs x.slices (bay_in p) work (book x) w → IsRefused seen runs x.slices (bay_in p) x.linear work (book x) w array)
       → TriesWork work x y runs (bay_in p) r
   growth_tried seconds L lacking idle grows named after k few raises seats goes ran refused = record {
-    keeps = keeps_by x y fit (after, inside_longer x.linear _ _ x.refused y.refused (book x) (book y) (slices_shown x) (slices_shown y) longer fit.1 low) longer seats goes
-        (names (bay_in p) (below_of (slices_in new)) ran) caused k few raises;
+    keeps = grown_keeps seen shelf runs names p new work fit (is_ok r) idle (λ due. ((grows due).longer, (grows due).caused)) after k few raises seats goes ran;
     done = done_of r idle grows;
     stuck = stuck_of r idle grows named;
   }
     where
-      longer : GetsLonger (book x) (book y)
-      longer = elim (cases_Bool (is_due_to_grow (book x) work)) [
-        | inl due ↦ (grows due).longer
-        | inr not_due ↦ subst (λ (k : RaidRack R). GetsLonger (book x) (raid_in k)) (sym (idle not_due).1) (same_long (book x))
-      ]
-
-      caused : AreCaused (book x) (book y) (slices_shown x) (slices_shown y)
-      caused = elim (cases_Bool (is_due_to_grow (book x) work)) [
-        | inl due ↦ (grows due).caused
-        | inr not_due ↦ subst (λ (k : RaidRack R). AreCaused (book x) (raid_in k) (slices_shown x) (slices_seen seen k)) (sym (idle not_due).1)
-            (record { left = λ place is. is; cause = λ place was now. absurd (both_ways (is_left (book x) place) now was) })
-      ]
-
-      low : (e : ℕ) → e < extents_of x.linear.runs → (place_of_extent x.linear.runs e).array < (book x).state.made
-      low e below = let own = fit.1.placed e below in let most = fit.1.arrays in omega (arith, own, most)
-
       done_of : (r : Result (Unit {0}) Stuck) → (is_due_to_grow (book x) work ≡ false → (is_ok r ≡ false) × (new ≡ arrays_of p))
           → (is_due_to_grow (book x) work ≡ true → GrowsBy (change_in seconds work) L (book x) (raid_in new) (slices_shown x) (slices_seen seen new) (is_ok r))
           → OnOk r (IsDone work (book x) (book y) × (y.linear ≡ linear_after work x.linear (book x)))

@@ -70,7 +70,7 @@ now_by next m n v to is =
     (λ k low other. ap (array_now v.state.extent) (other_by next m n v k other))
 
 -- and the works that are left
-works_after : (l : Linear) (next : ArrayView → ArrayView) (m n : ℕ) (v : Raid) (to : ArrayNow → ArrayNow) → 0 < length v.state.drives.items
+pub works_after : (l : Linear) (next : ArrayView → ArrayView) (m n : ℕ) (v : Raid) (to : ArrayNow → ArrayNow) → 0 < length v.state.drives.items
     → array_now v.state.extent (times next n (v.arrays m)) ≡ to (array_now v.state.extent (v.arrays m))
     → works_by l (by_rows next m n v) ≡ works_left v.state (put (progress_by l v) (change m to (arrays_now v)))
 works_after l next m n v to some is =

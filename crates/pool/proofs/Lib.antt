@@ -6,6 +6,7 @@ pub mod Continuing
 mod Rebuilding
 mod Reached
 mod Losing
+mod MovedRows
 mod Planning
 pub mod Admitted
 mod Shown

@@ -1,11 +1,16 @@
 -- Rows are tried, as many as one commit takes: what the call of the arrays says, reached through the volume.
-use Rattle.std.specs.Prelude.{IfErr, IfOk, Result, nat_lt}
-use Rattle.std.proofs.Common.{◌≡◌, ◌⊎◌, ℕ, ◌<◌, ◌&&◌, true, false, slice_get, Some, Ok, Err, refl, sym, ap, subst, inl, inr, ltb-true, arith}
+use Rattle.std.specs.Prelude.{IfErr, IfOk, Result, is_ok, nat_lt, not}
+use Rattle.std.proofs.Common.{◌≡◌, ◌⊎◌, ℕ, zero, suc, ◌-◌, ◌<◌, ◌≤◌, ◌==◌, ◌&&◌, if◌then◌else◌, Bool, true, false, slice_get, Some, Ok, Err, refl, sym, ap, subst, inl, inr, ltb-true, arith}
 use Rattle.std.proofs.lemmas.Bool.{and_parts, both_ways, cases_Bool}
 use Rattle.rack.specs.Seen.{Seen}
 use Rattle.rack.specs.Shelf.{Shelf}
 use Rattle.array_model.specs.View.{rows_of}
+use Rattle.array_image.specs.Supers.{is_reshaping}
 use Rattle.growth_laws.proofs.Losing.{as_long}
+use Rattle.growth_laws.specs.Growing.{Lacks, MovesRows, Turns, is_due as is_due_to_grow, is_synced, moves, whole_position}
+use Rattle.growth_laws.specs.Losses.{LosesBook}
+use Rattle.reshape_laws.specs.Ahead.{next_row}
+use Rattle.transition_laws.specs.Changes.{changed}
 use Rattle.pool_state.specs.declared.contents.Work.{Work}
 use Rattle.pool_state.specs.declared.contents.Work.TheVariants.{Resync, Rebuild, TakeOver, Begin, Reshape, Finish, Make, Zero, Ready, Extend, Close}
 use Rattle.raid_laws.specs.Moves.{RaisesBy}
@@ -14,19 +19,21 @@ use Rattle.raid_laws.specs.Runs.{RaidRuns}
 use Rattle.raid_laws.specs.Works.{Does, array_of, is_due, is_whole_row}
 use Rattle.raid_rack.proofs.Rebuilt.{row_left}
 use Rattle.raid_rack.proofs.Resynced.{grown}
-use Rattle.raid_rack.specs.RaidRack.{KeepsRack, SliceRuns, raid_in, raid_seen, slices_in, slices_seen, written_in}
+use Rattle.raid_rack.specs.RaidRack.{IsFit, KeepsRack, SliceRuns, arrays_in, raid_in, raid_seen, slices_in, slices_seen, written_in}
 use Rattle.raid_rack.specs.declared.arrays.RaidRack.{RaidRack}
 use Rattle.raid_rack.specs.declared.works.Stuck.{Stuck}
 use Rattle.slice_rack.specs.Slices.{seat_of}
 use Rattle.pool.specs.declared.Pool.{Pool}
-use Rattle.pool.specs.Growing.{DoesWorks, HasNone, IsRefused, IsRefusedRow, TriesFirst, is_row}
+use Rattle.pool.specs.Growing.{DoesWorks, HasNone, IsRefused, IsRefusedRow, KeepsGrowing, StopsGrowing, TriesFirst, is_row, more, none}
 use Rattle.pool.specs.View.{View, arrays_of, bay_in, book, slices_shown, view, volume}
 use Rattle.pool.specs.Works.{is_rebuilding_on, works_of}
-use Rattle.pool.proofs.Grows.{goes_of, keeps_by}
+use Rattle.pool.proofs.Grows.{goes_of, grown_keeps, keeps_by, stops_behind, turned_done}
 use Rattle.pool.proofs.InRow.{rebuilds_in_row, resyncs_in_row}
+use Rattle.pool.proofs.MovedRows.{LastMoved, last_moved}
 use Rattle.pool.proofs.Reached.{reached_stays, with_arrays}
 use Rattle.pool.proofs.Serving.{KeepNames, Laws}
 use Rattle.pool.proofs.Stepping.{SaysOf, lacks_row, some_done, some_drive}
+use Rattle.pool.proofs.Trying.{goes_on, seats_on}
 
 module _ {R : Type 0} (seen : R → Seen) (shelf : R → Shelf) (runs : R → R → Type 0) (laws : Laws seen) (names : KeepNames shelf runs) (p : Pool R) (new : RaidRack R) (work : Work) (most : ℕ)
     (fit : (volume (view seen shelf p)).fit) (first : slice_get (works_of (view seen shelf p)) 0 ≡ Some work) (any : 0 < most) where
@@ -84,15 +91,12 @@ module _ {R : Type 0} (seen : R → Seen) (shelf : R → Shelf) (runs : R → R 
   pub rows_tried : (r : Result ℕ Stuck) → is_row work ≡ true → SaysOf seen work most r r (arrays_of p) new
       → KeepsRack (raid_seen seen (arrays_of p)) (raid_seen seen new) → SliceRuns seen runs (slices_in (arrays_of p)) (slices_in new)
       → RaidRuns (written_in (arrays_of p)) (written_in new) (raid_in (arrays_of p)) (raid_in new) (slices_seen seen (arrays_of p)) (slices_seen seen new)
-      → RaisesBy 18 (raid_in (arrays_of p)) (raid_in new) → TriesFirst most x y runs (bay_in p) r
+      → RaisesBy 18 (raid_in (arrays_of p)) (raid_in new) → TriesFirst most x y runs r
   rows_tried r row says keeps ran runs_on raises = record {
-    keeps =
-        keeps_by x y fit (reached_stays seen shelf p new fit keeps).fit (as_long (book x) (book y) runs_on.book.same.made (λ n low. keeps.stays.sectors n))
-        (λ place. ap (λ t. seat_of t place) ran.tables) (goes_of (ran.apart fit.0.running.set.fit.0 fit.0.running.set.fit.1)) (names (bay_in p) (bay_in (with_arrays p new)) ran.below)
-        runs_on.caused 18 (omega arith) raises;
+    keeps = kept;
     some = some_done seen shelf runs laws names p new work most fit first any r says;
     done = done_of r says;
-    stuck = stuck_of r says;
+    stuck = stuck_of kept r says;
   }
     where
       done_of : (r : Result ℕ Stuck) → SaysOf seen work most r r (arrays_of p) new → IfOk r (λ count. HasNone x y ⊎ DoesWorks count x.linear (book x) y.linear (book y))
@@ -103,19 +107,134 @@ module _ {R : Type 0} (seen : R → Seen) (shelf : R → Shelf) (runs : R → R 
             | inr idle ↦ absurd (both_ways true (says.idle idle).0 refl)
           ]
 
-      stuck_of : (r : Result ℕ Stuck) → SaysOf seen work most r r (arrays_of p) new
-          → IfErr r (λ e. (y.linear ≡ x.linear)
-          × ((work : Work) × (slice_get (works_of x) 0 ≡ Some work) × IsRefused seen runs x.slices (bay_in p) x.linear work (book x) (book y) e.array))
+      kept : KeepsGrowing 1 x y
+      kept =
+          keeps_by x y fit (reached_stays seen shelf p new fit keeps).fit (as_long (book x) (book y) runs_on.book.same.made (λ n low. keeps.stays.sectors n))
+          (λ place. ap (λ t. seat_of t place) ran.tables) (goes_of (ran.apart fit.0.running.set.fit.0 fit.0.running.set.fit.1)) (names (bay_in p) (bay_in (with_arrays p new)) ran.below)
+          runs_on.caused 18 (omega arith) raises
+
+      stuck_of : KeepsGrowing 1 x y → (r : Result ℕ Stuck) → SaysOf seen work most r r (arrays_of p) new → IfErr r (λ e. StopsGrowing most x y runs e.array)
+      stuck_of kept (Ok k) says = tt
+      stuck_of kept (Err e) says =
+          stops_behind seen shelf runs most 0 p (with_arrays p new) (book x) work e.array any fit kept refl none first
+          (refused work row (book y) e.array says.named
+          (elim (cases_Bool (is_due (book x) work)) [
+            | inl due ↦ inr (lacks_row (book x) (book y) (slices_shown x) (slices_shown y) work most e (says.does due))
+            | inr idle ↦ inl (idle, ap raid_in (says.idle idle).1)
+          ]))
+
+-- ---- rows to move
+
+-- what the call of the arrays says of them
+pub record MovesSays {R : Type 0} (seen : R → Seen) (runs : R → R → Type 0) (m most : ℕ) (r : Result ℕ Stuck) (old new : RaidRack R) : Type 0 where
+  pub idle : is_due_to_grow (raid_in old) (Reshape m) ≡ false → (is_ok r ≡ false) × (new ≡ old)
+  pub grows : is_due_to_grow (raid_in old) (Reshape m) ≡ true → MovesRows m most (raid_in old) (raid_in new) (slices_seen seen old) (slices_seen seen new) r
+  pub named : IfErr r (λ e. e.array ≡ m)
+  pub fit : IsFit (arrays_in new) (slices_seen seen new)
+  pub raises : RaisesBy 18 (raid_in old) (raid_in new)
+  pub ran : SliceRuns seen runs (slices_in old) (slices_in new)
+
+module _ {R : Type 0} (seen : R → Seen) (shelf : R → Shelf) (runs : R → R → Type 0) (names : KeepNames shelf runs) (p : Pool R) (new : RaidRack R) (m most : ℕ)
+    (fit : (volume (view seen shelf p)).fit) (first : slice_get (works_of (view seen shelf p)) 0 ≡ Some (Reshape m)) (any : 0 < most) where
+  abbrev a : View
+  a = view seen shelf p
+
+  abbrev b : View
+  b = view seen shelf (with_arrays p new)
+
+  -- array m is reshaping
+  low_of : is_due_to_grow (book a) (Reshape m) ≡ true → m < (book a).state.made
+  low_of due =
+      let u = (book a).arrays m in
+      let parts = and_parts (is_synced (book a) m) (is_reshaping u.truth && nat_lt u.truth.reshape_position (whole_position u)) due in
+      ltb-true m (book a).state.made (and_parts (nat_lt m (book a).state.made) (not u.young && (u.resync == rows_of u)) parts.0).0
+
+  on_of : is_due_to_grow (book a) (Reshape m) ≡ true → is_reshaping ((book a).arrays m).truth ≡ true
+  on_of due =
+      let u = (book a).arrays m in
+      let parts = and_parts (is_synced (book a) m) (is_reshaping u.truth && nat_lt u.truth.reshape_position (whole_position u)) due in
+      (and_parts (is_reshaping u.truth) (nat_lt u.truth.reshape_position (whole_position u)) parts.1).0
+
+  -- the last row of them
+  last_of : is_due_to_grow (book a) (Reshape m) ≡ true → (rows : ℕ) (ok : Bool) → suc rows ≤ rows_of ((book a).arrays m) - next_row ((book a).arrays m)
+      → (turns : Turns (moves m (suc rows)) (Lacks (Reshape m)) (book a) (book b) ok) → turns.is_done ≡ true
+      → LastMoved a.linear (book a) m rows (book b) ok
+  last_of due rows ok few turns is =
+      last_moved a.linear (book a) m (some_drive a.linear (book a) (Reshape m) first) (low_of due) (fit.0.running.set.arrays m (low_of due)).is_array (on_of due) first rows (book b) ok
+      (omega (arith, few)) turns is
+
+  all_done : is_due_to_grow (book a) (Reshape m) ≡ true → (rows : ℕ) → 0 < rows → rows ≤ rows_of ((book a).arrays m) - next_row ((book a).arrays m)
+      → Turns (moves m rows) (Lacks (Reshape m)) (book a) (book b) true → DoesWorks rows a.linear (book a) b.linear (book b)
+  all_done due zero some few turns = absurd (omega (arith, some))
+  all_done due (suc rows) some few turns =
+      let last = last_of due rows true few turns (turns.answer refl) in
+      more last.done (record { work = Reshape m; first = last.first; done = turned_done 0 (Reshape m) (Lacks (Reshape m)) last.at (book b) last.turns; linear = refl })
+
+  stops : is_due_to_grow (book a) (Reshape m) ≡ true → KeepsGrowing 1 a b → (rows array : ℕ) → array ≡ m → 0 < rows → rows ≤ most → rows ≤ rows_of ((book a).arrays m) - next_row ((book a).arrays m)
+      → Turns (moves m rows) (Lacks (Reshape m)) (book a) (book b) false → StopsGrowing most a b runs array
+  stops due kept zero array named some few left turns = absurd (omega (arith, some))
+  stops due kept (suc rows) array named some few left turns =
+      elim (cases_Bool turns.is_done) [
+        | inl is ↦
+            let last = last_of due rows false left turns is in
+            stops_behind seen shelf runs most rows p (with_arrays p new) last.at (Reshape m) array (omega (arith, few)) fit kept refl last.done last.first (named, inr (0, last.turns))
+        | inr idle ↦
+            let mid = turns.mid in
+            stops_behind seen shelf runs most 0 p (with_arrays p new) (book a) (Reshape m) array any fit kept refl none first (
+              named,
+              inr (
+                0,
+                record {
+                  mid = mid;
+                  before = turns.before;
+                  is_done = false;
+                  answer = λ ok. ok;
+                  after = subst (λ (t : Bool). LosesBook (if t then changed (moves m (suc rows) mid) mid else mid) (book b)) idle turns.after;
+                  refused = turns.refused;
+                },
+              ),
+            )
+      ]
+
+  pub moves_tried : (r : Result ℕ Stuck) → MovesSays seen runs m most r (arrays_of p) new → TriesFirst most a b runs r
+  moves_tried r says = record { keeps = kept r says; some = some_of r says; done = done_of r says; stuck = stuck_of r says }
+    where
+      -- as one work of the growth is tried
+      kept : (r : Result ℕ Stuck) → MovesSays seen runs m most r (arrays_of p) new → KeepsGrowing 1 a b
+      kept r says =
+          grown_keeps seen shelf runs names p new (Reshape m) fit (is_ok r) says.idle (λ due. ((says.grows due).steps.grows.longer, (says.grows due).steps.grows.caused)) says.fit 18 (omega arith)
+          says.raises (seats_on seen runs (arrays_of p) new says.ran) (goes_on seen runs (arrays_of p) new fit.0 says.ran) says.ran.below
+
+      some_of : (r : Result ℕ Stuck) → MovesSays seen runs m most r (arrays_of p) new → IfOk r (λ count. (0 < count) × (count ≤ most))
+      some_of (Err e) says = tt
+      some_of (Ok k) says =
+          elim (cases_Bool (is_due_to_grow (book a) (Reshape m))) [
+            | inl due ↦
+                let moved = says.grows due in
+                let is = moved.answer in
+                let some = moved.some in
+                let few = moved.few in (omega (arith, some, is), omega (arith, few, is))
+            | inr idle ↦ absurd (both_ways true (says.idle idle).0 refl)
+          ]
+
+      done_of : (r : Result ℕ Stuck) → MovesSays seen runs m most r (arrays_of p) new → IfOk r (λ count. HasNone a b ⊎ DoesWorks count a.linear (book a) b.linear (book b))
+      done_of (Err e) says = tt
+      done_of (Ok k) says =
+          elim (cases_Bool (is_due_to_grow (book a) (Reshape m))) [
+            | inl due ↦
+                let moved = says.grows due in
+                inr (subst (λ n. DoesWorks n a.linear (book a) b.linear (book b)) (sym moved.answer) (all_done due moved.rows moved.some moved.left moved.steps.grows.turns))
+            | inr idle ↦ absurd (both_ways true (says.idle idle).0 refl)
+          ]
+
+      stuck_of : (r : Result ℕ Stuck) → MovesSays seen runs m most r (arrays_of p) new → IfErr r (λ e. StopsGrowing most a b runs e.array)
       stuck_of (Ok k) says = tt
-      stuck_of (Err e) says = (
-        refl,
-        (
-          work,
-          first,
-          refused work row (book y) e.array says.named
-              (elim (cases_Bool (is_due (book x) work)) [
-                | inl due ↦ inr (lacks_row (book x) (book y) (slices_shown x) (slices_shown y) work most e (says.does due))
-                | inr idle ↦ inl (idle, ap raid_in (says.idle idle).1)
-              ]),
-        ),
-      )
+      stuck_of (Err e) says =
+          elim (cases_Bool (is_due_to_grow (book a) (Reshape m))) [
+            | inl due ↦
+                let moved = says.grows due in
+                stops due (kept (Err e) says) moved.rows e.array says.named moved.some moved.few moved.left moved.steps.grows.turns
+            | inr idle ↦
+                stops_behind seen shelf runs most 0 p (with_arrays p new) (book a) (Reshape m) e.array any fit (kept (Err e) says) refl none first
+                (says.named, inl (idle, ap raid_in (says.idle idle).1))
+          ]

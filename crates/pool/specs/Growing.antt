@@ -187,16 +187,6 @@ is_row (Ready n) = false
 is_row Extend = false
 is_row Close = false
 
--- The first of the works that are left is tried, where one is, with those after it, at most so many: as many are done as are answered, or none is left.
-pub record TriesFirst (most : ℕ) (x y : View) (runs : x.bays.one → x.bays.one → Type 0) (r : x.bays.one) (result : Result ℕ Stuck) : Type 0 where
-  pub keeps : KeepsGrowing 1 x y
-  pub some : IfOk result (λ count. (0 < count) × (count ≤ most))
-  pub done : IfOk result (λ count. HasNone x y ⊎ DoesWorks count x.linear (book x) y.linear (book y))
-  pub stuck :
-      IfErr result
-      (λ e. (y.linear ≡ x.linear)
-      × ((work : Work) × (slice_get (works_of x) 0 ≡ Some work) × IsRefused x.bays.seen runs x.slices r x.linear work (book x) (book y) e.array))
-
 -- So many works are done, or fewer where none is left then.
 abbrev pub DoesMany : ℕ → View → View → Type 0
 DoesMany count x y =
@@ -226,3 +216,11 @@ pub record GrowsBy (count : ℕ) (x y : View) (runs : x.bays.one → x.bays.one 
   pub left : IfOk result (λ left. left ≡ left_of y)
   pub done : OnOk result (DoesMany (min count (left_of x)) x y)
   pub stuck : IfErr result (λ e. StopsGrowing count x y runs e.array)
+
+-- The first of the works that are left is tried, where one is, with those after it, at most so many: as many are done as are answered, or none is left. Else one of them
+-- can't be done.
+pub record TriesFirst (most : ℕ) (x y : View) (runs : x.bays.one → x.bays.one → Type 0) (result : Result ℕ Stuck) : Type 0 where
+  pub keeps : KeepsGrowing 1 x y
+  pub some : IfOk result (λ count. (0 < count) × (count ≤ most))
+  pub done : IfOk result (λ count. HasNone x y ⊎ DoesWorks count x.linear (book x) y.linear (book y))
+  pub stuck : IfErr result (λ e. StopsGrowing most x y runs e.array)

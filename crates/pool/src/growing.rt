@@ -104,10 +104,11 @@ impl<R: Bay> Pool<R> {
     fn try_first(&mut self, most: u64) -> Result<u64, Stuck>
         requires fit { (volume (view R.seen R.shelf self.old)).fit }
         requires some { 0 < most }
-        ensures tries { spec.TriesFirst most (view R.seen R.shelf self.old) (view R.seen R.shelf self.new) R.runs (bay_in self.old) result }
+        ensures tries { spec.TriesFirst most (view R.seen R.shelf self.old) (view R.seen R.shelf self.new) R.runs result }
         ensures runs { R.runs (bay_in self.old) (bay_in self.new) }
     {
         match self.next_work() {
+            Some(Work::Reshape { array }) => self.volume.inner().reshape_rows(array, most),
             Some(work) => {
                 if is_row(&work) {
                     return self.volume.inner().works(&work, most);
@@ -122,7 +123,7 @@ impl<R: Bay> Pool<R> {
     /// Does the first of the works that are left, whatever it is, so many times or until none is left, and answers how many are left then.
     /// Arrays get longer meanwhile, and new ones are made; the volume gets longer as the last work but one of a plan. A drive that is lost
     /// changes what is left, and the works go on. They end where a work can't be done, which names its array; those before it are done.
-    /// Rows to resync or to rebuild that follow each other are done several by one commit.
+    /// Rows to resync, to rebuild or to move that follow each other are done several by one commit.
     pub fn grow(&mut self, count: u64) -> Result<u64, Stuck>
         requires { (volume (view R.seen R.shelf self.old)).fit }
         ensures grows { spec.GrowsBy count (view R.seen R.shelf self.old) (view R.seen R.shelf self.new) R.runs result }

@@ -1,4 +1,4 @@
-use Rattle.std.proofs.Common.{◌+◌, ◌<◌, sym, subst, arith}
+use Rattle.std.proofs.Common.{◌+◌, ◌-◌, ◌<◌, ◌≤◌, sym, subst, arith}
 use Rattle.std.proofs.lemmas.Result.{err_from_is_err_and}
 use Rattle.raid_rack.specs.declared.works.Stuck.{Stuck}
 use Rattle.pool.specs.Growing.{DoesMany, StopsGrowing}
@@ -51,6 +51,7 @@ returns-in_err-done g c =
     let before = c.loop-done.invariant in
     let error = err_from_is_err_and c.from_residual.result c.from_residual.ensures.1 in
     let fewer : done < c.args.count = let most = c.min-most.ensures in let test = c.loop-done-test.true in omega (arith, most, test) in
+    let asked : done + (c.min-most.result - done) ≤ c.args.count = let most = c.min-most.ensures in let test = c.loop-done-test.true in omega (arith, most, test) in
     let all = keeps_then done (view seen shelf p) (view seen shelf q) (view seen shelf r) before.keeps c.try_first.ensures.tries.keeps in
     record {
       grows = record {
@@ -59,7 +60,7 @@ returns-in_err-done g c =
         done = rw error.1 tt;
         stuck = rw error.1
             (subst (λ (e : Stuck). StopsGrowing c.args.count (view seen shelf p) (view seen shelf r) g.R.Rack.runs e.array) (sym error.2)
-            (stops_growing seen shelf g.R.Rack.runs done c.args.count p q r _ fewer before.keeps c.try_first.ensures.tries.keeps before.works c.in_err-done.ensures.tries.stuck));
+            (stops_growing seen shelf g.R.Rack.runs done (c.min-most.result - done) c.args.count p q r _ asked before.keeps before.works c.in_err-done.ensures.tries.stuck));
       };
       runs = g.met.R.Rack.runs_then (bay_in p) (bay_in q) (bay_in r) before.runs c.try_first.ensures.runs;
     }

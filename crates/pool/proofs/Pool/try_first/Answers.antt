@@ -1,19 +1,20 @@
-use Rattle.std.proofs.Common.{ℕ, Err, Ok, Result, sym, ap, subst, ◌∙◌}
+use Rattle.std.proofs.Common.{ℕ, Some, Err, Ok, Result, sym, ap, subst, ◌∙◌}
 use Rattle.std.proofs.lemmas.Result.{err_from_is_err_and}
 use Rattle.lvm_group.specs.Volume.{linear}
 use Rattle.raid_rack.specs.RaidRack.{IsFit, KeepsRack, SliceRuns, arrays_in, raid_in, raid_seen, slices_in, slices_seen, written_in}
 use Rattle.raid_rack.specs.declared.works.Stuck.{Stuck}
+use Rattle.pool_state.specs.declared.contents.Work.{Work}
 use Rattle.raid_laws.specs.Moves.{RaisesBy}
 use Rattle.raid_laws.specs.Runs.{RaidRuns}
 use Rattle.pool.specs.Growing.{TriesFirst}
 use Rattle.pool.specs.View.{arrays_of, bay_in, book, view}
 use Rattle.pool.proofs.Grows.{first_tried, none_tried}
-use Rattle.pool.proofs.RowsTried.{rows_tried}
+use Rattle.pool.proofs.RowsTried.{MovesSays, moves_tried, rows_tried}
 use Rattle.pool.proofs.Stepping.{SaysOf, some_drive}
 use Rattle.pool.proofs.Pool.try_first.Goals as goal
 
 pub works-requires-clause-fit : goal.works-requires-clause-fit
-works-requires-clause-fit g c = subst (λ r. IsFit (arrays_in r) (slices_seen g.R.Rack.seen r)) (sym c.inner.ensures.value) c.requires.fit.0
+works-requires-clause-fit g c = subst (λ r. IsFit (arrays_in r) (slices_seen g.R.Rack.seen r)) (sym c.inner-then-is_row.ensures.value) c.requires.fit.0
 
 pub returns-then-is_row-clause-tries : goal.returns-then-is_row-clause-tries
 returns-then-is_row-clause-tries g c =
@@ -24,7 +25,7 @@ returns-then-is_row-clause-tries g c =
     let new = c.works.new.self in
     let own = c.works.ensures in
     let work = c.in-Some.work in
-    let reached = c.inner.ensures.value in
+    let reached = c.inner-then-is_row.ensures.value in
     let says : SaysOf seen work most c.works.result c.works.result (arrays_of p) new =
     subst (λ old. SaysOf seen work most c.works.result c.works.result old new) reached (record { idle = own.idle; does = own.does; named = own.named }) in
     rows_tried seen shelf g.R.Rack.runs g.met.R.Rack.sound g.met.R.Bay.runs_shelf p new work most c.requires.fit (sym c.in-Some.ensures.first) c.requires.some
@@ -42,8 +43,8 @@ try_work-requires-clause-listed g c =
 pub returns-in_ok-try_work-in-Some-clause-tries : goal.returns-in_ok-try_work-in-Some-clause-tries
 returns-in_ok-try_work-in-Some-clause-tries g c =
     let p = c.args.self.now in
-    first_tried c.args.most (view g.R.Rack.seen g.R.Bay.shelf p) (view g.R.Rack.seen g.R.Bay.shelf c.try_work.new.self) g.R.Rack.runs (bay_in p) c.in-Some.work (Ok c.in_ok-try_work-in-Some.field-0)
-    c.requires.some (sym c.in-Some.ensures.first) c.in_ok-try_work-in-Some.ensures.tries
+    first_tried g.R.Rack.seen g.R.Bay.shelf g.R.Rack.runs c.args.most p c.try_work.new.self c.in-Some.work (Ok c.in_ok-try_work-in-Some.field-0)
+    c.requires.some c.requires.fit (sym c.in-Some.ensures.first) c.in_ok-try_work-in-Some.ensures.tries
 
 pub returns-in_err-try_work-in-Some-clause-tries : goal.returns-in_err-try_work-in-Some-clause-tries
 returns-in_err-try_work-in-Some-clause-tries g c =
@@ -51,9 +52,25 @@ returns-in_err-try_work-in-Some-clause-tries g c =
     let x = view g.R.Rack.seen g.R.Bay.shelf p in
     let y = view g.R.Rack.seen g.R.Bay.shelf c.try_work.new.self in
     let error = err_from_is_err_and c.from_residual.result c.from_residual.ensures.1 in
-    subst (λ (r : Result ℕ Stuck). TriesFirst c.args.most x y g.R.Rack.runs (bay_in p) r) (sym (error.1 ∙ ap (λ (e : Stuck). Err e) error.2))
-    (first_tried c.args.most x y g.R.Rack.runs (bay_in p) c.in-Some.work (Err _) c.requires.some (sym c.in-Some.ensures.first) c.in_err-try_work-in-Some.ensures.tries)
+    subst (λ (r : Result ℕ Stuck). TriesFirst c.args.most x y g.R.Rack.runs r) (sym (error.1 ∙ ap (λ (e : Stuck). Err e) error.2))
+    (first_tried g.R.Rack.seen g.R.Bay.shelf g.R.Rack.runs c.args.most p c.try_work.new.self c.in-Some.work (Err _) c.requires.some c.requires.fit (sym c.in-Some.ensures.first)
+    c.in_err-try_work-in-Some.ensures.tries)
 
 pub returns-in-None-clause-tries : goal.returns-in-None-clause-tries
 returns-in-None-clause-tries g c =
-    none_tried c.args.most (view g.R.Rack.seen g.R.Bay.shelf c.args.self.now) g.R.Rack.runs (bay_in c.args.self.now) c.requires.some c.requires.fit (sym c.in-None.ensures.first)
+    none_tried c.args.most (view g.R.Rack.seen g.R.Bay.shelf c.args.self.now) g.R.Rack.runs c.requires.some c.requires.fit (sym c.in-None.ensures.first)
+
+pub reshape_rows-requires-clause-fit : goal.reshape_rows-requires-clause-fit
+reshape_rows-requires-clause-fit g c = subst (λ r. IsFit (arrays_in r) (slices_seen g.R.Rack.seen r)) (sym c.inner.ensures.value) c.requires.fit.0
+
+pub returns-in-Some-Reshape-clause-tries : goal.returns-in-Some-Reshape-clause-tries
+returns-in-Some-Reshape-clause-tries g c =
+    let seen = g.R.Rack.seen in
+    let p = c.args.self.now in
+    let new = c.reshape_rows.new.self in
+    let own = c.reshape_rows.ensures in
+    let says : MovesSays seen g.R.Rack.runs c.in-Some-Reshape.array c.args.most c.reshape_rows.result (arrays_of p) new =
+    subst (λ old. MovesSays seen g.R.Rack.runs c.in-Some-Reshape.array c.args.most c.reshape_rows.result old new) c.inner.ensures.value
+    (record { idle = own.idle; grows = own.grows; named = own.named; fit = own.fit; raises = own.raises; ran = own.runs }) in
+    moves_tried seen g.R.Bay.shelf g.R.Rack.runs g.met.R.Bay.runs_shelf p new c.in-Some-Reshape.array c.args.most c.requires.fit (sym c.in-Some-Reshape.ensures.first ∙ ap (λ (w : Work). Some w) c.in-Some-Reshape.field-0-is) c.requires.some
+    c.reshape_rows.result says
