@@ -2,7 +2,7 @@
 use Rattle.std.proofs.Common.{◌≡◌, ◌⊎◌, ℕ, ◌+◌, ◌-◌, ◌*◌, ◌%◌, ◌<◌, ◌≤◌, ◌^◌, Bool, true, false, ◌==◌, ◌||◌, nat_lt, if◌then◌else◌, [], map, take, length, slice_get, not, is_ok, unwrap_or, ap₂, Option, Some, None, option_map, refl, sym, ap, subst, ◌∙◌, inl, inr, eq-eqb, lt-ltb, arith}
 use Rattle.std.proofs.lemmas.Bool.{both_ways}
 use Rattle.rack.specs.Values.{Values}
-use Rattle.rack.specs.Seen.{Image, Seen, IsLive, Stays}
+use Rattle.rack.specs.Seen.{Image, RackView, IsLive, SameRack}
 use Rattle.rack.specs.Joins.{keeps_then, stays_same, live_first, live_second}
 use Rattle.rack.specs.Sequences.{OnlyReads, IsMix}
 use Rattle.pool_state.specs.declared.contents.State.{State}
@@ -12,18 +12,18 @@ use Rattle.array_image.specs.Supers.{is_unclean}
 use Rattle.array_image.specs.SoundArray.{first_unsynced}
 use Rattle.array_image.specs.Arrays.{Member, Shape, layout_at, replayed}
 use Rattle.array_image.specs.Even.{AreEven}
-use Rattle.array_image.specs.Held.{Among, IsSettled, current_in}
+use Rattle.array_image.specs.Held.{Among, IsSynced, current_in}
 use Rattle.array_image.specs.Left.{IsInside, PicksLogs}
 use Rattle.array_image.proofs.Settled.{among_take}
 use Rattle.array_image.proofs.Marked.{among_lowered}
 use Rattle.array_model.specs.declared.Seat.{Seat}
 use Rattle.array_model.specs.View.{View, IsArray, IsNoted, LosesPlaces, shape_of, has_gone, place_at, rows_of, member_by_seat}
-use Rattle.array_model.specs.Says.{Says, Holds}
-use Rattle.array_model.specs.ArrayCalls.{Covers, Keeping, SyncsArray}
+use Rattle.array_model.specs.Says.{ImageShowsArray, ArrayInvariant}
+use Rattle.array_model.specs.ArrayCalls.{IncludesSpent, Keeping, SyncsArray}
 use Rattle.array_model.specs.Members.{Notes}
 use Rattle.array_model.proofs.DataFrames.{columns_same}
 use Rattle.array_model.proofs.Keeping.{live_on, live_after, settled_kept}
-use Rattle.array_model.proofs.Moves.{Moves, moves_then, moves_by, acts_of}
+use Rattle.array_model.proofs.Moves.{CallRefines, moves_then, moves_by, acts_of}
 use Rattle.array_model.proofs.Noting.{losing_by, covers_before, holds_noted, shape_noted}
 use Rattle.array_model.proofs.Views.{loses_then, fault_early, fault_later, either_of}
 use Rattle.array_model.proofs.RowWrites.{gone_none}
@@ -33,13 +33,13 @@ use Rattle.array_core.specs.Pool.{MayRenew}
 use Rattle.array_core.proofs.Direct.{restated, renew_moves}
 use Rattle.array_core.proofs.Settled.{spent_same}
 use Rattle.array_core.proofs.LogFrames.{kept_logs}
-use Rattle.log_laws.specs.Kept.{LogKept}
+use Rattle.log_laws.specs.Kept.{LogInvariant}
 use Rattle.array_image.proofs.Frames.{map_same}
 use Rattle.array_image.specs.Places.{array_id}
 use Rattle.array_image.specs.States.{is_current}
 use Rattle.array_image.specs.Supers.{has_roles, has_whole_row}
 use Rattle.array_image.specs.Arrays.{place_with}
-use Rattle.array_image.specs.Left.{IsClosed}
+use Rattle.array_image.specs.Left.{NothingPending}
 use Rattle.md_super.specs.declared.superblock.Super.{Super}
 use Rattle.md_super.specs.Profile.{profiled}
 use Rattle.std.specs.List.{range_with_len}
@@ -64,7 +64,7 @@ seats_kept v u lost loses fresh n =
     same None = refl
     same (Some seat) = refl
 
-pub shape_kept : (v u : View) (a b : Seen) → Notes v u a b → u.went ≡ [] → shape_of u ≡ shape_of v
+pub shape_kept : (v u : View) (a b : RackView) → Notes v u a b → u.went ≡ [] → shape_of u ≡ shape_of v
 shape_kept v u a b notes fresh =
     let truth = notes.same.truth in
     let member : (k : ℕ) → member_on u k ≡ member_on v k = λ k.
@@ -77,7 +77,7 @@ shape_kept v u a b notes fresh =
 
 -- ---- notes over a change of the truth
 
-pub noted_restated : (v u w : View) (e o : ℕ) (m : Bool) (a b c : Seen) → Stays a b → Stays b c → Notes v u a b → Notes (restated e o m u) w b c → IsNoted v w a c
+pub noted_restated : (v u w : View) (e o : ℕ) (m : Bool) (a b c : RackView) → SameRack a b → SameRack b c → Notes v u a b → Notes (restated e o m u) w b c → IsNoted v w a c
 noted_restated v u w e o m a b c first second one two =
     let loses : LosesPlaces u w two.lost = record { seats = two.loses.seats; went = two.loses.went } in
     record {
@@ -110,7 +110,7 @@ noted_restated v u w e o m a b c first second one two =
 
 -- ---- what renewing needs, after reads in which nobody went
 
-pub renew_then : (s : State) (v u : View) (a b : Seen) → a.lasting → Stays a b → IsArray v → IsArray u → Notes v u a b → u.went ≡ [] → MayRenew s v a → MayRenew s u b
+pub renew_then : (s : State) (v u : View) (a b : RackView) → a.lasting → SameRack a b → IsArray v → IsArray u → Notes v u a b → u.went ≡ [] → MayRenew s v a → MayRenew s u b
 renew_then s v u a b lasting stays is_array now notes fresh may =
     let seats = seats_kept v u notes.lost notes.loses fresh in
     let truth = notes.same.truth in
@@ -141,9 +141,9 @@ renew_then s v u a b lasting stays is_array now notes fresh may =
 -- ---- settled members
 
 -- rows that agree in what settled members hold agree in contents of a moment that wrote no data
-pub even_settled : (v : View) (x : View) (a b : Seen) (c : Image) → a.lasting → Stays a b → v.number < 16
+pub even_settled : (v : View) (x : View) (a b : RackView) (c : Image) → a.lasting → SameRack a b → v.number < 16
     → ((m : Member) (i : ℕ) → Among m (shape_of v).members → i < m.reach → IsLive a a (member_slice m.place v.number) (data_sector + i))
-    → IsClosed v.number a → IsSettled (shape_of v) v.number a.held
+    → NothingPending v.number a → IsSynced (shape_of v) v.number a.held
     → AreEven (shape_of v) v.number v.resync (current_in a.held)
     → IsInside a.sectors c → IsMix a b (IsNewSuper x) c → x.number ≡ v.number
     → (first : ℕ) → first ≤ v.resync
@@ -197,11 +197,11 @@ left_offset_rows v unsettled = by v.young (is_unclean v.truth) refl refl
 pub raised_more : (n : ℕ) → n < 2 ^ 63 - 1 → (n < raised n) × (raised n < 2 ^ 63)
 raised_more n low = subst (λ k. (n < k) × (k < 2 ^ 63)) (sym (ap (λ (b : Bool). if b then n + 1 else n) (lt-ltb n (2 ^ 63 - 1) low))) (omega arith, omega (arith, low))
 
-pub clean_acts : (v u w : View) (a b c : Seen) → a.lasting → IsArray v → IsArray u → IsArray (settled u) → OnlyReads a b → Notes v u a b
-    → ((s : State) (durable : Shape) (vals : ℕ → Values) (spent : ℕ → Bool) → Covers u spent → SyncsArray s v u spent a b durable vals)
+pub clean_acts : (v u w : View) (a b c : RackView) → a.lasting → IsArray v → IsArray u → IsArray (settled u) → OnlyReads a b → Notes v u a b
+    → ((s : State) (durable : Shape) (vals : ℕ → Values) (spent : ℕ → Bool) → IncludesSpent u spent → SyncsArray s v u spent a b durable vals)
     → u.went ≡ [] → is_settled u ≡ false → first_unsynced (settled_truth u) ≤ u.resync
     → (many : ℕ) → WritesSupers (settled u) w b c many
-    → (s : State) (vals : ℕ → Values) (spent : ℕ → Bool) → Covers w spent → MayRenew s v a → Keeping s v w spent a c (shape_of v) vals
+    → (s : State) (vals : ℕ → Values) (spent : ℕ → Bool) → IncludesSpent w spent → MayRenew s v a → Keeping s v w spent a c (shape_of v) vals
 clean_acts v u w a b c lasting is_array now later reads notes syncs fresh unsettled unsynced many writes s vals spent covers may =
     let n = v.number in
     let number = notes.same.number in
@@ -209,38 +209,38 @@ clean_acts v u w a b c lasting is_array now later reads notes syncs fresh unsett
     let covers_su = covers_before (settled u) w writes.notes.lost (losing_by (settled u) w b c writes.notes) spent covers in
     let sync = syncs s (shape_of v) vals spent (λ y alive. sym (spent_same u y) ∙ covers_su y alive) in
     let shape = shape_kept v u a b notes fresh in
-    let Middle : Type 0 = Holds s (shape_of u) u vals spent b × IsSettled (shape_of u) u.number b.held in
-    let first : Moves n a b (Holds s (shape_of v) v vals spent a) (Says s n (shape_of v) vals spent) Middle = record {
+    let Middle : Type 0 = ArrayInvariant s (shape_of u) u vals spent b × IsSynced (shape_of u) u.number b.held in
+    let first : CallRefines n a b (ArrayInvariant s (shape_of v) v vals spent a) (ImageShowsArray s n (shape_of v) vals spent) Middle = record {
       stays = sync.acts.stays;
       leaves = sync.acts.leaves;
-      holds = λ h. (subst (λ (f : Shape). Holds s f u vals spent b) (sym shape) (sync.acts.holds h), sync.settled h);
+      holds = λ h. (subst (λ (f : Shape). ArrayInvariant s f u vals spent b) (sym shape) (sync.acts.holds h), sync.settled h);
       apart = sync.acts.apart;
       calm = sync.acts.calm;
       bounded = sync.acts.bounded;
     } in
     let raise = raised_more u.truth.events may_u.events in
     let lasting_b = reads.stays.lasting lasting in
-    let second : Moves u.number b c Middle (Says s u.number (shape_of u) vals spent) (Holds s (shape_of u) (settled u) vals spent c) =
+    let second : CallRefines u.number b c Middle (ImageShowsArray s u.number (shape_of u) vals spent) (ArrayInvariant s (shape_of u) (settled u) vals spent c) =
     renew_moves s u (raised u.truth.events) (left_offset u) false b c now may_u.state may_u.rows raise.0 raise.1 (left_offset_rows u unsettled) lasting_b may_u.supers writes.only
     false Middle vals spent fresh (λ q. q.0)
     (λ q i inside mix.
     even_settled u (settled u) b c i lasting_b writes.only.stays now.few q.0.shape.open_left (q.0.closed fresh) q.1 q.0.shape.even inside mix refl
     (first_unsynced (settled_truth u)) unsynced)
     (λ q steady. q.1) (λ is. absurd (both_ways false refl is)) (λ is. absurd (both_ways false refl is)) in
-    let here : Moves n b c Middle (Says s n (shape_of v) vals spent) (Holds s (shape_of v) (settled u) vals spent c) =
-    subst (λ (f : Shape). Moves n b c Middle (Says s n f vals spent) (Holds s f (settled u) vals spent c)) shape
-    (subst (λ k. Moves k b c Middle (Says s k (shape_of u) vals spent) (Holds s (shape_of u) (settled u) vals spent c)) number second) in
-    let both = moves_then n a b c (Holds s (shape_of v) v vals spent a) Middle (Holds s (shape_of v) (settled u) vals spent c) (Says s n (shape_of v) vals spent) lasting
+    let here : CallRefines n b c Middle (ImageShowsArray s n (shape_of v) vals spent) (ArrayInvariant s (shape_of v) (settled u) vals spent c) =
+    subst (λ (f : Shape). CallRefines n b c Middle (ImageShowsArray s n f vals spent) (ArrayInvariant s f (settled u) vals spent c)) shape
+    (subst (λ k. CallRefines k b c Middle (ImageShowsArray s k (shape_of u) vals spent) (ArrayInvariant s (shape_of u) (settled u) vals spent c)) number second) in
+    let both = moves_then n a b c (ArrayInvariant s (shape_of v) v vals spent a) Middle (ArrayInvariant s (shape_of v) (settled u) vals spent c) (ImageShowsArray s n (shape_of v) vals spent) lasting
     (λ d t live other. reads.keeps.held d t live) first here in
-    acts_of s v w spent a c (shape_of v) vals (Says s n (shape_of v) vals spent) (shape_of v) vals
-    (moves_by n a c (Holds s (shape_of v) v vals spent a) (Holds s (shape_of v) v vals spent a) (Holds s (shape_of v) (settled u) vals spent c) (Holds s (shape_of v) w vals spent c)
-    (Says s n (shape_of v) vals spent) (Says s n (shape_of v) vals spent) (λ h. h) (λ r p. p)
+    acts_of s v w spent a c (shape_of v) vals (ImageShowsArray s n (shape_of v) vals spent) (shape_of v) vals
+    (moves_by n a c (ArrayInvariant s (shape_of v) v vals spent a) (ArrayInvariant s (shape_of v) v vals spent a) (ArrayInvariant s (shape_of v) (settled u) vals spent c) (ArrayInvariant s (shape_of v) w vals spent c)
+    (ImageShowsArray s n (shape_of v) vals spent) (ImageShowsArray s n (shape_of v) vals spent) (λ h. h) (λ r p. p)
     (holds_noted (settled u) w b c c later writes.notes s (shape_of v) vals spent covers) both)
     (noted_restated v u w (raised u.truth.events) (left_offset u) false a b c reads.stays writes.only.stays notes writes.notes)
 
 -- ---- what is written
 
-pub clean_others : (u w : View) (a b c : Seen) (many : ℕ) → OnlyReads a b → WritesSupers (settled u) w b c many → KeepsOthers a c
+pub clean_others : (u w : View) (a b c : RackView) (many : ℕ) → OnlyReads a b → WritesSupers (settled u) w b c many → KeepsOthers a c
 clean_others u w a b c many reads writes d t live other =
     keeps_then (a.held d t) (b.held d t) (c.held d t)
     (reads.keeps.held d t (live_first writes.only.stays live))
@@ -251,11 +251,11 @@ unfolding shape_of
 settled_shape u = refl
 
 -- whoever is left has one value in each sector
-pub clean_settled : (v u w : View) (a b c : Seen) (many : ℕ) → a.lasting → OnlyReads a b
-    → ((s : State) (durable : Shape) (vals : ℕ → Values) (spent : ℕ → Bool) → Covers u spent → SyncsArray s v u spent a b durable vals)
+pub clean_settled : (v u w : View) (a b c : RackView) (many : ℕ) → a.lasting → OnlyReads a b
+    → ((s : State) (durable : Shape) (vals : ℕ → Values) (spent : ℕ → Bool) → IncludesSpent u spent → SyncsArray s v u spent a b durable vals)
     → WritesSupers (settled u) w b c many
-    → (s : State) (durable : Shape) (vals : ℕ → Values) (spent : ℕ → Bool) → Covers w spent → Holds s durable v vals spent a
-    → IsSettled (shape_of w) w.number c.held
+    → (s : State) (durable : Shape) (vals : ℕ → Values) (spent : ℕ → Bool) → IncludesSpent w spent → ArrayInvariant s durable v vals spent a
+    → IsSynced (shape_of w) w.number c.held
 clean_settled v u w a b c many lasting reads syncs writes s durable vals spent covers holds =
     let covers_su = covers_before (settled u) w writes.notes.lost (losing_by (settled u) w b c writes.notes) spent covers in
     let sync = syncs s durable vals spent (λ y alive. sym (spent_same u y) ∙ covers_su y alive) in
@@ -265,7 +265,7 @@ clean_settled v u w a b c many lasting reads syncs writes s durable vals spent c
     subst (λ (f : Shape). Among m f.members) (settled_shape u)
     (among_lowered writes.notes.lost sector (shape_of (settled u)).members m
     (subst (λ (f : Shape). Among m f.members) (shape_noted (settled u) w b c writes.notes) inside) counts) in
-    subst (λ k. IsSettled (shape_of w) k c.held) (sym writes.notes.same.number)
+    subst (λ k. IsSynced (shape_of w) k c.held) (sym writes.notes.same.number)
     (settled_kept b.held c.held (shape_of w) u.number
     (λ m sector inside counts.
     writes.only.others (member_slice m.place u.number) (data_sector + sector)
@@ -275,8 +275,8 @@ clean_settled v u w a b c many lasting reads syncs writes s durable vals spent c
 
 -- ---- the log
 
-pub clean_logs : (s : State) (number : ℕ) (u w : View) (a b c : Seen) (many : ℕ) → a.lasting → u.number < 16 → OnlyReads a b → WritesSupers (settled u) w b c many
-    → LogKept s number (λ place. false) a → LogKept s number (λ place. false) c
+pub clean_logs : (s : State) (number : ℕ) (u w : View) (a b c : RackView) (many : ℕ) → a.lasting → u.number < 16 → OnlyReads a b → WritesSupers (settled u) w b c many
+    → LogInvariant s number (λ place. false) a → LogInvariant s number (λ place. false) c
 clean_logs s number u w a b c many lasting few reads writes kept =
     kept_logs s number b c (reads.stays.lasting lasting) writes.only.stays
     (λ place t live. writes.only.others (log_slice place) t live (λ x new. let disk = new.disk in absurd (omega (arith, disk, few))))
@@ -284,7 +284,7 @@ clean_logs s number u w a b c many lasting few reads writes kept =
 
 -- ---- the view
 
-notes_over : (v w : View) (a b c d : Seen) → Stays a b → Stays c d → Notes v w b c → Notes v w a d
+notes_over : (v w : View) (a b c d : RackView) → SameRack a b → SameRack c d → Notes v w b c → Notes v w a d
 notes_over v w a b c d first last notes = record {
   same = notes.same;
   lost = notes.lost;
@@ -292,7 +292,7 @@ notes_over v w a b c d first last notes = record {
   cause = λ place is. fault_later a b d place first (fault_early b c d place last (notes.cause place is));
 }
 
-pub cleans_view : (v u w : View) (a b c : Seen) → a.fit → OnlyReads a b → Notes v u a b → u.went ≡ [] → is_settled u ≡ false → WritesSupers (settled u) w b c u.truth.raid_disks → Cleans v w a c
+pub cleans_view : (v u w : View) (a b c : RackView) → a.fit → OnlyReads a b → Notes v u a b → u.went ≡ [] → is_settled u ≡ false → WritesSupers (settled u) w b c u.truth.raid_disks → Cleans v w a c
 cleans_view v u w a b c fit reads notes fresh unsettled writes = record {
   synced = u;
   notes = notes_over v u a a b c (stays_same a fit) writes.only.stays notes;

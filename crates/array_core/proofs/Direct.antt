@@ -4,7 +4,7 @@ use Rattle.std.proofs.Common.{◌≡◌, ◌≢◌, ◌⊎◌, ℕ, ◌+◌, ◌
 use Rattle.std.proofs.lemmas.Bool.{and_parts, and_from, both_ways}
 use Rattle.std.specs.List.{range_with_len}
 use Rattle.rack.specs.Values.{Values, MayLeave, Keeps}
-use Rattle.rack.specs.Seen.{Image, Seen, IsLive, Stays}
+use Rattle.rack.specs.Seen.{Image, RackView, IsLive, SameRack}
 use Rattle.rack.specs.Sequences.{WritesOnly, IsMix}
 use Rattle.rack.specs.Joins.{leaves_weaker}
 use Rattle.md_super.specs.declared.superblock.Super.{Super}
@@ -17,19 +17,19 @@ use Rattle.array_image.specs.Supers.{is_rebuilding, is_reshaping, super_in, trut
 use Rattle.array_image.specs.SoundArray.{IsWrittenSuper, IsSoundArray, array_fields, first_unsynced}
 use Rattle.array_image.specs.Arrays.{Member, Shape, member_by, member_in, place_with, shape_by, shape_in, replayed}
 use Rattle.array_image.specs.Even.{AreEven}
-use Rattle.array_image.specs.Held.{IsSettled}
+use Rattle.array_image.specs.Held.{IsSynced}
 use Rattle.array_image.specs.Left.{reading, IsInside, Picks, PicksLogs, IsLeft}
 use Rattle.array_image.proofs.Frames.{super_of_sector, value_by_data}
 use Rattle.array_image.proofs.Replays.{SameLogs, calm_same, inside_same, replayed_same, whole_same}
 use Rattle.array_model.specs.declared.Seat.{Seat}
 use Rattle.array_model.specs.declared.Seat.TheVariants.{Whole, Missing, Rebuilding}
 use Rattle.array_model.specs.View.{View, IsArray, shape_of, place_at, member_on, may_vary, is_missing_seat, member_by_seat}
-use Rattle.array_model.specs.Says.{Says, IsOpen, Holds, IsEarlier, HasNoOthers}
-use Rattle.array_model.specs.ArrayCalls.{Turns}
+use Rattle.array_model.specs.Says.{ImageShowsArray, IsOpen, ArrayInvariant, IsEarlier, HasNoOthers}
+use Rattle.array_model.specs.ArrayCalls.{ImageInCall}
 use Rattle.array_model.specs.Stages.{IsStateOf}
 use Rattle.array_model.specs.Members.{slice_on}
 use Rattle.array_model.proofs.Keeping.{reading_live, reading_outside, inside_before, logs_of, live_on, live_after, open_after, logs_before, closed_after, bounded_after, KeepsData, same_value, held_kept, even_kept, settled_kept}
-use Rattle.array_model.proofs.Moves.{Moves}
+use Rattle.array_model.proofs.Moves.{CallRefines}
 use Rattle.array_model.proofs.Renewed.{Renews, AreNewer, NewTruth, old, renewed, new_truth, shape_kept, sound_renewed, leads, in_current}
 use Rattle.array_core.specs.declared.slots.Slot.{Slot}
 use Rattle.array_core.specs.Superblocks.{member_super, rebuilt_to, IsSectorOf}
@@ -47,7 +47,7 @@ use Rattle.array_core.proofs.Stripped.{strip, strip_reshaping, strip_written, wh
 abbrev pub restated : ℕ → ℕ → Bool → View → View
 restated events offset marked v = record v { truth = record v.truth { events = events; resync_offset = offset }; marked = marked }
 
-module _ (s : State) (v : View) (e o : ℕ) (m : Bool) (a b : Seen)
+module _ (s : State) (v : View) (e o : ℕ) (m : Bool) (a b : RackView)
     (is_array : IsArray v) (state : IsStateOf v s) (rows : HasRowRebuilds v) (more : v.truth.events < e) (end : e < 2 ^ 63)
     (offset : (o ≡ 2 ^ 64 - 1) ⊎ (o % 128 ≡ 0)) (lasting : a.lasting)
     (supers : (place : ℕ) → place < 16 → super_sector < a.sectors (member_slice place v.number) → IsLive a a (member_slice place v.number) super_sector)
@@ -174,9 +174,9 @@ module _ (s : State) (v : View) (e o : ℕ) (m : Bool) (a b : Seen)
     replayed_back : (d t : ℕ) → c d t ≡ back d t → r d t ≡ q d t
     replayed_back d t same = replayed_same a.sectors c back d t logs_back same
 
-    module _ (vals : ℕ → Values) (spent : ℕ → Bool) (holds : Holds s (shape_of v) v vals spent a) (fresh : v.went ≡ [])
+    module _ (vals : ℕ → Values) (spent : ℕ → Bool) (holds : ArrayInvariant s (shape_of v) v vals spent a) (fresh : v.went ≡ [])
         (even : AreEven (shape_of v) v.number (first_unsynced u.truth) r) where
-      says : Says s v.number (shape_of v) vals spent q
+      says : ImageShowsArray s v.number (shape_of v) vals spent q
       says = holds.shape.says q left
 
       record HasTruth : Type 0 where
@@ -328,7 +328,7 @@ module _ (s : State) (v : View) (e o : ℕ) (m : Bool) (a b : Seen)
                 (subst (λ (y : Super). AreEven (shape_of v) v.number (first_unsynced y) r) (sym new.truth ∙ here) even))
           ]
 
-      pub moment_says : Says s v.number (shape_of v) vals spent r
+      pub moment_says : ImageShowsArray s v.number (shape_of v) vals spent r
       moment_says = record {
         shape_is = shape_now;
         value = λ y alive.
@@ -390,15 +390,15 @@ module _ (s : State) (v : View) (e o : ℕ) (m : Bool) (a b : Seen)
     pub written : IsLive a b (slice_on v k) super_sector → (x : List ℕ) → MayLeave (b.held (slice_on v k) super_sector) x → IsOwnSector u k x
 
   module _ (mark : Bool) (H : Type 0) (vals : ℕ → Values) (spent : ℕ → Bool) (fresh : v.went ≡ [])
-      (begins : H → Holds s (shape_of v) v vals spent a)
+      (begins : H → ArrayInvariant s (shape_of v) v vals spent a)
       (even : H → (c : Image) → IsInside a.sectors c → IsMix a b (IsNewSuper u) c → AreEven (shape_of v) v.number (first_unsynced u.truth) (replayed a.sectors c))
-      (settles : H → may_vary (restated e o mark v) ≡ false → IsSettled (shape_of v) v.number a.held)
+      (settles : H → may_vary (restated e o mark v) ≡ false → IsSynced (shape_of v) v.number a.held)
       (zero_offset : mark ≡ true → o ≡ 0)
       (durable : mark ≡ true → (k : ℕ) × IsDurable k) where
     n : ℕ
     n = v.number
 
-    stays : Stays a b
+    stays : SameRack a b
     stays = only.stays
 
     logs : (place t : ℕ) → IsLive a b (log_slice place) t → Keeps (a.held (log_slice place) t) (b.held (log_slice place) t)
@@ -415,7 +415,7 @@ module _ (s : State) (v : View) (e o : ℕ) (m : Bool) (a b : Seen)
     at_left : (P : Image → Type 0) (x : Image) (l : IsLeft b x) → P (replayed a.sectors l.0) → P x
     at_left P x l = subst P (λ i d t. sym (l.2 d t ∙ ap (λ (sectors : ℕ → ℕ). replayed sectors l.0 d t) (λ j k. only.stays.sectors k j)) i)
 
-    holds_now : H → Holds s (shape_of v) (restated e o mark v) vals spent b
+    holds_now : H → ArrayInvariant s (shape_of v) (restated e o mark v) vals spent b
     unfolding shape_of
     holds_now h =
         let holds = begins h in
@@ -428,7 +428,7 @@ module _ (s : State) (v : View) (e o : ℕ) (m : Bool) (a b : Seen)
           shape = record {
             open_slices = open_after lasting only.stays (shape_of v) v.number g.open_slices;
             open_left = open_after lasting only.stays (shape_of v) v.number g.open_left;
-            says = λ x l. at_left (Says s v.number (shape_of v) vals spent) x l (moment_says l.0 (inside l.0 l.1) (mix_of l.0 l.1) vals spent holds fresh (evens l.0 l.1));
+            says = λ x l. at_left (ImageShowsArray s v.number (shape_of v) vals spent) x l (moment_says l.0 (inside l.0 l.1) (mix_of l.0 l.1) vals spent holds fresh (evens l.0 l.1));
             still = λ c picks k i among counts. closed_after v.number lasting only.stays logs (holds.closed fresh) c (logs_of c picks) k.place (data_sector + i);
             within = λ y alive w held. g.within y alive w (held_kept a.held b.held (shape_of v) v.number y same w held);
             current = λ y alive. same_value a.held b.held (shape_of v) v.number y same ∙ g.current y alive;
@@ -471,11 +471,11 @@ module _ (s : State) (v : View) (e o : ℕ) (m : Bool) (a b : Seen)
             by (Some (Rebuilding to)) is other = sym (some_same true (is_current s (place_at v k)) is)
             by (Some Missing) is other = absurd (other refl)
 
-    pub renew_moves : Moves v.number a b H (Says s v.number (shape_of v) vals spent) (Holds s (shape_of v) (restated e o mark v) vals spent b)
+    pub renew_moves : CallRefines v.number a b H (ImageShowsArray s v.number (shape_of v) vals spent) (ArrayInvariant s (shape_of v) (restated e o mark v) vals spent b)
     renew_moves = record {
       stays = only.stays;
       leaves = λ traced.
-          leaves_weaker (IsMix a b (IsNewSuper u)) (λ c. IsInside a.sectors c → Turns v.number a b (λ r. H → Says s v.number (shape_of v) vals spent r) c)
+          leaves_weaker (IsMix a b (IsNewSuper u)) (λ c. IsInside a.sectors c → ImageInCall v.number a b (λ r. H → ImageShowsArray s v.number (shape_of v) vals spent r) c)
           (λ c mix inside. record {
             before = replayed a.sectors (back c inside mix);
             left = (back c inside mix, picks_back c inside mix, λ d t. refl);

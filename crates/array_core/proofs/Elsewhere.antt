@@ -2,7 +2,7 @@
 use Rattle.std.proofs.Common.{◌≡◌, ◌≢◌, ℕ, zero, suc, ◌+◌, ◌<◌, Bool, true, false, not, List, [], ◌∷◌, slice_get, Option, Some, None, refl, sym, ap, subst, ◌∙◌, inl, inr, ltb-true, arith}
 use Rattle.std.specs.Option.{option_map_or}
 use Rattle.rack.specs.Values.{Keeps}
-use Rattle.rack.specs.Seen.{Seen, IsLive, Stays}
+use Rattle.rack.specs.Seen.{RackView, IsLive, SameRack}
 use Rattle.rack.specs.Joins.{keeps_then, live_first, live_second}
 use Rattle.rack.specs.Targets.{Target, look, target}
 use Rattle.rack.specs.Sequences.{IsPayload, OnlyReads}
@@ -63,15 +63,15 @@ not_there : (all : Bool) (v : View) (on : List ℕ) (d : ℕ) → v.number < 16 
 not_there all v on d few (inl log) at = let first = log.0 in omega (arith, few, first, at.3)
 not_there all v on d few (inr other) at = other.1 at.0 at.1 at.2 at.3
 
-pub reads_elsewhere : (all : Bool) (v : View) (on : List ℕ) (a b : Seen) → OnlyReads a b → KeepsElsewhere all v on a b
+pub reads_elsewhere : (all : Bool) (v : View) (on : List ℕ) (a b : RackView) → OnlyReads a b → KeepsElsewhere all v on a b
 reads_elsewhere all v on a b reads d t live other = reads.keeps.held d t live
 
-works_elsewhere : (all : Bool) (v w : View) (on : List ℕ) (a b : Seen) (xs : List Target) → v.number < 16 → Works v w a b xs
+works_elsewhere : (all : Bool) (v w : View) (on : List ℕ) (a b : RackView) (xs : List Target) → v.number < 16 → Works v w a b xs
     → ((d t : ℕ) (u : List ℕ) → IsPayload xs d t u → IsThere all v d) → KeepsElsewhere all v on a b
 works_elsewhere all v w on a b xs few works there d t live other = works.puts.only.others d t live (λ u is. not_there all v on d few other (there d t u is))
 
 -- one member's sector
-pub one_elsewhere : (v w : View) (on : List ℕ) (a b : Seen) (k x : ℕ) (from : List ℕ) → v.number < 16 → k < v.truth.raid_disks → x < (member_on v k).reach
+pub one_elsewhere : (v w : View) (on : List ℕ) (a b : RackView) (k x : ℕ) (from : List ℕ) → v.number < 16 → k < v.truth.raid_disks → x < (member_on v k).reach
     → Works v w a b (target (slice_on v k) (data_sector + x) from ∷ []) → KeepsElsewhere false v on a b
 one_elsewhere v w on a b k x from few low counts works =
     works_elsewhere false v w on a b (target (slice_on v k) (data_sector + x) from ∷ []) few works there
@@ -81,7 +81,7 @@ one_elsewhere v w on a b k x from few low counts works =
     there d t u (inr none) = absurd none
 
 -- the row of a whole array
-pub wrote_elsewhere : (v w : View) (on : List ℕ) (a b : Seen) (x : ℕ) (from : List ℕ) → IsArray v → is_whole_array v ≡ true → Wrote v w a b x from → KeepsElsewhere false v on a b
+pub wrote_elsewhere : (v w : View) (on : List ℕ) (a b : RackView) (x : ℕ) (from : List ℕ) → IsArray v → is_whole_array v ≡ true → Wrote v w a b x from → KeepsElsewhere false v on a b
 wrote_elsewhere v w on a b x from is_array whole (refused reads notes lost) = reads_elsewhere false v on a b reads
 wrote_elsewhere v w on a b x from is_array whole (row xs works owes) =
     works_elsewhere false v w on a b xs is_array.few works
@@ -91,7 +91,7 @@ wrote_elsewhere v w on a b x from is_array whole (row xs works owes) =
     (found.0, found.1, whole_there v found.0 is_array whole found.1, at.2 ∙ ap (λ (m : Member). member_slice m.place v.number) found.2))
 
 -- a commit of a row
-pub commit_elsewhere : (all : Bool) (v : View) (l : LogView) (on lost : List ℕ) (a b : Seen) → v.number < 16 → RowList all v l.added → CommitCall l on lost a b
+pub commit_elsewhere : (all : Bool) (v : View) (l : LogView) (on lost : List ℕ) (a b : RackView) → v.number < 16 → RowList all v l.added → CommitCall l on lost a b
     → KeepsElsewhere all v on a b
 commit_elsewhere all v l on lost a b few list commit d t live other =
     let none : look l.added d t ≡ None =
@@ -111,13 +111,13 @@ commit_elsewhere all v l on lost a b few list commit d t live other =
         subst (λ e. Keeps (a.held e t) (b.held e t)) own
         (commit.around (place_of d) t (subst (λ e. IsLive a b e t) (sym own) live) (omega (arith, later)) (inl log.1))
 
-pub elsewhere_then : (all : Bool) (v : View) (on : List ℕ) (a b c : Seen) → Stays a b → Stays b c → KeepsElsewhere all v on a b → KeepsElsewhere all v on b c
+pub elsewhere_then : (all : Bool) (v : View) (on : List ℕ) (a b c : RackView) → SameRack a b → SameRack b c → KeepsElsewhere all v on a b → KeepsElsewhere all v on b c
     → KeepsElsewhere all v on a c
 elsewhere_then all v on a b c first second one two d t live other = keeps_then _ _ _ (one d t (live_first second live) other) (two d t (live_second first live) other)
 
 -- ---- a write
 
-pub ready_elsewhere : (v u : View) (on : List ℕ) (a b : Seen) (r : Bool) → v.number < 16 → Readies v u a b r → KeepsElsewhere false v on a b
+pub ready_elsewhere : (v u : View) (on : List ℕ) (a b : RackView) (r : Bool) → v.number < 16 → Readies v u a b r → KeepsElsewhere false v on a b
 ready_elsewhere v u on a b r few (was_marked whole fresh marked same reads) = reads_elsewhere false v on a b reads
 ready_elsewhere v u on a b r few (not_whole same reads why) = reads_elsewhere false v on a b reads
 ready_elsewhere v u on a b r few (now_marked whole fresh unmarked marked marks) = λ d t live other.
@@ -126,7 +126,7 @@ ready_elsewhere v u on a b r few (lost_one whole fresh unmarked lost marks) = λ
     marks.writes.only.others d t live (λ x new. not_there false v on d few other (new.position, new.inside, seat_there v new.position new.there, new.disk))
 
 -- what is elsewhere for the call is so for its row
-row_elsewhere : (v u : View) (on : List ℕ) (a b : Seen) (r all : Bool) (d : ℕ) → IsArray v → Readies v u a b r → (all ≡ true → is_whole_array v ≡ true)
+row_elsewhere : (v u : View) (on : List ℕ) (a b : RackView) (r all : Bool) (d : ℕ) → IsArray v → Readies v u a b r → (all ≡ true → is_whole_array v ≡ true)
     → IsElsewhere false v on d → IsElsewhere all u on d
 row_elsewhere v u on a b r all d is_array readies whole_all (inl log) = inl log
 row_elsewhere v u on a b r all d is_array readies whole_all (inr other) =
@@ -150,7 +150,7 @@ row_elsewhere v u on a b r all d is_array readies whole_all (inr other) =
     of q n (lost_one whole fresh unmarked lost marks) low there = whole_there v n is_array whole low
     of q n (not_whole same reads why) low there = same_there n same all refl (λ is. whole_there v n is_array (whole_all is) low) there
 
-pub write_elsewhere : (v u : View) (on : List ℕ) (a b c : Seen) (r all : Bool) → IsArray v → Readies v u a b r → Stays a b → Stays b c → (all ≡ true → is_whole_array v ≡ true)
+pub write_elsewhere : (v u : View) (on : List ℕ) (a b c : RackView) (r all : Bool) → IsArray v → Readies v u a b r → SameRack a b → SameRack b c → (all ≡ true → is_whole_array v ≡ true)
     → KeepsElsewhere all u on b c → KeepsElsewhere false v on a c
 write_elsewhere v u on a b c r all is_array readies first second whole_all rest =
     elsewhere_then false v on a b c first second (ready_elsewhere v u on a b r is_array.few readies)
@@ -158,7 +158,7 @@ write_elsewhere v u on a b c r all is_array readies first second whole_all rest 
 
 -- ---- a clean end
 
-pub clean_elsewhere : (v u w : View) (on : List ℕ) (a b c : Seen) (many : ℕ) → v.number < 16 → OnlyReads a b → Notes v u a b → WritesSupers (settled u) w b c many
+pub clean_elsewhere : (v u w : View) (on : List ℕ) (a b c : RackView) (many : ℕ) → v.number < 16 → OnlyReads a b → Notes v u a b → WritesSupers (settled u) w b c many
     → KeepsElsewhere false v on a c
 clean_elsewhere v u w on a b c many few reads notes writes =
     elsewhere_then false v on a b c reads.stays writes.only.stays (reads_elsewhere false v on a b reads)

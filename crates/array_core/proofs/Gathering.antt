@@ -1,6 +1,6 @@
 -- Sums of members, one after the other, and two tries of a read.
 use Rattle.std.proofs.Common.{◌≡◌, ℕ, ◌+◌, ◌<◌, ◌≤◌, Bool, false, nat_lt, List, [], sym, subst, ap, ◌∙◌, Some, map, take}
-use Rattle.rack.specs.Seen.{Image, Seen}
+use Rattle.rack.specs.Seen.{Image, RackView}
 use Rattle.rack.specs.Sequences.{OnlyReads}
 use Rattle.raid_map.specs.LeftSymmetric.{row_at}
 use Rattle.array_image.specs.Arrays.{column, layout_at, value_by}
@@ -22,7 +22,7 @@ unfolding blank
 zeros_gathered c array sector = sym (gathered_none c array sector)
 
 -- one member more, by an array that hasn't changed
-pub gather_next : (x y : View) (a b : Seen) (sector k : ℕ) (sum next : List ℕ) → a.lasting → k < x.truth.raid_disks → y ≡ x → OnlyReads a b
+pub gather_next : (x y : View) (a b : RackView) (sector k : ℕ) (sum next : List ℕ) → a.lasting → k < x.truth.raid_disks → y ≡ x → OnlyReads a b
     → (IsOpen (shape_of x) x.number a → sum ≡ gathered (current_in a.held) x.number sector (firsts x k))
     → (IsOpen (shape_of y) y.number b → next ≡ added (column (current_in b.held) y.number sector (member_on y k)) sum)
     → IsOpen (shape_of x) x.number a → next ≡ gathered (current_in a.held) x.number sector (firsts x (k + 1))
@@ -31,7 +31,7 @@ gather_next x y a b sector k sum next lasting low same reads so_far here =
     gathered_step x a b sector k sum next lasting low reads so_far (subst Here same here)
 
 -- a stand is one of the array whoever has gone
-pub stand_then : (v w : View) (at : Stand) (a b : Seen) → Notes v w a b → IsStand v at → IsStand w at
+pub stand_then : (v w : View) (at : Stand) (a b : RackView) → Notes v w a b → IsStand v at → IsStand w at
 stand_then v w at a b notes stand = record {
   members = subst (λ t. width (layout_of at.spread) ≤ t.raid_disks) (sym notes.same.truth) stand.members;
   position = stand.position;
@@ -39,7 +39,7 @@ stand_then v w at a b notes stand = record {
 }
 
 -- what a second try read
-pub second_value : (v w u : View) (a b : Seen) (at : Stand) (x : List ℕ) → a.lasting → OnlyReads a b → Notes v w a b → u ≡ w
+pub second_value : (v w u : View) (a b : RackView) (at : Stand) (x : List ℕ) → a.lasting → OnlyReads a b → Notes v w a b → u ≡ w
     → (IsOpen (shape_of w) w.number b → x ≡ given_at w at (current_in b.held))
     → IsOpen (shape_of v) v.number a → x ≡ given_at u at (current_in a.held)
 second_value v w u a b at x lasting reads notes same value opened =
@@ -72,7 +72,7 @@ spent_after v w x at spent same spread position sector is =
     let of = is_of_then v w x at same.truth (record { spread = spread; position = position; sector = sector }) in
     spent_given w x at.sector of.sector ∙ is
 
-pub value_after : (v w : View) (x : ℕ) (at : Stand) (a : Seen) (into : List ℕ) → IsSameButSeats v w
+pub value_after : (v w : View) (x : ℕ) (at : Stand) (a : RackView) (into : List ℕ) → IsSameButSeats v w
     → layout_of at.spread ≡ layout_at (shape_of v) x → at.position ≡ position_in (layout_at (shape_of v) x) x → at.sector ≡ sector_in (layout_at (shape_of v) x) x
     → into ≡ given_at w at (current_in a.held)
     → into ≡ value_by (shape_of w) (current_in a.held) v.number x
@@ -93,7 +93,7 @@ own_restored v w c at position sector x stand spread is_p is_s same is =
     (subst (λ l. By l position sector) spread (subst (λ p. By (layout_of at.spread) p sector) is_p (subst (λ s. By (layout_of at.spread) at.position s) is_s here)))
 
 -- or what the others give, where it didn't count or went
-pub others_restored : (v u w : View) (a b d : Seen) (at : Stand) (position sector : ℕ) (x : List ℕ) → a.lasting → IsStand v at
+pub others_restored : (v u w : View) (a b d : RackView) (at : Stand) (position sector : ℕ) (x : List ℕ) → a.lasting → IsStand v at
     → layout_of at.spread ≡ row_layout v sector → at.position ≡ position → at.sector ≡ sector
     → OnlyReads a b → Notes v u a b → OnlyReads b d → Notes u w b d
     → nat_lt at.sector (member_on u at.position).reach ≡ false

@@ -2,7 +2,7 @@
 use Rattle.std.proofs.Common.{◌≡◌, ℕ, ◌<◌, false, List, [], None, Ok, refl, sym, ap, subst, ◌∙◌, inl, inr}
 use Rattle.std.proofs.lemmas.Bool.{both_ways}
 use Rattle.rack.specs.Values.{MayLeave, Keeps}
-use Rattle.rack.specs.Seen.{Image, Seen, IsLive, Stays}
+use Rattle.rack.specs.Seen.{Image, RackView, IsLive, SameRack}
 use Rattle.rack.specs.Targets.{Target, look}
 use Rattle.pool_state.specs.declared.contents.State.{State}
 use Rattle.pool_state.specs.Sector.{decoded}
@@ -12,7 +12,7 @@ use Rattle.array_image.specs.Arrays.{replayed}
 use Rattle.array_image.proofs.Replays.{replayed_as_is}
 use Rattle.log_laws.specs.Standing.{LogsStand, deciding}
 use Rattle.log_laws.specs.Commits.{Stands}
-use Rattle.log_laws.specs.Kept.{LogKept}
+use Rattle.log_laws.specs.Kept.{LogInvariant}
 use Rattle.commit_log.proofs.WholeLogs.{whole_logs}
 use Rattle.array_model.proofs.Keeping.{live_on, live_after, logs_before}
 
@@ -20,9 +20,9 @@ pub look_nothing : (d t : ℕ) → look [] d t ≡ None
 unfolding look
 look_nothing d t = refl
 
-pub kept_logs : (s : State) (number : ℕ) (a b : Seen) → a.lasting → Stays a b
+pub kept_logs : (s : State) (number : ℕ) (a b : RackView) → a.lasting → SameRack a b
     → ((place t : ℕ) → IsLive a b (log_slice place) t → Keeps (a.held (log_slice place) t) (b.held (log_slice place) t))
-    → LogKept s number (λ place. false) a → LogKept s number (λ place. false) b
+    → LogInvariant s number (λ place. false) a → LogInvariant s number (λ place. false) b
 kept_logs s number a b lasting stays keeps kept =
     let before : (p t : ℕ) (u : List ℕ) → p < 16 → t < a.sectors (log_slice p) → MayLeave (b.held (log_slice p) t) u → MayLeave (a.held (log_slice p) t) u =
     λ p t u few inside now. (keeps p t (live_on lasting stays (kept.logs p t few inside))).within u now in

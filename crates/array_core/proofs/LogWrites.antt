@@ -4,7 +4,7 @@ use Rattle.std.proofs.lemmas.Bool.{both_ways, and_from}
 use Rattle.std.specs.Option.{option_map_or}
 use Rattle.std.specs.List.{list_all, range_with_len}
 use Rattle.rack.specs.Values.{Values}
-use Rattle.rack.specs.Seen.{Seen, IsPick, Stays}
+use Rattle.rack.specs.Seen.{RackView, IsPick, SameRack}
 use Rattle.rack.specs.Joins.{leaves_weaker, leaves_then, stays_then}
 use Rattle.rack.specs.Sequences.{OnlyReads}
 use Rattle.rack.specs.Targets.{Target, look}
@@ -12,17 +12,17 @@ use Rattle.pool_state.specs.declared.contents.State.{State}
 use Rattle.array_image.specs.Places.{data_sector}
 use Rattle.log_laws.specs.View.{LogView, names, in_order, next_number}
 use Rattle.log_laws.specs.Commits.{CommitCall}
-use Rattle.log_laws.specs.Kept.{LogKept, gone_with}
+use Rattle.log_laws.specs.Kept.{LogInvariant, gone_with}
 use Rattle.log_laws.specs.Phases.{IsHad}
 use Rattle.log_laws.proofs.KeptAfter.{kept_keeps, kept_more}
 use Rattle.array_model.specs.declared.Seat.TheVariants.{Missing}
 use Rattle.array_model.specs.View.{View, IsArray, LosesPlaces, has_gone, member_on, seat_reach, sectors_of, shape_of, spent_in}
-use Rattle.array_model.specs.Says.{Says, Holds}
-use Rattle.array_model.specs.ArrayCalls.{Covers, appended_at}
+use Rattle.array_model.specs.Says.{ImageShowsArray, ArrayInvariant}
+use Rattle.array_model.specs.ArrayCalls.{IncludesSpent, appended_at}
 use Rattle.array_model.specs.Members.{HasSlices, IsSameButSeats, Notes, slice_on}
 use Rattle.array_model.proofs.Keeping.{keeping_calls}
 use Rattle.array_model.proofs.Looking.{look_payload}
-use Rattle.array_model.proofs.Moves.{Moves, moves_by, moves_of}
+use Rattle.array_model.proofs.Moves.{CallRefines, moves_by, moves_of}
 use Rattle.array_model.proofs.Noting.{holds_lost, losing_of}
 use Rattle.array_model.proofs.RowWrites.{gone_none, holds_values, is_spent, same_values, says_values}
 use Rattle.array_model.proofs.Views.{loses_then, same_view_then}
@@ -61,22 +61,22 @@ first_none false q is = refl
 
 -- ---- what was added
 
-pub staged_row : (all : Bool) (v w : View) (a b : Seen) (x : ℕ) (from : List ℕ) (r : Bool) (added : List Target) → Stages all v w a b x from r added → r ≡ true
+pub staged_row : (all : Bool) (v w : View) (a b : RackView) (x : ℕ) (from : List ℕ) (r : Bool) (added : List Target) → Stages all v w a b x from r added → r ≡ true
     → StagedRow all v w a x from added
 staged_row all v w a b x from r added stages is = elim stages.either [ inl refused ↦ absurd (both_ways r refused.0 is) | inr row ↦ row.1 ]
 
-pub staged_spent : (all : Bool) (v w : View) (a b : Seen) (x : ℕ) (from : List ℕ) (r : Bool) (added : List Target) → Stages all v w a b x from r added → r ≡ false
+pub staged_spent : (all : Bool) (v w : View) (a b : RackView) (x : ℕ) (from : List ℕ) (r : Bool) (added : List Target) → Stages all v w a b x from r added → r ≡ false
     → (spent_in w x ≡ true) × (added ≡ [])
 staged_spent all v w a b x from r added stages is = elim stages.either [ inl refused ↦ (refused.1, refused.2) | inr row ↦ absurd (both_ways r is row.0) ]
 
-pub staged_list : (all : Bool) (u w : View) (a b : Seen) (x : ℕ) (from : List ℕ) (r : Bool) (added : List Target) → IsArray u → x < sectors_of u → length from ≡ 512
+pub staged_list : (all : Bool) (u w : View) (a b : RackView) (x : ℕ) (from : List ℕ) (r : Bool) (added : List Target) → IsArray u → x < sectors_of u → length from ≡ 512
     → (r ≡ true → spent_in u x ≡ false) → Stages all u w a b x from r added → r ≡ true → RowList all u added
 staged_list all u w a b x from r added is_array low wide unspent stages is =
     row_list all u w a x from added is_array low wide (unspent is) (staged_row all u w a b x from r added stages is)
 
 -- ---- sectors that the rack has
 
-slot_had : (all : Bool) (u : View) (a : Seen) (n t : ℕ) → n < u.truth.raid_disks → is_due all u n t ≡ true → HasSlices u a → (all ≡ true → HasAll u a)
+slot_had : (all : Bool) (u : View) (a : RackView) (n t : ℕ) → n < u.truth.raid_disks → is_due all u n t ≡ true → HasSlices u a → (all ≡ true → HasAll u a)
     → (slice_on u n < a.disks) × (data_sector + u.truth.size ≤ a.sectors (slice_on u n))
 slot_had true u a n t low due slices whole = whole refl n low
 slot_had false u a n t low due slices whole = (slices.disks n low there, slices.sectors n low there)
@@ -87,7 +87,7 @@ slot_had false u a n t low due slices whole = (slices.disks n low there, slices.
         let counts = ltb-true t (member_on u n).reach due in
         absurd (omega (arith, counts, none))
 
-pub row_had : (all : Bool) (u : View) (a b : Seen) (xs : List Target) → HasSlices u a → (all ≡ true → HasAll u a) → Stays a b → RowList all u xs
+pub row_had : (all : Bool) (u : View) (a b : RackView) (xs : List Target) → HasSlices u a → (all ≡ true → HasAll u a) → SameRack a b → RowList all u xs
     → (d s : ℕ) (v : List ℕ) → look xs d s ≡ Some v → IsHad b d s
 row_had all u a b xs slices whole stays list d s v is =
     let at = list.on d s v (look_payload xs d s v is) in
@@ -99,29 +99,29 @@ row_had all u a b xs slices whole stays list d s v is =
 
 -- ---- the frame
 
-pub reads_goes : (a b : Seen) → OnlyReads a b → Goes a b
+pub reads_goes : (a b : RackView) → OnlyReads a b → Goes a b
 reads_goes a b reads = record { stays = reads.stays; leaves = λ traced. leaves_weaker (IsPick a b a.held) (λ c. Unit {0}) (λ c pick. tt) (reads.keeps.stops traced) }
 
-pub goes_then : (a b c : Seen) → Goes a b → Goes b c → Goes a c
+pub goes_then : (a b c : RackView) → Goes a b → Goes b c → Goes a c
 goes_then a b c one two = record {
   stays = stays_then one.stays two.stays;
   leaves = λ traced. leaves_then (λ i. Unit {0}) (one.leaves traced) (two.leaves (one.stays.traced traced));
 }
 
-pub commit_notes : (l : LogView) (on lost : List ℕ) (z w : View) (b c : Seen) → CommitCall l on lost b c → IsSameButSeats z w → LosesPlaces z w (names lost) → Notes z w b c
+pub commit_notes : (l : LogView) (on lost : List ℕ) (z w : View) (b c : RackView) → CommitCall l on lost b c → IsSameButSeats z w → LosesPlaces z w (names lost) → Notes z w b c
 commit_notes l on lost z w b c commit same loses = record { same = same; lost = names lost; loses = loses; cause = λ place is. commit.gone.cause place is }
 
 -- ---- what is left
 
-module _ (s : State) (all : Bool) (v u z w : View) (a b c : Seen) (l : LogView) (on lost : List ℕ) (x : ℕ) (from : List ℕ)
+module _ (s : State) (all : Bool) (v u z w : View) (a b c : RackView) (l : LogView) (on lost : List ℕ) (x : ℕ) (from : List ℕ)
     (is_array : IsArray u) (lasting : a.lasting) (low : x < sectors_of u) (wide : length from ≡ 512) (unspent : spent_in u x ≡ false)
     (reads : OnlyReads a b) (notes : Notes u z a b) (row : StagedRow all u z a x from l.added) (commit : CommitCall l on lost b c)
     (same_w : IsSameButSeats z w) (loses_w : LosesPlaces z w (names lost)) (base : Base all v u) (may : MayLog s v w l.number on a) where
   left_w : (place : ℕ) → has_gone w place ≡ false → names lost place ≡ false
   left_w place is = first_none (names lost place) (has_gone z place) (sym (loses_w.went place) ∙ is)
 
-  pub commit_moves : (vals : ℕ → Values) (spent : ℕ → Bool) → Covers w spent
-      → Moves v.number a c (Holds s (shape_of v) v vals spent a) (Says s v.number (shape_of v) (appended_at x from vals) spent) (Holds s (shape_of v) w (appended_at x from vals) spent c)
+  pub commit_moves : (vals : ℕ → Values) (spent : ℕ → Bool) → IncludesSpent w spent
+      → CallRefines v.number a c (ArrayInvariant s (shape_of v) v vals spent a) (ImageShowsArray s v.number (shape_of v) (appended_at x from vals) spent) (ArrayInvariant s (shape_of v) w (appended_at x from vals) spent c)
   commit_moves vals spent covers =
       let now : ℕ → Bool = λ place. names lost place || notes.lost place in
       let gone : ℕ → Bool = λ place. now place || base.lost place in
@@ -134,7 +134,7 @@ module _ (s : State) (all : Bool) (v u z w : View) (a b c : Seen) (l : LogView) 
       (λ none. nobody_named lost (λ place. left_w place (gone_none w none place)))
       left_w vals spent covers
 
-  pub commit_kept : LogKept s (next_number l.number) (has_gone w) c
+  pub commit_kept : LogInvariant s (next_number l.number) (has_gone w) c
   commit_kept =
       kept_more s (next_number l.number) (gone_with nobody lost) (has_gone w) c (λ place is. loses_w.went place ∙ ap (λ (b : Bool). b || has_gone z place) is)
       (log_kept s all v u w a b c l on lost base is_array lasting reads (row_list all u z a x from l.added is_array low wide unspent row) commit may left_w)
@@ -151,22 +151,22 @@ module _ (s : State) (all : Bool) (v u z w : View) (a b c : Seen) (l : LogView) 
       (log_own s all v u w a b c l on lost base is_array lasting reads list commit may left_w))
 
 -- where a sector was found spent nothing was written
-pub refused_moves : (s : State) (all : Bool) (v u w : View) (a b : Seen) (x : ℕ) (from : List ℕ) → a.lasting → OnlyReads a b → Notes u w a b → spent_in w x ≡ true
-    → (vals : ℕ → Values) (spent : ℕ → Bool) → Covers w spent → Base all v u
-    → Moves v.number a b (Holds s (shape_of v) v vals spent a) (Says s v.number (shape_of v) (appended_at x from vals) spent) (Holds s (shape_of v) w (appended_at x from vals) spent b)
+pub refused_moves : (s : State) (all : Bool) (v u w : View) (a b : RackView) (x : ℕ) (from : List ℕ) → a.lasting → OnlyReads a b → Notes u w a b → spent_in w x ≡ true
+    → (vals : ℕ → Values) (spent : ℕ → Bool) → IncludesSpent w spent → Base all v u
+    → CallRefines v.number a b (ArrayInvariant s (shape_of v) v vals spent a) (ImageShowsArray s v.number (shape_of v) (appended_at x from vals) spent) (ArrayInvariant s (shape_of v) w (appended_at x from vals) spent b)
 refused_moves s all v u w a b x from lasting reads notes refused vals spent covers base =
     let n = v.number in
-    let H : Type 0 = Holds s (shape_of v) v vals spent a in
+    let H : Type 0 = ArrayInvariant s (shape_of v) v vals spent a in
     let lost : ℕ → Bool = λ place. notes.lost place || base.lost place in
     let losing = losing_of v w lost (same_view_then v u w base.same notes.same) (loses_then v u w base.lost notes.lost base.same.truth base.loses notes.loses) in
     let same = same_values x from vals spent (is_spent w spent x covers refused) in
-    moves_by n a b H H (Holds s (shape_of v) v vals spent b) (Holds s (shape_of v) w (appended_at x from vals) spent b)
-    (Says s n (shape_of v) vals spent) (Says s n (shape_of v) (appended_at x from vals) spent)
+    moves_by n a b H H (ArrayInvariant s (shape_of v) v vals spent b) (ArrayInvariant s (shape_of v) w (appended_at x from vals) spent b)
+    (ImageShowsArray s n (shape_of v) vals spent) (ImageShowsArray s n (shape_of v) (appended_at x from vals) spent)
     (λ h. h)
     (λ r. says_values s n (shape_of v) vals (appended_at x from vals) spent r same)
     (λ h. holds_values s (shape_of v) w vals (appended_at x from vals) spent b same (holds_lost v w lost b base.is_array losing s (shape_of v) vals spent covers h))
-    (moves_of s v v spent a b (shape_of v) vals (Says s n (shape_of v) vals spent) (shape_of v) vals (keeping_calls a b lasting reads.stays reads.keeps s (shape_of v) v vals spent))
+    (moves_of s v v spent a b (shape_of v) vals (ImageShowsArray s n (shape_of v) vals spent) (shape_of v) vals (keeping_calls a b lasting reads.stays reads.keeps s (shape_of v) v vals spent))
 
-pub refused_kept : (s : State) (number : ℕ) (w : View) (a b : Seen) → a.lasting → OnlyReads a b → LogKept s number nobody a → LogKept s number (has_gone w) b
+pub refused_kept : (s : State) (number : ℕ) (w : View) (a b : RackView) → a.lasting → OnlyReads a b → LogInvariant s number nobody a → LogInvariant s number (has_gone w) b
 refused_kept s number w a b lasting reads kept =
     kept_more s number nobody (has_gone w) b (λ place is. absurd (both_ways false refl is)) (kept_keeps s number nobody a b lasting reads.stays reads.keeps kept)

@@ -12,15 +12,15 @@ use Rattle.array_core.specs.declared.Array.TheInside.{Inside}
 use Rattle.array_core.specs.Model.{view_of}
 use Rattle.array_core.specs.Settling.{Marks, unsynced, IsNewSuper, Readies, was_marked, now_marked, lost_one}
 use Rattle.rack.specs.Values.{Values, MayLeave, append}
-use Rattle.rack.specs.Seen.{Image, Seen}
+use Rattle.rack.specs.Seen.{Image, RackView}
 use Rattle.rack.specs.Sequences.{WritesOnly}
 use Rattle.pool_state.specs.declared.contents.State.{State}
 use Rattle.array_image.specs.Arrays.{Shape, replayed}
 use Rattle.array_model.specs.declared.Seat.TheVariants.{Whole, Missing, Rebuilding}
 use Rattle.array_model.specs.View.{IsArray, shape_of, may_vary, is_alone}
-use Rattle.array_model.specs.Says.{Says, Holds}
+use Rattle.array_model.specs.Says.{ImageShowsArray, ArrayInvariant}
 use Rattle.array_model.specs.Members.{HasSlices, Notes}
-use Rattle.array_model.proofs.Moves.{Moves, KeepsOthers, moves_then, moves_by, moves_of, acts_of}
+use Rattle.array_model.proofs.Moves.{CallRefines, KeepsOthers, moves_then, moves_by, moves_of, acts_of}
 use Rattle.array_model.proofs.DataFrames.{even_unsynced}
 use Rattle.array_model.proofs.RowWrites.{whole_seat}
 use Rattle.array_core.specs.Pool.{MayRenew}
@@ -28,7 +28,7 @@ use Rattle.array_core.specs.Superblocks.{raised}
 use Rattle.array_core.proofs.Direct.{restated, renew_moves}
 use Rattle.array_core.proofs.Cleaning.{raised_more, seats_kept, shape_kept}
 use Rattle.array_model.specs.View.{IsNoted}
-use Rattle.array_model.specs.ArrayCalls.{Covers, WritesArray, appended_at}
+use Rattle.array_model.specs.ArrayCalls.{IncludesSpent, WritesArray, appended_at}
 use Rattle.array_model.proofs.Noting.{losing_by, covers_before, holds_noted}
 use Rattle.array_model.proofs.Keeping.{keeping_calls}
 use Rattle.array_image.specs.Arrays.{value_by}
@@ -69,21 +69,21 @@ alone_is a v count is mirrors counted =
     ∙ ap (λ (b : Bool). b && nat_le (present (view_of a).seats) 1) (sym mirrors)
     ∙ ap is_alone is
 
-pub readied : (v w : View) (a b : Seen) (r : Bool) → is_whole_array v ≡ true → v.went ≡ [] → v.marked ≡ false → r ≡ w.marked → Marks v w a b → Readies v w a b r
+pub readied : (v w : View) (a b : RackView) (r : Bool) → is_whole_array v ≡ true → v.went ≡ [] → v.marked ≡ false → r ≡ w.marked → Marks v w a b → Readies v w a b r
 readied v w a b true whole fresh unmarked is marks = now_marked whole fresh unmarked (sym is) marks
 readied v w a b false whole fresh unmarked is marks = lost_one whole fresh unmarked (sym is) marks
 
 -- ---- the array in it
 
 -- nothing but superblocks of its own was written
-pub supers_others : (v : View) (a b : Seen) → v.number < 16 → WritesOnly a b (IsNewSuper v) → KeepsOthers v.number a b
+pub supers_others : (v : View) (a b : RackView) → v.number < 16 → WritesOnly a b (IsNewSuper v) → KeepsOthers v.number a b
 supers_others v a b few only d t live other = only.others d t live (λ x new. let disk = new.disk in other (omega (arith, disk, few)))
 
 -- the view of a mark, before those that went in it are noted
 abbrev pub marked_by : Bool → View → View
 marked_by mark v = restated (raised v.truth.events) 0 mark v
 
-pub mark_notes : (v w : View) (a b : Seen) → Marks v w a b → Notes (marked_by w.marked v) w a b
+pub mark_notes : (v w : View) (a b : RackView) → Marks v w a b → Notes (marked_by w.marked v) w a b
 mark_notes v w a b marks =
     let notes = marks.writes.notes in
     elim marks.either [
@@ -107,23 +107,23 @@ mark_notes v w a b marks =
     ]
 
 -- where it is marked nobody went
-pub mark_all : (v w : View) (a b : Seen) → Marks v w a b → w.marked ≡ true → w.went ≡ []
+pub mark_all : (v w : View) (a b : RackView) → Marks v w a b → w.marked ≡ true → w.went ≡ []
 mark_all v w a b marks marked =
     elim marks.either [
       | inl all ↦ ap (λ (u : View). u.went) all.1 ∙ all.0
       | inr some ↦ absurd (both_ways w.marked (ap (λ (u : View). u.marked) some.1 ∙ marks.writes.notes.same.marked) marked)
     ]
 
-pub mark_moves : (s : State) (v w : View) (a b : Seen) → IsArray v → HasSlices v a → is_whole_array v ≡ true → v.marked ≡ false → Marks v w a b → MayRenew s v a
+pub mark_moves : (s : State) (v w : View) (a b : RackView) → IsArray v → HasSlices v a → is_whole_array v ≡ true → v.marked ≡ false → Marks v w a b → MayRenew s v a
     → (vals : ℕ → Values) (spent : ℕ → Bool)
-    → Moves v.number a b (Holds s (shape_of v) v vals spent a) (Says s v.number (shape_of v) vals spent) (Holds s (shape_of v) (marked_by w.marked v) vals spent b)
+    → CallRefines v.number a b (ArrayInvariant s (shape_of v) v vals spent a) (ImageShowsArray s v.number (shape_of v) vals spent) (ArrayInvariant s (shape_of v) (marked_by w.marked v) vals spent b)
 mark_moves s v w a b is_array slices whole unmarked marks may vals spent =
     let raise = raised_more v.truth.events may.events in
     let few = is_array.least in
     let first : 0 < v.truth.raid_disks = omega (arith, few) in
     let there : slice_get v.seats 0 ≡ Some Whole = whole_seat v 0 is_array whole first in
     renew_moves s v (raised v.truth.events) 0 false a b is_array may.state may.rows raise.0 raise.1 (inr refl) slices.lasting may.supers marks.writes.only
-    w.marked (Holds s (shape_of v) v vals spent a) vals spent may.fresh (λ h. h)
+    w.marked (ArrayInvariant s (shape_of v) v vals spent a) vals spent may.fresh (λ h. h)
     (λ h c inside mix. even_unsynced (shape_of v) v.number (unsynced v).truth (replayed a.sectors c) refl)
     (λ h steady. h.shape.settled (steady_before v w unmarked steady))
     (λ is. refl)
@@ -148,7 +148,7 @@ mark_moves s v w a b is_array slices whole unmarked marks may vals spent =
         by true was alone is steady = absurd (both_ways true steady refl)
         by false was alone is steady = ap (λ (b : Bool). b || alone) is ∙ steady
 
-    mark_written : (v w : View) (a b : Seen) (marks : Marks v w a b) → w.marked ≡ true → marks.written.went ≡ []
+    mark_written : (v w : View) (a b : RackView) (marks : Marks v w a b) → w.marked ≡ true → marks.written.went ≡ []
     mark_written v w a b marks is =
         elim marks.either [
           | inl all ↦ all.0
@@ -162,14 +162,14 @@ seats_same (x ∷ xs) [] same = let none : Some x ≡ None = same 0 in absurd (c
 seats_same (x ∷ xs) (y ∷ ys) same = ap₂ (λ (z : Seat) zs. z ∷ zs) (ap (λ o. unwrap_or o x) (same 0)) (seats_same xs ys (λ n. same (suc n)))
 
 -- an array that was whole is so where nobody went
-pub notes_whole : (v w : View) (a b : Seen) → Notes v w a b → w.went ≡ [] → is_whole_array v ≡ true → is_whole_array w ≡ true
+pub notes_whole : (v w : View) (a b : RackView) → Notes v w a b → w.went ≡ [] → is_whole_array v ≡ true → is_whole_array w ≡ true
 notes_whole v w a b notes fresh whole =
     let same = notes.same in
     let seats : w.seats ≡ v.seats = seats_same w.seats v.seats (seats_kept v w notes.lost notes.loses fresh) in
     (λ i. list_all is_whole_seat (seats i) && ((same.resync i == (same.truth i).size / 128) && (not (same.young i) && not (is_reshaping (same.truth i))))) ∙ whole
 
 -- and once it is marked
-pub mark_whole : (v w : View) (a b : Seen) → is_whole_array v ≡ true → Marks v w a b → w.marked ≡ true → is_whole_array w ≡ true
+pub mark_whole : (v w : View) (a b : RackView) → is_whole_array v ≡ true → Marks v w a b → w.marked ≡ true → is_whole_array w ≡ true
 mark_whole v w a b whole marks marked = notes_whole (marked_by w.marked v) w a b (mark_notes v w a b marks) (mark_all v w a b marks marked) whole
 
 pub restated_shape : (e o : ℕ) (m : Bool) (v : View) → shape_of (restated e o m v) ≡ shape_of v
@@ -195,7 +195,7 @@ restated_array e o m v is_array = record {
 
 -- values that a sector may leave it may leave once another is appended
 pub says_appended : (s : State) (n : ℕ) (shape : Shape) (x : ℕ) (from : List ℕ) (vals : ℕ → Values) (spent : ℕ → Bool) (r : Image)
-    → Says s n shape vals spent r → Says s n shape (appended_at x from vals) spent r
+    → ImageShowsArray s n shape vals spent r → ImageShowsArray s n shape (appended_at x from vals) spent r
 says_appended s n shape x from vals spent r says = record {
   shape_is = says.shape_is;
   value = λ y alive. more (y == x) (vals y) (value_by shape r n y) (says.value y alive);
@@ -207,17 +207,17 @@ says_appended s n shape x from vals spent r says = record {
     more false h u may = may
 
 -- an array that is ready for them, as it was
-record IsReady (s : State) (v u : View) (spent : ℕ → Bool) (a b : Seen) (vals : ℕ → Values) : Type 0 where
-  pub moves : Moves v.number a b (Holds s (shape_of v) v vals spent a) (Says s v.number (shape_of v) vals spent) (Holds s (shape_of u) u vals spent b)
+record IsReady (s : State) (v u : View) (spent : ℕ → Bool) (a b : RackView) (vals : ℕ → Values) : Type 0 where
+  pub moves : CallRefines v.number a b (ArrayInvariant s (shape_of v) v vals spent a) (ImageShowsArray s v.number (shape_of v) vals spent) (ArrayInvariant s (shape_of u) u vals spent b)
   pub others : KeepsOthers v.number a b
   pub shape : shape_of u ≡ shape_of v
 
-ready_moves : (s : State) (v u : View) (a b : Seen) → IsArray v → IsArray u → HasSlices v a → Readies v u a b true → MayRenew s v a
-    → (vals : ℕ → Values) (spent : ℕ → Bool) → Covers u spent → IsReady s v u spent a b vals
+ready_moves : (s : State) (v u : View) (a b : RackView) → IsArray v → IsArray u → HasSlices v a → Readies v u a b true → MayRenew s v a
+    → (vals : ℕ → Values) (spent : ℕ → Bool) → IncludesSpent u spent → IsReady s v u spent a b vals
 ready_moves s v u a b is_array now slices (was_marked whole fresh marked same reads) may vals spent covers =
     subst (λ (w : View). IsReady s v w spent a b vals) (sym same)
     (record {
-      moves = moves_of s v v spent a b (shape_of v) vals (Says s v.number (shape_of v) vals spent) (shape_of v) vals (keeping_calls a b slices.lasting reads.stays reads.keeps s (shape_of v) v vals spent);
+      moves = moves_of s v v spent a b (shape_of v) vals (ImageShowsArray s v.number (shape_of v) vals spent) (shape_of v) vals (keeping_calls a b slices.lasting reads.stays reads.keeps s (shape_of v) v vals spent);
       others = λ d t live other. reads.keeps.held d t live;
       shape = refl;
     })
@@ -229,16 +229,16 @@ ready_moves s v u a b is_array now slices (now_marked whole fresh unmarked marke
     let moves = mark_moves s v u a b is_array slices whole unmarked marks may vals spent in
     record {
       moves =
-          moves_by v.number a b (Holds s (shape_of v) v vals spent a) (Holds s (shape_of v) v vals spent a) (Holds s (shape_of v) base vals spent b) (Holds s (shape_of u) u vals spent b)
-          (Says s v.number (shape_of v) vals spent) (Says s v.number (shape_of v) vals spent) (λ h. h) (λ r p. p)
-          (λ h. subst (λ (f : Shape). Holds s f u vals spent b) (sym shape) (holds_noted base u a b b (restated_array (raised v.truth.events) 0 u.marked v is_array) notes s (shape_of v) vals spent covers h))
+          moves_by v.number a b (ArrayInvariant s (shape_of v) v vals spent a) (ArrayInvariant s (shape_of v) v vals spent a) (ArrayInvariant s (shape_of v) base vals spent b) (ArrayInvariant s (shape_of u) u vals spent b)
+          (ImageShowsArray s v.number (shape_of v) vals spent) (ImageShowsArray s v.number (shape_of v) vals spent) (λ h. h) (λ r p. p)
+          (λ h. subst (λ (f : Shape). ArrayInvariant s f u vals spent b) (sym shape) (holds_noted base u a b b (restated_array (raised v.truth.events) 0 u.marked v is_array) notes s (shape_of v) vals spent covers h))
           moves;
       others = supers_others (unsynced v) a b is_array.few marks.writes.only;
       shape = shape;
     }
 
-pub ready_writes : (s : State) (v u w : View) (a b c : Seen) → IsArray v → IsArray u → HasSlices v a → Readies v u a b true → MayRenew s v a
-    → (vals : ℕ → Values) (spent : ℕ → Bool) (x : ℕ) (from : List ℕ) → Covers w spent → Notes u w b c
+pub ready_writes : (s : State) (v u w : View) (a b c : RackView) → IsArray v → IsArray u → HasSlices v a → Readies v u a b true → MayRenew s v a
+    → (vals : ℕ → Values) (spent : ℕ → Bool) (x : ℕ) (from : List ℕ) → IncludesSpent w spent → Notes u w b c
     → WritesArray s u w spent b c (shape_of u) vals x from
     → IsNoted v w a c
     → WritesArray s v w spent a c (shape_of v) vals x from
@@ -247,19 +247,19 @@ ready_writes s v u w a b c is_array now slices readies may vals spent x from cov
     let n = v.number in
     let number : u.number ≡ v.number = ready_number v u a b readies in
     let vals_now = appended_at x from vals in
-    let P : Image → Type 0 = Says s n (shape_of v) vals_now spent in
-    let first : Moves n a b (Holds s (shape_of v) v vals spent a) P (Holds s (shape_of u) u vals spent b) =
-    moves_by n a b (Holds s (shape_of v) v vals spent a) (Holds s (shape_of v) v vals spent a) (Holds s (shape_of u) u vals spent b) (Holds s (shape_of u) u vals spent b)
-    (Says s n (shape_of v) vals spent) P (λ h. h) (λ r. says_appended s n (shape_of v) x from vals spent r) (λ h. h) ready.moves in
-    let second : Moves u.number b c (Holds s (shape_of u) u vals spent b) (Says s u.number (shape_of u) vals_now spent) (Holds s (shape_of u) w vals_now spent c) =
-    moves_of s u w spent b c (shape_of u) vals (Says s u.number (shape_of u) vals_now spent) (shape_of u) vals_now writes in
-    let here : Moves n b c (Holds s (shape_of u) u vals spent b) P (Holds s (shape_of v) w vals_now spent c) =
-    subst (λ (f : Shape). Moves n b c (Holds s (shape_of u) u vals spent b) (Says s n f vals_now spent) (Holds s f w vals_now spent c)) ready.shape
-    (subst (λ k. Moves k b c (Holds s (shape_of u) u vals spent b) (Says s k (shape_of u) vals_now spent) (Holds s (shape_of u) w vals_now spent c)) number second) in
+    let P : Image → Type 0 = ImageShowsArray s n (shape_of v) vals_now spent in
+    let first : CallRefines n a b (ArrayInvariant s (shape_of v) v vals spent a) P (ArrayInvariant s (shape_of u) u vals spent b) =
+    moves_by n a b (ArrayInvariant s (shape_of v) v vals spent a) (ArrayInvariant s (shape_of v) v vals spent a) (ArrayInvariant s (shape_of u) u vals spent b) (ArrayInvariant s (shape_of u) u vals spent b)
+    (ImageShowsArray s n (shape_of v) vals spent) P (λ h. h) (λ r. says_appended s n (shape_of v) x from vals spent r) (λ h. h) ready.moves in
+    let second : CallRefines u.number b c (ArrayInvariant s (shape_of u) u vals spent b) (ImageShowsArray s u.number (shape_of u) vals_now spent) (ArrayInvariant s (shape_of u) w vals_now spent c) =
+    moves_of s u w spent b c (shape_of u) vals (ImageShowsArray s u.number (shape_of u) vals_now spent) (shape_of u) vals_now writes in
+    let here : CallRefines n b c (ArrayInvariant s (shape_of u) u vals spent b) P (ArrayInvariant s (shape_of v) w vals_now spent c) =
+    subst (λ (f : Shape). CallRefines n b c (ArrayInvariant s (shape_of u) u vals spent b) (ImageShowsArray s n f vals_now spent) (ArrayInvariant s f w vals_now spent c)) ready.shape
+    (subst (λ k. CallRefines k b c (ArrayInvariant s (shape_of u) u vals spent b) (ImageShowsArray s k (shape_of u) vals_now spent) (ArrayInvariant s (shape_of u) w vals_now spent c)) number second) in
     acts_of s v w spent a c (shape_of v) vals P (shape_of v) vals_now
-    (moves_then n a b c (Holds s (shape_of v) v vals spent a) (Holds s (shape_of u) u vals spent b) (Holds s (shape_of v) w vals_now spent c) P slices.lasting ready.others first here)
+    (moves_then n a b c (ArrayInvariant s (shape_of v) v vals spent a) (ArrayInvariant s (shape_of u) u vals spent b) (ArrayInvariant s (shape_of v) w vals_now spent c) P slices.lasting ready.others first here)
     noted
   where
-    ready_number : (v u : View) (a b : Seen) → Readies v u a b true → u.number ≡ v.number
+    ready_number : (v u : View) (a b : RackView) → Readies v u a b true → u.number ≡ v.number
     ready_number v u a b (was_marked whole fresh marked same reads) = ap (λ (w : View). w.number) same
     ready_number v u a b (now_marked whole fresh unmarked marked marks) = (mark_notes v u a b marks).same.number

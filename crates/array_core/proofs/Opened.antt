@@ -6,7 +6,7 @@ use Rattle.std.proofs.lemmas.Bool.{and_parts, and_from, both_ways}
 use Rattle.std.proofs.lemmas.List.Quantifiers.{position-Some}
 use Rattle.std.proofs.lemmas.Option.{slice_get-get_or}
 use Rattle.std.proofs.lemmas.Slice.Eq.{bytes_eq-Decides}
-use Rattle.rack.specs.Seen.{Image, Seen}
+use Rattle.rack.specs.Seen.{Image, RackView}
 use Rattle.pool_state.specs.declared.contents.State.{State}
 use Rattle.md_super.specs.declared.superblock.Super.{Super}
 use Rattle.md_super.specs.Profile.{profiled}
@@ -310,7 +310,7 @@ module _ (s : State) (c : Image) (number : ℕ) (t : Super) (found : List Found)
 -- ---- what the opened array holds
 
 -- the opened array is that of the slices, so it holds what they say
-pub found_opens : (s : State) (number : ℕ) (t : Super) (found : List Found) (x : Seen) → is_truth t ≡ true → AreSlicesOf s number t found x
+pub found_opens : (s : State) (number : ℕ) (t : Super) (found : List Found) (x : RackView) → is_truth t ≡ true → AreSlicesOf s number t found x
     → OpensOn s (view_found number false found t) x
 found_opens s number t found x holds slices =
     let v = view_found number false found t in

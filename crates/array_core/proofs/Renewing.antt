@@ -3,7 +3,7 @@ use Rattle.std.proofs.Common.{◌≡◌, ◌≢◌, ◌⊎◌, ℕ, ◌+◌, ◌
 use Rattle.std.proofs.lemmas.Bool.{cases_lt}
 use Rattle.rack.specs.declared.Gone.{Gone}
 use Rattle.rack.specs.Values.{MayLeave}
-use Rattle.rack.specs.Seen.{Seen, IsLive}
+use Rattle.rack.specs.Seen.{RackView, IsLive}
 use Rattle.rack.specs.Joins.{live_first, live_second}
 use Rattle.rack.specs.Sequences.{WritesDurably}
 use Rattle.rack.proofs.Writing.{only_none, only_weaker, only_then}
@@ -58,7 +58,7 @@ new_before u v d t x lost same loses new =
 
 -- ---- one
 
-pub super_none : (v : View) (a : Seen) (n : ℕ) → a.fit → slice_get v.seats n ≡ Some Missing → WritesSuper v v a a n
+pub super_none : (v : View) (a : RackView) (n : ℕ) → a.fit → slice_get v.seats n ≡ Some Missing → WritesSuper v v a a n
 super_none v a n fit gone = record {
   notes = notes_none v a a;
   only = only_none a (λ d t x. (d ≡ slice_on v n) × IsNewSuper v d t x) fit;
@@ -70,7 +70,7 @@ is_new : (v : View) (n d t : ℕ) (x y : List ℕ) → n < v.truth.raid_disks �
 is_new v n d t x y low there own at =
     (at.0, record { position = n; inside = low; there = there; disk = at.0; sector = at.1; own = subst (IsOwnSector v n) (sym at.2) own })
 
-pub super_written : (v : View) (a b : Seen) (n : ℕ) (x : List ℕ) → n < v.truth.raid_disks → slice_get v.seats n ≢ Some Missing → IsOwnSector v n x
+pub super_written : (v : View) (a b : RackView) (n : ℕ) (x : List ℕ) → n < v.truth.raid_disks → slice_get v.seats n ≢ Some Missing → IsOwnSector v n x
     → WritesDurably a b (slice_on v n) super_sector x {X = Unit {0}} (Ok tt) → WritesSuper v v a b n
 super_written v a b n x low there own writes = record {
   notes = notes_none v a b;
@@ -80,7 +80,7 @@ super_written v a b n x low there own writes = record {
   durable = λ still live y may. subst (IsOwnSector v n) (sym (writes.durable live y may)) own;
 }
 
-pub super_refused : (v w : View) (a b : Seen) (n place slice : ℕ) (x : List ℕ) (gone : Gone) → v.number < 16 → n < v.truth.raid_disks → slice_get v.seats n ≢ Some Missing
+pub super_refused : (v w : View) (a b : RackView) (n place slice : ℕ) (x : List ℕ) (gone : Gone) → v.number < 16 → n < v.truth.raid_disks → slice_get v.seats n ≢ Some Missing
     → place ≡ place_at v n → slice ≡ slice_on v n → IsOwnSector v n x → IsSameButSeats v w → LosesPlaces v w (λ p. p == place)
     → WritesDurably a b slice super_sector x {X = Unit {0}} (Err gone) → WritesSuper v w a b n
 super_refused v w a b n place slice x gone few low there place_is slice_is own same loses writes =
@@ -99,14 +99,14 @@ super_refused v w a b n place slice x gone few low there place_is slice_is own s
 
 -- ---- and the next
 
-pub supers_none : (v : View) (a : Seen) → a.fit → WritesSupers v v a a 0
+pub supers_none : (v : View) (a : RackView) → a.fit → WritesSupers v v a a 0
 supers_none v a fit = record {
   notes = notes_none v a a;
   only = only_none a (IsNewSuper v) fit;
   durable = λ n low there live x may. absurd (omega (arith, low));
 }
 
-pub supers_next : (u v w : View) (a b c : Seen) (k : ℕ) → IsArray u → k < u.truth.raid_disks → WritesSupers u v a b k → WritesSuper v w b c k → WritesSupers u w a c (k + 1)
+pub supers_next : (u v w : View) (a b c : RackView) (k : ℕ) → IsArray u → k < u.truth.raid_disks → WritesSupers u v a b k → WritesSuper v w b c k → WritesSupers u w a c (k + 1)
 supers_next u v w a b c k is_array low so_far one =
     let first = so_far.only.stays in
     let second = one.only.stays in

@@ -1,6 +1,6 @@
 -- A RAID-5 row that is rewritten, whoever goes in it.
 use Rattle.std.proofs.Common.{◌≡◌, ℕ, ◌+◌, ◌<◌, true, false, nat_lt, List, [], ◌∷◌, length, refl, sym, ap, ap₂, subst, ◌∙◌, inl, inr, arith}
-use Rattle.rack.specs.Seen.{Seen}
+use Rattle.rack.specs.Seen.{RackView}
 use Rattle.rack.specs.Targets.{Target, target}
 use Rattle.rack.specs.Sequences.{OnlyReads}
 use Rattle.parity.specs.Xor.{xor}
@@ -45,7 +45,7 @@ parity_stand_is v x members at is_array still layout low is_m is_spread is_s is_
       sector = omega (arith, inside, at_s, is_s);
     }
 
-pub change_wrote : (v u w z : View) (a b c d : Seen) (x : ℕ) (at side : Stand) (from new : List ℕ)
+pub change_wrote : (v u w z : View) (a b c d : RackView) (x : ℕ) (at side : Stand) (from new : List ℕ)
     → a.lasting → IsArray v → is_whole_array v ≡ true → v.went ≡ [] → final_layout v.truth ≡ parity v.truth.raid_disks → x < sectors_of v
     → IsStand v at → layout_of at.spread ≡ layout_at (shape_of v) x → at.position ≡ position_in (layout_at (shape_of v) x) x → at.sector ≡ sector_in (layout_at (shape_of v) x) x
     → IsStand v side → side.position ≡ parity_at v.truth.raid_disks side.sector → side.sector ≡ sector_of v.truth.raid_disks x

@@ -3,7 +3,7 @@ use Rattle.std.proofs.Common.{◌≡◌, ℕ, zero, suc, ◌+◌, ◌<◌, ◌�
 use Rattle.std.proofs.lemmas.Bool.{both_ways}
 use Rattle.std.specs.Option.{option_map_or}
 use Rattle.rack.specs.Values.{Values, MayLeave, append, only}
-use Rattle.rack.specs.Seen.{Image, Seen}
+use Rattle.rack.specs.Seen.{Image, RackView}
 use Rattle.rack.specs.Joins.{leaves_weaker, may_leave-append}
 use Rattle.rack.specs.Targets.{Target, look, put}
 use Rattle.md_super.specs.declared.superblock.Super.{Super}
@@ -14,28 +14,28 @@ use Rattle.array_image.specs.Supers.{super_in, truth_in}
 use Rattle.array_image.specs.SoundArray.{first_unsynced}
 use Rattle.array_image.specs.Arrays.{Member, Shape, layout_at, value_by, place_with, replayed}
 use Rattle.array_image.specs.Even.{AreEven}
-use Rattle.array_image.specs.Held.{Among, IsSettled, current_in, held_of, held_by, first_counting, member_at, source_in}
+use Rattle.array_image.specs.Held.{Among, IsSynced, current_in, held_of, held_by, first_counting, member_at, source_in}
 use Rattle.array_image.specs.Marks.{lower, lowered}
 use Rattle.array_image.specs.Spent.{wanting}
-use Rattle.array_image.specs.Left.{LogsInside, IsInside, Picks, PicksLogs, IsLeft, IsApart, IsClosed}
+use Rattle.array_image.specs.Left.{LogsInside, IsInside, Picks, PicksLogs, IsLeft, IsApart, NothingPending}
 use Rattle.array_image.proofs.Frames.{value_by_data}
 use Rattle.array_image.proofs.Marked.{among_lowered}
 use Rattle.array_image.proofs.Replays.{replayed_as_is}
 use Rattle.array_image.proofs.Sources.{source_counts}
 use Rattle.log_laws.specs.View.{LogView, names, next_number}
 use Rattle.log_laws.specs.Standing.{IsLogPart, IsAlike, IsReady, SomeoneDecides}
-use Rattle.log_laws.specs.Commits.{Commits, CommitCall, StandsMidway}
+use Rattle.log_laws.specs.Commits.{ImageInCommit, CommitCall, StandsMidway}
 use Rattle.commit_log.proofs.Saying.{commit_moments, midway_none}
-use Rattle.log_laws.specs.Kept.{LogKept, gone_with}
+use Rattle.log_laws.specs.Kept.{LogInvariant, gone_with}
 use Rattle.log_laws.proofs.Kept.{stands_of, before_inside}
 use Rattle.array_model.specs.View.{View, IsArray, shape_of, spent_in, may_vary, is_alone}
-use Rattle.array_model.specs.Says.{Says, HoldsShape, Holds, IsEarlier, HasNoOthers}
-use Rattle.array_model.specs.ArrayCalls.{Turns, Covers, appended_at}
+use Rattle.array_model.specs.Says.{ImageShowsArray, ShapeInvariant, ArrayInvariant, IsEarlier, HasNoOthers}
+use Rattle.array_model.specs.ArrayCalls.{ImageInCall, IncludesSpent, appended_at}
 use Rattle.array_model.specs.Rows.{RowChange, written, source_at, sector_at}
 use Rattle.array_model.proofs.DataFrames.{SameSectors, super_at, truth_at, shape_at}
 use Rattle.array_model.proofs.Keeping.{live_on, open_after, inside_before, logs_of}
 use Rattle.array_model.proofs.Losses.{IsLosing, even_noted}
-use Rattle.array_model.proofs.Moves.{Moves}
+use Rattle.array_model.proofs.Moves.{CallRefines}
 use Rattle.array_model.proofs.Noting.{laid_out, unspent_then, covers_before}
 use Rattle.array_model.proofs.Spared.{lost_value, at_most_one, wanting_lost, wanting_take}
 use Rattle.array_model.proofs.Opening.{even_counted}
@@ -101,15 +101,15 @@ put_none sectors xs c d t is =
 
 -- ---- the commit
 
-module _ (s : State) (v w : View) (a b : Seen) (l : LogView) (on lost : List ℕ) (gone : ℕ → Bool)
+module _ (s : State) (v w : View) (a b : RackView) (l : LogView) (on lost : List ℕ) (gone : ℕ → Bool)
     (is_array : IsArray v) (fresh : v.went ≡ []) (steady : may_vary v ≡ false)
     (commit : CommitCall l on lost a b) (ready : IsReady l on a) (decides : SomeoneDecides l.added on lost a)
-    (kept : LogKept s (next_number l.number) (gone_with (λ place. false) lost) b)
+    (kept : LogInvariant s (next_number l.number) (gone_with (λ place. false) lost) b)
     (quiet : (c : Image) → PicksLogs a c → (d t : ℕ) → replayed a.sectors c d t ≡ c d t)
     (own : IsOwnData v.number l.added)
     (losing : IsLosing v w gone) (left_too : (place : ℕ) → gone place ≡ false → names lost place ≡ false) (nobody : w.went ≡ [] → lost ≡ [])
-    (vals : ℕ → Values) (spent : ℕ → Bool) (covers : Covers w spent) (x : ℕ) (from : List ℕ)
-    (H : Type 0) (begins : H → Holds s (shape_of v) v vals spent a) (change : H → RowChange (shape_of v) v.number v.resync x from (current_in a.held) l.added) where
+    (vals : ℕ → Values) (spent : ℕ → Bool) (covers : IncludesSpent w spent) (x : ℕ) (from : List ℕ)
+    (H : Type 0) (begins : H → ArrayInvariant s (shape_of v) v vals spent a) (change : H → RowChange (shape_of v) v.number v.resync x from (current_in a.held) l.added) where
   abbrev n : ℕ
   n = v.number
 
@@ -151,7 +151,7 @@ module _ (s : State) (v w : View) (a b : Seen) (l : LogView) (on lost : List ℕ
   written_is d t o is = ap (λ (p : Option (List ℕ)). unwrap_or p (current_in a.held d t)) is
 
   module _ (h : H) where
-    holds : Holds s (shape_of v) v vals spent a
+    holds : ArrayInvariant s (shape_of v) v vals spent a
     holds = begins h
 
     data_put : (before : Image) → Picks a before → (m : Member) (t : ℕ) → Among m (shape_of v).members → t < m.reach
@@ -203,7 +203,7 @@ module _ (s : State) (v w : View) (a b : Seen) (l : LogView) (on lost : List ℕ
           sym (quiet all.before (logs_of all.before all.picks) d i
           ∙ holds.shape.settled steady m t among counts (all.before d i) (all.picks.picks d i (holds.shape.open_slices m t among counts)))
 
-      all_says : Says s v.number (shape_of v) (appended_at x from vals) spent r
+      all_says : ImageShowsArray s v.number (shape_of v) (appended_at x from vals) spent r
       all_says =
           let old = holds.shape.says (replayed a.sectors all.before) left in
           let e = replayed a.sectors all.before in
@@ -235,7 +235,7 @@ module _ (s : State) (v w : View) (a b : Seen) (l : LogView) (on lost : List ℕ
 
     -- ---- moments
 
-    old_says : (c before : Image) → Picks a before → IsAlike (replayed a.sectors c) (replayed a.sectors before) → Says s v.number (shape_of v) (appended_at x from vals) spent (replayed a.sectors c)
+    old_says : (c before : Image) → Picks a before → IsAlike (replayed a.sectors c) (replayed a.sectors before) → ImageShowsArray s v.number (shape_of v) (appended_at x from vals) spent (replayed a.sectors c)
     old_says c before picks alike =
         let r = replayed a.sectors c in
         let e = replayed a.sectors before in
@@ -337,7 +337,7 @@ module _ (s : State) (v w : View) (a b : Seen) (l : LogView) (on lost : List ℕ
         new_may true is h u same = inl same
         new_may false is h u same = absurd (both_ways false refl is)
 
-    settled_now : IsSettled (lowered gone (shape_of v)) v.number b.held
+    settled_now : IsSynced (lowered gone (shape_of v)) v.number b.held
     settled_now m t among counts u may =
         let of = among_lowered gone t shape.members m among counts in
         let here = among_kept gone t shape.members m among counts in
@@ -356,7 +356,7 @@ module _ (s : State) (v w : View) (a b : Seen) (l : LogView) (on lost : List ℕ
         ] in
         goal refl
 
-    shape_now : HoldsShape s v.number (shape_of v) (lowered gone (shape_of v)) v.resync (may_vary w) (appended_at x from vals) spent b
+    shape_now : ShapeInvariant s v.number (shape_of v) (lowered gone (shape_of v)) v.resync (may_vary w) (appended_at x from vals) spent b
     shape_now =
         let even_now = change_even shape n v.resync x from (current_in a.held) l.added (change h) v.resync holds.shape.even in
         let left_now : (m : Member) (t : ℕ) → Among m (lowered gone shape).members → t < m.reach → current_in b.held (member_slice m.place n) (data_sector + t) ≡ now (member_slice m.place n) (data_sector + t) =
@@ -381,12 +381,12 @@ module _ (s : State) (v w : View) (a b : Seen) (l : LogView) (on lost : List ℕ
     unmarked : v.marked ≡ true → ⊥
     unmarked marked = both_ways (may_vary v) steady (ap (λ (m : Bool). m || is_alone v) marked)
 
-    holds_now : Holds s (shape_of v) w (appended_at x from vals) spent b
+    holds_now : ArrayInvariant s (shape_of v) w (appended_at x from vals) spent b
     holds_now = record {
       shape =
-          subst (λ k. HoldsShape s k (shape_of v) (shape_of w) w.resync (may_vary w) vals_now spent b) (sym losing.number)
-          (subst (λ k. HoldsShape s n (shape_of v) (shape_of w) k (may_vary w) vals_now spent b) (sym losing.resync)
-          (subst (λ (g : Shape). HoldsShape s n (shape_of v) g v.resync (may_vary w) vals_now spent b) (sym losing.shape) shape_now));
+          subst (λ k. ShapeInvariant s k (shape_of v) (shape_of w) w.resync (may_vary w) vals_now spent b) (sym losing.number)
+          (subst (λ k. ShapeInvariant s n (shape_of v) (shape_of w) k (may_vary w) vals_now spent b) (sym losing.resync)
+          (subst (λ (g : Shape). ShapeInvariant s n (shape_of v) g v.resync (may_vary w) vals_now spent b) (sym losing.shape) shape_now));
       mark = λ marked. absurd (unmarked (losing.marked marked));
       alone = λ r left place current other.
           subst (λ k. super_in s r k place ≡ None) (sym losing.number)
@@ -394,7 +394,7 @@ module _ (s : State) (v w : View) (a b : Seen) (l : LogView) (on lost : List ℕ
           (λ k small at. other k (subst (λ (u : Super). k < u.raid_disks) (sym losing.truth) small)
           (ap (λ (u : Super). unwrap_or (place_with u.roles.items k) 16) losing.truth ∙ at)));
       closed = λ none.
-          subst (λ k. IsClosed k b) (sym losing.number)
+          subst (λ k. NothingPending k b) (sym losing.number)
           (λ c picks place t.
           replayed_as_is b.sectors c (member_slice place n) t
           (ap (λ (ys : List Target). look ys (member_slice place n) t)
@@ -409,12 +409,12 @@ module _ (s : State) (v w : View) (a b : Seen) (l : LogView) (on lost : List ℕ
   no_log : (d t : ℕ) → IsApart v.number d t → IsLogPart d t → ⊥
   no_log d t apart part = elim apart.1 [ inl other ↦ other part.0 | inr first ↦ (let later = part.1 in absurd (omega (arith, first, later))) ]
 
-  pub logged_moves : Moves v.number a b H (Says s v.number (shape_of v) (appended_at x from vals) spent) (Holds s (shape_of v) w (appended_at x from vals) spent b)
+  pub logged_moves : CallRefines v.number a b H (ImageShowsArray s v.number (shape_of v) (appended_at x from vals) spent) (ArrayInvariant s (shape_of v) w (appended_at x from vals) spent b)
   logged_moves = record {
     stays = commit.stays;
     leaves = λ traced.
-        leaves_weaker (λ c. LogsInside a.sectors c → Commits l.added a c × StandsMidway l on a c)
-        (λ c. IsInside a.sectors c → Turns v.number a b (λ r. H → Says s v.number (shape_of v) (appended_at x from vals) spent r) c)
+        leaves_weaker (λ c. LogsInside a.sectors c → ImageInCommit l.added a c × StandsMidway l on a c)
+        (λ c. IsInside a.sectors c → ImageInCall v.number a b (λ r. H → ImageShowsArray s v.number (shape_of v) (appended_at x from vals) spent r) c)
         (λ c found inside.
         let both = found (λ place i out. inside (log_slice place) i out) in
         let commits = both.0 in

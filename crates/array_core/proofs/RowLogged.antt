@@ -3,7 +3,7 @@ use Rattle.std.proofs.Common.{◌≡◌, ℕ, ◌+◌, ◌<◌, Bool, true, fals
 use Rattle.std.proofs.lemmas.Bool.{both_ways, and_from}
 use Rattle.std.specs.List.{list_any}
 use Rattle.rack.specs.Values.{Values}
-use Rattle.rack.specs.Seen.{Image, Seen, IsLive}
+use Rattle.rack.specs.Seen.{Image, RackView, IsLive}
 use Rattle.rack.specs.Targets.{Target, look}
 use Rattle.rack.specs.Sequences.{IsPayload, OnlyReads}
 use Rattle.pool_state.specs.declared.contents.State.{State}
@@ -13,11 +13,11 @@ use Rattle.array_image.specs.Held.{Among, current_in}
 use Rattle.array_image.specs.Stripes.{sector_in}
 use Rattle.array_image.proofs.Frames.{value_by_data}
 use Rattle.array_image.specs.Places.{member_slice}
-use Rattle.array_model.specs.Says.{Says, Holds}
-use Rattle.array_model.specs.ArrayCalls.{Covers, appended_at}
+use Rattle.array_model.specs.Says.{ImageShowsArray, ArrayInvariant}
+use Rattle.array_model.specs.ArrayCalls.{IncludesSpent, appended_at}
 use Rattle.array_model.specs.Rows.{RowChange, written}
 use Rattle.array_model.proofs.Losses.{IsLosing}
-use Rattle.array_model.proofs.Moves.{Moves, moves_then, moves_by}
+use Rattle.array_model.proofs.Moves.{CallRefines, moves_then, moves_by}
 use Rattle.array_model.proofs.Opening.{agree_counted}
 use Rattle.array_core.proofs.Marking.{says_appended}
 use Rattle.md_super.specs.declared.superblock.Super.{Super}
@@ -28,7 +28,7 @@ use Rattle.array_image.proofs.Replays.{replayed_as_is}
 use Rattle.log_laws.specs.View.{LogView, names, next_number}
 use Rattle.log_laws.specs.Standing.{IsReady, SomeoneDecides}
 use Rattle.log_laws.specs.Commits.{CommitCall}
-use Rattle.log_laws.specs.Kept.{LogKept, Brings, gone_with}
+use Rattle.log_laws.specs.Kept.{LogInvariant, CarriesState, gone_with}
 use Rattle.log_laws.proofs.Kept.{brings_nothing, kept_ready, kept_decides, kept_idle}
 use Rattle.log_laws.proofs.KeptAfter.{kept_after, kept_keeps}
 use Rattle.array_model.specs.declared.Seat.{Seat}
@@ -63,10 +63,10 @@ any_place (x ∷ xs) p is = by (place_of x.disk == p) (list_any (λ x. place_of 
 abbrev pub nobody : ℕ → Bool
 nobody place = false
 
-module _ (s : State) (all : Bool) (b0 u w : View) (a b c : Seen) (l : LogView) (on lost : List ℕ)
+module _ (s : State) (all : Bool) (b0 u w : View) (a b c : RackView) (l : LogView) (on lost : List ℕ)
     (base : Base all b0 u) (is_array : IsArray u) (lasting : a.lasting) (reads : OnlyReads a b) (list : RowList all u l.added)
     (commit : CommitCall l on lost b c) (may : MayLog s b0 w l.number on a) (left : (place : ℕ) → has_gone w place ≡ false → names lost place ≡ false) where
-  kept_b : LogKept s l.number nobody b
+  kept_b : LogInvariant s l.number nobody b
   kept_b = kept_keeps s l.number nobody a b lasting reads.stays reads.keeps may.log
 
   in_base : (j : ℕ) → j < u.truth.raid_disks → j < b0.truth.raid_disks
@@ -116,7 +116,7 @@ module _ (s : State) (all : Bool) (b0 u w : View) (a b c : Seen) (l : LogView) (
       ] in
       goal refl
 
-  brings : Brings s s l.added on
+  brings : CarriesState s s l.added on
   brings = brings_nothing s nobody l.added on may.places inside_on no_state
 
   pub log_ready : IsReady l on b
@@ -138,7 +138,7 @@ module _ (s : State) (all : Bool) (b0 u w : View) (a b c : Seen) (l : LogView) (
       (and_from (names on p) (not (names lost p)) (may.places p ∙ ap (λ (k : Bool). k && true) may.someone.1) (ap not (left p may.someone.2)))
       may.someone.1
 
-  pub log_kept : LogKept s (next_number l.number) (gone_with nobody lost) c
+  pub log_kept : LogInvariant s (next_number l.number) (gone_with nobody lost) c
   log_kept = kept_after s s nobody l on lost b c commit kept_b brings may.places log_ready log_decides
 
   pub log_quiet : (i : Image) → PicksLogs b i → (d t : ℕ) → replayed b.sectors i d t ≡ i d t
@@ -167,26 +167,26 @@ change_kept shape n resync x from cur now xs same change =
     }
 
 -- A row that was read and changed by one commit, whoever went in it.
-pub logged_row : (s : State) (all : Bool) (b0 u z w : View) (a b c : Seen) (l : LogView) (on lost : List ℕ) (x : ℕ) (from : List ℕ) (gone : ℕ → Bool)
+pub logged_row : (s : State) (all : Bool) (b0 u z w : View) (a b c : RackView) (l : LogView) (on lost : List ℕ) (x : ℕ) (from : List ℕ) (gone : ℕ → Bool)
     → Base all b0 u → IsArray u → a.lasting → x < sectors_of u → length from ≡ 512 → spent_in u x ≡ false
     → OnlyReads a b → Notes u z a b → StagedRow all u z a x from l.added → RowList all u l.added
     → CommitCall l on lost b c → MayLog s b0 w l.number on a
     → IsLosing b0 w gone → ((place : ℕ) → gone place ≡ false → names lost place ≡ false) → (w.went ≡ [] → lost ≡ [])
     → ((place : ℕ) → has_gone w place ≡ false → names lost place ≡ false)
-    → (vals : ℕ → Values) (spent : ℕ → Bool) → Covers w spent
-    → Moves b0.number a c (Holds s (shape_of b0) b0 vals spent a) (Says s b0.number (shape_of b0) (appended_at x from vals) spent) (Holds s (shape_of b0) w (appended_at x from vals) spent c)
+    → (vals : ℕ → Values) (spent : ℕ → Bool) → IncludesSpent w spent
+    → CallRefines b0.number a c (ArrayInvariant s (shape_of b0) b0 vals spent a) (ImageShowsArray s b0.number (shape_of b0) (appended_at x from vals) spent) (ArrayInvariant s (shape_of b0) w (appended_at x from vals) spent c)
 logged_row s all b0 u z w a b c l on lost x from gone base is_array lasting low wide unspent reads notes row list commit may losing left none left_w vals spent covers =
     let n = b0.number in
-    let H : Type 0 = Holds s (shape_of b0) b0 vals spent a in
-    let Middle : Type 0 = H × Holds s (shape_of b0) b0 vals spent b in
-    let P : Image → Type 0 = Says s n (shape_of b0) (appended_at x from vals) spent in
-    let Q : Type 0 = Holds s (shape_of b0) w (appended_at x from vals) spent c in
+    let H : Type 0 = ArrayInvariant s (shape_of b0) b0 vals spent a in
+    let Middle : Type 0 = H × ArrayInvariant s (shape_of b0) b0 vals spent b in
+    let P : Image → Type 0 = ImageShowsArray s n (shape_of b0) (appended_at x from vals) spent in
+    let Q : Type 0 = ArrayInvariant s (shape_of b0) w (appended_at x from vals) spent c in
     let keeps = keeping_calls a b lasting reads.stays reads.keeps s (shape_of b0) b0 vals spent in
-    let read : Moves n a b H (Says s n (shape_of b0) vals spent) Middle =
+    let read : CallRefines n a b H (ImageShowsArray s n (shape_of b0) vals spent) Middle =
     record { stays = keeps.stays; leaves = keeps.leaves; holds = λ h. (h, keeps.holds h); apart = keeps.apart; calm = keeps.calm; bounded = keeps.bounded } in
-    let first : Moves n a b H P Middle =
-    moves_by n a b H H Middle Middle (Says s n (shape_of b0) vals spent) P (λ h. h) (λ r. says_appended s n (shape_of b0) x from vals spent r) (λ q. q) read in
-    let second : Moves n b c Middle P Q =
+    let first : CallRefines n a b H P Middle =
+    moves_by n a b H H Middle Middle (ImageShowsArray s n (shape_of b0) vals spent) P (λ h. h) (λ r. says_appended s n (shape_of b0) x from vals spent r) (λ q. q) read in
+    let second : CallRefines n b c Middle P Q =
     logged_moves s b0 w b c l on lost gone base.is_array base.fresh base.steady commit
     (log_ready s all b0 u w a b c l on lost base is_array lasting reads list commit may left_w)
     (log_decides s all b0 u w a b c l on lost base is_array lasting reads list commit may left_w)

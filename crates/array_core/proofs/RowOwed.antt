@@ -2,7 +2,7 @@
 use Rattle.std.proofs.Common.{◌≡◌, ◌⊎◌, ℕ, ◌+◌, ◌<◌, ◌≤◌, Bool, true, false, ◌||◌, nat_lt, List, [], ◌∷◌, ◌++◌, map, take, length, refl, sym, ap, ap₂, subst, ◌∙◌, inl, inr, lt-ltb, arith}
 use Rattle.std.proofs.lemmas.Bool.{both_ways}
 use Rattle.std.specs.List.{list_all}
-use Rattle.rack.specs.Seen.{Seen}
+use Rattle.rack.specs.Seen.{RackView}
 use Rattle.rack.specs.Targets.{Target, target}
 use Rattle.rack.specs.Sequences.{IsPayload}
 use Rattle.parity.specs.Xor.{xor, zeros}
@@ -91,7 +91,7 @@ due_or false u i j t is_array low_i low_j other few none =
 few_want : (u : View) (x t : ℕ) → t ≡ sector_in (layout_at (shape_of u) x) x → spent_in u x ≡ false → wanting t (members_of u) ≤ 1
 few_want u x t is unspent = at_most_one (wanting t (members_of u)) (nat_lt (row_at t) u.resync) (sym (spent_given u x t is) ∙ unspent)
 
-pub row_list : (all : Bool) (u w : View) (a : Seen) (x : ℕ) (from : List ℕ) (xs : List Target) → IsArray u → x < sectors_of u → length from ≡ 512 → spent_in u x ≡ false
+pub row_list : (all : Bool) (u w : View) (a : RackView) (x : ℕ) (from : List ℕ) (xs : List Target) → IsArray u → x < sectors_of u → length from ≡ 512 → spent_in u x ≡ false
     → StagedRow all u w a x from xs → RowList all u xs
 row_list all u w a x from xs is_array low wide unspent (staged_copies n layout) =
     let most : n ≤ u.truth.raid_disks = subst (λ (l : Layout). width l ≤ u.truth.raid_disks) layout (layout_is u x is_array).most in
@@ -170,12 +170,12 @@ unspent_base : (all : Bool) (b0 u : View) (x : ℕ) → Base all b0 u → spent_
 unspent_base all b0 u x base unspent = covers_before b0 u base.lost (losing_of b0 u base.lost base.same base.loses) (spent_in u) (λ y alive. alive) x unspent
 
 -- what the array holds as one reads it
-pub record IsRead (b0 : View) (a : Seen) : Type 0 where
+pub record IsRead (b0 : View) (a : RackView) : Type 0 where
   pub opened : IsOpen (shape_of b0) b0.number a
   pub sized : (m : Member) (t : ℕ) → Among m (shape_of b0).members → t < m.reach → length (current_in a.held (member_slice m.place b0.number) (data_sector + t)) ≡ 512
   pub even : AreEven (shape_of b0) b0.number b0.resync (current_in a.held)
 
-module _ (all : Bool) (b0 u w : View) (a : Seen) (x : ℕ) (from : List ℕ) (base : Base all b0 u) (low : x < sectors_of u) (wide : length from ≡ 512)
+module _ (all : Bool) (b0 u w : View) (a : RackView) (x : ℕ) (from : List ℕ) (base : Base all b0 u) (low : x < sectors_of u) (wide : length from ≡ 512)
     (unspent : spent_in u x ≡ false) (same_w : IsSameButSeats u w) (lost_w : ℕ → Bool) (loses_w : LosesPlaces u w lost_w) (is_read : IsRead b0 a) where
   abbrev shape : Shape
   shape = shape_of b0

@@ -1,7 +1,7 @@
 -- The targets of a row, one after the other.
 use Rattle.std.proofs.Common.{◌≡◌, ℕ, suc, ◌+◌, ◌<◌, ◌≤◌, inl, inr, ap₂, Bool, true, false, List, [], ◌∷◌, ◌++◌, length, refl, sym, ap, subst, ◌∙◌, arith}
 use Rattle.std.proofs.lemmas.List.{length-append}
-use Rattle.rack.specs.Seen.{Seen}
+use Rattle.rack.specs.Seen.{RackView}
 use Rattle.rack.specs.Sequences.{OnlyReads}
 use Rattle.rack.specs.Targets.{Target, target}
 use Rattle.rack.proofs.Reading.{only_reads_start}
@@ -70,7 +70,7 @@ side_is v x k side is_array low layout spread sector position =
 first_added : (added0 added : List Target) (own due : Bool) (x : Target) → added0 ≡ [] → added ≡ added0 ++ one_if own x → own ≡ due → added ≡ one_if due x
 first_added added0 added own due x empty is own_is = is ∙ ap (λ (ys : List Target). ys ++ one_if own x) empty ∙ ap (λ (b : Bool). one_if b x) own_is
 
-pub data_staged : (all : Bool) (v : View) (a : Seen) (at side : Stand) (from : List ℕ) (own : Bool) (added0 added : List Target) → a.fit → added0 ≡ []
+pub data_staged : (all : Bool) (v : View) (a : RackView) (at side : Stand) (from : List ℕ) (own : Bool) (added0 added : List Target) → a.fit → added0 ≡ []
     → added ≡ added0 ++ one_if own (sector_target v at.position at.sector from) → own ≡ is_due all v at.position at.sector → is_due all v side.position at.sector ≡ false
     → StagesChange all v v a a at side from true added
 data_staged all v a at side from own added0 added fit empty is own_is none = record {
@@ -79,7 +79,7 @@ data_staged all v a at side from own added0 added fit empty is own_is none = rec
   either = inr (refl, subst (IsChange all v v a at side from) (sym (first_added added0 added own _ (sector_target v at.position at.sector from) empty is own_is)) (data_alone none));
 }
 
-pub both_staged : (all : Bool) (v w : View) (a b : Seen) (at side : Stand) (from new : List ℕ) (own : Bool) (added0 added1 added2 : List Target)
+pub both_staged : (all : Bool) (v w : View) (a b : RackView) (at side : Stand) (from new : List ℕ) (own : Bool) (added0 added1 added2 : List Target)
     → OnlyReads a b → Notes v w a b → added0 ≡ []
     → added1 ≡ added0 ++ one_if own (sector_target w at.position at.sector from) → added2 ≡ added1 ++ one_if true (sector_target w side.position at.sector new)
     → own ≡ is_due all v at.position at.sector → is_due all v side.position at.sector ≡ true → length new ≡ 512 → MakesParity v w a at side from new
@@ -92,7 +92,7 @@ both_staged all v w a b at side from new own added0 added1 added2 reads notes em
     two ∙ ap₂ (λ (ys : List Target) (d : ℕ). ys ++ target d (data_sector + at.sector) new ∷ []) first (slice_same v w side.position notes.same) in
     record { reads = reads; notes = notes; either = inr (refl, subst (IsChange all v w a at side from) (sym all_is) (with_parity new due long makes)) }
 
-pub row_staged : (all : Bool) (v w : View) (a b : Seen) (x k : ℕ) (at side : Stand) (from : List ℕ) (staged : Bool) (added : List Target)
+pub row_staged : (all : Bool) (v w : View) (a b : RackView) (x k : ℕ) (at side : Stand) (from : List ℕ) (staged : Bool) (added : List Target)
     → IsRowAt v x k at side → StagesChange all v w a b at side from staged added → Stages all v w a b x from staged added
 row_staged all v w a b x k at side from staged added row change = record {
   reads = change.reads;

@@ -2,14 +2,14 @@
 use Rattle.std.proofs.Common.{◌≡◌, ℕ, ◌+◌, ◌≤◌, ◌^◌, ◌-◌, Bool, true, false, nat_lt, if◌then◌else◌, refl, sym, subst, ◌∙◌, arith}
 use Rattle.std.proofs.lemmas.Bool.{both_ways}
 use Rattle.rack.specs.Values.{Values}
-use Rattle.rack.specs.Seen.{Seen}
+use Rattle.rack.specs.Seen.{RackView}
 use Rattle.md_super.specs.declared.superblock.Super.{Super}
 use Rattle.pool_state.specs.declared.contents.State.{State}
 use Rattle.array_image.specs.Arrays.{Shape}
-use Rattle.array_image.specs.Held.{IsSettled}
+use Rattle.array_image.specs.Held.{IsSynced}
 use Rattle.array_model.specs.View.{View, shape_of, spent_in}
-use Rattle.array_model.specs.Says.{Holds, IsEarlier}
-use Rattle.array_model.specs.ArrayCalls.{Covers, SyncsArray}
+use Rattle.array_model.specs.Says.{ArrayInvariant, IsEarlier}
+use Rattle.array_model.specs.ArrayCalls.{IncludesSpent, SyncsArray}
 use Rattle.array_core.specs.Superblocks.{settled, settled_truth, raised}
 
 pub settled_shape : (u : View) → shape_of (settled u) ≡ shape_of u
@@ -29,8 +29,8 @@ settled_later t u earlier = record {
   events = let more = raised_more u.truth.events in let low = earlier.events in omega (arith, more, low);
 }
 
-pub settled_holds : (s : State) (durable : Shape) (u : View) (vals : ℕ → Values) (spent : ℕ → Bool) (x : Seen)
-    → IsSettled (shape_of u) u.number x.held → Holds s durable u vals spent x → Holds s durable (settled u) vals spent x
+pub settled_holds : (s : State) (durable : Shape) (u : View) (vals : ℕ → Values) (spent : ℕ → Bool) (x : RackView)
+    → IsSynced (shape_of u) u.number x.held → ArrayInvariant s durable u vals spent x → ArrayInvariant s durable (settled u) vals spent x
 unfolding shape_of
 settled_holds s durable u vals spent x single holds =
     let h = holds.shape in
@@ -57,9 +57,9 @@ unfolding shape_of
 spent_same u x = refl
 
 -- the clause of a settling, by that of the sync in it
-pub settles_array : (a b : Seen) (v u : View)
-    → ((s : State) (durable : Shape) (vals : ℕ → Values) (spent : ℕ → Bool) → Covers u spent → SyncsArray s v u spent a b durable vals)
-    → (s : State) (durable : Shape) (vals : ℕ → Values) (spent : ℕ → Bool) → Covers (settled u) spent → SyncsArray s v (settled u) spent a b durable vals
+pub settles_array : (a b : RackView) (v u : View)
+    → ((s : State) (durable : Shape) (vals : ℕ → Values) (spent : ℕ → Bool) → IncludesSpent u spent → SyncsArray s v u spent a b durable vals)
+    → (s : State) (durable : Shape) (vals : ℕ → Values) (spent : ℕ → Bool) → IncludesSpent (settled u) spent → SyncsArray s v (settled u) spent a b durable vals
 settles_array a b v u syncs s durable vals spent covers =
     let sync = syncs s durable vals spent (λ y alive. sym (spent_same u y) ∙ covers y alive) in
     let acts = sync.acts in
@@ -93,5 +93,5 @@ settles_array a b v u syncs s durable vals spent covers =
         bounded = acts.bounded;
       };
       keeps = sync.keeps;
-      settled = λ holds. subst (λ (f : Shape). IsSettled f u.number b.held) (sym (settled_shape u)) (sync.settled holds);
+      settled = λ holds. subst (λ (f : Shape). IsSynced f u.number b.held) (sym (settled_shape u)) (sync.settled holds);
     }

@@ -2,7 +2,7 @@
 use Rattle.std.proofs.Common.{◌≡◌, ◌≢◌, ℕ, ◌<◌, ◌≤◌, Bool, true, false, ◌==◌, ◌||◌, nat_lt, if◌then◌else◌, List, [], refl, sym, ap, subst, ◌∙◌, inl, inr, eq-eqb, eqb-true, ltb-true, arith}
 use Rattle.std.proofs.lemmas.Bool.{both_ways}
 use Rattle.rack.specs.Values.{MayLeave}
-use Rattle.rack.specs.Seen.{Image, Seen, IsLive, IsPick, Stays}
+use Rattle.rack.specs.Seen.{Image, RackView, IsLive, IsPick, SameRack}
 use Rattle.rack.specs.Joins.{leaves_then, leaves_weaker}
 use Rattle.rack.specs.Sequences.{IsMix, OnlyReads, WritesOnly}
 use Rattle.rack.specs.Targets.{put}
@@ -14,7 +14,7 @@ use Rattle.array_image.specs.Left.{IsInside, IsLeft, LogsInside, Picks, PicksLog
 use Rattle.array_image.proofs.Replays.{SameLogs, replayed_same}
 use Rattle.log_laws.specs.View.{LogView}
 use Rattle.log_laws.specs.Standing.{IsLogPart, IsReady, SomeoneDecides}
-use Rattle.log_laws.specs.Commits.{CommitCall, Commits}
+use Rattle.log_laws.specs.Commits.{CommitCall, ImageInCommit}
 use Rattle.log_laws.proofs.Kept.{before_inside, stands_of}
 use Rattle.array_model.specs.Rows.{Wrote, refused, row}
 use Rattle.array_model.specs.ArrayCalls.{KeepsSupers}
@@ -25,19 +25,19 @@ use Rattle.array_core.specs.TruthLeft.{HasTruthOf, LeavesSupers, LeavesTruth}
 use Rattle.array_core.proofs.RowCommits.{IsOwnData, no_look, put_none}
 
 -- contents over the sectors that a rack had before
-same_sectors : (P : Image → Type 0) (a b : Seen) (c : Image) → Stays a b → P (replayed a.sectors c) → P (replayed b.sectors c)
+same_sectors : (P : Image → Type 0) (a b : RackView) (c : Image) → SameRack a b → P (replayed a.sectors c) → P (replayed b.sectors c)
 same_sectors P a b c stays = subst (λ (size : ℕ → ℕ). P (replayed size c)) (λ k d. sym (stays.sectors d) k)
 
 -- what a stop leaves is what it leaves of some contents
-pub at_left : (P : Image → Type 0) (a b : Seen) (r : Image) (l : IsLeft b r) → Stays a b → P (replayed a.sectors l.0) → P r
+pub at_left : (P : Image → Type 0) (a b : RackView) (r : Image) (l : IsLeft b r) → SameRack a b → P (replayed a.sectors l.0) → P r
 at_left P a b r l stays from = subst P (λ k d t. sym (l.2 d t) k) (same_sectors P a b l.0 stays from)
 
 -- ---- calls in a row
 
-supers_over : (n : ℕ) (a b : Seen) (r : Image) → LeavesSupers n a b → KeepsSupers n b r → KeepsSupers n a r
+supers_over : (n : ℕ) (a b : RackView) (r : Image) → LeavesSupers n a b → KeepsSupers n b r → KeepsSupers n a r
 supers_over n a b r first found = let early = first.after found.0 found.1 in (early.0, early.1, λ place. found.2 place ∙ early.2 place)
 
-pub supers_then : (n : ℕ) (a b c : Seen) → Stays a b → LeavesSupers n a b → LeavesSupers n b c → LeavesSupers n a c
+pub supers_then : (n : ℕ) (a b c : RackView) → SameRack a b → LeavesSupers n a b → LeavesSupers n b c → LeavesSupers n a c
 supers_then n a b c stays first second = record {
   leaves = λ traced.
       leaves_then (λ i. IsInside a.sectors i → KeepsSupers n a (replayed a.sectors i)) (first.leaves traced)
@@ -53,10 +53,10 @@ supers_then n a b c stays first second = record {
 
 -- ---- the truth by them
 
-truth_of : (s : State) (n : ℕ) (a : Seen) (new : Super → Type 0) (r : Image) → KeepsSupers n a r → HasTruthOf s n a new r
+truth_of : (s : State) (n : ℕ) (a : RackView) (new : Super → Type 0) (r : Image) → KeepsSupers n a r → HasTruthOf s n a new r
 truth_of s n a new r found t is = inl (found.0, found.1, sym (truth_at s r found.0 n found.2) ∙ is)
 
-pub supers_truth : (s : State) (n : ℕ) (new : Super → Type 0) (H : Type 0) (a b : Seen) → LeavesSupers n a b → LeavesTruth s n new H a b
+pub supers_truth : (s : State) (n : ℕ) (new : Super → Type 0) (H : Type 0) (a b : RackView) → LeavesSupers n a b → LeavesTruth s n new H a b
 supers_truth s n new H a b supers = record {
   leaves = λ traced.
       leaves_weaker
@@ -67,7 +67,7 @@ supers_truth s n new H a b supers = record {
   after = λ holds r left. truth_of s n a new r (supers.after r left);
 }
 
-truth_over : (s : State) (n : ℕ) (a b : Seen) (new : Super → Type 0) (r : Image) → LeavesSupers n a b → HasTruthOf s n b new r → HasTruthOf s n a new r
+truth_over : (s : State) (n : ℕ) (a b : RackView) (new : Super → Type 0) (r : Image) → LeavesSupers n a b → HasTruthOf s n b new r → HasTruthOf s n a new r
 truth_over s n a b new r first found t is =
     elim (found t is) [
       | inl early ↦ truth_of s n a new early.0 (first.after early.0 early.1) t early.2
@@ -75,7 +75,7 @@ truth_over s n a b new r first found t is =
     ]
 
 -- after calls that leave the superblocks
-pub truth_then : (s : State) (n : ℕ) (new : Super → Type 0) (H Middle : Type 0) (a b c : Seen) → Stays a b → (H → Middle) → LeavesSupers n a b
+pub truth_then : (s : State) (n : ℕ) (new : Super → Type 0) (H Middle : Type 0) (a b c : RackView) → SameRack a b → (H → Middle) → LeavesSupers n a b
     → LeavesTruth s n new Middle b c → LeavesTruth s n new H a c
 truth_then s n new H Middle a b c stays holds first second = record {
   leaves = λ traced.
@@ -93,7 +93,7 @@ truth_then s n new H Middle a b c stays holds first second = record {
 
 -- ---- reads
 
-pub supers_reads : (n : ℕ) (a b : Seen) → a.lasting → OnlyReads a b → LeavesSupers n a b
+pub supers_reads : (n : ℕ) (a b : RackView) → a.lasting → OnlyReads a b → LeavesSupers n a b
 supers_reads n a b lasting reads = record {
   leaves = λ traced.
       leaves_weaker (IsPick a b a.held) (λ c. IsInside a.sectors c → KeepsSupers n a (replayed a.sectors c))
@@ -109,11 +109,11 @@ abbrev is_other : ℕ → ℕ → Bool
 is_other d t = (slice_of d == 0) || nat_lt t data_sector
 
 -- contents with the data that the rack had
-abbrev undone : Seen → Image → Image
+abbrev undone : RackView → Image → Image
 undone a c d t = if is_other d t then c d t else reading a d t
 
 -- the others are those of the contents
-undone_other : (a : Seen) (c : Image) (d t : ℕ) → is_other d t ≡ true → c d t ≡ undone a c d t
+undone_other : (a : RackView) (c : Image) (d t : ℕ) → is_other d t ≡ true → c d t ≡ undone a c d t
 undone_other a c d t is = sym (ap (λ (b : Bool). if b then c d t else reading a d t) is)
 
 log_other : (place t : ℕ) → is_other (log_slice place) t ≡ true
@@ -126,7 +126,7 @@ super_other d = either_true (slice_of d == 0)
     either_true true = refl
     either_true false = refl
 
-module _ (n : ℕ) (a b : Seen) (may : ℕ → ℕ → List ℕ → Type 0) (lasting : a.lasting) (only : WritesOnly a b may)
+module _ (n : ℕ) (a b : RackView) (may : ℕ → ℕ → List ℕ → Type 0) (lasting : a.lasting) (only : WritesOnly a b may)
     (data_only : (d t : ℕ) (x : List ℕ) → may d t x → (slice_of d ≢ 0) × (data_sector ≤ t)) where
   undone_picks : (c : Image) → IsInside a.sectors c → IsMix a b may c → Picks a (undone a c)
   undone_picks c inside mix = record { picks = picks; inside = none }
@@ -180,7 +180,7 @@ module _ (n : ℕ) (a b : Seen) (may : ℕ → ℕ → List ℕ → Type 0) (las
   }
 
 -- a row of members' data
-pub supers_row : (v w : View) (a b : Seen) (x : ℕ) (from : List ℕ) → v.number < 16 → a.lasting → Wrote v w a b x from → LeavesSupers v.number a b
+pub supers_row : (v w : View) (a b : RackView) (x : ℕ) (from : List ℕ) → v.number < 16 → a.lasting → Wrote v w a b x from → LeavesSupers v.number a b
 supers_row v w a b x from few lasting (refused reads notes lost) = supers_reads v.number a b lasting reads
 supers_row v w a b x from few lasting (row xs works owes) =
     supers_data v.number a b _ lasting works.puts.only
@@ -191,7 +191,7 @@ supers_row v w a b x from few lasting (row xs works owes) =
 
 -- ---- a commit of members' data
 
-module _ (n : ℕ) (a b : Seen) (l : LogView) (on lost : List ℕ) (few : n < 16) (commit : CommitCall l on lost a b) (ready : IsReady l on a)
+module _ (n : ℕ) (a b : RackView) (l : LogView) (on lost : List ℕ) (few : n < 16) (commit : CommitCall l on lost a b) (ready : IsReady l on a)
     (decides : SomeoneDecides l.added on lost a) (quiet : (c : Image) → PicksLogs a c → (d t : ℕ) → replayed a.sectors c d t ≡ c d t) (own : IsOwnData n l.added) where
   no_log : (place : ℕ) → IsLogPart (member_slice place n) super_sector → ⊥
   no_log place part = let slice = part.0 in omega (arith, slice, few)
@@ -204,7 +204,7 @@ module _ (n : ℕ) (a b : Seen) (l : LogView) (on lost : List ℕ) (few : n < 16
       put_none a.sectors l.added before d super_sector (no_look l.added d super_sector (λ u is. let at = (own.own d super_sector u is).1 in absurd (omega (arith, at))))
       ∙ sym (quiet before (logs_of before picks) d super_sector)
 
-  supers_commits : (c : Image) → IsInside a.sectors c → Commits l.added a c → KeepsSupers n a (replayed a.sectors c)
+  supers_commits : (c : Image) → IsInside a.sectors c → ImageInCommit l.added a c → KeepsSupers n a (replayed a.sectors c)
   supers_commits c inside commits =
       let before = commits.before in
       let picks = before_inside l.added a c before inside commits.stands commits.either in (
@@ -219,7 +219,7 @@ module _ (n : ℕ) (a b : Seen) (l : LogView) (on lost : List ℕ) (few : n < 16
   pub supers_commit : LeavesSupers n a b
   supers_commit = record {
     leaves = λ traced.
-        leaves_weaker (λ c. LogsInside a.sectors c → Commits l.added a c) (λ c. IsInside a.sectors c → KeepsSupers n a (replayed a.sectors c))
+        leaves_weaker (λ c. LogsInside a.sectors c → ImageInCommit l.added a c) (λ c. IsInside a.sectors c → KeepsSupers n a (replayed a.sectors c))
         (λ c found inside. supers_commits c inside (found (λ place t out. inside (log_slice place) t out)))
         (commit.stops traced ready decides);
     after = λ r left.

@@ -1,7 +1,7 @@
 -- Superblocks that say an array's truth: after calls that keep them, and after calls that write them.
 use Rattle.std.proofs.Common.{◌≡◌, ◌≢◌, ℕ, ◌+◌, ◌<◌, Bool, true, false, not, List, [], length, slice_get, Option, Some, eqb-true, sym, ap, ap₂, subst, ◌∙◌, inl, inr, unwrap_or, arith}
 use Rattle.rack.specs.Values.{MayLeave, Keeps}
-use Rattle.rack.specs.Seen.{Seen, IsLive, Stays}
+use Rattle.rack.specs.Seen.{RackView, IsLive, SameRack}
 use Rattle.rack.specs.Joins.{keeps_then, live_first, live_second}
 use Rattle.rack.specs.Sequences.{OnlyReads}
 use Rattle.md_super.specs.declared.superblock.Super.{Super}
@@ -30,7 +30,7 @@ use Rattle.array_core.proofs.Truths.{truth_facts}
 -- ---- sectors that are told
 
 -- what is told is told after calls that take no sector away for good
-pub live_on : (a b : Seen) (d t : ℕ) → a.lasting → Stays a b → IsLive a a d t → IsLive a b d t
+pub live_on : (a b : RackView) (d t : ℕ) → a.lasting → SameRack a b → IsLive a a d t → IsLive a b d t
 live_on a b d t lasting stays live = record {
   disk = subst (λ k. d < k) (sym stays.disks) live.disk;
   sector = subst (λ k. t < k) (sym (stays.sectors d)) live.sector;
@@ -38,7 +38,7 @@ live_on a b d t lasting stays live = record {
   unspent = stays.lasts lasting d t live.unspent;
 }
 
-pub live_now : (a b : Seen) (d t : ℕ) → a.lasting → Stays a b → IsLive a a d t → IsLive b b d t
+pub live_now : (a b : RackView) (d t : ℕ) → a.lasting → SameRack a b → IsLive a a d t → IsLive b b d t
 live_now a b d t lasting stays live = live_second stays (live_on a b d t lasting stays live)
 
 -- ---- calls that keep superblocks
@@ -47,7 +47,7 @@ truth_says : (t u : Super) (place : ℕ) (sector : List ℕ) → array_fields t 
 truth_says t u place sector same says = record { own = says.own; reads = says.reads; same = says.same ∙ same; on = says.on; bits = says.bits }
 
 -- a slice of which nothing was written
-pub has_kept : (t u : Super) (a b : Seen) (d : ℕ) → a.lasting → Stays a b → array_fields t ≡ array_fields u
+pub has_kept : (t u : Super) (a b : RackView) (d : ℕ) → a.lasting → SameRack a b → array_fields t ≡ array_fields u
     → (IsLive a b d super_sector → Keeps (a.held d super_sector) (b.held d super_sector)) → HasTruth t a d → HasTruth u b d
 has_kept t u a b d lasting stays same keeps has = record {
   live = live_now a b d super_sector lasting stays has.live;
@@ -59,7 +59,7 @@ pub slices_same : (v w : View) (k : ℕ) → w.number ≡ v.number → w.truth �
 slices_same v w k number truth = ap₂ (λ (t : Super) (n : ℕ). member_slice (unwrap_or (place_with t.roles.items k) 16) n) truth number
 
 -- an array with the same truth, of which none came back
-pub hold_kept : (v w : View) (a b : Seen) → a.lasting → Stays a b → w.number ≡ v.number → w.truth ≡ v.truth
+pub hold_kept : (v w : View) (a b : RackView) → a.lasting → SameRack a b → w.number ≡ v.number → w.truth ≡ v.truth
     → ((k : ℕ) → slice_get w.seats k ≢ Some Missing → slice_get v.seats k ≢ Some Missing)
     → ((k : ℕ) → k < v.truth.raid_disks → IsLive a b (slice_on v k) super_sector → Keeps (a.held (slice_on v k) super_sector) (b.held (slice_on v k) super_sector))
     → HoldTruth v a → HoldTruth w b
@@ -71,22 +71,22 @@ hold_kept v w a b lasting stays number truth seats keeps held k low there =
 own_slice : (v : View) (k : ℕ) → v.number < 16 → slice_of (slice_on v k) ≢ 0
 own_slice v k few is = omega (arith, few, is)
 
-pub hold_noted : (v w : View) (a b : Seen) → a.lasting → v.number < 16 → Stays a b → Notes v w a b → KeepsSupers a b → HoldTruth v a → HoldTruth w b
+pub hold_noted : (v w : View) (a b : RackView) → a.lasting → v.number < 16 → SameRack a b → Notes v w a b → KeepsSupers a b → HoldTruth v a → HoldTruth w b
 hold_noted v w a b lasting few stays notes keeps =
     hold_kept v w a b lasting stays notes.same.number notes.same.truth (λ k. missing_before v w k notes.lost notes.loses)
     (λ k low. keeps (slice_on v k) (own_slice v k few))
 
-pub hold_supers : (v : View) (a b : Seen) → a.lasting → v.number < 16 → Stays a b → KeepsSupers a b → HoldTruth v a → HoldTruth v b
+pub hold_supers : (v : View) (a b : RackView) → a.lasting → v.number < 16 → SameRack a b → KeepsSupers a b → HoldTruth v a → HoldTruth v b
 hold_supers v a b lasting few stays = hold_noted v v a b lasting few stays (notes_none v a b)
 
-pub reads_supers : (a b : Seen) → OnlyReads a b → KeepsSupers a b
+pub reads_supers : (a b : RackView) → OnlyReads a b → KeepsSupers a b
 reads_supers a b reads d own live = reads.keeps.held d super_sector live
 
-pub supers_then : (a b c : Seen) → Stays a b → Stays b c → KeepsSupers a b → KeepsSupers b c → KeepsSupers a c
+pub supers_then : (a b c : RackView) → SameRack a b → SameRack b c → KeepsSupers a b → KeepsSupers b c → KeepsSupers a c
 supers_then a b c first second one two d own live = keeps_then _ _ _ (one d own (live_first second live)) (two d own (live_second first live))
 
 -- a row of members' data
-pub wrote_supers : (v w : View) (a b : Seen) (x : ℕ) (from : List ℕ) → Wrote v w a b x from → KeepsSupers a b
+pub wrote_supers : (v w : View) (a b : RackView) (x : ℕ) (from : List ℕ) → Wrote v w a b x from → KeepsSupers a b
 wrote_supers v w a b x from (refused reads notes lost) = reads_supers a b reads
 wrote_supers v w a b x from (row xs works owes) = λ d own live.
     works.puts.only.others d super_sector live (λ u is. let at = owes.row.own d super_sector u is in let place = at.3 in absurd (omega (arith, place)))
@@ -110,7 +110,7 @@ pub slice_place : (v : View) (k : ℕ) → v.number < 16 → place_of (slice_on 
 slice_place v k few = omega (arith, few)
 
 -- superblocks that were written, each durably unless its place went
-pub hold_durable : (v w : View) (a b : Seen) → a.lasting → HasFewBits v.truth → Stays a b → Notes v w a b
+pub hold_durable : (v w : View) (a b : RackView) → a.lasting → HasFewBits v.truth → SameRack a b → Notes v w a b
     → ((k : ℕ) → k < v.truth.raid_disks → slice_get w.seats k ≢ Some Missing → IsLive a b (slice_on v k) super_sector
     → (sector : List ℕ) → MayLeave (b.held (slice_on v k) super_sector) sector → SaysTruth v.truth (place_of (slice_on v k)) sector)
     → TellSupers v a → HoldTruth w b
@@ -124,17 +124,17 @@ hold_durable v w a b lasting bits stays notes durable tells k low there =
       says = durable k inside there (live_on a b (slice_on v k) super_sector lasting stays told);
     }))
 
-pub hold_written : (v w : View) (a b : Seen) → a.lasting → v.number < 16 → HasFewBits v.truth → WritesSupers v w a b v.truth.raid_disks → TellSupers v a → HoldTruth w b
+pub hold_written : (v w : View) (a b : RackView) → a.lasting → v.number < 16 → HasFewBits v.truth → WritesSupers v w a b v.truth.raid_disks → TellSupers v a → HoldTruth w b
 hold_written v w a b lasting few bits writes =
     hold_durable v w a b lasting bits writes.only.stays writes.notes
     (λ k low there live sector leaves.
     let own = writes.durable k low there live sector leaves in
     sector_says v.truth own.slot (place_of (slice_on v k)) sector (own.is.place ∙ sym (slice_place v k few)) bits own.bytes)
 
-pub hold_tells : (v : View) (a : Seen) → HoldTruth v a → TellSupers v a
+pub hold_tells : (v : View) (a : RackView) → HoldTruth v a → TellSupers v a
 hold_tells v a held k low there = (held k low there).live
 
-hold_marks : (v w : View) (a b : Seen) → a.lasting → v.number < 16 → HasFewBits v.truth → Marks v w a b → HoldTruth v a → HoldTruth w b
+hold_marks : (v w : View) (a b : RackView) → a.lasting → v.number < 16 → HasFewBits v.truth → Marks v w a b → HoldTruth v a → HoldTruth w b
 hold_marks v w a b lasting few bits marks held =
     let written = hold_written (unsynced v) marks.written a b lasting few bits marks.writes (hold_tells v a held) in
     elim marks.either [
@@ -142,25 +142,25 @@ hold_marks v w a b lasting few bits marks held =
       | inr some ↦ subst (λ (u : View). HoldTruth u b) (sym some.1) written
     ]
 
-pub hold_same : (v w : View) (a b : Seen) → a.lasting → v.number < 16 → w ≡ v → OnlyReads a b → HoldTruth v a → HoldTruth w b
+pub hold_same : (v w : View) (a b : RackView) → a.lasting → v.number < 16 → w ≡ v → OnlyReads a b → HoldTruth v a → HoldTruth w b
 hold_same v w a b lasting few same reads held =
     subst (λ (u : View). HoldTruth u b) (sym same) (hold_supers v a b lasting few reads.stays (reads_supers a b reads) held)
 
 -- the mark that comes before rows are written past the log
-hold_readies : (v w : View) (a b : Seen) (r : Bool) → a.lasting → v.number < 16 → HasFewBits v.truth → Readies v w a b r → HoldTruth v a → HoldTruth w b
+hold_readies : (v w : View) (a b : RackView) (r : Bool) → a.lasting → v.number < 16 → HasFewBits v.truth → Readies v w a b r → HoldTruth v a → HoldTruth w b
 hold_readies v w a b r lasting few bits (was_marked whole fresh marked same reads) = hold_same v w a b lasting few same reads
 hold_readies v w a b r lasting few bits (now_marked whole fresh unmarked marked marks) = hold_marks v w a b lasting few bits marks
 hold_readies v w a b r lasting few bits (lost_one whole fresh unmarked lost marks) = hold_marks v w a b lasting few bits marks
 hold_readies v w a b r lasting few bits (not_whole same reads why) = hold_same v w a b lasting few same reads
 
 -- a write of a row after it
-pub hold_write : (v u w : View) (a b c : Seen) (r : Bool) → a.lasting → v.number < 16 → u.number < 16 → HasFewBits v.truth → Stays a b → Stays b c → Readies v u a b r → Notes u w b c
+pub hold_write : (v u w : View) (a b c : RackView) (r : Bool) → a.lasting → v.number < 16 → u.number < 16 → HasFewBits v.truth → SameRack a b → SameRack b c → Readies v u a b r → Notes u w b c
     → KeepsSupers b c → HoldTruth v a → HoldTruth w c
 hold_write v u w a b c r lasting few_v few_u bits first second readies notes keeps held =
     hold_noted u w b c (first.lasting lasting) few_u second notes keeps (hold_readies v u a b r lasting few_v bits readies held)
 
 -- a commit of a row
-pub commit_supers : (all : Bool) (v : View) (l : LogView) (on lost : List ℕ) (a b : Seen) → RowList all v l.added → CommitCall l on lost a b → KeepsSupers a b
+pub commit_supers : (all : Bool) (v : View) (l : LogView) (on lost : List ℕ) (a b : RackView) → RowList all v l.added → CommitCall l on lost a b → KeepsSupers a b
 commit_supers all v l on lost a b list commit d own live =
     commit.apart d super_sector live (λ part. own part.0)
     (no_look l.added d super_sector

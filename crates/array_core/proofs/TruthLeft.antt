@@ -1,7 +1,7 @@
 -- The truth of an array in what stops leave while its superblocks are written directly.
 use Rattle.std.proofs.Common.{◌≡◌, ◌⊎◌, ℕ, ◌-◌, ◌%◌, ◌<◌, ◌≤◌, ◌^◌, Bool, false, [], refl, sym, ap, subst, ◌∙◌}
 use Rattle.rack.specs.Values.{Values}
-use Rattle.rack.specs.Seen.{Image, Seen, IsLive}
+use Rattle.rack.specs.Seen.{Image, RackView, IsLive}
 use Rattle.rack.specs.Joins.{leaves_weaker}
 use Rattle.rack.specs.Sequences.{IsMix, OnlyReads, WritesOnly}
 use Rattle.md_super.specs.declared.superblock.Super.{Super}
@@ -10,11 +10,11 @@ use Rattle.array_image.specs.Places.{member_slice, super_sector}
 use Rattle.array_image.specs.SoundArray.{array_fields, first_unsynced}
 use Rattle.array_image.specs.Arrays.{Shape, replayed}
 use Rattle.array_image.specs.Even.{AreEven}
-use Rattle.array_image.specs.Held.{IsSettled}
+use Rattle.array_image.specs.Held.{IsSynced}
 use Rattle.array_image.specs.Left.{IsInside}
 use Rattle.array_model.specs.View.{View, IsArray, shape_of}
-use Rattle.array_model.specs.Says.{Holds}
-use Rattle.array_model.specs.ArrayCalls.{Covers, SyncsArray}
+use Rattle.array_model.specs.Says.{ArrayInvariant}
+use Rattle.array_model.specs.ArrayCalls.{IncludesSpent, SyncsArray}
 use Rattle.array_model.specs.Members.{Notes}
 use Rattle.array_model.specs.Stages.{IsStateOf}
 use Rattle.array_model.proofs.Keeping.{inside_before, live_after}
@@ -33,13 +33,13 @@ use Rattle.array_core.proofs.SupersLeft.{at_left, supers_reads, truth_then}
 abbrev HasFieldsOf : Super → Super → Type 0
 HasFieldsOf f t = array_fields t ≡ array_fields f
 
-module _ (s : State) (v : View) (e o : ℕ) (m : Bool) (a b : Seen)
+module _ (s : State) (v : View) (e o : ℕ) (m : Bool) (a b : RackView)
     (is_array : IsArray v) (state : IsStateOf v s) (rows : HasRowRebuilds v) (more : v.truth.events < e) (end : e < 2 ^ 63)
     (offset : (o ≡ 2 ^ 64 - 1) ⊎ (o % 128 ≡ 0)) (lasting : a.lasting)
     (supers : (place : ℕ) → place < 16 → super_sector < a.sectors (member_slice place v.number) → IsLive a a (member_slice place v.number) super_sector)
     (only : WritesOnly a b (IsNewSuper (restated e o m v)))
     (H : Type 0) (vals : ℕ → Values) (spent : ℕ → Bool) (fresh : v.went ≡ [])
-    (begins : H → Holds s (shape_of v) v vals spent a)
+    (begins : H → ArrayInvariant s (shape_of v) v vals spent a)
     (even : H → (c : Image) → IsInside a.sectors c → IsMix a b (IsNewSuper (restated e o m v)) c
     → AreEven (shape_of v) v.number (first_unsynced (restated e o m v).truth) (replayed a.sectors c)) where
   at_moment : H → (c : Image) → IsInside a.sectors c → IsMix a b (IsNewSuper (restated e o m v)) c
@@ -68,21 +68,21 @@ settled_same v u truth young resync =
     ∙ ap (λ (b : Bool). settled_truth (record u { truth = v.truth; young = b })) young
     ∙ ap (λ (r : ℕ). settled_truth (record u { truth = v.truth; young = v.young; resync = r })) resync
 
-pub clean_truth : (v u w : View) (a b c : Seen) → a.lasting → IsArray v → IsArray u → OnlyReads a b → Notes v u a b
-    → ((s : State) (durable : Shape) (vals : ℕ → Values) (spent : ℕ → Bool) → Covers u spent → SyncsArray s v u spent a b durable vals)
+pub clean_truth : (v u w : View) (a b c : RackView) → a.lasting → IsArray v → IsArray u → OnlyReads a b → Notes v u a b
+    → ((s : State) (durable : Shape) (vals : ℕ → Values) (spent : ℕ → Bool) → IncludesSpent u spent → SyncsArray s v u spent a b durable vals)
     → u.went ≡ [] → is_settled u ≡ false → first_unsynced (settled_truth u) ≤ u.resync
     → (many : ℕ) → WritesSupers (settled u) w b c many
-    → (s : State) (vals : ℕ → Values) (spent : ℕ → Bool) → Covers w spent → MayRenew s v a
-    → LeavesTruth s v.number (λ t. array_fields t ≡ array_fields (settled v).truth) (Holds s (shape_of v) v vals spent a) a c
+    → (s : State) (vals : ℕ → Values) (spent : ℕ → Bool) → IncludesSpent w spent → MayRenew s v a
+    → LeavesTruth s v.number (λ t. array_fields t ≡ array_fields (settled v).truth) (ArrayInvariant s (shape_of v) v vals spent a) a c
 clean_truth v u w a b c lasting is_array now reads notes syncs fresh unsettled unsynced many writes s vals spent covers may =
     let n = v.number in
     let may_u = renew_then s v u a b lasting reads.stays is_array now notes fresh may in
     let covers_su = covers_before (settled u) w writes.notes.lost (losing_by (settled u) w b c writes.notes) spent covers in
     let sync = syncs s (shape_of v) vals spent (λ y alive. sym (spent_same u y) ∙ covers_su y alive) in
     let shape = shape_kept v u a b notes fresh in
-    let H : Type 0 = Holds s (shape_of v) v vals spent a in
-    let Middle : Type 0 = Holds s (shape_of u) u vals spent b × IsSettled (shape_of u) u.number b.held in
-    let middle : H → Middle = λ h. (subst (λ (f : Shape). Holds s f u vals spent b) (sym shape) (sync.acts.holds h), sync.settled h) in
+    let H : Type 0 = ArrayInvariant s (shape_of v) v vals spent a in
+    let Middle : Type 0 = ArrayInvariant s (shape_of u) u vals spent b × IsSynced (shape_of u) u.number b.held in
+    let middle : H → Middle = λ h. (subst (λ (f : Shape). ArrayInvariant s f u vals spent b) (sym shape) (sync.acts.holds h), sync.settled h) in
     let raise = raised_more u.truth.events may_u.events in
     let lasting_b = reads.stays.lasting lasting in
     let second : LeavesTruth s u.number (HasFieldsOf (settled_truth u)) Middle b c =

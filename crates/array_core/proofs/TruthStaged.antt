@@ -1,6 +1,6 @@
 -- A commit that has an array's superblocks: those of the members that are left say its truth, durably.
 use Rattle.std.proofs.Common.{◌≡◌, ◌≢◌, ℕ, ◌+◌, ◌<◌, Bool, true, false, List, [], length, slice_get, Option, Some, None, refl, sym, ap, subst, ◌∙◌, unwrap_or, option_map, if◌then◌else◌, arith}
-use Rattle.rack.specs.Seen.{Image, Seen}
+use Rattle.rack.specs.Seen.{Image, RackView}
 use Rattle.rack.specs.Targets.{Target, look}
 use Rattle.md_super.specs.declared.superblock.Super.{Super}
 use Rattle.array_image.specs.Places.{member_slice, place_of, super_sector}
@@ -61,7 +61,7 @@ module _ (u : View) (l : LogView) (before added : List Target) (adds : AddsSuper
           record { bytes = bytes; found = found; own = subst (λ (o : Option (List ℕ)). IsSectorOf (member_super u.truth (slot_on u k)) (unwrap_or o [])) found own }
 
   -- who wasn't lost in it has it durably
-  pub hold_committed : (w : View) (on lost : List ℕ) (a b : Seen) → a.lasting → HasFewBits u.truth → CommitCall l on lost a b → w.number ≡ u.number → w.truth ≡ u.truth
+  pub hold_committed : (w : View) (on lost : List ℕ) (a b : RackView) → a.lasting → HasFewBits u.truth → CommitCall l on lost a b → w.number ≡ u.number → w.truth ≡ u.truth
       → ((k : ℕ) → k < u.truth.raid_disks → slice_get w.seats k ≢ Some Missing → (slice_get u.seats k ≢ Some Missing) × (names lost (place_at u k) ≡ false))
       → TellSupers u a → HoldTruth w b
   hold_committed w on lost a b lasting bits commit number truth seats tells k low there =

@@ -1,7 +1,7 @@
 -- What is found of the superblocks that contents of slices have.
 use Rattle.std.specs.Prelude.{◌≡◌, ℕ, ◌+◌, ◌<◌, ◌≤◌, true, false, not, count_by, if◌then◌else◌, List, length, slice_get, Option, Some, None}
 use Rattle.rack.specs.Values.{IsSingle}
-use Rattle.rack.specs.Seen.{Image, Seen, IsLive}
+use Rattle.rack.specs.Seen.{Image, RackView, IsLive}
 use Rattle.pool_state.specs.declared.contents.State.{State}
 use Rattle.md_super.specs.declared.superblock.Super.{Super}
 use Rattle.array_image.specs.States.{is_current}
@@ -10,7 +10,7 @@ use Rattle.array_image.specs.Places.{member_slice, super_sector, data_sector}
 use Rattle.array_image.specs.SoundArray.{IsSoundArray}
 use Rattle.array_image.specs.Arrays.{Member, Shape, shape_by}
 use Rattle.array_image.specs.Held.{Among}
-use Rattle.array_image.specs.Left.{reading, IsClosed}
+use Rattle.array_image.specs.Left.{reading, NothingPending}
 use Rattle.array_model.specs.Says.{HasNoOthers, IsOpen}
 use Rattle.array_core.specs.declared.Found.{Found}
 use Rattle.array_core.specs.Opening.{super_at, view_found}
@@ -36,12 +36,12 @@ lacking_in shape = count_by (λ m. not m.is_whole) shape.members
 -- Slices that an array of these superblocks is opened on, where it isn't young: one value a sector, and nothing pending; by their
 -- contents the array's superblocks and rows agree, and no other place has one; each superblock and each sector of a member's data
 -- that counts is told.
-pub record AreSlicesOf (s : State) (number : ℕ) (t : Super) (found : List Found) (x : Seen) : Type 0 where
+pub record AreSlicesOf (s : State) (number : ℕ) (t : Super) (found : List Found) (x : RackView) : Type 0 where
   pub found_is : AreFound s (reading x) number t found
   pub joined : number < s.joined
   pub sound : IsSoundArray s (reading x) number t
   pub alone : HasNoOthers (view_found number false found t) s (reading x)
-  pub closed : IsClosed number x
+  pub closed : NothingPending number x
   pub single : (place i : ℕ) → IsLive x x (member_slice place number) i → IsSingle (x.held (member_slice place number) i)
   pub open_slices : IsOpen (shape_by s (reading x) number t) number x
   pub supers : (place : ℕ) → place < 16 → super_sector < x.sectors (member_slice place number) → IsLive x x (member_slice place number) super_sector

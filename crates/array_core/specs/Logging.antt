@@ -1,6 +1,6 @@
 -- The targets of a row that is changed by one commit.
 use Rattle.std.specs.Prelude.{◌≡◌, ◌⊎◌, ℕ, zero, suc, ◌+◌, ◌<◌, ◌≤◌, Bool, true, false, ◌||◌, nat_lt, if◌then◌else◌, List, [], ◌∷◌, ◌++◌, length}
-use Rattle.rack.specs.Seen.{Seen}
+use Rattle.rack.specs.Seen.{RackView}
 use Rattle.rack.specs.Targets.{Target, target}
 use Rattle.rack.specs.Sequences.{OnlyReads}
 use Rattle.parity.specs.Xor.{xor}
@@ -21,7 +21,7 @@ abbrev pub is_due : Bool → View → ℕ → ℕ → Bool
 is_due all v n sector = all || nat_lt sector (member_on v n).reach
 
 -- the slices of all members are there, those of members that went as well
-abbrev pub HasAll : View → Seen → Type 0
+abbrev pub HasAll : View → RackView → Type 0
 HasAll v a = (n : ℕ) → n < v.truth.raid_disks → (slice_on v n < a.disks) × (data_sector + v.truth.size ≤ a.sectors (slice_on v n))
 
 abbrev pub sector_target : View → ℕ → ℕ → List ℕ → Target
@@ -36,7 +36,7 @@ due_copies all v sector from zero = []
 due_copies all v sector from (suc n) = due_copies all v sector from n ++ one_if (is_due all v n sector) (sector_target v n sector from)
 
 -- the old value of a sector and the old parity, as the members that were left then gave them, make the new parity
-pub record MakesParity (v w : View) (a : Seen) (at side : Stand) (from new : List ℕ) : Type 0 where
+pub record MakesParity (v w : View) (a : RackView) (at side : Stand) (from new : List ℕ) : Type 0 where
   pub found : View
   pub same : IsSameButSeats v found
   pub lost : ℕ → Bool
@@ -50,7 +50,7 @@ pub record MakesParity (v w : View) (a : Seen) (at side : Stand) (from new : Lis
   pub new_is : new ≡ xor (xor side_old old) from
 
 -- the targets of a row's change
-pub data IsChange (all : Bool) (v w : View) (a : Seen) (at side : Stand) (from : List ℕ) : List Target → Type 0 where
+pub data IsChange (all : Bool) (v w : View) (a : RackView) (at side : Stand) (from : List ℕ) : List Target → Type 0 where
   data_alone :
       is_due all v side.position at.sector ≡ false
       → IsChange all v w a at side from (one_if (is_due all v at.position at.sector) (sector_target v at.position at.sector from))
@@ -72,13 +72,13 @@ pub record IsRowAt (v : View) (x : ℕ) (k : ℕ) (at side : Stand) : Type 0 whe
   pub side_stand : IsStand v side
 
 -- The targets of a write of sector x: copies on the members that are due, or a row's change.
-pub data StagedRow (all : Bool) (v w : View) (a : Seen) (x : ℕ) (from : List ℕ) : List Target → Type 0 where
+pub data StagedRow (all : Bool) (v w : View) (a : RackView) (x : ℕ) (from : List ℕ) : List Target → Type 0 where
   staged_copies : (n : ℕ) → layout_at (shape_of v) x ≡ mirror n → StagedRow all v w a x from (due_copies all v x from n)
   staged_change :
       (k : ℕ) (at side : Stand) (targets : List Target) → IsRowAt v x k at side → IsChange all v w a at side from targets → StagedRow all v w a x from targets
 
 -- Nothing was written, and places that went are noted. The sector and its parity are added, or the row is spent.
-pub record StagesChange (all : Bool) (v w : View) (a b : Seen) (at side : Stand) (from : List ℕ) (staged : Bool) (added : List Target) : Type 0 where
+pub record StagesChange (all : Bool) (v w : View) (a b : RackView) (at side : Stand) (from : List ℕ) (staged : Bool) (added : List Target) : Type 0 where
   pub reads : OnlyReads a b
   pub notes : Notes v w a b
   pub either :
@@ -86,7 +86,7 @@ pub record StagesChange (all : Bool) (v w : View) (a b : Seen) (at side : Stand)
       ⊎ ((staged ≡ true) × IsChange all v w a at side from added)
 
 -- Nothing was written, and places that went are noted. The targets are those of the row, or the sector is spent.
-pub record Stages (all : Bool) (v w : View) (a b : Seen) (x : ℕ) (from : List ℕ) (staged : Bool) (added : List Target) : Type 0 where
+pub record Stages (all : Bool) (v w : View) (a b : RackView) (x : ℕ) (from : List ℕ) (staged : Bool) (added : List Target) : Type 0 where
   pub reads : OnlyReads a b
   pub notes : Notes v w a b
   pub either : ((staged ≡ false) × (spent_in w x ≡ true) × (added ≡ [])) ⊎ ((staged ≡ true) × StagedRow all v w a x from added)

@@ -1,6 +1,6 @@
 -- The parity that a row needs for a new value.
 use Rattle.std.specs.Prelude.{◌≡◌, ◌⊎◌, ℕ, Bool, false, nat_lt, List, Some}
-use Rattle.rack.specs.Seen.{Seen}
+use Rattle.rack.specs.Seen.{RackView}
 use Rattle.parity.specs.Xor.{xor}
 use Rattle.raid_map.specs.LeftSymmetric.{row_at}
 use Rattle.array_image.specs.Arrays.{column}
@@ -13,7 +13,7 @@ use Rattle.array_core.specs.declared.members.Stand.{Stand}
 use Rattle.array_core.specs.Stands.{given_at}
 
 -- the old value of a sector, as the members that were left then gave it, and the old parity, which make the new one
-pub record HasParts (v u : View) (a : Seen) (at side : Stand) (from new : List ℕ) : Type 0 where
+pub record HasParts (v u : View) (a : RackView) (at side : Stand) (from new : List ℕ) : Type 0 where
   pub old : List ℕ
   pub side_old : List ℕ
   pub old_is : old ≡ given_at u at (current_in a.held)
@@ -21,7 +21,7 @@ pub record HasParts (v u : View) (a : Seen) (at side : Stand) (from new : List �
   pub new_is : new ≡ xor (xor side_old old) from
 
 -- the old value was found, and the parity is made of it, unless its member has gone
-pub record FoundParity (v w : View) (a : Seen) (at side : Stand) (from new : List ℕ) : Type 0 where
+pub record FoundParity (v w : View) (a : RackView) (at side : Stand) (from new : List ℕ) : Type 0 where
   pub found : View
   pub same : IsSameButSeats v found
   pub lost : ℕ → Bool

@@ -2,7 +2,7 @@
 use Rattle.std.specs.Prelude.{◌≡◌, ◌≢◌, ◌⊎◌, ℕ, ◌<◌, Bool, true, false, ◌||◌, not, List, [], slice_get}
 use Rattle.std.specs.Option.{option_map_or}
 use Rattle.rack.specs.Values.{Keeps}
-use Rattle.rack.specs.Seen.{Seen, IsLive}
+use Rattle.rack.specs.Seen.{RackView, IsLive}
 use Rattle.array_image.specs.Places.{place_of, slice_of}
 use Rattle.log_laws.specs.View.{names}
 use Rattle.array_model.specs.View.{View, IsArray, LosesPlaces, is_missing_seat, is_whole_array, may_vary}
@@ -22,7 +22,7 @@ pub record Base (all : Bool) (v u : View) : Type 0 where
 
 -- A write notes the places that went in it, and nothing else of the array has changed; but a whole array of which nobody had gone
 -- is marked first, where it wasn't: its truth has one more event and leaves all rows to resync.
-pub data WritesView (v w : View) (a b : Seen) : Type 0 where
+pub data WritesView (v w : View) (a b : RackView) : Type 0 where
   as_it_was : (is_whole_array v ≡ false) ⊎ ((v.went ≢ []) ⊎ (v.marked ≡ true)) → Notes v w a b → WritesView v w a b
   newly_marked : is_whole_array v ≡ true → v.went ≡ [] → v.marked ≡ false → Notes (record (unsynced v) { marked = w.marked }) w a b → WritesView v w a b
 
@@ -38,5 +38,5 @@ IsElsewhere all v on d =
     ⊎ ((slice_of d ≢ 0) × ((n : ℕ) → n < v.truth.raid_disks → was_there all v n ≡ true → d ≢ slice_on v n))
 
 -- so it stays as it is
-abbrev pub KeepsElsewhere : Bool → View → List ℕ → Seen → Seen → Type 0
+abbrev pub KeepsElsewhere : Bool → View → List ℕ → RackView → RackView → Type 0
 KeepsElsewhere all v on a b = (d t : ℕ) → IsLive a b d t → IsElsewhere all v on d → Keeps (a.held d t) (b.held d t)

@@ -9,12 +9,12 @@ ghost use Rattle.array_image.specs.Arrays.{layout_at};
 ghost use Rattle.raid_map.specs.LeftSymmetric.{parity_at, row_at};
 ghost use Rattle.array_image.specs.Spent.{wanting, spent_with};
 ghost use Rattle.array_model.specs.View.{View, has_gone, member_on, place_at, sectors_of, shape_of, spent_in};
-ghost use Rattle.array_model.specs.Says.{Holds, Says};
-ghost use Rattle.array_model.specs.ArrayCalls.{Covers, appended_at};
-ghost use Rattle.array_model.proofs.Moves.{Moves};
+ghost use Rattle.array_model.specs.Says.{ArrayInvariant, ImageShowsArray};
+ghost use Rattle.array_model.specs.ArrayCalls.{IncludesSpent, appended_at};
+ghost use Rattle.array_model.proofs.Moves.{CallRefines};
 ghost use Rattle.array_model.specs.Members.{HasSlices, Notes, members_of};
 ghost use Rattle.log_laws.specs.View.{committed, most_sectors};
-ghost use Rattle.log_laws.specs.Kept.{LogKept};
+ghost use Rattle.log_laws.specs.Kept.{LogInvariant};
 ghost use Rattle.log_laws.specs.Phases.{AreLogs};
 ghost use Rattle.array_core.specs.Stands.{IsStand, layout_of};
 ghost use Rattle.array_core.specs.Pool.{Goes, MayLog};
@@ -239,13 +239,13 @@ impl Array {
         requires logs { AreLogs (R.seen rack.old).sectors on.now.items }
         requires sector { x < sectors_of self.old }
         requires empty { log.old.added ≡ [] }
-        ensures logged { (s : State) (v : View) (vals : ℕ → Values) (spent : ℕ → Bool) → Covers self.new spent
+        ensures logged { (s : State) (v : View) (vals : ℕ → Values) (spent : ℕ → Bool) → IncludesSpent self.new spent
             → Base all v self.old → MayLog s v self.new log.old.number on.now.items (R.seen rack.old)
-            → Moves v.number (R.seen rack.old) (R.seen rack.new) (Holds s (shape_of v) v vals spent (R.seen rack.old))
-            (Says s v.number (shape_of v) (appended_at x from.now vals) spent)
-            (Holds s (shape_of v) self.new (appended_at x from.now vals) spent (R.seen rack.new)) }
+            → CallRefines v.number (R.seen rack.old) (R.seen rack.new) (ArrayInvariant s (shape_of v) v vals spent (R.seen rack.old))
+            (ImageShowsArray s v.number (shape_of v) (appended_at x from.now vals) spent)
+            (ArrayInvariant s (shape_of v) self.new (appended_at x from.now vals) spent (R.seen rack.new)) }
         ensures kept { (s : State) (v : View) → Base all v self.old → MayLog s v self.new log.old.number on.now.items (R.seen rack.old)
-            → LogKept s log.new.number (has_gone self.new) (R.seen rack.new) }
+            → LogInvariant s log.new.number (has_gone self.new) (R.seen rack.new) }
         ensures notes { Notes self.old self.new (R.seen rack.old) (R.seen rack.new) }
         ensures elsewhere { KeepsElsewhere all self.old on.now.items (R.seen rack.old) (R.seen rack.new) }
         ensures supers { KeepsSupers (R.seen rack.old) (R.seen rack.new) }

@@ -12,7 +12,7 @@ ghost use Rattle.array_image.specs.Held.{current_in};
 ghost use Rattle.array_image.specs.Spent.{wanting, spent_with};
 ghost use Rattle.array_model.specs.View.{LosesPlaces, member_on, shape_of, sectors_of, spent_in};
 ghost use Rattle.array_model.specs.Says.{IsOpen};
-ghost use Rattle.array_model.specs.ArrayCalls.{Covers, Keeping, ReadsArray, SyncsArray};
+ghost use Rattle.array_model.specs.ArrayCalls.{IncludesSpent, Keeping, ReadsArray, SyncsArray};
 ghost use Rattle.array_model.specs.Members.{row_layout, row_of, restored, member_spent, first_of_row, HasSlices, IsSameButSeats, Notes, IsSingleOn, members_of, added, gathered};
 ghost use Rattle.array_model.proofs.Firsts.{firsts};
 ghost use Rattle.array_core.specs.Seats.{names};
@@ -222,7 +222,7 @@ impl Array {
     ) -> Result<(), Spent>
         requires slices { HasSlices self.old (R.seen rack.old) }
         requires sector { sector < sectors_of self.old }
-        ensures reads { (s : State) (durable : Shape) (vals : ℕ → Values) (spent : ℕ → Bool) → Covers self.new spent
+        ensures reads { (s : State) (durable : Shape) (vals : ℕ → Values) (spent : ℕ → Bool) → IncludesSpent self.new spent
             → ReadsArray s self.old self.new spent (R.seen rack.old) (R.seen rack.new) durable vals sector into.new }
         ensures notes { Notes self.old self.new (R.seen rack.old) (R.seen rack.new) }
         ensures runs { R.runs rack.old rack.new }
@@ -264,7 +264,7 @@ impl Array {
     /// Syncs the members. Whoever is left has one value in each sector.
     pub fn sync<R: Rack>(&mut self, rack: &mut R)
         requires { HasSlices self.old (R.seen rack.old) }
-        ensures syncs { (s : State) (durable : Shape) (vals : ℕ → Values) (spent : ℕ → Bool) → Covers self.new spent
+        ensures syncs { (s : State) (durable : Shape) (vals : ℕ → Values) (spent : ℕ → Bool) → IncludesSpent self.new spent
             → SyncsArray s self.old self.new spent (R.seen rack.old) (R.seen rack.new) durable vals }
         ensures reads { OnlyReads (R.seen rack.old) (R.seen rack.new) }
         ensures notes { Notes self.old self.new (R.seen rack.old) (R.seen rack.new) }
@@ -290,7 +290,7 @@ impl Array {
         requires slices { HasSlices self.old (R.seen rack.old) }
         requires position { position < width (row_layout self.old sector) }
         requires sector { sector < self.old.truth.size }
-        ensures keeps { (s : State) (durable : Shape) (vals : ℕ → Values) (spent : ℕ → Bool) → Covers self.new spent
+        ensures keeps { (s : State) (durable : Shape) (vals : ℕ → Values) (spent : ℕ → Bool) → IncludesSpent self.new spent
             → Keeping s self.old self.new spent (R.seen rack.old) (R.seen rack.new) durable vals }
         ensures reads { OnlyReads (R.seen rack.old) (R.seen rack.new) }
         ensures notes { Notes self.old self.new (R.seen rack.old) (R.seen rack.new) }

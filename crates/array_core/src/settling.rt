@@ -5,13 +5,13 @@ ghost use Rattle.rack.specs.Values.{Values};
 ghost use Rattle.rack.specs.Sequences.{OnlyReads};
 ghost use Rattle.pool_state.specs.declared.contents.State.{State};
 ghost use Rattle.array_image.specs.Arrays.{Shape};
-ghost use Rattle.array_image.specs.Held.{IsSettled};
+ghost use Rattle.array_image.specs.Held.{IsSynced};
 ghost use Rattle.array_image.specs.SoundArray.{array_fields};
-ghost use Rattle.log_laws.specs.Kept.{LogKept};
+ghost use Rattle.log_laws.specs.Kept.{LogInvariant};
 ghost use Rattle.array_model.specs.View.{IsNoted, shape_of};
-ghost use Rattle.array_model.specs.ArrayCalls.{Covers, Keeping, SyncsArray};
+ghost use Rattle.array_model.specs.ArrayCalls.{IncludesSpent, Keeping, SyncsArray};
 ghost use Rattle.array_model.specs.Members.{HasSlices};
-ghost use Rattle.array_model.specs.Says.{Holds};
+ghost use Rattle.array_model.specs.Says.{ArrayInvariant};
 ghost use Rattle.log_laws.specs.View.{most_sectors};
 ghost use Rattle.array_core.specs.Settling.{Cleans, IsOwnSector, KeepsOthers, Settles, WritesSuper, WritesSupers};
 ghost use Rattle.array_core.specs.Pool.{Goes, MayRenew};
@@ -34,7 +34,7 @@ impl Array {
     pub fn settle<R: Rack>(&mut self, rack: &mut R, log: &mut Log)
         requires slices { HasSlices self.old (R.seen rack.old) }
         requires room { length log.old.added + 16 ≤ most_sectors }
-        ensures settles { (s : State) (durable : Shape) (vals : ℕ → Values) (spent : ℕ → Bool) → Covers self.new spent
+        ensures settles { (s : State) (durable : Shape) (vals : ℕ → Values) (spent : ℕ → Bool) → IncludesSpent self.new spent
             → SyncsArray s self.old self.new spent (R.seen rack.old) (R.seen rack.new) durable vals }
         ensures reads { OnlyReads (R.seen rack.old) (R.seen rack.new) }
         ensures view { Settles self.old self.new (R.seen rack.old) (R.seen rack.new) }
@@ -53,7 +53,7 @@ impl Array {
     /// they would. No value changes, and a mark that this run made is taken back.
     pub fn clean<R: Rack>(&mut self, rack: &mut R)
         requires slices { HasSlices self.old (R.seen rack.old) }
-        ensures cleans { (s : State) (vals : ℕ → Values) (spent : ℕ → Bool) → Covers self.new spent → MayRenew s self.old (R.seen rack.old)
+        ensures cleans { (s : State) (vals : ℕ → Values) (spent : ℕ → Bool) → IncludesSpent self.new spent → MayRenew s self.old (R.seen rack.old)
             → Keeping s self.old self.new spent (R.seen rack.old) (R.seen rack.new) (shape_of self.old) vals }
         ensures view { Cleans self.old self.new (R.seen rack.old) (R.seen rack.new) }
         ensures noted { IsNoted self.old self.new (R.seen rack.old) (R.seen rack.new) }
@@ -64,15 +64,15 @@ impl Array {
         ensures truth { HoldTruth self.old (R.seen rack.old) → HoldTruth self.new (R.seen rack.new) }
 
         // What stops leave has the truth that it had, or the one that leaves the rows to resync that are left in this run.
-        ensures leaves { (s : State) (vals : ℕ → Values) (spent : ℕ → Bool) → Covers self.new spent → MayRenew s self.old (R.seen rack.old)
+        ensures leaves { (s : State) (vals : ℕ → Values) (spent : ℕ → Bool) → IncludesSpent self.new spent → MayRenew s self.old (R.seen rack.old)
             → LeavesTruth s self.old.number (λ t. array_fields t ≡ array_fields (settled self.old).truth)
-            (Holds s (shape_of self.old) self.old vals spent (R.seen rack.old)) (R.seen rack.old) (R.seen rack.new) }
+            (ArrayInvariant s (shape_of self.old) self.old vals spent (R.seen rack.old)) (R.seen rack.old) (R.seen rack.new) }
 
         // No other sectors than those of superblocks are written, and whoever is left has one value in each sector.
         ensures others { KeepsOthers (R.seen rack.old) (R.seen rack.new) }
-        ensures settled { (s : State) (durable : Shape) (vals : ℕ → Values) (spent : ℕ → Bool) → Covers self.new spent
-            → Holds s durable self.old vals spent (R.seen rack.old) → IsSettled (shape_of self.new) self.new.number (R.seen rack.new).held }
-        ensures kept { (s : State) (number : ℕ) → LogKept s number (λ place. false) (R.seen rack.old) → LogKept s number (λ place. false) (R.seen rack.new) }
+        ensures settled { (s : State) (durable : Shape) (vals : ℕ → Values) (spent : ℕ → Bool) → IncludesSpent self.new spent
+            → ArrayInvariant s durable self.old vals spent (R.seen rack.old) → IsSynced (shape_of self.new) self.new.number (R.seen rack.new).held }
+        ensures kept { (s : State) (number : ℕ) → LogInvariant s number (λ place. false) (R.seen rack.old) → LogInvariant s number (λ place. false) (R.seen rack.new) }
         ensures runs { R.runs rack.old rack.new }
     {
         self.rules();

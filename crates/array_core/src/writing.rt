@@ -11,13 +11,13 @@ ghost use Rattle.array_image.specs.Stripes.{mirror, parity};
 ghost use Rattle.array_image.specs.Arrays.{final_layout};
 ghost use Rattle.array_image.specs.Spent.{wanting, spent_with};
 ghost use Rattle.array_model.specs.View.{has_gone, is_alone, is_whole_array, member_on, place_at, sectors_of, shape_of, spent_in};
-ghost use Rattle.array_model.specs.ArrayCalls.{Covers, WritesArray};
-ghost use Rattle.array_model.specs.Says.{Holds};
+ghost use Rattle.array_model.specs.ArrayCalls.{IncludesSpent, WritesArray};
+ghost use Rattle.array_model.specs.Says.{ArrayInvariant};
 ghost use Rattle.array_model.specs.Members.{HasSlices, IsKept, Notes, Works, members_of, slice_on};
 ghost use Rattle.array_model.specs.Rows.{Wrote, copies};
 ghost use Rattle.array_model.proofs.Moves.{KeepsOthers};
 ghost use Rattle.log_laws.specs.View.{committed};
-ghost use Rattle.log_laws.specs.Kept.{LogKept};
+ghost use Rattle.log_laws.specs.Kept.{LogInvariant};
 ghost use Rattle.log_laws.specs.Phases.{AreLogs};
 ghost use Rattle.array_core.specs.Pool.{Goes, MayCommit};
 ghost use Rattle.array_core.specs.Stands.{IsStand};
@@ -170,7 +170,7 @@ impl Array {
         requires marked { self.old.marked ≡ true }
         requires fresh { self.old.went ≡ [] }
         requires sector { sector < sectors_of self.old }
-        ensures writes { (s : State) (vals : ℕ → Values) (spent : ℕ → Bool) → Covers self.new spent
+        ensures writes { (s : State) (vals : ℕ → Values) (spent : ℕ → Bool) → IncludesSpent self.new spent
             → WritesArray s self.old self.new spent (R.seen rack.old) (R.seen rack.new) (shape_of self.old) vals sector from.now }
         ensures notes { Notes self.old self.new (R.seen rack.old) (R.seen rack.new) }
         ensures others { KeepsOthers self.old.number (R.seen rack.old) (R.seen rack.new) }
@@ -214,7 +214,7 @@ impl Array {
         requires slices { HasSlices self.old (R.seen rack.old) }
         requires sector { sector < sectors_of self.old }
         requires alone { is_alone self.old ≡ true }
-        ensures writes { (s : State) (vals : ℕ → Values) (spent : ℕ → Bool) → Covers self.new spent → self.old.went ≡ []
+        ensures writes { (s : State) (vals : ℕ → Values) (spent : ℕ → Bool) → IncludesSpent self.new spent → self.old.went ≡ []
             → WritesArray s self.old self.new spent (R.seen rack.old) (R.seen rack.new) (shape_of self.old) vals sector from.now }
         ensures notes { Notes self.old self.new (R.seen rack.old) (R.seen rack.new) }
         ensures others { KeepsOthers self.old.number (R.seen rack.old) (R.seen rack.new) }
@@ -278,11 +278,11 @@ impl Array {
         requires logs { AreLogs (R.seen rack.old).sectors on.now.items }
         requires empty { log.old.added ≡ [] }
         requires sector { sector < sectors_of self.old }
-        ensures writes { (s : State) (vals : ℕ → Values) (spent : ℕ → Bool) → Covers self.new spent
+        ensures writes { (s : State) (vals : ℕ → Values) (spent : ℕ → Bool) → IncludesSpent self.new spent
             → MayCommit s self.old self.new log.old.number on.now.items (R.seen rack.old)
             → WritesArray s self.old self.new spent (R.seen rack.old) (R.seen rack.new) (shape_of self.old) vals sector from.now }
         ensures kept { (s : State) → MayCommit s self.old self.new log.old.number on.now.items (R.seen rack.old)
-            → LogKept s log.new.number (has_gone self.new) (R.seen rack.new) }
+            → LogInvariant s log.new.number (has_gone self.new) (R.seen rack.new) }
         ensures view { WritesView self.old self.new (R.seen rack.old) (R.seen rack.new) }
         ensures elsewhere { KeepsElsewhere false self.old on.now.items (R.seen rack.old) (R.seen rack.new) }
 
@@ -290,9 +290,9 @@ impl Array {
         ensures truth { HoldTruth self.old (R.seen rack.old) → HoldTruth self.new (R.seen rack.new) }
 
         // Where the array isn't whole, its truth stays in whatever a stop leaves.
-        ensures leaves { (s : State) (vals : ℕ → Values) (spent : ℕ → Bool) → Covers self.new spent
+        ensures leaves { (s : State) (vals : ℕ → Values) (spent : ℕ → Bool) → IncludesSpent self.new spent
             → MayCommit s self.old self.new log.old.number on.now.items (R.seen rack.old) → is_whole_array self.old ≡ false
-            → LeavesTruth s self.old.number (λ t. ⊥) (Holds s (shape_of self.old) self.old vals spent (R.seen rack.old)) (R.seen rack.old) (R.seen rack.new) }
+            → LeavesTruth s self.old.number (λ t. ⊥) (ArrayInvariant s (shape_of self.old) self.old vals spent (R.seen rack.old)) (R.seen rack.old) (R.seen rack.new) }
         ensures goes { Goes (R.seen rack.old) (R.seen rack.new) }
         ensures log { (log.new ≡ log.old) ⊎ (log.new ≡ committed log.old) }
         ensures runs { R.runs rack.old rack.new }

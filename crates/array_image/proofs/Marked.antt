@@ -10,7 +10,7 @@ use Rattle.array_image.specs.Places.{member_slice, super_sector}
 use Rattle.array_image.specs.States.{is_current, state_in}
 use Rattle.array_image.specs.Supers.{is_super_of, only_if, super_of, super_in}
 use Rattle.array_image.specs.Arrays.{Member, Shape, member_by, member_in, place_with, shape_by, shape_in, array_in, arrays_in, value_by}
-use Rattle.array_image.specs.Held.{Among, PicksData, IsSettled}
+use Rattle.array_image.specs.Held.{Among, PicksData, IsSynced}
 use Rattle.array_image.specs.Marks.{unless_gone, lower, lowered, Marks, IsCarried}
 use Rattle.array_image.proofs.Settled.{settled_value}
 
@@ -80,7 +80,7 @@ picks_left lost shape array held c picks m sector among counts = picks m sector 
 -- once those that are left are synced, they give the current value
 pub carried_value : (durable noted : Shape) (array : ℕ) (vals : ℕ → Values) (live : ℕ → Type 0) (held : Held) (c : Image)
     → IsCarried durable noted array vals live held
-    → IsSettled noted array held
+    → IsSynced noted array held
     → PicksData noted array held c
     → (x : ℕ) → live x → value_by noted c array x ≡ (vals x).current
 carried_value durable noted array vals live held c carried settled picks x alive =
@@ -94,7 +94,7 @@ AreMarked s made durable lost c =
 -- whichever it is, each sector of each array gives a value that it holds
 pub one_mark : (made : ℕ) (durable : ℕ → Shape) (lost : ℕ → Bool) (vals : ℕ → ℕ → Values) (live : ℕ → ℕ → Type 0) (held : Held) (c : Image) (s : State)
     → ((n : ℕ) → n < made → IsCarried (durable n) (lowered lost (durable n)) n (vals n) (live n) held)
-    → ((n : ℕ) → n < made → IsSettled (lowered lost (durable n)) n held)
+    → ((n : ℕ) → n < made → IsSynced (lowered lost (durable n)) n held)
     → ((n : ℕ) → n < made → PicksData (durable n) n held c)
     → state_in c ≡ Some s
     → AreMarked s made durable lost c

@@ -10,7 +10,7 @@ use Rattle.rack.specs.Targets.{Target, look}
 use Rattle.array_image.specs.Record.{Gate, GateAt, gate_of, gate_in, is_there, is_bad_gate, record_of, record_in, gates_in, is_open_if_of, is_bad_log, damaged_log, pending_at, pending_record, pending}
 use Rattle.array_image.specs.States.{state_in, current_places}
 use Rattle.array_image.specs.Arrays.{replayed}
-use Rattle.array_image.specs.Left.{IsCalmIn, IsWhole, TargetsInside, deciding}
+use Rattle.array_image.specs.Left.{IsPendingOnlyFor, IsWhole, TargetsInside, deciding}
 use Rattle.array_image.proofs.Frames.{map_same, state_same}
 
 -- contents that agree on the log slices
@@ -96,7 +96,7 @@ whole_same c e same whole =
     ∙ ap (λ (f : ℕ → Bool). find f (deciding e)) (λ i place. bad_log_same c e same (deciding e) place i)
     ∙ whole
 
-pub calm_same : (array : ℕ) (c e : Image) → SameLogs c e → IsCalmIn array e → IsCalmIn array c
+pub calm_same : (array : ℕ) (c e : Image) → SameLogs c e → IsPendingOnlyFor array e → IsPendingOnlyFor array c
 calm_same array c e same calm d t apart =
     ap (λ (xs : List Target). look xs d t) (pending_same c e same (deciding c) ∙ ap (λ places. pending places e) (deciding_same c e same)) ∙ calm d t apart
 

@@ -5,7 +5,7 @@ use Rattle.rack.specs.Seen.{Image, Held}
 use Rattle.array_image.specs.Places.{member_slice, data_sector}
 use Rattle.array_image.specs.Stripes.{width, position_in, sector_in, given}
 use Rattle.array_image.specs.Arrays.{Member, Shape, column, layout_at, value_by}
-use Rattle.array_image.specs.Held.{Among, current_in, held_of, PicksData, IsSettled}
+use Rattle.array_image.specs.Held.{Among, current_in, held_of, PicksData, IsSynced}
 
 -- a member's column, where it has one value
 one_column : (held : Held) (c : Image) (array sector : ℕ) (m : Member)
@@ -40,7 +40,7 @@ same_columns held c array sector (m ∷ others) single pick =
 
 -- whatever a stop leaves of settled members gives the current value of each sector of the array, by any layout and whoever is missing
 pub settled_value : (shape : Shape) (array : ℕ) (held : Held) (c : Image)
-    → IsSettled shape array held
+    → IsSynced shape array held
     → PicksData shape array held c
     → (x : ℕ)
     → value_by shape c array x ≡ value_by shape (current_in held) array x

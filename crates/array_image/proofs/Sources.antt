@@ -8,7 +8,7 @@ use Rattle.parity.specs.Xor.{xor_all}
 use Rattle.array_image.specs.Places.{member_slice, data_sector}
 use Rattle.array_image.specs.Stripes.{Layout, mirror, parity, width, position_in, sector_in, there, at_position, without, first_there, given}
 use Rattle.array_image.specs.Arrays.{Member, Shape, column, layout_at, value_by}
-use Rattle.array_image.specs.Held.{Among, current_in, held_of, PicksData, IsSettled, first_counting, member_at, source_in, held_by}
+use Rattle.array_image.specs.Held.{Among, current_in, held_of, PicksData, IsSynced, first_counting, member_at, source_in, held_by}
 use Rattle.array_image.proofs.Settled.{settled_value, among_take}
 
 -- a member of a list, which counts at a sector
@@ -91,7 +91,7 @@ source_of shape x = source_in (layout_at shape x) (sector_in (layout_at shape x)
 -- whatever a stop leaves gives each sector one of its held values, where it has a source or the members are settled
 pub picked_value : (shape : Shape) (array : ℕ) (held : Held) (c : Image) (x : ℕ)
     → PicksData shape array held c
-    → (source_of shape x ≡ None → IsSettled shape array held)
+    → (source_of shape x ≡ None → IsSynced shape array held)
     → MayLeave (held_by shape held array x) (value_by shape c array x)
 unfolding held_by value_by
 picked_value shape array held c x picks settled =
@@ -124,7 +124,7 @@ held_current shape array held x =
     goal refl
 
 -- settled members give single values
-pub held_single : (shape : Shape) (array : ℕ) (held : Held) (x : ℕ) → IsSettled shape array held → IsSingle (held_by shape held array x)
+pub held_single : (shape : Shape) (array : ℕ) (held : Held) (x : ℕ) → IsSynced shape array held → IsSingle (held_by shape held array x)
 unfolding held_by
 held_single shape array held x settled v leaves =
     let layout = layout_at shape x in

@@ -27,8 +27,8 @@ PicksData shape array held c =
     → MayLeave (held_of held array sector m) (c (member_slice m.place array) (data_sector + sector))
 
 -- each sector of the members' data has one value, where it counts
-abbrev pub IsSettled : Shape → ℕ → Held → Type 0
-IsSettled shape array held =
+abbrev pub IsSynced : Shape → ℕ → Held → Type 0
+IsSynced shape array held =
     (m : Member) (sector : ℕ) → Among m shape.members → sector < m.reach → IsSingle (held_of held array sector m)
 
 -- the first member that counts at a sector

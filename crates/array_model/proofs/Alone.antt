@@ -3,7 +3,7 @@ use Rattle.std.proofs.Common.{◌≡◌, ℕ, suc, ◌+◌, ◌<◌, ◌≤◌, 
 use Rattle.std.proofs.lemmas.Bool.{both_ways, and_parts, leb-true}
 use Rattle.std.specs.List.{list_all}
 use Rattle.std.specs.Option.{option_map_or}
-use Rattle.rack.specs.Seen.{Image, Seen}
+use Rattle.rack.specs.Seen.{Image, RackView}
 use Rattle.rack.specs.Targets.{Target, target, look}
 use Rattle.rack.specs.Sequences.{IsPayload}
 use Rattle.md_super.specs.Profile.{is_mirror}
@@ -139,7 +139,7 @@ module _ (v : View) (is_array : IsArray v) (alone : is_alone v ≡ true) where
       or_true false q is = is
 
   -- its sector is the row
-  pub alone_owes : (a : Seen) (x k : ℕ) (from : List ℕ) → first_counting x (firsts v v.truth.raid_disks) ≡ Some (member_on v k) → length from ≡ 512
+  pub alone_owes : (a : RackView) (x k : ℕ) (from : List ℕ) → first_counting x (firsts v v.truth.raid_disks) ≡ Some (member_on v k) → length from ≡ 512
       → Owes v a x from (target (slice_on v k) (data_sector + x) from ∷ [])
   alone_owes a x k from is wide = record {
     row = record {

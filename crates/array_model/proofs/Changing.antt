@@ -1,7 +1,7 @@
 -- A RAID-5 row of a whole array: what its write owes.
 use Rattle.std.proofs.Common.{◌≡◌, ℕ, ◌+◌, ◌<◌, ◌≤◌, Bool, true, false, ◌==◌, nat_lt, if◌then◌else◌, List, [], ◌∷◌, length, Some, None, refl, sym, ap, ap₂, subst, ◌∙◌, eqb-true, eq-eqb, arith}
 use Rattle.std.proofs.lemmas.Simd.{length-replicate}
-use Rattle.rack.specs.Seen.{Image, Seen}
+use Rattle.rack.specs.Seen.{Image, RackView}
 use Rattle.rack.specs.Targets.{Target, target}
 use Rattle.parity.specs.Xor.{zeros}
 use Rattle.raid_map.specs.LeftSymmetric.{IsMemberCount, member_of, sector_of, parity_at}
@@ -38,7 +38,7 @@ unfolding shape_of
 reach_of_all v is_array whole m among = whole_shape v is_array whole m among
 
 -- what the proofs of a row may use of the contents
-abbrev pub Knows : View → Seen → Type 0 → Type 0
+abbrev pub Knows : View → RackView → Type 0 → Type 0
 Knows v a P =
     IsOpen (shape_of v) v.number a
     → ((m : Member) (t : ℕ) → Among m (shape_of v).members → t < m.reach → length (current_in a.held (member_slice m.place v.number) (data_sector + t)) ≡ 512)
@@ -47,7 +47,7 @@ Knows v a P =
 
 -- ---- a mirror
 
-pub mirror_owes : (v : View) (a : Seen) (x : ℕ) (from : List ℕ) → IsArray v → is_whole_array v ≡ true → final_layout v.truth ≡ mirror v.truth.raid_disks → length from ≡ 512
+pub mirror_owes : (v : View) (a : RackView) (x : ℕ) (from : List ℕ) → IsArray v → is_whole_array v ≡ true → final_layout v.truth ≡ mirror v.truth.raid_disks → length from ≡ 512
     → Owes v a x from (copies (shape_of v) v.number x from)
 mirror_owes v a x from is_array whole layout sized =
     let plain : IsPlain (shape_of v) (mirror v.truth.raid_disks) = subst (λ (l : Layout). IsPlain (shape_of v) l) layout (plain_shape v is_array (whole_parts v whole).1) in
@@ -68,7 +68,7 @@ count_of v is_array layout = record { least = is_array.least; most = few (is_mir
     few true low = omega (arith, low)
     few false low = low
 
-pub parity_owes : (v : View) (a : Seen) (x : ℕ) (from new : List ℕ) → IsArray v → is_whole_array v ≡ true → final_layout v.truth ≡ parity v.truth.raid_disks
+pub parity_owes : (v : View) (a : RackView) (x : ℕ) (from new : List ℕ) → IsArray v → is_whole_array v ≡ true → final_layout v.truth ≡ parity v.truth.raid_disks
     → length from ≡ 512 → length new ≡ 512
     → Knows v a (new ≡ next_parity (shape_of v) v.truth.raid_disks v.number x (current_in a.held) from)
     → Owes v a x from (changed (shape_of v) v.truth.raid_disks v.number x from new)
@@ -85,7 +85,7 @@ parity_owes v a x from new is_array whole layout sized wide is =
     }
 
 -- the value that those left give is what its member has
-pub old_value : (v u : View) (a : Seen) (x : ℕ) (old : List ℕ) (lost : ℕ → Bool) → IsArray v → is_whole_array v ≡ true → final_layout v.truth ≡ parity v.truth.raid_disks
+pub old_value : (v u : View) (a : RackView) (x : ℕ) (old : List ℕ) (lost : ℕ → Bool) → IsArray v → is_whole_array v ≡ true → final_layout v.truth ≡ parity v.truth.raid_disks
     → x < sectors_of v
     → IsSameButSeats v u → LosesPlaces v u lost → spent_in u x ≡ false
     → (IsOpen (shape_of v) v.number a → old ≡ value_by (shape_of u) (current_in a.held) v.number x)
@@ -137,7 +137,7 @@ pub whole_same : (v : List ℕ) → length v ≡ 512 → whole_or v ≡ v
 whole_same v is = ap (λ (b : Bool). if b then v else zeros 512) (eq-eqb (length v) 512 is)
 
 -- the parity that is wanted is a whole sector
-pub next_sized : (v : View) (a : Seen) (x : ℕ) (from : List ℕ) → IsArray v → is_whole_array v ≡ true → final_layout v.truth ≡ parity v.truth.raid_disks
+pub next_sized : (v : View) (a : RackView) (x : ℕ) (from : List ℕ) → IsArray v → is_whole_array v ≡ true → final_layout v.truth ≡ parity v.truth.raid_disks
     → sector_of v.truth.raid_disks x < v.truth.size → length from ≡ 512
     → Knows v a (length (next_parity (shape_of v) v.truth.raid_disks v.number x (current_in a.held) from) ≡ 512)
 next_sized v a x from is_array whole layout low wide opened sized even =

@@ -3,25 +3,25 @@ use Rattle.std.proofs.Common.{◌≡◌, ℕ, ◌+◌, ◌<◌, Bool, true, fals
 use Rattle.std.proofs.lemmas.Bool.{both_ways}
 use Rattle.std.specs.Option.{option_map_or}
 use Rattle.rack.specs.Values.{Values, MayLeave, Keeps, only}
-use Rattle.rack.specs.Seen.{Image, Held, Seen, IsLive, IsPick, Stays}
+use Rattle.rack.specs.Seen.{Image, Held, RackView, IsLive, IsPick, SameRack}
 use Rattle.rack.specs.Calls.{KeepsAll}
 use Rattle.rack.specs.Joins.{leaves_weaker}
 use Rattle.pool_state.specs.declared.contents.State.{State}
 use Rattle.array_image.specs.Places.{log_slice, member_slice, data_sector}
 use Rattle.array_image.specs.Stripes.{Layout, width, position_in, sector_in, there, given, AgreeIn}
 use Rattle.array_image.specs.Arrays.{Member, Shape, column, layout_at, stripe_in, value_by, replayed}
-use Rattle.array_image.specs.Held.{Among, current_in, held_of, held_by, IsSettled}
+use Rattle.array_image.specs.Held.{Among, current_in, held_of, held_by, IsSynced}
 use Rattle.array_image.specs.Even.{AreEven}
 use Rattle.array_image.proofs.Settled.{among_take}
 use Rattle.array_image.proofs.Sources.{source_of, source_counts}
 use Rattle.array_model.specs.View.{View, shape_of, may_vary}
-use Rattle.array_image.specs.Left.{reading, IsBounded, IsInside, Picks, PicksLogs, IsLeft, IsClosed, TargetsInside}
+use Rattle.array_image.specs.Left.{reading, TargetsExist, IsInside, Picks, PicksLogs, IsLeft, NothingPending, TargetsInside}
 use Rattle.array_model.proofs.Views.{loses_nobody, same_array}
-use Rattle.array_model.specs.Says.{Says, IsOpen, HoldsShape, Holds}
-use Rattle.array_model.specs.ArrayCalls.{Keeping, Turns}
+use Rattle.array_model.specs.Says.{ImageShowsArray, IsOpen, ShapeInvariant, ArrayInvariant}
+use Rattle.array_model.specs.ArrayCalls.{Keeping, ImageInCall}
 
 -- a sector that can be called before calls can be called after them, where no call spends one
-pub live_on : {a b : Seen} {d t : ℕ} → a.lasting → Stays a b → IsLive a a d t → IsLive a b d t
+pub live_on : {a b : RackView} {d t : ℕ} → a.lasting → SameRack a b → IsLive a a d t → IsLive a b d t
 live_on {a} {b} {d} {t} lasting stays live =
     record {
       disk = subst (λ n. d < n) (sym stays.disks) live.disk;
@@ -30,25 +30,25 @@ live_on {a} {b} {d} {t} lasting stays live =
       unspent = stays.lasts lasting d t live.unspent;
     }
 
-pub live_after : {a b : Seen} {d t : ℕ} → Stays a b → IsLive a b d t → IsLive b b d t
+pub live_after : {a b : RackView} {d t : ℕ} → SameRack a b → IsLive a b d t → IsLive b b d t
 live_after {a} {b} {d} {t} stays live =
     record { disk = live.disk; sector = live.sector; is_told = stays.told d live.is_told; unspent = live.unspent }
 
 -- what a sector reads is the current value of one that can be called, and nothing where there is none
-pub reading_live : (x : Seen) (d t : ℕ) → IsLive x x d t → reading x d t ≡ (x.held d t).current
+pub reading_live : (x : RackView) (d t : ℕ) → IsLive x x d t → reading x d t ≡ (x.held d t).current
 reading_live x d t live = ap (λ b. if b then (x.held d t).current else []) (lt-ltb t (x.sectors d) live.sector)
 
-pub reading_outside : (x : Seen) (d t : ℕ) → x.sectors d ≤ t → reading x d t ≡ []
+pub reading_outside : (x : RackView) (d t : ℕ) → x.sectors d ≤ t → reading x d t ≡ []
 reading_outside x d t out = ap (λ b. if b then (x.held d t).current else []) (le-ltb t (x.sectors d) out)
 
 -- no values came
-abbrev pub KeepsHeld : Seen → Seen → Type 0
+abbrev pub KeepsHeld : RackView → RackView → Type 0
 KeepsHeld a b = (d t : ℕ) → IsLive a b d t → Keeps (a.held d t) (b.held d t)
 
-pub inside_before : {a b : Seen} → Stays a b → (c : Image) → IsInside b.sectors c → IsInside a.sectors c
+pub inside_before : {a b : RackView} → SameRack a b → (c : Image) → IsInside b.sectors c → IsInside a.sectors c
 inside_before {a} {b} stays c inside d t out = inside d t (subst (λ n. n ≤ t) (sym (stays.sectors d)) out)
 
-picks_before : {a b : Seen} → a.lasting → Stays a b → KeepsHeld a b → (c : Image) → Picks b c → Picks a c
+picks_before : {a b : RackView} → a.lasting → SameRack a b → KeepsHeld a b → (c : Image) → Picks b c → Picks a c
 picks_before {a} {b} lasting stays keeps c picks =
     record {
       picks = λ d t live.
@@ -58,10 +58,10 @@ picks_before {a} {b} lasting stays keeps c picks =
     }
 
 -- the log slices keep their values
-abbrev pub KeepsLogs : Seen → Seen → Type 0
+abbrev pub KeepsLogs : RackView → RackView → Type 0
 KeepsLogs a b = (place t : ℕ) → IsLive a b (log_slice place) t → Keeps (a.held (log_slice place) t) (b.held (log_slice place) t)
 
-pub logs_before : {a b : Seen} → a.lasting → Stays a b → KeepsLogs a b → (c : Image) → PicksLogs b c → PicksLogs a c
+pub logs_before : {a b : RackView} → a.lasting → SameRack a b → KeepsLogs a b → (c : Image) → PicksLogs b c → PicksLogs a c
 logs_before {a} {b} lasting stays keeps c picks =
     record {
       picks = λ place t live.
@@ -71,18 +71,18 @@ logs_before {a} {b} lasting stays keeps c picks =
     }
 
 -- so what isn't pending stays so
-pub closed_after : {a b : Seen} (n : ℕ) → a.lasting → Stays a b → KeepsLogs a b → IsClosed n a → IsClosed n b
+pub closed_after : {a b : RackView} (n : ℕ) → a.lasting → SameRack a b → KeepsLogs a b → NothingPending n a → NothingPending n b
 closed_after n lasting stays keeps closed c picks place t =
     ap (λ (sectors : ℕ → ℕ). replayed sectors c (member_slice place n) t) (λ i e. stays.sectors e i)
     ∙ closed c (logs_before lasting stays keeps c picks) place t
 
 -- and what is pending is for sectors that slices have
-pub bounded_after : {a b : Seen} → a.lasting → Stays a b → KeepsLogs a b → IsBounded a → IsBounded b
+pub bounded_after : {a b : RackView} → a.lasting → SameRack a b → KeepsLogs a b → TargetsExist a → TargetsExist b
 bounded_after lasting stays keeps bounded c picks =
     subst (λ (sectors : ℕ → ℕ). TargetsInside sectors c) (sym (λ i e. stays.sectors e i)) (bounded c (logs_before lasting stays keeps c picks))
 
 -- what a stop after the calls may leave, one before them might
-pub left_before : {a b : Seen} → a.lasting → Stays a b → KeepsHeld a b → (r : Image) → IsLeft b r → IsLeft a r
+pub left_before : {a b : RackView} → a.lasting → SameRack a b → KeepsHeld a b → (r : Image) → IsLeft b r → IsLeft a r
 left_before {a} {b} lasting stays keeps r left = (
   left.0,
   picks_before lasting stays keeps left.0 left.1,
@@ -90,11 +90,11 @@ left_before {a} {b} lasting stays keeps r left = (
 )
 
 -- and so do images in the middle of them
-pub pick_before : {a b : Seen} → a.lasting → Stays a b → (c : Image) → IsInside a.sectors c → IsPick a b a.held c → Picks a c
+pub pick_before : {a b : RackView} → a.lasting → SameRack a b → (c : Image) → IsInside a.sectors c → IsPick a b a.held c → Picks a c
 pick_before {a} {b} lasting stays c inside pick = record { picks = λ d t live. pick d t (live_on lasting stays live); inside = inside }
 
 -- the logs of contents
-pub logs_of : {x : Seen} → (c : Image) → Picks x c → PicksLogs x c
+pub logs_of : {x : RackView} → (c : Image) → Picks x c → PicksLogs x c
 logs_of c picks = record { picks = λ place t live. picks.picks (log_slice place) t live; inside = λ place t out. picks.inside (log_slice place) t out }
 
 -- no values came to the members' data that counts
@@ -149,10 +149,10 @@ held_kept g h shape array x keeps u left =
     ] in
     goal refl left
 
-pub open_after : {a b : Seen} → a.lasting → Stays a b → (shape : Shape) (array : ℕ) → IsOpen shape array a → IsOpen shape array b
+pub open_after : {a b : RackView} → a.lasting → SameRack a b → (shape : Shape) (array : ℕ) → IsOpen shape array a → IsOpen shape array b
 open_after lasting stays shape array is_open m sector among counts = live_after stays (live_on lasting stays (is_open m sector among counts))
 
-keeps_data : {a b : Seen} → a.lasting → Stays a b → KeepsHeld a b → (shape : Shape) (array : ℕ) → IsOpen shape array a → KeepsData shape array a.held b.held
+keeps_data : {a b : RackView} → a.lasting → SameRack a b → KeepsHeld a b → (shape : Shape) (array : ℕ) → IsOpen shape array a → KeepsData shape array a.held b.held
 keeps_data lasting stays keeps shape array is_open m sector among counts =
     keeps (member_slice m.place array) (data_sector + sector) (live_on lasting stays (is_open m sector among counts))
 
@@ -162,15 +162,15 @@ even_kept g h shape array resync keeps even x inside synced counts =
     (sym (same_stripe g h shape array (sector_in (layout_at shape x) x) (layout_at shape x) keeps))
     (even x inside synced counts)
 
-pub settled_kept : (g h : Held) (shape : Shape) (array : ℕ) → KeepsData shape array g h → IsSettled shape array g → IsSettled shape array h
+pub settled_kept : (g h : Held) (shape : Shape) (array : ℕ) → KeepsData shape array g h → IsSynced shape array g → IsSynced shape array h
 settled_kept g h shape array keeps settled m sector among counts u left =
     let k = keeps m sector among counts in
     settled m sector among counts u (k.within u left) ∙ sym k.current
 
 -- the array holds what it held
-pub holds_kept : {a b : Seen} → a.lasting → Stays a b → KeepsHeld a b
+pub holds_kept : {a b : RackView} → a.lasting → SameRack a b → KeepsHeld a b
     → (s : State) (n : ℕ) (durable noted : Shape) (resync : ℕ) (marked : Bool) (vals : ℕ → Values) (spent : ℕ → Bool)
-    → HoldsShape s n durable noted resync marked vals spent a → HoldsShape s n durable noted resync marked vals spent b
+    → ShapeInvariant s n durable noted resync marked vals spent a → ShapeInvariant s n durable noted resync marked vals spent b
 holds_kept {a} {b} lasting stays keeps s n durable noted resync marked vals spent holds =
     let all = keeps_data lasting stays keeps durable n holds.open_slices in
     let left = keeps_data lasting stays keeps noted n holds.open_left in
@@ -189,7 +189,7 @@ holds_kept {a} {b} lasting stays keeps s n durable noted resync marked vals spen
     }
 
 -- Any run of calls that brings no value keeps the array, whatever it says and holds: reads, syncs, a look at a member.
-pub keeping_calls : (a b : Seen) → a.lasting → Stays a b → KeepsAll a b
+pub keeping_calls : (a b : RackView) → a.lasting → SameRack a b → KeepsAll a b
     → (s : State) (durable : Shape) (v : View) (vals : ℕ → Values) (spent : ℕ → Bool)
     → Keeping s v v spent a b durable vals
 keeping_calls a b lasting stays keeps s durable v vals spent =
@@ -197,7 +197,7 @@ keeping_calls a b lasting stays keeps s durable v vals spent =
       stays = stays;
       noted = record { same = same_array v; lost = λ place. false; loses = loses_nobody v; cause = λ place none. absurd (both_ways false refl none) };
       leaves = λ traced.
-          leaves_weaker (IsPick a b a.held) (λ c. IsInside a.sectors c → Turns v.number a b (λ r. Holds s durable v vals spent a → Says s v.number durable vals spent r) c)
+          leaves_weaker (IsPick a b a.held) (λ c. IsInside a.sectors c → ImageInCall v.number a b (λ r. ArrayInvariant s durable v vals spent a → ImageShowsArray s v.number durable vals spent r) c)
           (λ c pick inside. let picks = pick_before lasting stays c inside pick in record {
             before = replayed a.sectors c;
             left = (c, picks, λ d t. refl);

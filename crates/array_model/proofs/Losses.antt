@@ -1,7 +1,7 @@
 -- A loss: it is noted, the arrays are settled, and one commit marks it.
 use Rattle.std.proofs.Common.{◌≡◌, ℕ, ◌+◌, ◌<◌, ◌≤◌, Bool, true, false, if◌then◌else◌, List, [], ◌∷◌, map, take, length, Some, None, unwrap_or, refl, sym, ap, ap₂, subst, ◌∙◌, inl, inr, arith}
 use Rattle.rack.specs.Values.{Values, MayLeave}
-use Rattle.rack.specs.Seen.{Image, Seen, Stays}
+use Rattle.rack.specs.Seen.{Image, RackView, SameRack}
 use Rattle.md_super.specs.declared.superblock.Super.{Super}
 use Rattle.pool_state.specs.declared.contents.State.{State}
 use Rattle.array_image.specs.Places.{member_slice, data_sector}
@@ -9,7 +9,7 @@ use Rattle.array_image.specs.Stripes.{width, position_in, sector_in, there, Agre
 use Rattle.array_image.specs.Arrays.{Member, Shape, place_with, column, layout_at, value_by, shape_in, replayed}
 use Rattle.array_image.specs.Supers.{super_in, truth_in}
 use Rattle.raid_map.specs.LeftSymmetric.{row_at}
-use Rattle.array_image.specs.Held.{Among, current_in, held_of, PicksData, IsSettled}
+use Rattle.array_image.specs.Held.{Among, current_in, held_of, PicksData, IsSynced}
 use Rattle.array_image.specs.Even.{AreEven}
 use Rattle.array_image.specs.SoundArray.{IsSoundArray}
 use Rattle.array_image.specs.Marks.{unless_gone, lower, lowered}
@@ -18,8 +18,8 @@ use Rattle.array_image.proofs.Sources.{held_single, held_current, source_counts}
 use Rattle.array_image.proofs.Marked.{among_lowered}
 use Rattle.array_image.proofs.Noted.{AllButOne, take_lower, noted_value}
 use Rattle.array_model.specs.View.{View, IsNoted, shape_of, may_vary}
-use Rattle.array_image.specs.Left.{Picks, IsLeft, IsClosed}
-use Rattle.array_model.specs.Says.{IsOpen, HoldsData, HoldsShape, Holds, IsEarlier}
+use Rattle.array_image.specs.Left.{Picks, IsLeft, NothingPending}
+use Rattle.array_model.specs.Says.{IsOpen, HoldsData, ShapeInvariant, ArrayInvariant, IsEarlier}
 use Rattle.array_model.specs.ArrayCalls.{Keeping}
 use Rattle.array_model.proofs.Keeping.{KeepsData, same_value, even_kept, settled_kept, open_after}
 
@@ -56,11 +56,11 @@ even_noted lost shape array resync c even x inside synced counts =
     (even x inside synced kept.1)
 
 -- Places that answered Gone are noted: the array holds what it held, for the sectors whose values those that are left give.
-pub noted_holds : (s : State) (n : ℕ) (durable noted : Shape) (resync : ℕ) (marked : Bool) (vals : ℕ → Values) (spent spent_now : ℕ → Bool) (x : Seen) (lost : ℕ → Bool)
-    → HoldsShape s n durable noted resync marked vals spent x
+pub noted_holds : (s : State) (n : ℕ) (durable noted : Shape) (resync : ℕ) (marked : Bool) (vals : ℕ → Values) (spent spent_now : ℕ → Bool) (x : RackView) (lost : ℕ → Bool)
+    → ShapeInvariant s n durable noted resync marked vals spent x
     → ((y : ℕ) → spent_now y ≡ false → spent y ≡ false)
     → ((y : ℕ) → spent_now y ≡ false → value_by (lowered lost noted) (current_in x.held) n y ≡ value_by noted (current_in x.held) n y)
-    → HoldsShape s n durable (lowered lost noted) resync marked vals spent_now x
+    → ShapeInvariant s n durable (lowered lost noted) resync marked vals spent_now x
 noted_holds s n durable noted resync marked vals spent spent_now x lost holds fewer same =
     record {
       open_slices = holds.open_slices;
@@ -81,7 +81,7 @@ noted_holds s n durable noted resync marked vals spent spent_now x lost holds fe
 -- ---- marking
 
 -- contents that a stop may leave, replayed, pick of the members that are left
-pub left_picks : (n : ℕ) (noted : Shape) (x : Seen)
+pub left_picks : (n : ℕ) (noted : Shape) (x : RackView)
     → IsOpen noted n x
     → ((c : Image) → Picks x c → (m : Member) (sector : ℕ) → Among m noted.members → sector < m.reach
     → replayed x.sectors c (member_slice m.place n) (data_sector + sector) ≡ c (member_slice m.place n) (data_sector + sector))
@@ -92,21 +92,21 @@ left_picks n noted x is_open still r left m sector among counts =
     (left.1.picks (member_slice m.place n) (data_sector + sector) (is_open m sector among counts))
 
 -- an array's data, without what images say
-pub data_of : {s : State} {n : ℕ} {durable noted : Shape} {resync : ℕ} {vary : Bool} {vals : ℕ → Values} {spent : ℕ → Bool} {x : Seen}
-    → HoldsShape s n durable noted resync vary vals spent x → HoldsData n noted resync vals spent x
+pub data_of : {s : State} {n : ℕ} {durable noted : Shape} {resync : ℕ} {vary : Bool} {vals : ℕ → Values} {spent : ℕ → Bool} {x : RackView}
+    → ShapeInvariant s n durable noted resync vary vals spent x → HoldsData n noted resync vals spent x
 data_of holds = record { open_left = holds.open_left; current = holds.current; sized = holds.sized; even = holds.even }
 
 -- The commit of a mark: once the members that are left are synced, and it has written superblocks and states that give the
 -- array without the lost places, the array holds for the new state what it held for the old one.
-pub marked_holds : (t : State) (n : ℕ) (noted : Shape) (resync : ℕ) (marked_now : Bool) (vals : ℕ → Values) (spent : ℕ → Bool) (x y : Seen)
+pub marked_holds : (t : State) (n : ℕ) (noted : Shape) (resync : ℕ) (marked_now : Bool) (vals : ℕ → Values) (spent : ℕ → Bool) (x y : RackView)
     → HoldsData n noted resync vals spent x
-    → IsSettled noted n x.held
-    → x.lasting → Stays x y
+    → IsSynced noted n x.held
+    → x.lasting → SameRack x y
     → KeepsData noted n x.held y.held
     → ((c : Image) → Picks y c → (m : Member) (sector : ℕ) → Among m noted.members → sector < m.reach
     → replayed y.sectors c (member_slice m.place n) (data_sector + sector) ≡ c (member_slice m.place n) (data_sector + sector))
     → ((r : Image) → IsLeft y r → (shape_in t r n ≡ Some noted) × ((u : Super) → truth_in t r n ≡ Some u → IsSoundArray t r n u))
-    → HoldsShape t n noted noted resync marked_now vals spent y
+    → ShapeInvariant t n noted noted resync marked_now vals spent y
 marked_holds t n noted resync marked_now vals spent x y holds settled lasting stays keeps still staged =
     let now_y = settled_kept x.held y.held noted n keeps settled in
     let current : (z : ℕ) → spent z ≡ false → value_by noted (current_in y.held) n z ≡ (vals z).current =
@@ -140,8 +140,8 @@ pub record IsSpared (lost : ℕ → Bool) (shape : Shape) (resync x : ℕ) : Typ
   pub two : 2 ≤ length (take (width (layout_at shape x)) shape.members)
 
 -- those that are left give its current value
-pub spared_value : (s : State) (n : ℕ) (durable noted : Shape) (resync : ℕ) (vary : Bool) (vals : ℕ → Values) (spent : ℕ → Bool) (x : Seen) (lost : ℕ → Bool) (y : ℕ)
-    → HoldsShape s n durable noted resync vary vals spent x
+pub spared_value : (s : State) (n : ℕ) (durable noted : Shape) (resync : ℕ) (vary : Bool) (vals : ℕ → Values) (spent : ℕ → Bool) (x : RackView) (lost : ℕ → Bool) (y : ℕ)
+    → ShapeInvariant s n durable noted resync vary vals spent x
     → IsSpared lost noted resync y
     → value_by (lowered lost noted) (current_in x.held) n y ≡ value_by noted (current_in x.held) n y
 spared_value s n durable noted resync vary vals spent x lost y holds spared =
@@ -159,9 +159,9 @@ pub record IsLosing (v w : View) (lost : ℕ → Bool) : Type 0 where
   pub marked : w.marked ≡ true → v.marked ≡ true
   pub went : w.went ≡ [] → v.went ≡ []
 
-varied : (s : State) (n : ℕ) (durable noted : Shape) (resync : ℕ) (was now : Bool) (vals : ℕ → Values) (spent : ℕ → Bool) (x : Seen)
+varied : (s : State) (n : ℕ) (durable noted : Shape) (resync : ℕ) (was now : Bool) (vals : ℕ → Values) (spent : ℕ → Bool) (x : RackView)
     → (now ≡ false → was ≡ false)
-    → HoldsShape s n durable noted resync was vals spent x → HoldsShape s n durable noted resync now vals spent x
+    → ShapeInvariant s n durable noted resync was vals spent x → ShapeInvariant s n durable noted resync now vals spent x
 varied s n durable noted resync was now vals spent x still holds =
     record {
       open_slices = holds.open_slices;
@@ -176,16 +176,16 @@ varied s n durable noted resync was now vals spent x still holds =
     }
 
 -- what an array holds by its view, after a loss is noted
-pub losing_holds : (s : State) (durable : Shape) (v w : View) (vals : ℕ → Values) (spent : ℕ → Bool) (x : Seen) (lost : ℕ → Bool)
+pub losing_holds : (s : State) (durable : Shape) (v w : View) (vals : ℕ → Values) (spent : ℕ → Bool) (x : RackView) (lost : ℕ → Bool)
     → IsLosing v w lost
     → ((y : ℕ) → spent y ≡ false → value_by (lowered lost (shape_of v)) (current_in x.held) v.number y ≡ value_by (shape_of v) (current_in x.held) v.number y)
-    → Holds s durable v vals spent x → Holds s durable w vals spent x
+    → ArrayInvariant s durable v vals spent x → ArrayInvariant s durable w vals spent x
 losing_holds s durable v w vals spent x lost losing same holds =
     record {
       shape =
-          subst (λ n. HoldsShape s n durable (shape_of w) w.resync (may_vary w) vals spent x) (sym losing.number)
-          (subst (λ r. HoldsShape s v.number durable (shape_of w) r (may_vary w) vals spent x) (sym losing.resync)
-          (subst (λ (shape : Shape). HoldsShape s v.number durable shape v.resync (may_vary w) vals spent x) (sym losing.shape)
+          subst (λ n. ShapeInvariant s n durable (shape_of w) w.resync (may_vary w) vals spent x) (sym losing.number)
+          (subst (λ r. ShapeInvariant s v.number durable (shape_of w) r (may_vary w) vals spent x) (sym losing.resync)
+          (subst (λ (shape : Shape). ShapeInvariant s v.number durable shape v.resync (may_vary w) vals spent x) (sym losing.shape)
           (varied s v.number durable (lowered lost (shape_of v)) v.resync (may_vary v) (may_vary w) vals spent x losing.vary
           (noted_holds s v.number durable (shape_of v) v.resync (may_vary v) vals spent spent x lost holds.shape (λ y unspent. unspent) same))));
       mark = λ marked r left t is. holds.mark (losing.marked marked) r left t (subst (λ n. truth_in s r n ≡ Some t) losing.number is);
@@ -194,16 +194,16 @@ losing_holds s durable v w vals spent x lost losing same holds =
           (holds.alone r left place current
           (λ n few at. other n (subst (λ (u : Super). n < u.raid_disks) (sym losing.truth) few)
           (ap (λ (u : Super). unwrap_or (place_with u.roles.items n) 16) losing.truth ∙ at)));
-      closed = λ none. subst (λ n. IsClosed n x) (sym losing.number) (holds.closed (losing.went none));
+      closed = λ none. subst (λ n. NothingPending n x) (sym losing.number) (holds.closed (losing.went none));
       truth = λ r left t is. subst (IsEarlier t) (sym losing.truth) (holds.truth r left t (subst (λ n. truth_in s r n ≡ Some t) losing.number is));
     }
 
 -- Any run of calls that brings no value, in which places went: the array keeps what it says and holds, without them.
-pub losing_calls : (a b : Seen) (s : State) (durable : Shape) (v w : View) (vals : ℕ → Values) (spent : ℕ → Bool) (lost : ℕ → Bool)
+pub losing_calls : (a b : RackView) (s : State) (durable : Shape) (v w : View) (vals : ℕ → Values) (spent : ℕ → Bool) (lost : ℕ → Bool)
     → Keeping s v v spent a b durable vals
     → IsNoted v w a b
     → IsLosing v w lost
-    → (Holds s durable v vals spent b → (y : ℕ) → spent y ≡ false
+    → (ArrayInvariant s durable v vals spent b → (y : ℕ) → spent y ≡ false
     → value_by (lowered lost (shape_of v)) (current_in b.held) v.number y ≡ value_by (shape_of v) (current_in b.held) v.number y)
     → Keeping s v w spent a b durable vals
 losing_calls a b s durable v w vals spent lost kept noted losing same =

@@ -2,35 +2,35 @@
 use Rattle.std.proofs.Common.{◌≡◌, ℕ, ◌+◌, ◌≤◌, Bool, true, false, ◌==◌, if◌then◌else◌, [], refl, sym, ap, subst, ◌∙◌, inl, eq-eqb}
 use Rattle.std.proofs.lemmas.Bool.{both_ways}
 use Rattle.rack.specs.Values.{Values, MayLeave, Keeps}
-use Rattle.rack.specs.Seen.{Image, Seen, IsLive, Stays}
+use Rattle.rack.specs.Seen.{Image, RackView, IsLive, SameRack}
 use Rattle.rack.specs.Moments.{Leaves}
 use Rattle.rack.specs.Joins.{keeps_then, leaves_weaker, leaves_then, stays_then, live_first, live_second}
 use Rattle.pool_state.specs.declared.contents.State.{State}
 use Rattle.array_image.specs.Places.{slice_of, log_slice}
 use Rattle.array_image.specs.Arrays.{Shape, replayed}
 use Rattle.array_image.proofs.Replays.{SameLogs, replayed_same, whole_same}
-use Rattle.array_image.specs.Left.{reading, IsInside, Picks, IsApart, IsBounded, IsCalm, TargetsInside}
+use Rattle.array_image.specs.Left.{reading, IsInside, Picks, IsApart, TargetsExist, PendingOnlyFor, TargetsInside}
 use Rattle.array_model.specs.View.{View, IsNoted}
-use Rattle.array_model.specs.Says.{Holds}
-use Rattle.array_model.specs.ArrayCalls.{Acts, Turns}
+use Rattle.array_model.specs.Says.{ArrayInvariant}
+use Rattle.array_model.specs.ArrayCalls.{ArrayCall, ImageInCall}
 use Rattle.array_model.proofs.Keeping.{reading_live, reading_outside, live_on, live_after, logs_before}
 use Rattle.array_model.proofs.OwnWrites.{without_own, kept_other, log_other}
 
 -- A part of a call of array n: where H holds before it, contents have P at each moment of it, and Q holds after it.
-pub record Moves (n : ℕ) (a b : Seen) (H : Type 0) (P : Image → Type 0) (Q : Type 0) : Type 0 where
-  pub stays : Stays a b
-  pub leaves : a.traced → Leaves a b (λ c. IsInside a.sectors c → Turns n a b (λ r. H → P r) c)
+pub record CallRefines (n : ℕ) (a b : RackView) (H : Type 0) (P : Image → Type 0) (Q : Type 0) : Type 0 where
+  pub stays : SameRack a b
+  pub leaves : a.traced → Leaves a b (λ c. IsInside a.sectors c → ImageInCall n a b (λ r. H → P r) c)
   pub holds : H → Q
   pub apart : (d t : ℕ) → IsLive a b d t → IsApart n d t → Keeps (a.held d t) (b.held d t)
-  pub calm : IsCalm n a → IsCalm n b
-  pub bounded : IsBounded a → IsBounded b
+  pub calm : PendingOnlyFor n a → PendingOnlyFor n b
+  pub bounded : TargetsExist a → TargetsExist b
 
 -- nothing was written outside an array's slices
-abbrev pub KeepsOthers : ℕ → Seen → Seen → Type 0
+abbrev pub KeepsOthers : ℕ → RackView → RackView → Type 0
 KeepsOthers n a b = (d t : ℕ) → IsLive a b d t → (slice_of d ≡ n + 1 → ⊥) → Keeps (a.held d t) (b.held d t)
 
 -- contents from after such a part, with the array's slices as they read before it
-picks_early : (n : ℕ) (a b : Seen) (c : Image) → a.lasting → Stays a b → KeepsOthers n a b → Picks b c → Picks a (without_own n a c)
+picks_early : (n : ℕ) (a b : RackView) (c : Image) → a.lasting → SameRack a b → KeepsOthers n a b → Picks b c → Picks a (without_own n a c)
 picks_early n a b c lasting stays keeps picks =
     record {
       picks = λ d t live.
@@ -50,8 +50,8 @@ picks_early n a b c lasting stays keeps picks =
           ];
     }
 
-turns_early : (n : ℕ) (a b c : Seen) (H Q : Type 0) (P : Image → Type 0) (i : Image)
-    → a.lasting → Stays a b → KeepsOthers n a b → (H → Q) → Turns n b c (λ r. Q → P r) i → Turns n a c (λ r. H → P r) i
+turns_early : (n : ℕ) (a b c : RackView) (H Q : Type 0) (P : Image → Type 0) (i : Image)
+    → a.lasting → SameRack a b → KeepsOthers n a b → (H → Q) → ImageInCall n b c (λ r. Q → P r) i → ImageInCall n a c (λ r. H → P r) i
 turns_early n a b c H Q P i lasting stays keeps next turn =
     let e = turn.left.0 in
     let early = without_own n a e in
@@ -76,18 +76,18 @@ turns_early n a b c H Q P i lasting stays keeps next turn =
     }
 
 -- Two parts in a row are one, where the first wrote to the array's own slices alone.
-pub moves_then : (n : ℕ) (a b c : Seen) (H Q R : Type 0) (P : Image → Type 0)
-    → a.lasting → KeepsOthers n a b → Moves n a b H P Q → Moves n b c Q P R → Moves n a c H P R
+pub moves_then : (n : ℕ) (a b c : RackView) (H Q R : Type 0) (P : Image → Type 0)
+    → a.lasting → KeepsOthers n a b → CallRefines n a b H P Q → CallRefines n b c Q P R → CallRefines n a c H P R
 moves_then n a b c H Q R P lasting keeps one two =
-    let Goal : Image → Type 0 = λ i. IsInside a.sectors i → Turns n a c (λ r. H → P r) i in
+    let Goal : Image → Type 0 = λ i. IsInside a.sectors i → ImageInCall n a c (λ r. H → P r) i in
     record {
       stays = stays_then one.stays two.stays;
       leaves = λ traced.
           leaves_then Goal
-          (leaves_weaker (λ i. IsInside a.sectors i → Turns n a b (λ r. H → P r) i) Goal
+          (leaves_weaker (λ i. IsInside a.sectors i → ImageInCall n a b (λ r. H → P r) i) Goal
           (λ i turn inside. let t = turn inside in record { before = t.before; left = t.left; others = t.others; own = t.own; whole = t.whole; calm = t.calm; bounded = t.bounded })
           (one.leaves traced))
-          (leaves_weaker (λ i. IsInside b.sectors i → Turns n b c (λ r. Q → P r) i) Goal
+          (leaves_weaker (λ i. IsInside b.sectors i → ImageInCall n b c (λ r. Q → P r) i) Goal
           (λ i turn inside.
           turns_early n a b c H Q P i lasting one.stays keeps one.holds (turn (λ d t out. inside d t (subst (λ k. k ≤ t) (one.stays.sectors d) out))))
           (two.leaves (one.stays.traced traced)));
@@ -98,13 +98,13 @@ moves_then n a b c H Q R P lasting keeps one two =
     }
 
 -- a part by more and for less
-pub moves_by : (n : ℕ) (a b : Seen) (G H Q R : Type 0) (O P : Image → Type 0)
-    → (G → H) → ((r : Image) → O r → P r) → (Q → R) → Moves n a b H O Q → Moves n a b G P R
+pub moves_by : (n : ℕ) (a b : RackView) (G H Q R : Type 0) (O P : Image → Type 0)
+    → (G → H) → ((r : Image) → O r → P r) → (Q → R) → CallRefines n a b H O Q → CallRefines n a b G P R
 moves_by n a b G H Q R O P before during after moves =
     record {
       stays = moves.stays;
       leaves = λ traced.
-          leaves_weaker (λ i. IsInside a.sectors i → Turns n a b (λ r. H → O r) i) (λ i. IsInside a.sectors i → Turns n a b (λ r. G → P r) i)
+          leaves_weaker (λ i. IsInside a.sectors i → ImageInCall n a b (λ r. H → O r) i) (λ i. IsInside a.sectors i → ImageInCall n a b (λ r. G → P r) i)
           (λ i turn inside.
           let t = turn inside in
           record {
@@ -125,14 +125,14 @@ moves_by n a b G H Q R O P before during after moves =
 
 -- ---- the clause of a call
 
-pub moves_of : (s : State) (v w : View) (spent : ℕ → Bool) (a b : Seen) (durable : Shape) (vals : ℕ → Values) (during : Image → Type 0) (after : Shape) (vals_after : ℕ → Values)
-    → Acts s v w spent a b durable vals during after vals_after
-    → Moves v.number a b (Holds s durable v vals spent a) during (Holds s after w vals_after spent b)
+pub moves_of : (s : State) (v w : View) (spent : ℕ → Bool) (a b : RackView) (durable : Shape) (vals : ℕ → Values) (during : Image → Type 0) (after : Shape) (vals_after : ℕ → Values)
+    → ArrayCall s v w spent a b durable vals during after vals_after
+    → CallRefines v.number a b (ArrayInvariant s durable v vals spent a) during (ArrayInvariant s after w vals_after spent b)
 moves_of s v w spent a b durable vals during after vals_after acts =
     record { stays = acts.stays; leaves = acts.leaves; holds = acts.holds; apart = acts.apart; calm = acts.calm; bounded = acts.bounded }
 
-pub acts_of : (s : State) (v w : View) (spent : ℕ → Bool) (a b : Seen) (durable : Shape) (vals : ℕ → Values) (during : Image → Type 0) (after : Shape) (vals_after : ℕ → Values)
-    → Moves v.number a b (Holds s durable v vals spent a) during (Holds s after w vals_after spent b) → IsNoted v w a b
-    → Acts s v w spent a b durable vals during after vals_after
+pub acts_of : (s : State) (v w : View) (spent : ℕ → Bool) (a b : RackView) (durable : Shape) (vals : ℕ → Values) (during : Image → Type 0) (after : Shape) (vals_after : ℕ → Values)
+    → CallRefines v.number a b (ArrayInvariant s durable v vals spent a) during (ArrayInvariant s after w vals_after spent b) → IsNoted v w a b
+    → ArrayCall s v w spent a b durable vals during after vals_after
 acts_of s v w spent a b durable vals during after vals_after moves noted =
     record { stays = moves.stays; noted = noted; leaves = moves.leaves; holds = moves.holds; apart = moves.apart; calm = moves.calm; bounded = moves.bounded }

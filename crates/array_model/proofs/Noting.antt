@@ -2,7 +2,7 @@
 use Rattle.std.proofs.Common.{◌≡◌, ℕ, zero, suc, ◌+◌, ◌-◌, ◌<◌, ◌≤◌, Bool, true, false, ◌&&◌, ◌||◌, not, nat_lt, if◌then◌else◌, List, [], ◌∷◌, take, length, refl, sym, ap, subst, ◌∙◌, arith}
 use Rattle.std.specs.List.{range_with_len}
 use Rattle.rack.specs.Values.{Values}
-use Rattle.rack.specs.Seen.{Seen}
+use Rattle.rack.specs.Seen.{RackView}
 use Rattle.rack.specs.Sequences.{OnlyReads}
 use Rattle.md_super.specs.declared.superblock.Super.{Super}
 use Rattle.md_super.specs.Profile.{is_mirror}
@@ -17,15 +17,15 @@ use Rattle.array_image.specs.Marks.{lowered}
 use Rattle.array_image.specs.Spent.{spent_by, spent_with}
 use Rattle.array_image.proofs.Losing.{length_map}
 use Rattle.array_model.specs.View.{View, IsArray, IsNoted, HasGeometry, LosesPlaces, shape_of, spent_in}
-use Rattle.array_model.specs.Says.{Holds}
-use Rattle.array_model.specs.ArrayCalls.{Keeping, Covers}
+use Rattle.array_model.specs.Says.{ArrayInvariant}
+use Rattle.array_model.specs.ArrayCalls.{Keeping, IncludesSpent}
 use Rattle.array_model.specs.Members.{IsSameButSeats, members_of, Notes}
 use Rattle.array_model.proofs.Views.{same_geometry, shape_then, vary_then, fresh_then}
 use Rattle.array_model.proofs.Keeping.{keeping_calls}
 use Rattle.array_model.proofs.Losses.{IsLosing, losing_calls, losing_holds}
 use Rattle.array_model.proofs.Spared.{IsLaidOut, lost_value, at_most_one, synced_row, wanting_more}
 
-pub shape_noted : (v w : View) (a b : Seen) (notes : Notes v w a b) → shape_of w ≡ lowered notes.lost (shape_of v)
+pub shape_noted : (v w : View) (a b : RackView) (notes : Notes v w a b) → shape_of w ≡ lowered notes.lost (shape_of v)
 shape_noted v w a b notes = shape_then v w notes.lost notes.same.truth notes.loses
 
 pub losing_of : (v w : View) (lost : ℕ → Bool) → IsSameButSeats v w → LosesPlaces v w lost → IsLosing v w lost
@@ -39,10 +39,10 @@ losing_of v w lost same loses = record {
   went = fresh_then v w lost loses;
 }
 
-pub losing_by : (v w : View) (a b : Seen) (notes : Notes v w a b) → IsLosing v w notes.lost
+pub losing_by : (v w : View) (a b : RackView) (notes : Notes v w a b) → IsLosing v w notes.lost
 losing_by v w a b notes = losing_of v w notes.lost notes.same notes.loses
 
-pub noted_by : (v w : View) (a b : Seen) → Notes v w a b → IsNoted v w a b
+pub noted_by : (v w : View) (a b : RackView) → Notes v w a b → IsNoted v w a b
 noted_by v w a b notes = record {
   same = record { number = notes.same.number; geometry = subst (λ (t : Super). HasGeometry v.truth t) (sym notes.same.truth) (same_geometry v.truth); devices = notes.same.devices; resync = notes.same.resync; young = notes.same.young };
   lost = notes.lost;
@@ -121,8 +121,8 @@ unspent_then v w lost losing y unspent =
     (subst (λ (shape : Shape). spent_by shape w.resync y ≡ false) losing.shape unspent)
 
 -- those that are left give the array's current values
-pub noted_value_of : (s : State) (durable : Shape) (v w : View) (vals : ℕ → Values) (spent : ℕ → Bool) (a b x : Seen) (y : ℕ)
-    → IsArray v → Notes v w a b → Covers w spent → Holds s durable v vals spent x → spent y ≡ false
+pub noted_value_of : (s : State) (durable : Shape) (v w : View) (vals : ℕ → Values) (spent : ℕ → Bool) (a b x : RackView) (y : ℕ)
+    → IsArray v → Notes v w a b → IncludesSpent w spent → ArrayInvariant s durable v vals spent x → spent y ≡ false
     → value_by (shape_of w) (current_in x.held) v.number y ≡ value_by (shape_of v) (current_in x.held) v.number y
 noted_value_of s durable v w vals spent a b x y is_array notes covers holds alive =
     ap (λ (shape : Shape). value_by shape (current_in x.held) v.number y) (shape_noted v w a b notes)
@@ -130,8 +130,8 @@ noted_value_of s durable v w vals spent a b x y is_array notes covers holds aliv
     (unspent_then v w notes.lost (losing_by v w a b notes) y (covers y alive))
 
 -- Calls that bring no value and in which places went: the array keeps what it says and holds.
-pub read_acts : (a b : Seen) (v w : View) → a.lasting → OnlyReads a b → IsArray v → Notes v w a b
-    → (s : State) (durable : Shape) (vals : ℕ → Values) (spent : ℕ → Bool) → Covers w spent
+pub read_acts : (a b : RackView) (v w : View) → a.lasting → OnlyReads a b → IsArray v → Notes v w a b
+    → (s : State) (durable : Shape) (vals : ℕ → Values) (spent : ℕ → Bool) → IncludesSpent w spent
     → Keeping s v w spent a b durable vals
 read_acts a b v w lasting reads is_array notes s durable vals spent covers =
     losing_calls a b s durable v w vals spent notes.lost
@@ -149,16 +149,16 @@ spent_fewer (suc zero) n synced low unspent = ap (λ b. nat_lt 1 1 || (nat_lt 0 
 spent_fewer (suc (suc m)) n synced low unspent = let one = at_most_one n synced unspent in absurd (omega (arith, one, low))
 
 -- a map that has each sector that is spent after a loss has each that was spent before it
-pub covers_before : (v w : View) (lost : ℕ → Bool) → IsLosing v w lost → (spent : ℕ → Bool) → Covers w spent → Covers v spent
+pub covers_before : (v w : View) (lost : ℕ → Bool) → IsLosing v w lost → (spent : ℕ → Bool) → IncludesSpent w spent → IncludesSpent v spent
 covers_before v w lost losing spent covers y alive =
     spent_fewer _ _ (nat_lt (row_at (sector_in (layout_at (shape_of v) y) y)) v.resync)
     (wanting_more lost (sector_in (layout_at (shape_of v) y) y) (shape_of v).members)
     (unspent_then v w lost losing y (covers y alive))
 
 -- what an array holds, it holds without the places that it lost
-pub holds_lost : (v w : View) (lost : ℕ → Bool) (x : Seen) → IsArray v → IsLosing v w lost
-    → (s : State) (durable : Shape) (vals : ℕ → Values) (spent : ℕ → Bool) → Covers w spent
-    → Holds s durable v vals spent x → Holds s durable w vals spent x
+pub holds_lost : (v w : View) (lost : ℕ → Bool) (x : RackView) → IsArray v → IsLosing v w lost
+    → (s : State) (durable : Shape) (vals : ℕ → Values) (spent : ℕ → Bool) → IncludesSpent w spent
+    → ArrayInvariant s durable v vals spent x → ArrayInvariant s durable w vals spent x
 holds_lost v w lost x is_array losing s durable vals spent covers holds =
     losing_holds s durable v w vals spent x lost losing
     (λ y alive.
@@ -167,8 +167,8 @@ holds_lost v w lost x is_array losing s durable vals spent covers holds =
     holds
 
 -- and so once the places that went are noted
-pub holds_noted : (v w : View) (a b x : Seen) → IsArray v → Notes v w a b
-    → (s : State) (durable : Shape) (vals : ℕ → Values) (spent : ℕ → Bool) → Covers w spent
-    → Holds s durable v vals spent x → Holds s durable w vals spent x
+pub holds_noted : (v w : View) (a b x : RackView) → IsArray v → Notes v w a b
+    → (s : State) (durable : Shape) (vals : ℕ → Values) (spent : ℕ → Bool) → IncludesSpent w spent
+    → ArrayInvariant s durable v vals spent x → ArrayInvariant s durable w vals spent x
 holds_noted v w a b x is_array notes s durable vals spent covers holds =
     holds_lost v w notes.lost x is_array (losing_by v w a b notes) s durable vals spent covers holds

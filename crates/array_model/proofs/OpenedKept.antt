@@ -2,17 +2,17 @@
 use Rattle.std.proofs.Common.{◌≡◌, ℕ, ◌+◌, ◌<◌, ◌≤◌, Bool, List, [], nat_lt, if◌then◌else◌, length, refl, sym, ap, subst, ◌∙◌, inl, inr, lt-ltb, le-ltb, arith}
 use Rattle.std.proofs.lemmas.Bool.{cases_lt}
 use Rattle.rack.specs.Values.{Keeps}
-use Rattle.rack.specs.Seen.{Seen, IsLive, Stays}
+use Rattle.rack.specs.Seen.{RackView, IsLive, SameRack}
 use Rattle.pool_state.specs.declared.contents.State.{State}
 use Rattle.array_image.specs.Places.{slice_of, member_slice, super_sector, data_sector}
-use Rattle.array_image.specs.Left.{reading, IsClosed}
+use Rattle.array_image.specs.Left.{reading, NothingPending}
 use Rattle.array_image.proofs.Frames.{Agree, super_of_sector, supers_same, truth_by_supers, shape_same}
 use Rattle.array_image.proofs.SoundFrames.{sound_same}
 use Rattle.array_model.specs.View.{View}
 use Rattle.array_model.specs.Opened.{OpensOn}
 use Rattle.array_model.proofs.Keeping.{live_on, live_after}
 
-module _ (s : State) (v : View) (a b : Seen) (few : v.number < 16) (lasting : a.lasting) (stays : Stays a b)
+module _ (s : State) (v : View) (a b : RackView) (few : v.number < 16) (lasting : a.lasting) (stays : SameRack a b)
     (live : (place t : ℕ) → t < a.sectors (member_slice place v.number) → IsLive a a (member_slice place v.number) t)
     (keeps : (place t : ℕ) → IsLive a b (member_slice place v.number) t → Keeps (a.held (member_slice place v.number) t) (b.held (member_slice place v.number) t)) where
   abbrev n : ℕ
@@ -36,7 +36,7 @@ module _ (s : State) (v : View) (a b : Seen) (few : v.number < 16) (lasting : a.
   had : (place t : ℕ) → t < b.sectors (member_slice place n) → t < a.sectors (member_slice place n)
   had place t = subst (λ m. t < m) (stays.sectors (member_slice place n))
 
-  pub opens_kept : IsClosed n b → OpensOn s v a → OpensOn s v b
+  pub opens_kept : NothingPending n b → OpensOn s v a → OpensOn s v b
   opens_kept closed opens = record {
     few = opens.few;
     joined = opens.joined;

@@ -2,7 +2,7 @@
 use Rattle.std.proofs.Common.{◌≡◌, ℕ, suc, ◌+◌, ◌<◌, Bool, true, take, Some, unwrap_or, refl, sym, ap, subst, ◌∙◌, inl, inr, arith}
 use Rattle.std.proofs.lemmas.Bool.{both_ways, cases_lt}
 use Rattle.rack.specs.Values.{MayLeave}
-use Rattle.rack.specs.Seen.{Image, Seen, IsLive}
+use Rattle.rack.specs.Seen.{Image, RackView, IsLive}
 use Rattle.md_super.specs.declared.superblock.Super.{Super}
 use Rattle.pool_state.specs.declared.contents.State.{State}
 use Rattle.array_image.specs.Places.{member_slice, super_sector, data_sector}
@@ -12,13 +12,13 @@ use Rattle.array_image.specs.Supers.{super_in, truth_in}
 use Rattle.array_image.specs.SoundArray.{IsSoundArray, first_unsynced}
 use Rattle.array_image.specs.Arrays.{Member, Shape, layout_at}
 use Rattle.array_image.specs.Even.{AreEven}
-use Rattle.array_image.specs.Held.{Among, IsSettled, PicksData, current_in, held_by}
+use Rattle.array_image.specs.Held.{Among, IsSynced, PicksData, current_in, held_by}
 use Rattle.array_image.specs.Left.{reading, IsLeft}
 use Rattle.array_image.proofs.Frames.{super_of_sector}
 use Rattle.array_image.proofs.Settled.{among_take, settled_value}
 use Rattle.array_image.proofs.Sources.{held_current}
 use Rattle.array_model.specs.View.{View, shape_of}
-use Rattle.array_model.specs.Says.{Says, Holds, IsEarlier}
+use Rattle.array_model.specs.Says.{ImageShowsArray, ArrayInvariant, IsEarlier}
 use Rattle.array_model.specs.Opened.{OpensOn}
 use Rattle.array_model.specs.Rows.{AgreeAt}
 use Rattle.array_model.proofs.DataFrames.{columns_same}
@@ -42,7 +42,7 @@ pub even_counted : (shape : Shape) (n resync : ℕ) (c e : Image)
     → AreEven shape n resync e → AreEven shape n resync c
 even_counted shape n resync c e same even x inside synced counts = agree_counted shape n x c e same (even x inside synced counts)
 
-module _ (s : State) (v : View) (x : Seen) (opens : OpensOn s v x) where
+module _ (s : State) (v : View) (x : RackView) (opens : OpensOn s v x) where
   abbrev n : ℕ
   n = v.number
 
@@ -52,7 +52,7 @@ module _ (s : State) (v : View) (x : Seen) (opens : OpensOn s v x) where
   abbrev e : Image
   e = reading x
 
-  settled : IsSettled shape n x.held
+  settled : IsSynced shape n x.held
   settled m t among counts = opens.single m.place (data_sector + t) (opens.open_slices m t among counts)
 
   module _ (r : Image) (left : IsLeft x r) where
@@ -101,7 +101,7 @@ module _ (s : State) (v : View) (x : Seen) (opens : OpensOn s v x) where
       | renewed t p now current none ↦ absurd none
     ]
 
-    says : (spent : ℕ → Bool) → Says s n shape (held_by shape x.held n) spent r
+    says : (spent : ℕ → Bool) → ImageShowsArray s n shape (held_by shape x.held n) spent r
     says spent = record {
       shape_is = shape_kept s n e r v.truth (record v.truth { events = suc v.truth.events }) (λ p t. ⊥) opens.truth_is newer renews ∙ opens.shape_is;
       value = λ y alive. inl (settled_value shape n x.held r settled picks y ∙ sym (held_current shape n x.held y));
@@ -117,7 +117,7 @@ module _ (s : State) (v : View) (x : Seen) (opens : OpensOn s v x) where
     }
 
   -- It holds what its members hold, whatever is spent.
-  pub opens_holds : (spent : ℕ → Bool) → Holds s shape v (held_by shape x.held n) spent x
+  pub opens_holds : (spent : ℕ → Bool) → ArrayInvariant s shape v (held_by shape x.held n) spent x
   opens_holds spent = record {
     shape = record {
       open_slices = opens.open_slices;

@@ -2,7 +2,7 @@
 use Rattle.std.proofs.Common.{◌≡◌, ◌≢◌, ◌⊎◌, ℕ, ◌+◌, ◌<◌, Bool, true, false, ◌==◌, ◌&&◌, ◌||◌, nat_lt, length, if◌then◌else◌, Some, refl, sym, ap, subst, ◌∙◌, inl, inr, eq-eqb, eqb-true, ltb-true, ltb-false, arith, []}
 use Rattle.std.proofs.lemmas.Bool.{both_ways}
 use Rattle.rack.specs.Values.{Values, MayLeave, Keeps}
-use Rattle.rack.specs.Seen.{Image, Seen, IsLive, Stays}
+use Rattle.rack.specs.Seen.{Image, RackView, IsLive, SameRack}
 use Rattle.pool_state.specs.declared.contents.State.{State}
 use Rattle.array_image.specs.Places.{slice_of, log_slice, member_slice, data_sector}
 use Rattle.array_image.specs.Arrays.{Shape, replayed}
@@ -11,8 +11,8 @@ use Rattle.array_image.proofs.Frames.{Agree, supers_same, truth_by_supers, state
 use Rattle.array_image.proofs.Replays.{replayed_as_is}
 use Rattle.array_image.proofs.SoundFrames.{sound_same}
 use Rattle.array_model.specs.View.{View, shape_of, may_vary}
-use Rattle.array_image.specs.Left.{reading, Picks, IsLeft, IsApart, IsCalm}
-use Rattle.array_model.specs.Says.{IsOpen, HoldsShape, Holds}
+use Rattle.array_image.specs.Left.{reading, Picks, IsLeft, IsApart, PendingOnlyFor}
+use Rattle.array_model.specs.Says.{IsOpen, ShapeInvariant, ArrayInvariant}
 use Rattle.array_model.proofs.Keeping.{reading_live, reading_outside, inside_before, logs_of, KeepsData, live_on, live_after, open_after, same_value, held_kept, even_kept, settled_kept}
 
 -- the sectors of another array are apart
@@ -21,7 +21,7 @@ other_apart n m place t few also other =
     (λ same. absurd (other (omega (arith, few, also, same))), inl (λ none. absurd (omega (arith, also, none))))
 
 -- contents that keep the sectors apart from an array, and have those of it as they read
-apart_only : (n : ℕ) (x : Seen) (c : Image) → Image
+apart_only : (n : ℕ) (x : RackView) (c : Image) → Image
 apart_only n x c d t = if (slice_of d == n + 1) || ((slice_of d == 0) && nat_lt 0 t) then reading x d t else c d t
 
 -- a test of one that is apart
@@ -57,7 +57,7 @@ is_apart n d t isnt =
     log_part true false at after now = inr (let low = ltb-false 0 t after in omega arith)
     log_part true true at after now = absurd (both_ways true now refl)
 
-apart_kept : (n : ℕ) (x : Seen) (c : Image) (d t : ℕ) → IsApart n d t → c d t ≡ apart_only n x c d t
+apart_kept : (n : ℕ) (x : RackView) (c : Image) (d t : ℕ) → IsApart n d t → c d t ≡ apart_only n x c d t
 unfolding apart_only
 apart_kept n x c d t apart =
     let Goal : Bool → Type 0 = λ b. ((slice_of d == n + 1) || ((slice_of d == 0) && nat_lt 0 t)) ≡ b → c d t ≡ (if b then reading x d t else c d t) in
@@ -69,7 +69,7 @@ apart_kept n x c d t apart =
     goal refl
 
 -- they are picks of what was held before
-apart_picks : {a b : Seen} (n : ℕ) → a.lasting → Stays a b
+apart_picks : {a b : RackView} (n : ℕ) → a.lasting → SameRack a b
     → ((d t : ℕ) → IsLive a b d t → IsApart n d t → Keeps (a.held d t) (b.held d t))
     → (c : Image) → Picks b c → Picks a (apart_only n a c)
 unfolding apart_only
@@ -92,9 +92,9 @@ apart_picks {a} {b} n lasting stays keeps c picks =
     }
 
 -- Contents that a stop leaves after a call of array n are, apart from it, such as one before might leave.
-pub apart_left : {a b : Seen} (n : ℕ) → a.lasting → Stays a b
+pub apart_left : {a b : RackView} (n : ℕ) → a.lasting → SameRack a b
     → ((d t : ℕ) → IsLive a b d t → IsApart n d t → Keeps (a.held d t) (b.held d t))
-    → IsCalm n a → IsCalm n b
+    → PendingOnlyFor n a → PendingOnlyFor n b
     → (r : Image) → IsLeft b r → (e : Image) × IsLeft a e × ((d t : ℕ) → IsApart n d t → r d t ≡ e d t)
 apart_left {a} {b} n lasting stays keeps calm calm_now r left =
     let c = left.0 in
@@ -110,12 +110,12 @@ apart_left {a} {b} n lasting stays keeps calm calm_now r left =
     )
 
 -- Every other array m holds after a call of array n what it held before it.
-pub other_holds : {a b : Seen} (n m : ℕ) → n < 16 → m < 16 → (m ≡ n → ⊥)
-    → a.lasting → Stays a b
+pub other_holds : {a b : RackView} (n m : ℕ) → n < 16 → m < 16 → (m ≡ n → ⊥)
+    → a.lasting → SameRack a b
     → ((d t : ℕ) → IsLive a b d t → IsApart n d t → Keeps (a.held d t) (b.held d t))
-    → IsCalm n a → IsCalm n b
+    → PendingOnlyFor n a → PendingOnlyFor n b
     → (s : State) (durable noted : Shape) (resync : ℕ) (vary : Bool) (vals : ℕ → Values) (spent : ℕ → Bool)
-    → HoldsShape s m durable noted resync vary vals spent a → HoldsShape s m durable noted resync vary vals spent b
+    → ShapeInvariant s m durable noted resync vary vals spent a → ShapeInvariant s m durable noted resync vary vals spent b
 other_holds {a} {b} n m few also other lasting stays keeps calm calm_now s durable noted resync vary vals spent holds =
     let sectors_keep : (shape : Shape) → IsOpen shape m a → KeepsData shape m a.held b.held =
     λ shape is_open o sector among counts.
@@ -144,12 +144,12 @@ other_holds {a} {b} n m few also other lasting stays keeps calm calm_now s durab
     }
 
 -- the same, with its mark and what is pending for it
-pub other_holds_all : {a b : Seen} (n : ℕ) (v : View) → n < 16 → v.number < 16 → (v.number ≡ n → ⊥)
-    → a.lasting → Stays a b
+pub other_holds_all : {a b : RackView} (n : ℕ) (v : View) → n < 16 → v.number < 16 → (v.number ≡ n → ⊥)
+    → a.lasting → SameRack a b
     → ((d t : ℕ) → IsLive a b d t → IsApart n d t → Keeps (a.held d t) (b.held d t))
-    → IsCalm n a → IsCalm n b
+    → PendingOnlyFor n a → PendingOnlyFor n b
     → (s : State) (durable : Shape) (vals : ℕ → Values) (spent : ℕ → Bool)
-    → Holds s durable v vals spent a → Holds s durable v vals spent b
+    → ArrayInvariant s durable v vals spent a → ArrayInvariant s durable v vals spent b
 other_holds_all {a} {b} n v few also other lasting stays keeps calm calm_now s durable vals spent holds =
     let m = v.number in
     -- the array's slices that a stop after the call leaves, one before it might
@@ -186,10 +186,10 @@ pub state_apart : (n place : ℕ) → IsApart n (log_slice place) 0
 state_apart n place = (λ same. absurd (omega (arith, same)), inr refl)
 
 -- and the state stays
-pub state_kept : {a b : Seen} (n : ℕ)
-    → a.lasting → Stays a b
+pub state_kept : {a b : RackView} (n : ℕ)
+    → a.lasting → SameRack a b
     → ((d t : ℕ) → IsLive a b d t → IsApart n d t → Keeps (a.held d t) (b.held d t))
-    → IsCalm n a → IsCalm n b
+    → PendingOnlyFor n a → PendingOnlyFor n b
     → (s : State) → ((r : Image) → IsLeft a r → state_in r ≡ Some s) → (r : Image) → IsLeft b r → state_in r ≡ Some s
 state_kept {a} {b} n lasting stays keeps calm calm_now s is r left =
     let c = left.0 in

@@ -1,6 +1,6 @@
 -- Members' sectors that are read one after the other.
 use Rattle.std.proofs.Common.{◌≡◌, ℕ, ◌+◌, ◌<◌, ◌≤◌, Bool, true, false, ◌==◌, ◌&&◌, ◌||◌, not, nat_lt, if◌then◌else◌, List, [], map, take, slice_get, ◌≢◌, Some, None, option_map, unwrap_or, refl, sym, ap, ap₂, subst, ◌∙◌, eq-eqb, eqb-true, ltb-true, lt-ltb, arith, le-ltb, ◌*◌}
-use Rattle.rack.specs.Seen.{Image, Seen, IsLive, Stays, Rose}
+use Rattle.rack.specs.Seen.{Image, RackView, IsLive, SameRack, Rose}
 use Rattle.rack.specs.Sequences.{OnlyReads}
 use Rattle.array_image.specs.Places.{place_of, member_slice, data_sector}
 use Rattle.array_image.specs.Stripes.{Layout, width, position_in, sector_in, given, at_position}
@@ -18,7 +18,7 @@ use Rattle.array_image.specs.Arrays.{place_with, final_layout, first_layout}
 use Rattle.array_model.specs.declared.Seat.TheVariants.{Missing}
 use Rattle.array_model.specs.View.{seat_unless, View, IsArray, LosesPlaces, HasFault, place_at, member_on, shape_of, spent_in}
 use Rattle.array_model.specs.Says.{IsOpen}
-use Rattle.array_model.specs.ArrayCalls.{Covers, ReadsArray}
+use Rattle.array_model.specs.ArrayCalls.{IncludesSpent, ReadsArray}
 use Rattle.array_model.specs.Members.{members_of, slice_on, HasSlices, IsSameButSeats, Notes, gathered, added, restored, row_layout}
 use Rattle.array_model.proofs.Views.{members_then, shape_members, shape_then, member_then}
 use Rattle.array_model.proofs.Keeping.{live_on, open_after, same_value, same_stripe, KeepsData}
@@ -30,7 +30,7 @@ use Rattle.std.specs.Option.{option_map_or}
 use Rattle.array_image.proofs.Losing.{column_none}
 
 -- one place went, by a refused call of a member's slice
-pub notes_one : (v w : View) (a b : Seen) (n : ℕ) → v.number < 16 → IsSameButSeats v w → LosesPlaces v w (λ p. p == place_at v n)
+pub notes_one : (v w : View) (a b : RackView) (n : ℕ) → v.number < 16 → IsSameButSeats v w → LosesPlaces v w (λ p. p == place_at v n)
     → Rose (a.faults (slice_on v n)) (b.faults (slice_on v n)) → Notes v w a b
 notes_one v w a b n few same loses rose = record {
   same = same;
@@ -65,7 +65,7 @@ missing_before v w n lost loses other is = other (loses.seats n ∙ ap (option_m
     by true = refl
     by false = refl
 
-pub slices_then : (v w : View) (a b : Seen) → Stays a b → Notes v w a b → HasSlices v a → HasSlices w b
+pub slices_then : (v w : View) (a b : RackView) → SameRack a b → Notes v w a b → HasSlices v a → HasSlices w b
 slices_then v w a b stays notes slices =
     let disks : (t : Super) → t ≡ v.truth → (n : ℕ) → n < t.raid_disks → n < v.truth.raid_disks = λ t is n low. subst (λ (u : Super). n < u.raid_disks) is low in
     record {
@@ -85,7 +85,7 @@ slices_then v w a b stays notes slices =
 -- ---- what is read
 
 -- a member's sector that was read is its column
-pub column_read : (v : View) (a : Seen) (n sector : ℕ) (x : List ℕ) → n < v.truth.raid_disks → nat_lt sector (member_on v n).reach ≡ true
+pub column_read : (v : View) (a : RackView) (n sector : ℕ) (x : List ℕ) → n < v.truth.raid_disks → nat_lt sector (member_on v n).reach ≡ true
     → (a.told (slice_on v n) → x ≡ (a.held (slice_on v n) (data_sector + sector)).current)
     → IsOpen (shape_of v) v.number a
     → column (current_in a.held) v.number sector (member_on v n) ≡ Some x
@@ -98,7 +98,7 @@ pub column_wanting : (v : View) (c : Image) (n sector : ℕ) → nat_lt sector (
 column_wanting v c n sector none = ap (λ (b : Bool). if b then Some (c (slice_on v n) (data_sector + sector)) else None) none
 
 -- reads leave the columns
-pub column_kept : (v : View) (a b : Seen) (n sector : ℕ) → a.lasting → OnlyReads a b → n < v.truth.raid_disks → IsOpen (shape_of v) v.number a
+pub column_kept : (v : View) (a b : RackView) (n sector : ℕ) → a.lasting → OnlyReads a b → n < v.truth.raid_disks → IsOpen (shape_of v) v.number a
     → column (current_in b.held) v.number sector (member_on v n) ≡ column (current_in a.held) v.number sector (member_on v n)
 column_kept v a b n sector lasting reads low opened =
     let d = slice_on v n in
@@ -114,7 +114,7 @@ column_kept v a b n sector lasting reads low opened =
     goal refl
 
 -- a sum of one member more
-pub gathered_step : (v : View) (a b : Seen) (sector k : ℕ) (sum next : List ℕ) → a.lasting → k < v.truth.raid_disks → OnlyReads a b
+pub gathered_step : (v : View) (a b : RackView) (sector k : ℕ) (sum next : List ℕ) → a.lasting → k < v.truth.raid_disks → OnlyReads a b
     → (IsOpen (shape_of v) v.number a → sum ≡ gathered (current_in a.held) v.number sector (firsts v k))
     → (IsOpen (shape_of v) v.number b → next ≡ added (column (current_in b.held) v.number sector (member_on v k)) sum)
     → IsOpen (shape_of v) v.number a → next ≡ gathered (current_in a.held) v.number sector (firsts v (k + 1))
@@ -142,14 +142,14 @@ source_counts_on v layout sector position k source = (source_value layout (λ d 
 -- ---- after losses
 
 -- the members that are left are open
-pub open_then : (v w : View) (a b : Seen) → IsSameButSeats v w → (lost : ℕ → Bool) → LosesPlaces v w lost → (x : Seen) → IsOpen (shape_of v) v.number x → IsOpen (shape_of w) w.number x
+pub open_then : (v w : View) (a b : RackView) → IsSameButSeats v w → (lost : ℕ → Bool) → LosesPlaces v w lost → (x : RackView) → IsOpen (shape_of v) v.number x → IsOpen (shape_of w) w.number x
 open_then v w a b same lost loses x opened m sector among counts =
     let shape = shape_then v w lost same.truth loses in
     let of = among_lowered lost sector (shape_of v).members m (subst (λ (s : Shape). Among m s.members) shape among) counts in
     subst (λ n. IsLive x x (member_slice m.place n) (data_sector + sector)) (sym same.number) (opened m sector of counts)
 
 -- their values stay through reads
-pub value_then : (v w : View) (a b : Seen) (x : ℕ) → a.lasting → OnlyReads a b → Notes v w a b → IsOpen (shape_of v) v.number a
+pub value_then : (v w : View) (a b : RackView) (x : ℕ) → a.lasting → OnlyReads a b → Notes v w a b → IsOpen (shape_of v) v.number a
     → value_by (shape_of w) (current_in b.held) w.number x ≡ value_by (shape_of w) (current_in a.held) v.number x
 value_then v w a b x lasting reads notes opened =
     let left = open_then v w a b notes.same notes.lost notes.loses a opened in
@@ -158,7 +158,7 @@ value_then v w a b x lasting reads notes opened =
     ∙ ap (λ n. value_by (shape_of w) (current_in a.held) n x) notes.same.number
 
 -- what a row gives stays through reads
-pub given_kept : (v w : View) (a b : Seen) (layout : Layout) (sector position : ℕ) → a.lasting → OnlyReads a b → IsSameButSeats v w → (lost : ℕ → Bool) → LosesPlaces v w lost
+pub given_kept : (v w : View) (a b : RackView) (layout : Layout) (sector position : ℕ) → a.lasting → OnlyReads a b → IsSameButSeats v w → (lost : ℕ → Bool) → LosesPlaces v w lost
     → IsOpen (shape_of v) v.number a
     → given layout (map (column (current_in b.held) w.number sector) (take (width layout) (members_of w))) position
     ≡ given layout (map (column (current_in a.held) w.number sector) (take (width layout) (members_of w))) position
@@ -201,9 +201,9 @@ layout_same v w x truth =
 
 -- ---- the clause of a read
 
-pub reads_array : (a b : Seen) (v w : View) (sector : ℕ) (into : List ℕ) → a.lasting → OnlyReads a b → IsArray v → Notes v w a b
+pub reads_array : (a b : RackView) (v w : View) (sector : ℕ) (into : List ℕ) → a.lasting → OnlyReads a b → IsArray v → Notes v w a b
     → (spent_in w sector ≡ false → IsOpen (shape_of v) v.number a → into ≡ value_by (shape_of w) (current_in a.held) v.number sector)
-    → (s : State) (durable : Shape) (vals : ℕ → Values) (spent : ℕ → Bool) → Covers w spent
+    → (s : State) (durable : Shape) (vals : ℕ → Values) (spent : ℕ → Bool) → IncludesSpent w spent
     → ReadsArray s v w spent a b durable vals sector into
 reads_array a b v w sector into lasting reads is_array notes value s durable vals spent covers =
     record {
@@ -216,7 +216,7 @@ reads_array a b v w sector into lasting reads is_array notes value s durable val
     }
 
 -- and open after calls that write nothing
-pub open_calls : (v w : View) (a b : Seen) → a.lasting → OnlyReads a b → Notes v w a b → IsOpen (shape_of v) v.number a → IsOpen (shape_of w) w.number b
+pub open_calls : (v w : View) (a b : RackView) → a.lasting → OnlyReads a b → Notes v w a b → IsOpen (shape_of v) v.number a → IsOpen (shape_of w) w.number b
 open_calls v w a b lasting reads notes opened = open_after lasting reads.stays (shape_of w) w.number (open_then v w a b notes.same notes.lost notes.loses a opened)
 
 -- one that went counts nowhere
@@ -226,7 +226,7 @@ reach_noted v w n same loses =
     (member_then v w (λ p. p == place_at v n) n same.truth loses ∙ ap (λ b. unless_gone b (member_on v n)) (eq-eqb (place_at v n) (place_at v n) refl))
 
 -- whoever doesn't count never counts again
-pub wanting_stays : (v w : View) (a b : Seen) (n sector : ℕ) → Notes v w a b → nat_lt sector (member_on v n).reach ≡ false → nat_lt sector (member_on w n).reach ≡ false
+pub wanting_stays : (v w : View) (a b : RackView) (n sector : ℕ) → Notes v w a b → nat_lt sector (member_on v n).reach ≡ false → nat_lt sector (member_on w n).reach ≡ false
 wanting_stays v w a b n sector notes none =
     ap (λ (m : Member). nat_lt sector m.reach) (member_then v w notes.lost n notes.same.truth notes.loses) ∙ by (notes.lost (place_at v n))
   where
@@ -259,7 +259,7 @@ row_layout_then v w sector truth =
     ap (λ (t : Super). if is_reshaping t && nat_lt (row_at sector * new_row t) t.reshape_position then final_layout t else first_layout t) truth
 
 -- a column that was read after reads is what it was before them
-pub column_before : (v u : View) (a b : Seen) (n sector : ℕ) (x : List ℕ) → a.lasting → OnlyReads a b → IsSameButSeats v u → (lost : ℕ → Bool) → LosesPlaces v u lost
+pub column_before : (v u : View) (a b : RackView) (n sector : ℕ) (x : List ℕ) → a.lasting → OnlyReads a b → IsSameButSeats v u → (lost : ℕ → Bool) → LosesPlaces v u lost
     → n < v.truth.raid_disks → IsOpen (shape_of v) v.number a
     → column (current_in b.held) u.number sector (member_on u n) ≡ Some x → column (current_in a.held) v.number sector (member_on v n) ≡ Some x
 column_before v u a b n sector x lasting reads same lost loses low opened is =

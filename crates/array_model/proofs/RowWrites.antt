@@ -5,7 +5,7 @@ use Rattle.std.proofs.lemmas.List.Quantifiers.{position-Some}
 use Rattle.std.specs.Option.{option_map_or}
 use Rattle.std.specs.List.{range_with_len, list_all, list_any}
 use Rattle.rack.specs.Values.{Values, MayLeave, append}
-use Rattle.rack.specs.Seen.{Image, Seen}
+use Rattle.rack.specs.Seen.{Image, RackView}
 use Rattle.rack.specs.Joins.{leaves_weaker}
 use Rattle.rack.specs.Targets.{Target, target}
 use Rattle.pool_state.specs.declared.contents.State.{State}
@@ -21,8 +21,8 @@ use Rattle.array_model.specs.View.{View, IsArray, shape_of, spent_in, is_alone, 
 use Rattle.array_image.specs.Even.{AreEven}
 use Rattle.array_image.specs.Left.{IsInside}
 use Rattle.array_image.specs.SoundArray.{first_unsynced}
-use Rattle.array_model.specs.Says.{Says, Holds}
-use Rattle.array_model.specs.ArrayCalls.{Turns, Keeping, WritesArray, Covers, appended_at}
+use Rattle.array_model.specs.Says.{ImageShowsArray, ArrayInvariant}
+use Rattle.array_model.specs.ArrayCalls.{ImageInCall, Keeping, WritesArray, IncludesSpent, appended_at}
 use Rattle.array_model.specs.Members.{slice_on, gone_slices, Notes, Works, IsKept}
 use Rattle.array_model.specs.Rows.{IsPlain, part_at, source_at, target_on, copies, Owes, Wrote, row, refused}
 use Rattle.array_model.proofs.DataFrames.{even_unsynced}
@@ -72,7 +72,7 @@ pub gone_none : (v : View) → v.went ≡ [] → (place : ℕ) → has_gone v pl
 gone_none v none place = ap (λ ps. list_any (λ p. p == place) ps) none
 
 -- a member of it stays whole, or it and its place have gone
-pub kept_then : (v w : View) (a b : Seen) (n : ℕ) → Notes v w a b → v.went ≡ [] → slice_get v.seats n ≡ Some Whole → IsKept w n
+pub kept_then : (v w : View) (a b : RackView) (n : ℕ) → Notes v w a b → v.went ≡ [] → slice_get v.seats n ≡ Some Whole → IsKept w n
 kept_then v w a b n notes fresh whole =
     let place : place_at w n ≡ place_at v n = ap (λ t. unwrap_or (place_with t.roles.items n) 16) notes.same.truth in
     let went : (l : Bool) → notes.lost (place_at v n) ≡ l → has_gone w (place_at w n) ≡ (l || false) =
@@ -146,7 +146,7 @@ plain_shape v is_array still =
 
 -- ---- copies
 
-pub copy_step : (v u w : View) (a b c : Seen) (sector k : ℕ) (from : List ℕ)
+pub copy_step : (v u w : View) (a b c : RackView) (sector k : ℕ) (from : List ℕ)
     → Works v u a b (map (target_on v.number sector from) (firsts v k))
     → Works u w b c (target (slice_on u k) (data_sector + sector) from ∷ [])
     → Works v w a c (map (target_on v.number sector from) (firsts v (k + 1)))
@@ -183,10 +183,10 @@ whole_past v is_array whole marked = record {
 }
 
 -- a row that was written past the log
-pub row_acts : (v w : View) (a b : Seen) (x : ℕ) (from : List ℕ) (xs : List Target)
+pub row_acts : (v w : View) (a b : RackView) (x : ℕ) (from : List ℕ) (xs : List Target)
     → a.lasting → IsArray v → IsPastLog v → v.went ≡ []
     → Works v w a b xs → Owes v a x from xs
-    → (s : State) (vals : ℕ → Values) (spent : ℕ → Bool) → Covers w spent
+    → (s : State) (vals : ℕ → Values) (spent : ℕ → Bool) → IncludesSpent w spent
     → WritesArray s v w spent a b (shape_of v) vals x from
 row_acts v w a b x from xs lasting is_array past fresh works owes s vals spent covers =
     let notes = works.notes in
@@ -225,12 +225,12 @@ same_values x from vals spent lost y alive =
     goal refl
 
 pub says_values : (s : State) (n : ℕ) (shape : Shape) (vals now : ℕ → Values) (spent : ℕ → Bool) (r : Image) → ((y : ℕ) → spent y ≡ false → vals y ≡ now y)
-    → Says s n shape vals spent r → Says s n shape now spent r
+    → ImageShowsArray s n shape vals spent r → ImageShowsArray s n shape now spent r
 says_values s n shape vals now spent r same says =
     record { shape_is = says.shape_is; value = λ y alive. subst (λ h. MayLeave h (value_by shape r n y)) (same y alive) (says.value y alive); is_sound = says.is_sound }
 
-pub holds_values : (s : State) (durable : Shape) (w : View) (vals now : ℕ → Values) (spent : ℕ → Bool) (x : Seen) → ((y : ℕ) → spent y ≡ false → vals y ≡ now y)
-    → Holds s durable w vals spent x → Holds s durable w now spent x
+pub holds_values : (s : State) (durable : Shape) (w : View) (vals now : ℕ → Values) (spent : ℕ → Bool) (x : RackView) → ((y : ℕ) → spent y ≡ false → vals y ≡ now y)
+    → ArrayInvariant s durable w vals spent x → ArrayInvariant s durable w now spent x
 holds_values s durable w vals now spent x same holds =
     let h = holds.shape in
     record {
@@ -252,7 +252,7 @@ holds_values s durable w vals now spent x same holds =
     }
 
 -- a write that found its sector spent
-pub spent_acts : (s : State) (v w : View) (spent : ℕ → Bool) (a b : Seen) (durable : Shape) (vals : ℕ → Values) (x : ℕ) (from : List ℕ) → spent x ≡ true
+pub spent_acts : (s : State) (v w : View) (spent : ℕ → Bool) (a b : RackView) (durable : Shape) (vals : ℕ → Values) (x : ℕ) (from : List ℕ) → spent x ≡ true
     → Keeping s v w spent a b durable vals
     → WritesArray s v w spent a b durable vals x from
 spent_acts s v w spent a b durable vals x from lost kept =
@@ -260,8 +260,8 @@ spent_acts s v w spent a b durable vals x from lost kept =
       stays = kept.stays;
       noted = kept.noted;
       leaves = λ traced.
-          leaves_weaker (λ c. IsInside a.sectors c → Turns v.number a b (λ r. Holds s durable v vals spent a → Says s v.number durable vals spent r) c)
-          (λ c. IsInside a.sectors c → Turns v.number a b (λ r. Holds s durable v vals spent a → Says s v.number durable (appended_at x from vals) spent r) c)
+          leaves_weaker (λ c. IsInside a.sectors c → ImageInCall v.number a b (λ r. ArrayInvariant s durable v vals spent a → ImageShowsArray s v.number durable vals spent r) c)
+          (λ c. IsInside a.sectors c → ImageInCall v.number a b (λ r. ArrayInvariant s durable v vals spent a → ImageShowsArray s v.number durable (appended_at x from vals) spent r) c)
           (λ c turns inside.
           let t = turns inside in
           record {
@@ -280,16 +280,16 @@ spent_acts s v w spent a b durable vals x from lost kept =
       bounded = kept.bounded;
     }
 
-pub is_spent : (w : View) (spent : ℕ → Bool) (x : ℕ) → Covers w spent → spent_in w x ≡ true → spent x ≡ true
+pub is_spent : (w : View) (spent : ℕ → Bool) (x : ℕ) → IncludesSpent w spent → spent_in w x ≡ true → spent x ≡ true
 is_spent w spent x covers lost =
     let Goal : Bool → Type 0 = λ b. spent x ≡ b → b ≡ true in
     let goal : Goal (spent x) = elim (spent x) as Goal [ true ↦ λ is. refl | false ↦ λ is. absurd (both_ways (spent_in w x) (covers x is) lost) ] in
     goal refl
 
 -- however it ended
-pub wrote_acts : (v w : View) (a b : Seen) (x : ℕ) (from : List ℕ)
+pub wrote_acts : (v w : View) (a b : RackView) (x : ℕ) (from : List ℕ)
     → a.lasting → IsArray v → IsPastLog v → v.went ≡ [] → Wrote v w a b x from
-    → (s : State) (vals : ℕ → Values) (spent : ℕ → Bool) → Covers w spent
+    → (s : State) (vals : ℕ → Values) (spent : ℕ → Bool) → IncludesSpent w spent
     → WritesArray s v w spent a b (shape_of v) vals x from
 wrote_acts v w a b x from lasting is_array past fresh (row xs works owes) s vals spent covers =
     row_acts v w a b x from xs lasting is_array past fresh works owes s vals spent covers
@@ -297,11 +297,11 @@ wrote_acts v w a b x from lasting is_array past fresh (refused reads notes lost)
     spent_acts s v w spent a b (shape_of v) vals x from (is_spent w spent x covers lost) (read_acts a b v w lasting reads is_array notes s (shape_of v) vals spent covers)
 
 -- and it wrote to the array's own slices alone
-pub wrote_others : (v w : View) (a b : Seen) (x : ℕ) (from : List ℕ) → v.number < 16 → Wrote v w a b x from → KeepsOthers v.number a b
+pub wrote_others : (v w : View) (a b : RackView) (x : ℕ) (from : List ℕ) → v.number < 16 → Wrote v w a b x from → KeepsOthers v.number a b
 wrote_others v w a b x from few (row xs works owes) d t live other =
     works.puts.only.others d t live (λ u is. let at = owes.row.own d t u is in other (omega (arith, few, at.2)))
 wrote_others v w a b x from few (refused reads notes lost) d t live other = reads.keeps.held d t live
 
-pub wrote_notes : (v w : View) (a b : Seen) (x : ℕ) (from : List ℕ) → Wrote v w a b x from → Notes v w a b
+pub wrote_notes : (v w : View) (a b : RackView) (x : ℕ) (from : List ℕ) → Wrote v w a b x from → Notes v w a b
 wrote_notes v w a b x from (row xs works owes) = works.notes
 wrote_notes v w a b x from (refused reads notes lost) = notes

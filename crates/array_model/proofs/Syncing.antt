@@ -3,7 +3,7 @@ use Rattle.std.proofs.Common.{◌≡◌, ◌⊎◌, ℕ, ◌+◌, ◌<◌, Bool,
 use Rattle.std.proofs.lemmas.Bool.{cases_lt}
 use Rattle.std.specs.Option.{option_map_or}
 use Rattle.rack.specs.Values.{Values, MayLeave, IsSingle}
-use Rattle.rack.specs.Seen.{Seen, IsLive, Stays}
+use Rattle.rack.specs.Seen.{RackView, IsLive, SameRack}
 use Rattle.rack.specs.Sequences.{OnlyReads}
 use Rattle.pool_state.specs.declared.contents.State.{State}
 use Rattle.array_image.specs.Places.{member_slice, data_sector}
@@ -13,7 +13,7 @@ use Rattle.array_image.specs.Marks.{unless_gone}
 use Rattle.array_model.specs.declared.Seat.TheVariants.{Missing}
 use Rattle.array_model.specs.View.{View, IsArray, LosesPlaces, place_at, member_on, shape_of, seat_reach}
 use Rattle.array_model.specs.Says.{IsOpen}
-use Rattle.array_model.specs.ArrayCalls.{Covers, SyncsArray}
+use Rattle.array_model.specs.ArrayCalls.{IncludesSpent, SyncsArray}
 use Rattle.array_model.specs.Members.{slice_on, IsSameButSeats, Notes, IsSingleOn}
 use Rattle.array_model.proofs.Views.{member_then, shape_members}
 use Rattle.array_model.proofs.Keeping.{live_on}
@@ -22,33 +22,33 @@ use Rattle.array_model.proofs.Firsts.{member_among, position_of}
 use Rattle.array_model.proofs.Reading.{slice_same, open_calls}
 
 -- a missing member has no sector that counts
-pub single_missing : (v : View) (x : Seen) (n : ℕ) → slice_get v.seats n ≡ Some Missing → IsSingleOn v x n
+pub single_missing : (v : View) (x : RackView) (n : ℕ) → slice_get v.seats n ≡ Some Missing → IsSingleOn v x n
 single_missing v x n is sector counts =
     let none : (member_on v n).reach ≡ 0 = ap (λ o. option_map_or (seat_reach v.truth.size) o 0) is in
     absurd (omega (arith, none, counts))
 
 -- nor has one that has gone
-pub single_gone : (v w : View) (x : Seen) (n : ℕ) → IsSameButSeats v w → LosesPlaces v w (λ p. p == place_at v n) → IsSingleOn w x n
+pub single_gone : (v w : View) (x : RackView) (n : ℕ) → IsSameButSeats v w → LosesPlaces v w (λ p. p == place_at v n) → IsSingleOn w x n
 single_gone v w x n same loses sector counts =
     let lost : member_on w n ≡ unless_gone true (member_on v n) =
     member_then v w (λ p. p == place_at v n) n same.truth loses ∙ ap (λ b. unless_gone b (member_on v n)) (eq-eqb (place_at v n) (place_at v n) refl) in
     let none : (member_on w n).reach ≡ 0 = ap (λ (m : Member). m.reach) lost in
     absurd (omega (arith, none, counts))
 
-open_member : (v : View) (a : Seen) (n sector : ℕ) → n < v.truth.raid_disks → sector < (member_on v n).reach → IsOpen (shape_of v) v.number a
+open_member : (v : View) (a : RackView) (n sector : ℕ) → n < v.truth.raid_disks → sector < (member_on v n).reach → IsOpen (shape_of v) v.number a
     → IsLive a a (slice_on v n) (data_sector + sector)
 open_member v a n sector low counts opened =
     opened (member_on v n) sector (subst (λ ms. Among (member_on v n) ms) (sym (shape_members v)) (member_among v n v.truth.raid_disks low)) counts
 
 -- one that was synced has one value in each sector
-pub single_synced : (v : View) (a b : Seen) (n : ℕ) → a.lasting → Stays a b → n < v.truth.raid_disks
+pub single_synced : (v : View) (a b : RackView) (n : ℕ) → a.lasting → SameRack a b → n < v.truth.raid_disks
     → ((t : ℕ) (u : List ℕ) → IsLive a b (slice_on v n) t → MayLeave (b.held (slice_on v n) t) u → u ≡ (b.held (slice_on v n) t).current)
     → IsOpen (shape_of v) v.number a → IsSingleOn v b n
 single_synced v a b n lasting stays low done opened sector counts u may =
     done (data_sector + sector) u (live_on lasting stays (open_member v a n sector low counts opened)) may
 
 -- whoever has one value keeps it
-pub single_then : (v w : View) (a b : Seen) (n : ℕ) → a.lasting → OnlyReads a b → Notes v w a b → n < v.truth.raid_disks → IsOpen (shape_of v) v.number a
+pub single_then : (v w : View) (a b : RackView) (n : ℕ) → a.lasting → OnlyReads a b → Notes v w a b → n < v.truth.raid_disks → IsOpen (shape_of v) v.number a
     → IsSingleOn v a n → IsSingleOn w b n
 single_then v w a b n lasting reads notes low opened single sector counts =
     let left : sector < (member_on v n).reach = by (notes.lost (place_at v n)) (subst (λ (m : Member). sector < m.reach) (member_then v w notes.lost n notes.same.truth notes.loses) counts) in
@@ -61,7 +61,7 @@ single_then v w a b n lasting reads notes low opened single sector counts =
     by false counts = counts
 
 -- the members so far, and the next one
-pub singles_next : (u v w : View) (a b c : Seen) (k : ℕ) → a.lasting → k < u.truth.raid_disks → OnlyReads a b → Notes u v a b → OnlyReads b c → Notes v w b c
+pub singles_next : (u v w : View) (a b c : RackView) (k : ℕ) → a.lasting → k < u.truth.raid_disks → OnlyReads a b → Notes u v a b → OnlyReads b c → Notes v w b c
     → (IsOpen (shape_of u) u.number a → (j : ℕ) → j < k → IsSingleOn v b j)
     → (IsOpen (shape_of v) v.number b → IsSingleOn w c k)
     → IsOpen (shape_of u) u.number a → (j : ℕ) → j < k + 1 → IsSingleOn w c j
@@ -76,9 +76,9 @@ singles_next u v w a b c k lasting inside one noted two noted_now before now ope
     lower_or j k low = elim (cases_lt j k) [ inl less ↦ inl less | inr more ↦ inr (omega (arith, low, more)) ]
 
 -- the clause of a sync
-pub syncs_array : (a b : Seen) (v w : View) → a.lasting → OnlyReads a b → IsArray v → Notes v w a b
+pub syncs_array : (a b : RackView) (v w : View) → a.lasting → OnlyReads a b → IsArray v → Notes v w a b
     → (IsOpen (shape_of v) v.number a → (j : ℕ) → j < v.truth.raid_disks → IsSingleOn w b j)
-    → (s : State) (durable : Shape) (vals : ℕ → Values) (spent : ℕ → Bool) → Covers w spent
+    → (s : State) (durable : Shape) (vals : ℕ → Values) (spent : ℕ → Bool) → IncludesSpent w spent
     → SyncsArray s v w spent a b durable vals
 syncs_array a b v w lasting reads is_array notes singles s durable vals spent covers =
     record {

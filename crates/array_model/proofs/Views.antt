@@ -3,7 +3,7 @@ use Rattle.std.proofs.Common.{◌≡◌, ◌⊎◌, ℕ, suc, ◌<◌, ◌≤◌
 use Rattle.std.proofs.lemmas.Bool.{both_ways, lt-leb, leb-false}
 use Rattle.std.proofs.lemmas.List.Folds.{list_any-from_Any}
 use Rattle.std.specs.List.{range_with_len, list_any}
-use Rattle.rack.specs.Seen.{Seen, Stays}
+use Rattle.rack.specs.Seen.{RackView, SameRack}
 use Rattle.rack.specs.Joins.{rose_later, rose_early}
 use Rattle.md_super.specs.declared.superblock.Super.{Super}
 use Rattle.md_super.specs.Profile.{is_mirror}
@@ -43,7 +43,7 @@ same_view_then u v w one two = record {
   marked = two.marked ∙ one.marked;
 }
 
-pub notes_none : (v : View) (a b : Seen) → Notes v v a b
+pub notes_none : (v : View) (a b : RackView) → Notes v v a b
 notes_none v a b = record {
   same = same_view v;
   lost = λ place. false;
@@ -71,10 +71,10 @@ pub either_of : (p q : Bool) → (p || q) ≡ true → (p ≡ true) ⊎ (q ≡ t
 either_of true q is = inl refl
 either_of false q is = inr is
 
-pub fault_early : (a b c : Seen) (place : ℕ) → Stays b c → HasFault a b place → HasFault a c place
+pub fault_early : (a b c : RackView) (place : ℕ) → SameRack b c → HasFault a b place → HasFault a c place
 fault_early a b c place stays fault = (fault.0, fault.1, rose_early a b c fault.0 stays fault.2)
 
-pub fault_later : (a b c : Seen) (place : ℕ) → Stays a b → HasFault b c place → HasFault a c place
+pub fault_later : (a b c : RackView) (place : ℕ) → SameRack a b → HasFault b c place → HasFault a c place
 fault_later a b c place stays fault = (fault.0, fault.1, rose_later a b c fault.0 stays fault.2)
 
 pub loses_then : (u v w : View) (f g : ℕ → Bool) → v.truth ≡ u.truth → LosesPlaces u v f → LosesPlaces v w g → LosesPlaces u w (λ place. g place || f place)
@@ -86,7 +86,7 @@ loses_then u v w f g truth one two = record {
   went = λ place. two.went place ∙ ap (λ b. g place || b) (one.went place) ∙ or_assoc (g place) (f place) (has_gone u place);
 }
 
-pub notes_then : (u v w : View) (a b c : Seen) → Stays a b → Stays b c → Notes u v a b → Notes v w b c → Notes u w a c
+pub notes_then : (u v w : View) (a b c : RackView) → SameRack a b → SameRack b c → Notes u v a b → Notes v w b c → Notes u w a c
 notes_then u v w a b c first second one two = record {
   same = same_view_then u v w one.same two.same;
   lost = λ place. two.lost place || one.lost place;

@@ -3,7 +3,7 @@ use Rattle.std.proofs.Common.{◌≡◌, ◌⊎◌, ℕ, ◌+◌, ◌<◌, Bool,
 use Rattle.std.proofs.lemmas.Bool.{both_ways}
 use Rattle.std.specs.Option.{option_map_or}
 use Rattle.rack.specs.Values.{Values, MayLeave, Keeps, append}
-use Rattle.rack.specs.Seen.{Image, Seen, IsLive, Stays}
+use Rattle.rack.specs.Seen.{Image, RackView, IsLive, SameRack}
 use Rattle.rack.specs.Joins.{leaves_weaker, may_leave-append}
 use Rattle.md_super.specs.declared.superblock.Super.{Super}
 use Rattle.pool_state.specs.declared.contents.State.{State}
@@ -23,9 +23,9 @@ use Rattle.array_image.proofs.Marked.{among_lowered}
 use Rattle.array_image.proofs.Replays.{SameLogs, calm_same, inside_same, replayed_same, whole_same}
 use Rattle.array_image.proofs.Sources.{source_value, source_counts}
 use Rattle.array_model.specs.View.{View, shape_of, spent_in, may_vary, IsNoted}
-use Rattle.array_image.specs.Left.{reading, IsInside, Picks, PicksLogs, IsLeft, IsApart, IsClosed}
-use Rattle.array_model.specs.Says.{Says, HoldsShape, Holds, IsEarlier}
-use Rattle.array_model.specs.ArrayCalls.{Acts, Turns, appended_at}
+use Rattle.array_image.specs.Left.{reading, IsInside, Picks, PicksLogs, IsLeft, IsApart, NothingPending}
+use Rattle.array_model.specs.Says.{ImageShowsArray, ShapeInvariant, ArrayInvariant, IsEarlier}
+use Rattle.array_model.specs.ArrayCalls.{ArrayCall, ImageInCall, appended_at}
 use Rattle.rack.specs.Sequences.{IsPayload, IsMix}
 use Rattle.array_model.proofs.Keeping.{reading_live, reading_outside, inside_before, logs_of, live_on, live_after, open_after, logs_before, closed_after, bounded_after}
 use Rattle.array_model.proofs.Losses.{IsLosing, even_noted}
@@ -56,7 +56,7 @@ apart_free shape n x from xs few row d t apart =
 -- ---- images
 
 -- contents of a moment of the write, without its targets
-before_of : (a b : Seen) (xs : List Target) (c : Image) → a.lasting → Stays a b → IsInside a.sectors c → IsMix a b (IsPayload xs) c → Picks a (unwritten xs (reading a) c)
+before_of : (a b : RackView) (xs : List Target) (c : Image) → a.lasting → SameRack a b → IsInside a.sectors c → IsMix a b (IsPayload xs) c → Picks a (unwritten xs (reading a) c)
 before_of a b xs c lasting stays inside mix =
     record {
       picks = λ d t live.
@@ -75,20 +75,20 @@ before_of a b xs c lasting stays inside mix =
     }
 
 -- what holds when the write begins
-record Begins (s : State) (v : View) (vals : ℕ → Values) (spent : ℕ → Bool) (a : Seen) : Type 0 where
-  pub holds : HoldsShape s v.number (shape_of v) (shape_of v) v.resync (may_vary v) vals spent a
+record Begins (s : State) (v : View) (vals : ℕ → Values) (spent : ℕ → Bool) (a : RackView) : Type 0 where
+  pub holds : ShapeInvariant s v.number (shape_of v) (shape_of v) v.resync (may_vary v) vals spent a
   -- no row must agree in images
   pub agree : (r : Image) → IsLeft a r → (t : Super) → truth_in s r v.number ≡ Some t → (c : Image) → AreEven (shape_of v) v.number (first_unsynced t) c
   pub mark : v.marked ≡ true → (r : Image) → IsLeft a r → (t : Super) → truth_in s r v.number ≡ Some t → t.resync_offset ≡ 0
-  pub closed : IsClosed v.number a
+  pub closed : NothingPending v.number a
 
 -- and what is known of it as a whole
-record Write (s : State) (v : View) (vals : ℕ → Values) (spent : ℕ → Bool) (a b : Seen) (x : ℕ) (from : List ℕ) (xs : List Target) : Type 0 where
+record Write (s : State) (v : View) (vals : ℕ → Values) (spent : ℕ → Bool) (a b : RackView) (x : ℕ) (from : List ℕ) (xs : List Target) : Type 0 where
   pub few : v.number < 16
   pub row : IsRow (shape_of v) v.number x from xs
   pub sources : (y : ℕ) → spent y ≡ false → (m : Member) × (source_at (shape_of v) y ≡ Some m)
 
-mixed_logs : (a b : Seen) (n : ℕ) (xs : List Target) (c : Image) → a.lasting → Stays a b → ((place t : ℕ) → look xs (log_slice place) t ≡ None)
+mixed_logs : (a b : RackView) (n : ℕ) (xs : List Target) (c : Image) → a.lasting → SameRack a b → ((place t : ℕ) → look xs (log_slice place) t ≡ None)
     → IsInside a.sectors c → IsMix a b (IsPayload xs) c → PicksLogs a c
 mixed_logs a b n xs c lasting stays free inside mix =
     record {
@@ -100,8 +100,8 @@ mixed_logs a b n xs c lasting stays free inside mix =
       inside = λ place t out. inside (log_slice place) t out;
     }
 
-mixed_value : (s : State) (v : View) (vals : ℕ → Values) (spent : ℕ → Bool) (a b : Seen) (x : ℕ) (from : List ℕ) (xs : List Target)
-    → a.lasting → Stays a b → Begins s v vals spent a → Write s v vals spent a b x from xs
+mixed_value : (s : State) (v : View) (vals : ℕ → Values) (spent : ℕ → Bool) (a b : RackView) (x : ℕ) (from : List ℕ) (xs : List Target)
+    → a.lasting → SameRack a b → Begins s v vals spent a → Write s v vals spent a b x from xs
     → (c : Image) → IsInside a.sectors c → IsMix a b (IsPayload xs) c → (y : ℕ) → spent y ≡ false
     → MayLeave (appended_at x from vals y) (value_by (shape_of v) (replayed a.sectors c) v.number y)
 mixed_value s v vals spent a b x from xs lasting stays begins write c inside mix y alive =
@@ -121,7 +121,7 @@ mixed_value s v vals spent a b x from xs lasting stays begins write c inside mix
     (λ u may. begins.holds.within y alive u may (λ m is. (source_counts shape y m is).among))
 
 -- its superblocks are those of contents that a stop before the write might leave
-mixed_supers : (a b : Seen) (shape : Shape) (n x : ℕ) (from : List ℕ) (xs : List Target) (c : Image) → a.lasting → Stays a b → n < 16 → IsRow shape n x from xs
+mixed_supers : (a b : RackView) (shape : Shape) (n x : ℕ) (from : List ℕ) (xs : List Target) (c : Image) → a.lasting → SameRack a b → n < 16 → IsRow shape n x from xs
     → IsInside a.sectors c → IsMix a b (IsPayload xs) c → (r : Image) × IsLeft a r × SameSectors n (replayed a.sectors c) r
 mixed_supers a b shape n x from xs c lasting stays few row inside mix =
     let e : Image = unwritten xs (reading a) c in
@@ -133,10 +133,10 @@ mixed_supers a b shape n x from xs c lasting stays few row inside mix =
           (unwritten_same xs (reading a) c (member_slice place n) super_sector (super_free shape n x from xs row (member_slice place n))),
     )
 
-mixed_says : (s : State) (v : View) (vals : ℕ → Values) (spent : ℕ → Bool) (a b : Seen) (x : ℕ) (from : List ℕ) (xs : List Target)
-    → a.lasting → Stays a b → Begins s v vals spent a → Write s v vals spent a b x from xs
+mixed_says : (s : State) (v : View) (vals : ℕ → Values) (spent : ℕ → Bool) (a b : RackView) (x : ℕ) (from : List ℕ) (xs : List Target)
+    → a.lasting → SameRack a b → Begins s v vals spent a → Write s v vals spent a b x from xs
     → (c : Image) → IsInside a.sectors c → IsMix a b (IsPayload xs) c
-    → Says s v.number (shape_of v) (appended_at x from vals) spent (replayed a.sectors c)
+    → ImageShowsArray s v.number (shape_of v) (appended_at x from vals) spent (replayed a.sectors c)
     × (v.marked ≡ true → (t : Super) → truth_in s (replayed a.sectors c) v.number ≡ Some t → t.resync_offset ≡ 0)
 mixed_says s v vals spent a b x from xs lasting stays begins write c inside mix =
     let n = v.number in
@@ -168,11 +168,11 @@ mixed_says s v vals spent a b x from xs lasting stays begins write c inside mix 
 -- ---- after it
 
 -- contents after the write are a mix too
-left_mix : (a b : Seen) (xs : List Target) (went_now : ℕ → Bool) → Puts a b xs went_now → (c : Image) → Picks b c → IsMix a b (IsPayload xs) c
+left_mix : (a b : RackView) (xs : List Target) (went_now : ℕ → Bool) → Puts a b xs went_now → (c : Image) → Picks b c → IsMix a b (IsPayload xs) c
 left_mix a b xs went_now puts c picks d t live = puts.only.within d t (c d t) live (picks.picks d t (live_after puts.only.stays live))
 
 -- whoever is left has what was written, or what it had
-left_current : (a b : Seen) (xs : List Target) (went_now : ℕ → Bool) → Puts a b xs went_now
+left_current : (a b : RackView) (xs : List Target) (went_now : ℕ → Bool) → Puts a b xs went_now
     → (d t : ℕ) → IsLive a b d t → went_now d ≡ false → current_in b.held d t ≡ written xs (current_in a.held) d t
 left_current a b xs went_now puts d t live here =
     let Goal : Option (List ℕ) → Type 0 = λ o. look xs d t ≡ o → current_in b.held d t ≡ unwrap_or o (current_in a.held d t) in
@@ -183,7 +183,7 @@ left_current a b xs went_now puts d t live here =
     ] in
     goal refl
 
-written_sized : (a : Seen) (shape : Shape) (n x : ℕ) (from : List ℕ) (xs : List Target) → IsRow shape n x from xs
+written_sized : (a : RackView) (shape : Shape) (n x : ℕ) (from : List ℕ) (xs : List Target) → IsRow shape n x from xs
     → (d t : ℕ) → length (a.held d t).current ≡ 512 → length (written xs (current_in a.held) d t) ≡ 512
 written_sized a shape n x from xs row d t sized =
     let Goal : Option (List ℕ) → Type 0 = λ o. look xs d t ≡ o → length (unwrap_or o (current_in a.held d t)) ≡ 512 in
@@ -192,7 +192,7 @@ written_sized a shape n x from xs row d t sized =
     goal refl
 
 -- with all targets written, the array's sectors have the values after the write
-written_value : (s : State) (v : View) (vals : ℕ → Values) (spent : ℕ → Bool) (a b : Seen) (x : ℕ) (from : List ℕ) (xs : List Target)
+written_value : (s : State) (v : View) (vals : ℕ → Values) (spent : ℕ → Bool) (a b : RackView) (x : ℕ) (from : List ℕ) (xs : List Target)
     → Begins s v vals spent a → Write s v vals spent a b x from xs
     → (y : ℕ) → spent y ≡ false
     → value_by (shape_of v) (written xs (current_in a.held)) v.number y ≡ (appended_at x from vals y).current
@@ -235,7 +235,7 @@ written_value s v vals spent a b x from xs begins write y alive =
     old_value true h u other same = absurd (other refl)
     old_value false h u other same = same
 
-same_given : (shape : Shape) (n y : ℕ) (lost : ℕ → Bool) (b : Seen) (f : Image)
+same_given : (shape : Shape) (n y : ℕ) (lost : ℕ → Bool) (b : RackView) (f : Image)
     → ((m : Member) (sector : ℕ) → Among m (lowered lost shape).members → sector < m.reach → current_in b.held (member_slice m.place n) (data_sector + sector) ≡ f (member_slice m.place n) (data_sector + sector))
     → value_by (lowered lost shape) (current_in b.held) n y ≡ value_by (lowered lost shape) f n y
 unfolding value_by
@@ -245,14 +245,14 @@ same_given shape n y lost b f kept =
     (λ m among counts. kept m (sector_at shape y) (among_take (width (layout_at shape y)) (map (lower lost) shape.members) m among) counts))
 
 -- what the array holds after it
-written_holds : (s : State) (v w : View) (vals : ℕ → Values) (spent : ℕ → Bool) (a b : Seen) (x : ℕ) (from : List ℕ) (xs : List Target)
+written_holds : (s : State) (v w : View) (vals : ℕ → Values) (spent : ℕ → Bool) (a b : RackView) (x : ℕ) (from : List ℕ) (xs : List Target)
     (went_now lost : ℕ → Bool)
     → a.lasting → Puts a b xs went_now → Begins s v vals spent a → Write s v vals spent a b x from xs
     → IsLaidOut (shape_of v) v.resync
     → ((m : Member) → Among m (shape_of v).members → lost m.place ≡ false → went_now (member_slice m.place v.number) ≡ false)
     → ((y : ℕ) → spent y ≡ false → spent_by (lowered lost (shape_of v)) v.resync y ≡ false)
     → AreEven (shape_of v) v.number v.resync (written xs (current_in a.held))
-    → HoldsShape s v.number (shape_of v) (lowered lost (shape_of v)) v.resync true (appended_at x from vals) spent b
+    → ShapeInvariant s v.number (shape_of v) (lowered lost (shape_of v)) v.resync true (appended_at x from vals) spent b
 written_holds s v w vals spent a b x from xs went_now lost lasting puts begins write is_array left unspent even =
     let n = v.number in
     let shape = shape_of v in
@@ -269,7 +269,7 @@ written_holds s v w vals spent a b x from xs went_now lost lasting puts begins w
       open_slices = open_after lasting puts.only.stays shape n holds.open_slices;
       open_left = λ m sector among counts. open_after lasting puts.only.stays shape n holds.open_slices m sector (among_lowered lost sector shape.members m among counts) counts;
       says = λ r left_b.
-          subst (Says s n shape (appended_at x from vals) spent)
+          subst (ImageShowsArray s n shape (appended_at x from vals) spent)
           (λ i d t. sym (left_b.2 d t ∙ ap (λ (sectors : ℕ → ℕ). replayed sectors left_b.0 d t) (λ j e. puts.only.stays.sectors e j)) i)
           (mixed_says s v vals spent a b x from xs lasting puts.only.stays begins write left_b.0 (inside_before puts.only.stays left_b.0 left_b.1.inside) (left_mix a b xs went_now puts left_b.0 left_b.1)).0;
       still = λ c picks m sector among counts.
@@ -312,7 +312,7 @@ written_holds s v w vals spent a b x from xs went_now lost lasting puts begins w
 -- A write to an array whose sectors may vary, and of which nothing is pending: whoever goes in it, at each moment and after it each
 -- sector holds what it held, and the written one the value too. Each sector that isn't spent has a source, and no row must agree in
 -- images. All that a layout owes is that the row agrees once all targets are written.
-pub write_acts : (a b : Seen) (went_now : ℕ → Bool) (s : State) (v w : View) (vals : ℕ → Values) (spent : ℕ → Bool) (lost : ℕ → Bool)
+pub write_acts : (a b : RackView) (went_now : ℕ → Bool) (s : State) (v w : View) (vals : ℕ → Values) (spent : ℕ → Bool) (lost : ℕ → Bool)
     (x : ℕ) (from : List ℕ) (xs : List Target)
     → a.lasting
     → Puts a b xs went_now
@@ -322,17 +322,17 @@ pub write_acts : (a b : Seen) (went_now : ℕ → Bool) (s : State) (v w : View)
     → ((y : ℕ) → spent y ≡ false → (m : Member) × (source_at (shape_of v) y ≡ Some m))
     → v.number < 16
     → may_vary w ≡ true → v.went ≡ []
-    → (Holds s (shape_of v) v vals spent a → (r : Image) → IsLeft a r → (t : Super) → truth_in s r v.number ≡ Some t → (c : Image)
+    → (ArrayInvariant s (shape_of v) v vals spent a → (r : Image) → IsLeft a r → (t : Super) → truth_in s r v.number ≡ Some t → (c : Image)
     → AreEven (shape_of v) v.number (first_unsynced t) c)
     → ((y : ℕ) → spent y ≡ false → spent_in w y ≡ false)
     → ((m : Member) → Among m (shape_of v).members → lost m.place ≡ false → went_now (member_slice m.place v.number) ≡ false)
     → IsRow (shape_of v) v.number x from xs
-    → (HoldsShape s v.number (shape_of v) (shape_of v) v.resync (may_vary v) vals spent a → AreEven (shape_of v) v.number v.resync (written xs (current_in a.held)))
-    → Acts s v w spent a b (shape_of v) vals (Says s v.number (shape_of v) (appended_at x from vals) spent) (shape_of v) (appended_at x from vals)
+    → (ShapeInvariant s v.number (shape_of v) (shape_of v) v.resync (may_vary v) vals spent a → AreEven (shape_of v) v.number v.resync (written xs (current_in a.held)))
+    → ArrayCall s v w spent a b (shape_of v) vals (ImageShowsArray s v.number (shape_of v) (appended_at x from vals) spent) (shape_of v) (appended_at x from vals)
 write_acts a b went_now s v w vals spent lost x from xs lasting puts noted losing is_array sources few vary fresh agree unspent left row even =
     let n = v.number in
     let shape = shape_of v in
-    let begins_of : Holds s shape v vals spent a → Begins s v vals spent a =
+    let begins_of : ArrayInvariant s shape v vals spent a → Begins s v vals spent a =
     λ holds. record { holds = holds.shape; agree = agree holds; mark = holds.mark; closed = holds.closed fresh } in
     let write : Write s v vals spent a b x from xs =
     record { few = few; row = row; sources = sources } in
@@ -342,7 +342,7 @@ write_acts a b went_now s v w vals spent lost x from xs lasting puts noted losin
       stays = puts.only.stays;
       noted = noted;
       leaves = λ traced.
-          leaves_weaker (IsMix a b (IsPayload xs)) (λ c. IsInside a.sectors c → Turns n a b (λ r. Holds s shape v vals spent a → Says s n shape (appended_at x from vals) spent r) c)
+          leaves_weaker (IsMix a b (IsPayload xs)) (λ c. IsInside a.sectors c → ImageInCall n a b (λ r. ArrayInvariant s shape v vals spent a → ImageShowsArray s n shape (appended_at x from vals) spent r) c)
           (λ c mix inside.
           let e : Image = unwritten xs (reading a) c in
           let picks = before_of a b xs c lasting puts.only.stays inside mix in
@@ -364,10 +364,10 @@ write_acts a b went_now s v w vals spent lost x from xs lasting puts noted losin
           (λ y alive. unspent_then v w lost losing y (unspent y alive)) (even holds.shape) in
           record {
             shape =
-                subst (λ k. HoldsShape s k shape (shape_of w) w.resync (may_vary w) (appended_at x from vals) spent b) (sym losing.number)
-                (subst (λ r. HoldsShape s n shape (shape_of w) r (may_vary w) (appended_at x from vals) spent b) (sym losing.resync)
-                (subst (λ (g : Shape). HoldsShape s n shape g v.resync (may_vary w) (appended_at x from vals) spent b) (sym losing.shape)
-                (subst (λ t. HoldsShape s n shape (lowered lost shape) v.resync t (appended_at x from vals) spent b) (sym vary) now)));
+                subst (λ k. ShapeInvariant s k shape (shape_of w) w.resync (may_vary w) (appended_at x from vals) spent b) (sym losing.number)
+                (subst (λ r. ShapeInvariant s n shape (shape_of w) r (may_vary w) (appended_at x from vals) spent b) (sym losing.resync)
+                (subst (λ (g : Shape). ShapeInvariant s n shape g v.resync (may_vary w) (appended_at x from vals) spent b) (sym losing.shape)
+                (subst (λ t. ShapeInvariant s n shape (lowered lost shape) v.resync t (appended_at x from vals) spent b) (sym vary) now)));
             mark = λ is r left_b t truth.
                 (mixed_says s v vals spent a b x from xs lasting puts.only.stays begins write left_b.0 (inside_before puts.only.stays left_b.0 left_b.1.inside) (left_mix a b xs went_now puts left_b.0 left_b.1)).1 (losing.marked is) t
                 (subst (λ (g : Image). truth_in s g n ≡ Some t)
@@ -392,7 +392,7 @@ write_acts a b went_now s v w vals spent lost x from xs lasting puts noted losin
                 (λ k small at. other k (subst (λ (u : Super). k < u.raid_disks) (sym losing.truth) small)
                 (ap (λ (u : Super). unwrap_or (place_with u.roles.items k) 16) losing.truth ∙ at)));
             closed = λ none.
-                subst (λ k. IsClosed k b) (sym losing.number) (closed_after n lasting puts.only.stays logs begins.closed);
+                subst (λ k. NothingPending k b) (sym losing.number) (closed_after n lasting puts.only.stays logs begins.closed);
           };
       apart = λ d t live apart. puts.only.others d t live (payload_none xs d t (apart_free shape n x from xs few row d t apart));
       calm = λ calm c picks. calm c (logs_before lasting puts.only.stays logs c picks);

@@ -3,7 +3,7 @@ use Rattle.std.proofs.Common.{◌≡◌, ℕ, ◌+◌, ◌<◌, Bool, true, fals
 use Rattle.std.proofs.lemmas.Bool.{both_ways}
 use Rattle.std.specs.Option.{option_or}
 use Rattle.rack.specs.declared.Gone.{Gone}
-use Rattle.rack.specs.Seen.{Seen, IsLive}
+use Rattle.rack.specs.Seen.{RackView, IsLive}
 use Rattle.rack.specs.Calls.{Writes}
 use Rattle.rack.specs.Joins.{live_first, live_second}
 use Rattle.rack.specs.Targets.{Target, look, target}
@@ -20,7 +20,7 @@ use Rattle.array_model.proofs.Reading.{notes_one}
 -- ---- who has gone
 
 -- whoever is left was left before
-pub left_before_then : (v w : View) (a b : Seen) (d : ℕ) → Notes v w a b → gone_slices w d ≡ false → gone_slices v d ≡ false
+pub left_before_then : (v w : View) (a b : RackView) (d : ℕ) → Notes v w a b → gone_slices w d ≡ false → gone_slices v d ≡ false
 left_before_then v w a b d notes left =
     by (slice_of d == v.number + 1) (notes.lost (place_of d)) (has_gone v (place_of d))
     (ap₂ (λ (n : ℕ) (g : Bool). (slice_of d == n + 1) && g) (sym notes.same.number) (sym (notes.loses.went (place_of d))) ∙ left)
@@ -32,7 +32,7 @@ left_before_then v w a b d notes left =
 
 -- ---- calls in a row
 
-pub works_reads : (v w : View) (a b : Seen) → OnlyReads a b → Notes v w a b → Works v w a b []
+pub works_reads : (v w : View) (a b : RackView) → OnlyReads a b → Notes v w a b → Works v w a b []
 unfolding look
 works_reads v w a b reads notes = record {
   notes = notes;
@@ -50,7 +50,7 @@ which : (o p : Option (List ℕ)) (x : List ℕ) → option_or o p ≡ Some x �
 which None p x is = of_first refl is
 which (Some y) p x is = of_second is
 
-pub works_then : (u v w : View) (a b c : Seen) (xs ys : List Target) → Works u v a b xs → Works v w b c ys → Works u w a c (xs ++ ys)
+pub works_then : (u v w : View) (a b c : RackView) (xs ys : List Target) → Works u v a b xs → Works v w b c ys → Works u w a c (xs ++ ys)
 works_then u v w a b c xs ys one two =
     let first = one.puts.only.stays in
     let second = two.puts.only.stays in
@@ -72,7 +72,7 @@ works_then u v w a b c xs ys one two =
     }
 
 -- no call
-pub works_none : (v : View) (a : Seen) → a.fit → Works v v a a []
+pub works_none : (v : View) (a : RackView) → a.fit → Works v v a a []
 unfolding look
 works_none v a fit = record {
   notes = notes_none v a a;
@@ -85,7 +85,7 @@ works_none v a fit = record {
 -- ---- one write
 
 -- a write that was answered
-pub works_written : (v : View) (a b : Seen) (disk sector : ℕ) (x : List ℕ) → Writes a b disk sector x {X = Unit {0}} (Ok tt) → Works v v a b (target disk sector x ∷ [])
+pub works_written : (v : View) (a b : RackView) (disk sector : ℕ) (x : List ℕ) → Writes a b disk sector x {X = Unit {0}} (Ok tt) → Works v v a b (target disk sector x ∷ [])
 works_written v a b disk sector x writes = record {
   notes = notes_none v a b;
   puts = record {
@@ -99,7 +99,7 @@ works_written v a b disk sector x writes = record {
 }
 
 -- or refused: its place has gone, so nothing is said of what stands there
-pub works_refused : (v w : View) (a b : Seen) (n sector : ℕ) (x : List ℕ) (gone : Gone) → v.number < 16 → Notes v w a b → has_gone w (place_at v n) ≡ true
+pub works_refused : (v w : View) (a b : RackView) (n sector : ℕ) (x : List ℕ) (gone : Gone) → v.number < 16 → Notes v w a b → has_gone w (place_at v n) ≡ true
     → Writes a b (slice_on v n) sector x {X = Unit {0}} (Err gone) → Works v w a b (target (slice_on v n) sector x ∷ [])
 works_refused v w a b n sector x gone few notes went writes = record {
   notes = notes;
@@ -124,7 +124,7 @@ works_refused v w a b n sector x gone few notes went writes = record {
         place_is d p is few = omega (arith, is, few)
 
 -- a target for a member that has gone may be any
-pub works_idle : (v : View) (a : Seen) (n sector : ℕ) (x : List ℕ) → v.number < 16 → a.fit → has_gone v (place_at v n) ≡ true → Works v v a a (target (slice_on v n) sector x ∷ [])
+pub works_idle : (v : View) (a : RackView) (n sector : ℕ) (x : List ℕ) → v.number < 16 → a.fit → has_gone v (place_at v n) ≡ true → Works v v a a (target (slice_on v n) sector x ∷ [])
 works_idle v a n sector x few fit went = record {
   notes = notes_none v a a;
   puts = record {
@@ -146,7 +146,7 @@ works_idle v a n sector x few fit went = record {
         place_is d p is few = omega (arith, is, few)
 
 -- a refused write of a member's sector, whose place is noted
-pub works_noted : (v w : View) (a b : Seen) (n sector place slice : ℕ) (x : List ℕ) (gone : Gone) → v.number < 16 → place ≡ place_at v n → slice ≡ slice_on v n
+pub works_noted : (v w : View) (a b : RackView) (n sector place slice : ℕ) (x : List ℕ) (gone : Gone) → v.number < 16 → place ≡ place_at v n → slice ≡ slice_on v n
     → IsSameButSeats v w → LosesPlaces v w (λ p. p == place)
     → Writes a b slice sector x {X = Unit {0}} (Err gone) → Works v w a b (target (slice_on v n) sector x ∷ [])
 works_noted v w a b n sector place slice x gone few place_is slice_is same loses writes =
@@ -156,7 +156,7 @@ works_noted v w a b n sector place slice x gone few place_is slice_is same loses
     (lost.went (place_at v n) ∙ ap (λ (l : Bool). l || has_gone v (place_at v n)) (eq-eqb (place_at v n) (place_at v n) refl)) here
 
 -- whoever has gone stays so
-pub gone_stays : (v w : View) (a b : Seen) (n : ℕ) → Notes v w a b → has_gone v (place_at v n) ≡ true → has_gone w (place_at w n) ≡ true
+pub gone_stays : (v w : View) (a b : RackView) (n : ℕ) → Notes v w a b → has_gone v (place_at v n) ≡ true → has_gone w (place_at w n) ≡ true
 gone_stays v w a b n notes gone =
     ap (has_gone w) (ap (λ t. unwrap_or (place_with t.roles.items n) 16) notes.same.truth)
     ∙ notes.loses.went (place_at v n) ∙ ap (λ (g : Bool). notes.lost (place_at v n) || g) gone ∙ or_true (notes.lost (place_at v n))

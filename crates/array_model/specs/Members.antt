@@ -2,7 +2,7 @@
 use Rattle.std.specs.Prelude.{take, not, nat_lt, if◌then◌else◌, ◌≡◌, ◌≢◌, ℕ, ◌+◌, ◌<◌, ◌≤◌, Bool, true, ◌==◌, ◌&&◌, List, map, slice_get, Option, Some, None, ◌*◌, false, ◌⊎◌}
 use Rattle.std.specs.List.{range_with_len}
 use Rattle.rack.specs.Values.{IsSingle}
-use Rattle.rack.specs.Seen.{Image, Seen, IsLive}
+use Rattle.rack.specs.Seen.{Image, RackView, IsLive}
 use Rattle.rack.specs.Targets.{Target, look}
 use Rattle.rack.specs.Sequences.{IsPayload, WritesOnly}
 use Rattle.parity.specs.Xor.{xor, xor_all}
@@ -25,7 +25,7 @@ abbrev pub slice_on : View → ℕ → ℕ
 slice_on v n = member_slice (place_at v n) v.number
 
 -- A rack that an array can call: it takes no sector away for good, and has the slice of each member that isn't missing.
-pub record HasSlices (v : View) (a : Seen) : Type 0 where
+pub record HasSlices (v : View) (a : RackView) : Type 0 where
   pub fit : a.fit
   pub lasting : a.lasting
   pub disks : (n : ℕ) → n < v.truth.raid_disks → slice_get v.seats n ≢ Some Missing → slice_on v n < a.disks
@@ -41,7 +41,7 @@ pub record IsSameButSeats (v w : View) : Type 0 where
   pub marked : w.marked ≡ v.marked
 
 -- Calls between a and b in which places went: they are noted, and nothing else of the array has changed.
-pub record Notes (v w : View) (a b : Seen) : Type 0 where
+pub record Notes (v w : View) (a b : RackView) : Type 0 where
   pub same : IsSameButSeats v w
   pub lost : ℕ → Bool
   pub loses : LosesPlaces v w lost
@@ -52,12 +52,12 @@ abbrev pub gone_slices : View → ℕ → Bool
 gone_slices v d = (slice_of d == v.number + 1) && has_gone v (place_of d)
 
 -- calls that wrote these targets, on all disks but those that have gone
-pub record Puts (a b : Seen) (xs : List Target) (gone : ℕ → Bool) : Type 0 where
+pub record Puts (a b : RackView) (xs : List Target) (gone : ℕ → Bool) : Type 0 where
   pub only : WritesOnly a b (IsPayload xs)
   pub last : (d s : ℕ) (x : List ℕ) → IsLive a b d s → gone d ≡ false → look xs d s ≡ Some x → (b.held d s).current ≡ x
 
 -- calls of members' slices that wrote these targets, but on those that went
-pub record Works (v w : View) (a b : Seen) (xs : List Target) : Type 0 where
+pub record Works (v w : View) (a b : RackView) (xs : List Target) : Type 0 where
   pub notes : Notes v w a b
   pub puts : Puts a b xs (gone_slices w)
 
@@ -77,7 +77,7 @@ added None sum = sum
 added (Some v) sum = xor sum v
 
 -- the sectors of a member that count have one value each
-abbrev pub IsSingleOn : View → Seen → ℕ → Type 0
+abbrev pub IsSingleOn : View → RackView → ℕ → Type 0
 IsSingleOn v x n = (sector : ℕ) → sector < (member_on v n).reach → IsSingle (x.held (slice_on v n) (data_sector + sector))
 
 -- ---- rows of the members' data

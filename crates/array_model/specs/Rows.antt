@@ -1,7 +1,7 @@
 -- A write of one array sector: which sectors of its members it touches.
 use Rattle.std.specs.Prelude.{◌≡◌, ◌==◌, if◌then◌else◌, false, ℕ, zero, suc, ◌+◌, ◌<◌, List, [], ◌∷◌, map, take, length, Option, Some, unwrap_or, true}
 use Rattle.raid_map.specs.LeftSymmetric.{member_of, sector_of, parity_at}
-use Rattle.rack.specs.Seen.{Image, Seen}
+use Rattle.rack.specs.Seen.{Image, RackView}
 use Rattle.array_image.specs.Places.{member_slice, data_sector}
 use Rattle.rack.specs.Targets.{Target, look}
 use Rattle.array_image.specs.Stripes.{Layout, parity, width, sector_in, position_in, there, AgreeIn}
@@ -85,7 +85,7 @@ pub record RowChange (shape : Shape) (n resync x : ℕ) (from : List ℕ) (cur :
   pub even : (y : ℕ) → AllCount (layout_at shape y) shape (sector_at shape y) → AgreeAt shape n cur y → AgreeAt shape n (written xs cur) y
 
 -- What a write of sector x owes: the targets of its row change this sector alone, and the row agrees once they are written.
-pub record Owes (v : View) (a : Seen) (x : ℕ) (from : List ℕ) (xs : List Target) : Type 0 where
+pub record Owes (v : View) (a : RackView) (x : ℕ) (from : List ℕ) (xs : List Target) : Type 0 where
   pub row : IsRow (shape_of v) v.number x from xs
   pub even :
       IsOpen (shape_of v) v.number a
@@ -93,6 +93,6 @@ pub record Owes (v : View) (a : Seen) (x : ℕ) (from : List ℕ) (xs : List Tar
       → AreEven (shape_of v) v.number v.resync (current_in a.held) → AreEven (shape_of v) v.number v.resync (written xs (current_in a.held))
 
 -- How a write past the log ended: it found its sector spent, or its targets are written but on members that went.
-pub data Wrote (v w : View) (a b : Seen) (x : ℕ) (from : List ℕ) : Type 0 where
+pub data Wrote (v w : View) (a b : RackView) (x : ℕ) (from : List ℕ) : Type 0 where
   refused : OnlyReads a b → Notes v w a b → spent_in w x ≡ true → Wrote v w a b x from
   row : (xs : List Target) → Works v w a b xs → Owes v a x from xs → Wrote v w a b x from

@@ -2,7 +2,7 @@
 use Rattle.std.specs.Prelude.{Option, ◌≡◌, ℕ, suc, ◌/◌, ◌%◌, ◌<◌, ◌≤◌, ◌^◌, Bool, true, false, ◌==◌, ◌&&◌, ◌||◌, not, nat_le, if◌then◌else◌, List, [], ◌∷◌, map, length, slice_get, Some, option_map, unwrap_or}
 use Rattle.std.specs.Option.{option_map_or}
 use Rattle.std.specs.List.{range_with_len, list_any, list_all}
-use Rattle.rack.specs.Seen.{Seen, Rose}
+use Rattle.rack.specs.Seen.{RackView, Rose}
 use Rattle.shr_base.specs.declared.Id.{Id}
 use Rattle.md_super.specs.declared.superblock.Super.{Super}
 use Rattle.md_super.specs.Profile.{is_mirror, is_raid5}
@@ -163,11 +163,11 @@ pub record LosesPlaces (v w : View) (lost : ℕ → Bool) : Type 0 where
   pub went : (place : ℕ) → has_gone w place ≡ (lost place || has_gone v place)
 
 -- a disk of a place has refused a call
-abbrev pub HasFault : Seen → Seen → ℕ → Type 0
+abbrev pub HasFault : RackView → RackView → ℕ → Type 0
 HasFault a b place = (disk : ℕ) × (place_of disk ≡ place) × Rose (a.faults disk) (b.faults disk)
 
 -- places that answered Gone in calls between a and b are noted, each with its cause
-pub record IsNoted (v w : View) (a b : Seen) : Type 0 where
+pub record IsNoted (v w : View) (a b : RackView) : Type 0 where
   pub same : IsSameArray v w
   pub lost : ℕ → Bool
   pub loses : LosesPlaces v w lost

@@ -23,7 +23,7 @@
 //!
 //! **The contract for the layer above** of the first two is one record, `StepsRows`, beside the frames of `Array::write`: so many rows, and
 //! `Steps` for them. The array is as it was, or the rows are done, and they are done where the answer is Ok, which says how many. At each
-//! moment contents say the array as before with superblocks from before, or by the new superblocks, and its values stay (`Moving` of
+//! moment contents say the array as before with superblocks from before, or by the new superblocks, and its values stay (`StepRefines` of
 //! array_model); after it the array holds what it held, and the members of the rows agree. Once they are done each stop leaves the new
 //! superblocks. The log is kept for the next commit. Rows of a resync are refused exactly where a member is missing after the losses of
 //! the call, or isn't rebuilt past the first of them (`lacks_row`); those of a rebuild exactly where another member is so, or the first

@@ -1,7 +1,7 @@
 -- While places without a disk are marked on a pool's arrays, what a stop leaves holds the pool.
 use Rattle.std.proofs.Common.{◌≡◌, ℕ, ◌+◌, ◌-◌, ◌<◌, ◌≤◌, ◌^◌, ◌&&◌, Bool, false, true, if◌then◌else◌, List, [], is_some, Some, inl, refl, sym, ap, subst, ◌∙◌, le-ltb, arith}
 use Rattle.rack.specs.Moments.{Leaves}
-use Rattle.rack.specs.Seen.{Image, Seen}
+use Rattle.rack.specs.Seen.{Image, RackView}
 use Rattle.rack.specs.Sequences.{WritesOnly}
 use Rattle.rack.specs.Values.{MayLeave, Values}
 use Rattle.slice_rack.specs.Runs.{IsSliced}
@@ -15,18 +15,18 @@ use Rattle.array_core.proofs.Stripped.{some_same}
 use Rattle.array_image.specs.SoundArray.{first_unsynced}
 use Rattle.array_model.specs.View.{IsArray}
 use Rattle.log_laws.specs.Saying.{HoldsCopies}
-use Rattle.raid_laws.specs.Book.{IsAfter}
+use Rattle.raid_laws.specs.Book.{OnlyMarksSince}
 use Rattle.raid_laws.specs.Marking.{SaysBetween, TiedBetween}
-use Rattle.raid_laws.specs.Moves.{IsAmid, PartOf}
+use Rattle.raid_laws.specs.Moves.{IsTrackedInCall, SubCall}
 use Rattle.raid_laws.specs.Raid.{Raid}
 use Rattle.raid_laws.specs.Reach.{KeepsReach, reach_then}
 use Rattle.raid_laws.specs.Since.{HoldsSince}
 use Rattle.pool_image.specs.Drives.{Found}
 use Rattle.pool_image.specs.Meaning.{array_sectors, arrays_held, shape_of, is_dirty_degraded, truth_of}
 use Rattle.raid_laws.specs.Rows.{KeepsLacking}
-use Rattle.pool_model.specs.Left.{AreAlone, AreAloneBy, IsPickOff}
-use Rattle.pool_model.specs.Openings.{HadOnePool, HaveOnePool, HoldOpened, IsUnsynced}
-use Rattle.pool_model.specs.Stopped.{HaveTables, HoldBetween, LieByTables, TellsStops}
+use Rattle.pool_model.specs.Left.{NoStraySuperblock, NoStraySuperblockBy, IsPickOutsideSlices}
+use Rattle.pool_model.specs.Openings.{HadOnePool, HaveOnePool, RecoversInOpening, IsUnsynced}
+use Rattle.pool_model.specs.Stopped.{HaveTables, RecoversBetween, LieByTables, TellsStops}
 use Rattle.pool_model.proofs.Amid.{IsReady, inside_of, nothing_past, off_amid, tables_amid, tables_lie}
 use Rattle.pool_model.proofs.Found.{IsFound}
 use Rattle.pool_model.proofs.LackingRows.{dirty_before}
@@ -39,14 +39,14 @@ use Rattle.assembler.proofs.Moments.{says_values}
 
 -- A part of an opening that moves no value, from the book v, whose state is the pool's, to w, by which just the places without a disk are marked. When it begins members count as far
 -- as in the pool, and the arrays have the rows left to resync that the pool's truths leave; where a member is lacking the part leaves no others.
-module _ (f : Found) (t : Slices) (v w : Raid) (x y : Seen) (spent : ℕ → ℕ → Bool) (vals : ℕ → ℕ → Values) (found : IsFound f) (stays_one : HadOnePool f → HaveOnePool f) (ready : IsReady f t v x) (same : v.state ≡ f.state)
-    (have : HaveTables f) (alone : (i : Image) → IsPickOff t x i → AreAlone f i) (orderly : IsOrderly t) (inside : IsInside t x) (lasting : x.lasting) (only : WritesOnly x y (IsSliced t))
-    (parts : (n : ℕ) → n < f.state.made → PartOf v w (slices_of t x) (slices_of t y) n (vals n) (vals n) (spent n))
-    (amid : (n : ℕ) → n < f.state.made → IsAmid v (slices_of t x) n (vals n) (spent n))
+module _ (f : Found) (t : Slices) (v w : Raid) (x y : RackView) (spent : ℕ → ℕ → Bool) (vals : ℕ → ℕ → Values) (found : IsFound f) (stays_one : HadOnePool f → HaveOnePool f) (ready : IsReady f t v x) (same : v.state ≡ f.state)
+    (have : HaveTables f) (alone : (i : Image) → IsPickOutsideSlices t x i → NoStraySuperblock f i) (orderly : IsOrderly t) (inside : IsInside t x) (lasting : x.lasting) (only : WritesOnly x y (IsSliced t))
+    (parts : (n : ℕ) → n < f.state.made → SubCall v w (slices_of t x) (slices_of t y) n (vals n) (vals n) (spent n))
+    (amid : (n : ℕ) → n < f.state.made → IsTrackedInCall v (slices_of t x) n (vals n) (spent n))
     (members : (n : ℕ) (before : Shape) (low : n < f.state.made) → shape_of f n ≡ Some before → KeepsReach v.state before (amid n low).durable)
     (means : (n s : ℕ) (u : List ℕ) → n < f.state.made → MayLeave (vals n s) u → u ≡ arrays_held f n s)
     (copies : HoldsCopies v.state (slices_of t x)) (since : HoldsSince v.state (slices_of t x)) (room : w.state.epoch < 2 ^ 63 - 1)
-    (someone : (s : State) → IsAfter v.state s → IsAfter s w.state → (p d : ℕ) × (is_current s p ≡ true) × (f.seats p ≡ Some d))
+    (someone : (s : State) → OnlyMarksSince v.state s → OnlyMarksSince s w.state → (p d : ℕ) × (is_current s p ≡ true) × (f.seats p ≡ Some d))
     (live : (n s : ℕ) → n < f.state.made → s < array_sectors f n → spent n s ≡ false)
     (plan : w.state.plan ≡ f.state.plan) (marks : (p : ℕ) → is_current w.state p ≡ (is_current f.state p && is_some (f.seats p)))
     (arrays : (n : ℕ) (u : Super) → n < f.state.made → truth_of f n ≡ Some u → IsArray (v.arrays n) × ((v.arrays n).resync ≡ first_unsynced u) × ((v.arrays n).young ≡ false))
@@ -57,7 +57,7 @@ module _ (f : Found) (t : Slices) (v w : Raid) (x y : Seen) (spent : ℕ → ℕ
   tells : TellsStops f.state.made v w (slices_of t x) (slices_of t y)
   tells = parts_tell f.state.made v w (slices_of t x) (slices_of t y) vals spent some parts amid copies since traced
 
-  holds : Leaves x y (λ i. LieByTables f t v.state i → AreAloneBy v.state f i → HoldBetween f t v.state w.state i)
+  holds : Leaves x y (λ i. LieByTables f t v.state i → NoStraySuperblockBy v.state f i → RecoversBetween f t v.state w.state i)
   holds =
       marking_amid f t v w x y found ready same orderly inside lasting only
       (λ traced. parts_tell f.state.made v w (slices_of t x) (slices_of t y) vals spent some parts amid copies since traced) room someone traced
@@ -65,7 +65,7 @@ module _ (f : Found) (t : Slices) (v w : Raid) (x y : Seen) (spent : ℕ → ℕ
   lie : Leaves x y (LieByTables f t v.state)
   lie = tables_amid f t v.state x y lasting only (tables_lie f t v.state x have ready.slices ready.elsewhere) traced
 
-  lone : Leaves x y (AreAlone f)
+  lone : Leaves x y (NoStraySuperblock f)
   lone = alone_stops f t x y lasting only alone traced
 
   module _ (k : ℕ) (i : Image) (late : x.clock < k) (early : k ≤ y.clock) (stop : y.stops k i) where
@@ -95,7 +95,7 @@ module _ (f : Found) (t : Slices) (v w : Raid) (x y : Seen) (spent : ℕ → ℕ
         (reach_then (is_current v.state) (is_current at.says.state) before (amid n low).durable left at.says.later.current (members n before low was)
         (subst (KeepsReach at.says.state (amid n low).durable) shape at.from))
 
-    between : HoldBetween f t v.state w.state i
+    between : RecoversBetween f t v.state w.state i
     between = holds.new k i late early stop (lie.new k i late early stop) (λ n p d first low counts. lone.new k i late early stop n p d first low)
 
     unsynced : (n : ℕ) → n < f.state.made → is_dirty_degraded between.still.now n ≡ true → IsUnsynced f n
@@ -109,11 +109,11 @@ module _ (f : Found) (t : Slices) (v w : Raid) (x y : Seen) (spent : ℕ → ℕ
           from = λ young. ((lacking n low).leaves traced).new k (sliced t i) late early (i, stop, λ j u. refl) (nothing_past t i);
         })
 
-    opened : HoldOpened f 0 i
+    opened : RecoversInOpening f 0 i
     opened =
         (amid_opened f t v.state w.state 0 i ready.after plan marks gives counted ready.slices (inside_of f t x ready.disks inside)
         (ready.elsewhere i (off_amid t x y lasting only traced k i late early stop))
         (tells.since.new k (sliced t i) late early (i, stop, λ j u. refl) (nothing_past t i)) ready.outset stays_one between unsynced).0
 
-  pub marking_leaves : Leaves x y (HoldOpened f 0)
+  pub marking_leaves : Leaves x y (RecoversInOpening f 0)
   marking_leaves = record { later = holds.later; kept = holds.kept; past = holds.past; new = opened }

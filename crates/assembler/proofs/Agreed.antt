@@ -1,6 +1,6 @@
 -- The superblocks of an array agree once a volume was opened.
 use Rattle.std.proofs.Common.{◌≡◌, ℕ, ◌<◌, false, sym, subst, inl, inr}
-use Rattle.rack.specs.Seen.{Image, Seen}
+use Rattle.rack.specs.Seen.{Image, RackView}
 use Rattle.rack.specs.Joins.{rose_before, rose_since}
 use Rattle.array_image.specs.Left.{IsLeft}
 use Rattle.lvm_group.specs.Runs.{Linear}
@@ -8,19 +8,19 @@ use Rattle.raid_rack.specs.declared.arrays.RaidRack.{RaidRack}
 use Rattle.raid_laws.specs.Agreeing.{SupersAgree}
 use Rattle.raid_laws.specs.Cleaning.{NoneFails}
 use Rattle.raid_laws.specs.Laws.{live_parts}
-use Rattle.raid_laws.specs.Raid.{IsTold, held_in, is_over, spent_of}
+use Rattle.raid_laws.specs.Raid.{IsTracked, held_in, is_failed, spent_of}
 use Rattle.raid_rack.specs.RaidRack.{IsFit, arrays_in, raid_in, slices_seen, written_in}
 use Rattle.raid_rack.proofs.AgreeStill.{agree_spared}
 use Rattle.raid_laws.proofs.Whole.{told_amid}
 use Rattle.assembler.specs.Volume.{OpensVolume}
 
-module _ {R : Type 0} (seen : R → Seen) (runs : R → R → Type 0) (x y : RaidRack R) (l : Linear) (seqno : ℕ) (opens : OpensVolume seen runs x y l seqno)
+module _ {R : Type 0} (seen : R → RackView) (runs : R → R → Type 0) (x y : RaidRack R) (l : Linear) (seqno : ℕ) (opens : OpensVolume seen runs x y l seqno)
     (before : IsFit (arrays_in x) (slices_seen seen x)) (none : NoneFails (slices_seen seen x) (slices_seen seen y))
-    (n : ℕ) (made : n < (raid_in x).state.made) (told : IsTold (raid_in x) (slices_seen seen x) n) (goes : is_over (raid_in y) n ≡ false) where
+    (n : ℕ) (made : n < (raid_in x).state.made) (told : IsTracked (raid_in x) (slices_seen seen x) n) (goes : is_failed (raid_in y) n ≡ false) where
   abbrev mid : RaidRack R
   mid = opens.mid
 
-  goes_on : is_over (raid_in mid) n ≡ false
+  goes_on : is_failed (raid_in mid) n ≡ false
   goes_on = opens.agrees.kept.1.moments.still n goes
 
   -- what was agreed before the texts were brought up is so still, where nothing was written

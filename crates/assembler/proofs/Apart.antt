@@ -2,7 +2,7 @@
 use Rattle.std.proofs.Common.{◌≡◌, ℕ, suc, ◌<◌, not, Bool, true, false, if◌then◌else◌, List, Some, None, inl, inr, refl, sym, ap, ◌∙◌, arith}
 use Rattle.std.specs.Option.{option_and_then}
 use Rattle.std.proofs.lemmas.Option.{none-some}
-use Rattle.rack.specs.Seen.{Image, Seen}
+use Rattle.rack.specs.Seen.{Image, RackView}
 use Rattle.slice_rack.specs.Slices.{Slices, IsOrderly}
 use Rattle.pool_image.specs.Alike.{IsSamePool}
 use Rattle.pool_image.specs.Disks.{Disks}
@@ -31,7 +31,7 @@ lands_apart disks c f is (inr apart) = apart
 
 -- ---- a pool whose drives passed their check
 
-module _ (f : Found) (t : Slices) (x : Seen) (checked : Checked) (absent : List ℕ) (orderly : IsOrderly t)
+module _ (f : Found) (t : Slices) (x : RackView) (checked : Checked) (absent : List ℕ) (orderly : IsOrderly t)
     (m : AreMembers f.state t x checked absent) (steady : AreSteady x) (pool : IsPoolOn f.state t x f)
     (found : IsChecked (is_well None) f checked) (is : IsFound f) where
   lies : (n : ℕ) → n < f.state.made → (b : Extent) × (extent_of f (suc n) ≡ Some b)

@@ -4,7 +4,7 @@ use Rattle.std.specs.Prelude.{unwrap_or}
 use Rattle.std.specs.Option.{option_and_then}
 use Rattle.std.specs.Result.{result_ok}
 use Rattle.std.proofs.lemmas.Option.{none-some}
-use Rattle.rack.specs.Seen.{Image, Seen}
+use Rattle.rack.specs.Seen.{Image, RackView}
 use Rattle.slice_rack.specs.Slices.{Slices, IsOrderly, disk_of, first_of, seat_of, sectors_of}
 use Rattle.slice_rack.specs.Sliced.{IsInside, sliced}
 use Rattle.slice_rack.specs.Laws.{sector_below}
@@ -36,7 +36,7 @@ before_is disks c e b is stands =
     by None none = absurd (none-some e none)
     by (Some s) some = sym (ap (λ (k : Found). k.before) (some_same (record { disks = disks; before = b; contents = written disks b c; identities = identities_of disks (written disks b c); state = s; seats = pool_seat s disks (identities_of disks (written disks b c)) }) e some))
 
-module _ (a : Seen) (e : Found) (found_is : found (disks_of a) (now_in a) ≡ Some e) (stood : HaveStood e)
+module _ (a : RackView) (e : Found) (found_is : found (disks_of a) (now_in a) ≡ Some e) (stood : HaveStood e)
     (t : Slices) (orderly : IsOrderly t) (inside : IsInside t a) (seats : (p : ℕ) → seat_of t p ≡ e.seats p)
     (logs : (p d : ℕ) → seat_of t p ≡ Some d → sectors_of t (log_slice p) ≡ log_sectors)
     (firsts : (p d : ℕ) → seat_of t p ≡ Some d → first_of t (log_slice p) ≡ state_sector)

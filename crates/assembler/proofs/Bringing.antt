@@ -3,7 +3,7 @@ use Rattle.std.proofs.Common.{◌≡◌, ℕ, ◌<◌, ◌≤◌, ◌&&◌, fals
 use Rattle.std.proofs.lemmas.Bool.{both_ways, cases_Bool}
 use Rattle.rack.specs.Joins.{leaves_weaker}
 use Rattle.rack.specs.Moments.{Leaves}
-use Rattle.rack.specs.Seen.{Image, IsLive, Seen}
+use Rattle.rack.specs.Seen.{Image, IsLive, RackView}
 use Rattle.rack.specs.Sequences.{WritesOnly}
 use Rattle.slice_rack.specs.Runs.{IsSliced}
 use Rattle.slice_rack.specs.Slices.{IsOrderly, Slices, sectors_of}
@@ -22,21 +22,21 @@ use Rattle.pool_image.specs.Volumes.{Arrays}
 use Rattle.pool_image.proofs.Founds.{joined_same, super_same, truths_same}
 use Rattle.raid_rack.specs.declared.arrays.RaidRack.{RaidRack}
 use Rattle.raid_rack.specs.AllRuns.{AreCalls}
-use Rattle.raid_laws.specs.Book.{IsAfter}
+use Rattle.raid_laws.specs.Book.{OnlyMarksSince}
 use Rattle.raid_laws.specs.Laws.{live_parts}
 use Rattle.raid_laws.specs.Moves.{IsHeeded, IsSet}
-use Rattle.raid_laws.specs.Raid.{Raid, is_over}
+use Rattle.raid_laws.specs.Raid.{Raid, is_failed}
 use Rattle.raid_rack.specs.RaidRack.{raid_in, raid_seen, slices_in, slices_seen as slices_shown}
 use Rattle.raid_laws.specs.Reach.{KeepsReach}
-use Rattle.raid_laws.specs.Runs.{KeepsMoments}
+use Rattle.raid_laws.specs.Runs.{CrashInvariant}
 use Rattle.raid_laws.specs.Since.{AreSince}
 use Rattle.raid_rack.proofs.TruthAgrees.{truth_said}
 use Rattle.raid_laws.proofs.Whole.{own_rows}
-use Rattle.pool_model.specs.Left.{AreAlone, AreAloneBy, AreElsewhere, IsPickOff}
-use Rattle.pool_model.specs.Openings.{HadOnePool, HaveOnePool, HoldOpened, IsUnsynced}
+use Rattle.pool_model.specs.Left.{NoStraySuperblock, NoStraySuperblockBy, AreElsewhere, IsPickOutsideSlices}
+use Rattle.pool_model.specs.Openings.{HadOnePool, HaveOnePool, RecoversInOpening, IsUnsynced}
 use Rattle.pool_model.specs.Pools.{AreSlicesOf, IsSoundPool}
 use Rattle.pool_model.specs.Reopening.{AreWholeSectors}
-use Rattle.pool_model.specs.Stopped.{HaveTables, HoldAmid, HoldBetween, LieByTables}
+use Rattle.pool_model.specs.Stopped.{HaveTables, RecoversInCall, RecoversBetween, LieByTables}
 use Rattle.pool_model.proofs.Amid.{IsReady, inside_of, moments_since, nothing_past, off_amid, ready_amid, tables_amid, tables_lie}
 use Rattle.pool_model.proofs.Current.{shape_truth}
 use Rattle.pool_model.proofs.Found.{found_is}
@@ -52,20 +52,20 @@ use Rattle.assembler_laws.proofs.Shapes.{shape_heeded}
 
 -- Contents hold the pool so, with what its slices give once the pending record is written, and in whole sectors where the disks' are.
 pub record GivesOpened (e : Found) (t : Slices) (from : ℕ) (i : Image) : Type 0 where
-  pub opened : HoldOpened e from i
+  pub opened : RecoversInOpening e from i
   pub gives : (n x : ℕ) → n < e.state.made → arrays_held opened.now n x ≡ arrays_in (replayed (sectors_of t) (sliced t i)) n x
   pub whole : AreWholeSectors e.disks i → (n x : ℕ) → n < e.state.made → length (arrays_held opened.now n x) ≡ 512
 
 -- The arrays `raid` were made over the slices t of a pool e, which is f at rest, all of them ready for the volume; calls from then on write no sector of the
 -- arrays but before `from`, and in the end just the places without a disk are marked.
-module _ {R : Type 0} (seen : R → Seen) (runs : R → R → Type 0) (e f : Found) (pool : IsSamePool e f) (a : Seen) (raid last : RaidRack R)
+module _ {R : Type 0} (seen : R → RackView) (runs : R → R → Type 0) (e f : Found) (pool : IsSamePool e f) (a : RackView) (raid last : RaidRack R)
     (holds : HoldsArrays f (raid_in raid) a (slices_shown seen raid)) (alive : AllLive (raid_in last)) (kept : AreCalls seen runs raid last)
     (from : ℕ) (may : ℕ → ℕ → List ℕ → Type 0) (writes : WritesOnly (raid_seen seen raid) (raid_seen seen last) may) (low_only : (n x : ℕ) (v : List ℕ) → may n x v → x < from)
     (ready : (raid_in raid).state.joined ≤ (raid_in raid).state.made) (all : e.state.joined ≡ e.state.made)
     (before : Image) (found_before : found (disks_of (seen (below_of (slices_in raid)))) before ≡ Some e) (sound : IsSoundPool e) (stays_one : HadOnePool e → HaveOnePool e)
     (slices : AreSlicesOf e (tables (slices_in raid))) (have : HaveTables e)
-    (elsewhere : (i : Image) → IsPickOff (tables (slices_in raid)) (seen (below_of (slices_in raid))) i → AreElsewhere e i)
-    (alone : (i : Image) → IsPickOff (tables (slices_in raid)) (seen (below_of (slices_in raid))) i → AreAlone e i)
+    (elsewhere : (i : Image) → IsPickOutsideSlices (tables (slices_in raid)) (seen (below_of (slices_in raid))) i → AreElsewhere e i)
+    (alone : (i : Image) → IsPickOutsideSlices (tables (slices_in raid)) (seen (below_of (slices_in raid))) i → NoStraySuperblock e i)
     (marks : (p : ℕ) → is_current (raid_in last).state p ≡ (is_current e.state p && is_some (e.seats p)))
     (set : IsSet (raid_in raid) (slices_shown seen raid)) (heeded : IsHeeded (raid_in raid))
     (orderly : IsOrderly (tables (slices_in raid))) (inside : IsInside (tables (slices_in raid)) (seen (below_of (slices_in raid))))
@@ -81,10 +81,10 @@ module _ {R : Type 0} (seen : R → Seen) (runs : R → R → Type 0) (e f : Fou
   abbrev w : Raid
   w = raid_in last
 
-  abbrev z : Seen
+  abbrev z : RackView
   z = seen (below_of (slices_in raid))
 
-  abbrev y : Seen
+  abbrev y : RackView
   y = seen (below_of (slices_in last))
 
   there : tables (slices_in last) ≡ t
@@ -108,14 +108,14 @@ module _ {R : Type 0} (seen : R → Seen) (runs : R → R → Type 0) (e f : Fou
   size_same : (n : ℕ) → array_sectors f n ≡ array_sectors e n
   size_same n = ap (λ (k : Arrays). k.sectors n) (joined_same e f pool)
 
-  lasts : (n : ℕ) → n < e.state.made → is_over w n ≡ false
+  lasts : (n : ℕ) → n < e.state.made → is_failed w n ≡ false
   lasts n low =
       let less = small n low in
       let some : 0 < sectors_in (w.arrays n) = (let room = holds.room n less in let is = sizes n less in omega (arith, room, is)) in
       (live_parts w n 0 (alive n 0 (now_low n less) some)).0
 
-  begun : IsAfter e.state v.state
-  begun = subst (λ (s : State). IsAfter s v.state) pool.state holds.after
+  begun : OnlyMarksSince e.state v.state
+  begun = subst (λ (s : State). OnlyMarksSince s v.state) pool.state holds.after
 
   is_ready : IsReady e t v z
   is_ready =
@@ -130,8 +130,8 @@ module _ {R : Type 0} (seen : R → Seen) (runs : R → R → Type 0) (e f : Fou
         elsewhere = elsewhere;
       }
 
-  moments : KeepsMoments v w (slices_of t z) (slices_of t y)
-  moments = subst (λ (u : Slices). KeepsMoments v w (slices_of t z) (slices_of u y)) there kept.1.moments
+  moments : CrashInvariant v w (slices_of t z) (slices_of t y)
+  moments = subst (λ (u : Slices). CrashInvariant v w (slices_of t z) (slices_of u y)) there kept.1.moments
 
   -- a place that isn't current has no disk, or wasn't before
   lost : (p : ℕ) → is_current v.state p ≡ false → (is_current e.state p && is_some (e.seats p)) ≡ false
@@ -155,13 +155,13 @@ module _ {R : Type 0} (seen : R → Seen) (runs : R → R → Type 0) (e f : Fou
       (array_same e f n by.0 (v.arrays n) (super_same e f pool n) (holds.arrays n by.0 less (truths_same e f pool n ∙ by.1)))
       (set.arrays n there) (heeded n there) begun.current lost by.1)
 
-  amid : Leaves z y (λ i. LieByTables e t v.state i → AreAloneBy v.state e i → HoldAmid e t v.state w.state i)
+  amid : Leaves z y (λ i. LieByTables e t v.state i → NoStraySuperblockBy v.state e i → RecoversInCall e t v.state w.state i)
   amid = ready_amid e t v w z y is_ready orderly inside lasting only moments (λ n low. holds.told n (small n low)) lasts traced
 
   lie : Leaves z y (LieByTables e t v.state)
   lie = tables_amid e t v.state z y lasting only (tables_lie e t v.state z have slices elsewhere) traced
 
-  lone : Leaves z y (AreAlone e)
+  lone : Leaves z y (NoStraySuperblock e)
   lone = alone_stops e t z y lasting only alone traced
 
   module _ (k : ℕ) (i : Image) (late : z.clock < k) (early : k ≤ y.clock) (stop : y.stops k i) where
@@ -190,7 +190,7 @@ module _ {R : Type 0} (seen : R → Seen) (runs : R → R → Type 0) (e f : Fou
         subst (λ (u : Shape). KeepsReach s u left) (sym (shape_made n had low was))
         ((moments.reach n (holds.told n (small n low)) (lasts n low) traced).new k (sliced t i) late early (i, stop, λ j u. refl) s left is there).0
 
-    between : HoldBetween e t v.state w.state i
+    between : RecoversBetween e t v.state w.state i
     between = (amid.new k i late early stop (lie.new k i late early stop) (λ n p d first low counts. lone.new k i late early stop n p d first low)).between
 
     now_made : (n : ℕ) → n < e.state.made → n < between.still.now.state.made
@@ -242,5 +242,5 @@ module _ {R : Type 0} (seen : R → Seen) (runs : R → R → Type 0) (e f : Fou
   pub bringing_gives : Leaves z y (GivesOpened e t from)
   bringing_gives = record { later = amid.later; kept = amid.kept; past = amid.past; new = opened }
 
-  pub bringing_leaves : Leaves z y (HoldOpened e from)
-  bringing_leaves = leaves_weaker (GivesOpened e t from) (HoldOpened e from) (λ i gives. gives.opened) bringing_gives
+  pub bringing_leaves : Leaves z y (RecoversInOpening e from)
+  bringing_leaves = leaves_weaker (GivesOpened e t from) (RecoversInOpening e from) (λ i gives. gives.opened) bringing_gives

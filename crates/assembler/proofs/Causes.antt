@@ -3,7 +3,7 @@ use Rattle.std.proofs.Common.{◌≡◌, ◌⊎◌, ℕ, ◌<◌, ◌≤◌, ◌
 use Rattle.std.specs.Option.{option_and_then}
 use Rattle.std.proofs.lemmas.Bool.{both_ways, cases_Bool, cases_lt}
 use Rattle.std.proofs.lemmas.Option.{none-some, slice_get_cases}
-use Rattle.rack.specs.Seen.{Seen, Rose, Stays}
+use Rattle.rack.specs.Seen.{RackView, Rose, SameRack}
 use Rattle.rack.specs.Joins.{rose_early, rose_later, stays_then}
 use Rattle.rack.specs.Sequences.{OnlyReads}
 use Rattle.pool_state.specs.declared.contents.State.{State}
@@ -22,7 +22,7 @@ use Rattle.pool_rest.specs.Resting.{IsFlagged}
 use Rattle.pool_rest.specs.Standing.{IsLasting, IsNewest, since}
 use Rattle.pool_check.specs.Drives.{Goes, Loses}
 use Rattle.raid_laws.specs.Losing.{geometry_then}
-use Rattle.raid_laws.specs.Moves.{LosesOnly}
+use Rattle.raid_laws.specs.Moves.{OnlyFailures}
 use Rattle.raid_laws.proofs.Noted.{current_few}
 use Rattle.assembler.specs.declared.refusal.Refusal.{Refusal}
 use Rattle.assembler.specs.Causes.{RefusesDrives}
@@ -40,7 +40,7 @@ left_seat known s gone p d is = by (nat_lt p 16) (names gone p) refl refl is
     by true true low out at = absurd (none-some d at)
     by true false low out at = (ltb-true p 16 low, out, at)
 
-module _ (a x y : Seen) (known : List Known) (s : State) (gone : List ℕ) (seats : Seats) (first : Stays a x) (second : Stays x y)
+module _ (a x y : RackView) (known : List Known) (s : State) (gone : List ℕ) (seats : Seats) (first : SameRack a x) (second : SameRack x y)
     (loses : Loses x y (seats_left known s gone) seats) where
   -- a place that lost its disk in the check, or that had gone before it, lost it since the opening began
   pub loses_since : is_valid s 0 ≡ true → ((p d : ℕ) → names gone p ≡ true → seat_by s known p ≡ Some d → Rose (a.faults d) (x.faults d))
@@ -95,7 +95,7 @@ module _ (a x y : Seen) (known : List Known) (s : State) (gone : List ℕ) (seat
   ]
 
 -- drives that didn't pass their check
-pub refuses_drives : (a x y : Seen) (known : List Known) (s : State) (gone : List ℕ) (bad : Option ℕ) (why : Refusal) → is_valid s 0 ≡ true → Stays a x → OnlyReads x y
+pub refuses_drives : (a x y : RackView) (known : List Known) (s : State) (gone : List ℕ) (bad : Option ℕ) (why : Refusal) → is_valid s 0 ≡ true → SameRack a x → OnlyReads x y
     → ((p d : ℕ) → names gone p ≡ true → seat_by s known p ≡ Some d → Rose (a.faults d) (x.faults d))
     → ((p d : ℕ) → p < 16 → seat_by s known p ≡ Some d → IsFlagged known d → names gone p ≡ true)
     → (AllTold a → IsLasting a → IsNewest (since a x) x known s) → FailsCheck x y known s gone bad why → RefusesDrives a x y known s bad why
@@ -111,7 +111,7 @@ refuses_drives a x y known s gone bad why valid first reads cause unread newest 
 }
 
 -- who was marked since the drives' check had no disk or refused a call since the opening began
-pub marked_since : (a x y z : Seen) (first : Stays a x) (second : Stays x y) (third : Stays y z) (before now : Seats) (s t : State)
+pub marked_since : (a x y z : RackView) (first : SameRack a x) (second : SameRack x y) (third : SameRack y z) (before now : Seats) (s t : State)
     → Loses a y before now → AreMarkedFor y z now s t → AreMarkedFor a z before s t
 marked_since a x y z first second third before now s t loses marks p current off = elim (loses p) [
   | inr lost ↦ inr (lost.1.0, lost.1.1, rose_early a y z lost.1.0 third lost.1.2)
@@ -122,7 +122,7 @@ marked_since a x y z first second third before now s t loses marks p current off
 ]
 
 -- an array of a rack is the one that was opened, whomever it has lost
-pub made_array : (places : List ℕ) (u v w : View) → v ≡ without places (restarted u) → LosesOnly v w → IsSameArray u w
+pub made_array : (places : List ℕ) (u v w : View) → v ≡ without places (restarted u) → OnlyFailures v w → IsSameArray u w
 made_array places u v w is loses =
     let one : IsSameArray u v =
     subst (IsSameArray u) (sym is) (record { number = refl; geometry = (same_array u).geometry; devices = refl; resync = refl; young = refl }) in

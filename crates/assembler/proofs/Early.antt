@@ -1,6 +1,6 @@
 -- What stops leave until the drives of a sound pool have passed their checks: amid the replay of the record that was pending, and in reads.
 use Rattle.std.proofs.Common.{◌≡◌, ℕ, ◌<◌, Some, List, None, inl, inr, refl, ap, ◌∙◌}
-use Rattle.rack.specs.Seen.{Image, IsPick, Seen}
+use Rattle.rack.specs.Seen.{Image, IsPick, RackView}
 use Rattle.rack.specs.Joins.{leaves_then, leaves_weaker, stays_then}
 use Rattle.rack.specs.Moments.{Leaves}
 use Rattle.rack.specs.Sequences.{OnlyReads}
@@ -37,13 +37,13 @@ use Rattle.assembler.proofs.Moments.{read_replays, read_state, reads_leave}
 use Rattle.assembler_laws.proofs.Shows.{few_place, none_past}
 use Rattle.assembler_laws.proofs.Tables.{of_drives}
 
-module _ {R : Type 0} (seen : R → Seen) (a : Seen) (rest : AtRest R) (e : Found) (sound : HoldSound a e) (rested : IsRested seen a rest)
-    (t : Slices) (y : Seen) (checked : Checked) (absent : List ℕ) (orderly : IsOrderly t) (log : LogView)
+module _ {R : Type 0} (seen : R → RackView) (a : RackView) (rest : AtRest R) (e : Found) (sound : HoldSound a e) (rested : IsRested seen a rest)
+    (t : Slices) (y : RackView) (checked : Checked) (absent : List ℕ) (orderly : IsOrderly t) (log : LogView)
     (m : AreMembers (f seen a rest e sound rested).state t y checked absent)
     (holds : HoldPool (f seen a rest e sound rested).state t y log (f seen a rest e sound rested))
     (opened : IsChecked (is_well None) (f seen a rest e sound rested) checked)
     (lie : AreSlicesOf (f seen a rest e sound rested) t) (reads : OnlyReads (seen (below_of rest.slices)) y) where
-  abbrev x : Seen
+  abbrev x : RackView
   x = seen (below_of rest.slices)
 
   abbrev pool : Found

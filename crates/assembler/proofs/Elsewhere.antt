@@ -1,7 +1,7 @@
 -- After an opening the disks have outside the slices what the pool has there: tables, and what other disks say.
 use Rattle.std.proofs.Common.{◌≡◌, ℕ, ◌+◌, ◌-◌, ◌<◌, List, Some, inl, inr, sym, ap, subst, ◌∙◌, arith}
 use Rattle.rack.specs.Values.{MayLeave}
-use Rattle.rack.specs.Seen.{Image, IsLive, Seen, Stays}
+use Rattle.rack.specs.Seen.{Image, IsLive, RackView, SameRack}
 use Rattle.rack.specs.Joins.{stays_then}
 use Rattle.rack.specs.Sequences.{OnlyReads, WritesOnly}
 use Rattle.slice_rack.specs.Runs.{IsSliced}
@@ -22,7 +22,7 @@ use Rattle.pool_scan.proofs.Valid.{valid_places}
 use Rattle.pool_rest.specs.Resting.{IsOfDrive}
 use Rattle.pool_check.specs.declared.Checked.{Checked}
 use Rattle.pool_check.specs.Settling.{KeepsTable}
-use Rattle.pool_model.specs.Left.{AreElsewhere, IsPickOff}
+use Rattle.pool_model.specs.Left.{AreElsewhere, IsPickOutsideSlices}
 use Rattle.raid_laws.proofs.Noted.{current_few}
 use Rattle.assembler_laws.specs.Holding.{AreSteady}
 use Rattle.assembler_laws.specs.Members.{AreMembers}
@@ -31,15 +31,15 @@ use Rattle.assembler_laws.proofs.Drives.{sliced_at}
 use Rattle.assembler.proofs.Mended.{drive_never, slices_never}
 use Rattle.assembler_laws.proofs.Written.{rack_then}
 
-module _ (s r : State) (t : Slices) (a x y z w : Seen) (checked : Checked) (absent : List ℕ) (known : List Known) (orderly : IsOrderly t) (m : AreMembers s t y checked absent)
+module _ (s r : State) (t : Slices) (a x y z w : RackView) (checked : Checked) (absent : List ℕ) (known : List Known) (orderly : IsOrderly t) (m : AreMembers s t y checked absent)
     (early : WritesOnly a x (IsOfDrive a known r)) (reads : OnlyReads x y) (rack : WritesOnly y z (IsSlicedOrTable y z t)) (texts : WritesOnly z w (IsSliced t))
     (steady : AreSteady a) (steady_x : AreSteady x) (e f : Found) (same : IsSamePool e f) (disks : e.disks ≡ disks_of a)
     (is : (d : ℕ) → f.identities d ≡ identities_of (disks_of x) (now_in x) d) (seats : (p : ℕ) → seat_of t p ≡ f.seats p)
     (keeps : (p d : ℕ) → seat_of t p ≡ Some d → KeepsTable a w d) where
-  xw : Stays x w
+  xw : SameRack x w
   xw = stays_then reads.stays (stays_then rack.stays texts.stays)
 
-  aw : Stays a w
+  aw : SameRack a w
   aw = stays_then early.stays xw
 
   -- from the check on, slices and tables were written
@@ -60,10 +60,10 @@ module _ (s r : State) (t : Slices) (a x y z w : Seen) (checked : Checked) (abse
     unspent = aw.lasts steady.lasts.lasting d u (steady.lasts.unspent d u);
   }
 
-  live_then : (b : Seen) (d u : ℕ) → b.told d → d < x.disks → u < x.sectors d → IsLive b w d u
+  live_then : (b : RackView) (d u : ℕ) → b.told d → d < x.disks → u < x.sectors d → IsLive b w d u
   live_then b d u told there within = let live = live_now d u there within in record { disk = live.disk; sector = live.sector; is_told = told; unspent = live.unspent }
 
-  module _ (i : Image) (off : IsPickOff t w i) where
+  module _ (i : Image) (off : IsPickOutsideSlices t w i) where
     -- a disk that no place has
     module _ (d : ℕ) (none : (p : ℕ) → e.seats p ≡ Some d → ⊥) (low : d < e.disks.count) where
       there : d < x.disks

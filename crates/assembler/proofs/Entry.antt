@@ -2,7 +2,7 @@
 use Rattle.std.proofs.Common.{◌≡◌, ◌<◌, Bool, true, false, not, bytes_eq, ◌∷◌, [], Option, Some, None, option_map, refl, sym, ap, ap₂, subst, ◌∙◌, arith}
 use Rattle.std.specs.Option.{option_map_or}
 use Rattle.array_core.proofs.Stripped.{some_same}
-use Rattle.rack.specs.Seen.{Seen, Stays}
+use Rattle.rack.specs.Seen.{RackView, SameRack}
 use Rattle.rack.specs.Joins.{rose_before, rose_since}
 use Rattle.rack.specs.Sequences.{OnlyReads}
 use Rattle.slice_rack.specs.SliceRack.{below_of, tables}
@@ -36,15 +36,15 @@ use Rattle.assembler_laws.proofs.Finding.{same as found_same}
 use Rattle.assembler.proofs.Meaning.{refusal_is}
 
 -- where no disk refused a call in all, none did in a part
-pub quiet_first : (a b c : Seen) → Stays b c → IsUnfaulted a c → IsUnfaulted a b
+pub quiet_first : (a b c : RackView) → SameRack b c → IsUnfaulted a c → IsUnfaulted a b
 quiet_first a b c stays quiet d rose = quiet d (rose_before (stays.faults d) rose)
 
-pub quiet_last : (a b c : Seen) → Stays a b → IsUnfaulted a c → IsUnfaulted b c
+pub quiet_last : (a b c : RackView) → SameRack a b → IsUnfaulted a c → IsUnfaulted b c
 quiet_last a b c stays quiet d rose = quiet d (rose_since (stays.faults d) rose)
 
 -- What an opening knows of a pool that was brought to rest, where the disks held a sound one and none refused a call.
-pub record IsRested {R : Type 0} (seen : R → Seen) (a : Seen) (rest : AtRest R) : Type 0 where
-  pub stays : Stays a (seen (below_of rest.slices))
+pub record IsRested {R : Type 0} (seen : R → RackView) (a : RackView) (rest : AtRest R) : Type 0 where
+  pub stays : SameRack a (seen (below_of rest.slices))
   pub quiet : IsUnfaulted a (seen (below_of rest.slices))
   pub newest : IsNewest (since a (seen (below_of rest.slices))) (seen (below_of rest.slices)) rest.scan.disks.items rest.state
   pub stands : StandsNow (seen (below_of rest.slices)) rest.state rest.log rest.pending rest.damaged
@@ -55,8 +55,8 @@ pub record IsRested {R : Type 0} (seen : R → Seen) (a : Seen) (rest : AtRest R
       has_other_pool (disks_of (seen (below_of rest.slices)))
       (standing_by (disks_of (seen (below_of rest.slices))) (now_in (seen (below_of rest.slices))) rest.state) ≡ false
 
-pub rested_so : {R : Type 0} (seen : R → Seen) (a : Seen) (rest : AtRest R) (e : Found) (sound : HoldSound a e)
-    → Stays a (seen (below_of rest.slices)) → IsUnfaulted a (seen (below_of rest.slices))
+pub rested_so : {R : Type 0} (seen : R → RackView) (a : RackView) (rest : AtRest R) (e : Found) (sound : HoldSound a e)
+    → SameRack a (seen (below_of rest.slices)) → IsUnfaulted a (seen (below_of rest.slices))
     → (AllTold a → IsLasting a → IsNewest (since a (seen (below_of rest.slices))) (seen (below_of rest.slices)) rest.scan.disks.items rest.state)
     → (AllTold a → IsLasting a → IsUnfaulted a (seen (below_of rest.slices)) → StandsNow (seen (below_of rest.slices)) rest.state rest.log rest.pending rest.damaged)
     → (AllTold a → IsLasting a → IsUnfaulted a (seen (below_of rest.slices)) → HasSoundLogs (disks_of a) (now_in a)
@@ -82,11 +82,11 @@ rested_so seen a rest e sound stays quiet newest stands settled steady finds sin
       single = single told lasts quiet;
     }
 
-module _ {R : Type 0} (seen : R → Seen) (a : Seen) (rest : AtRest R) (e : Found) (sound : HoldSound a e) (rested : IsRested seen a rest) where
-  abbrev x : Seen
+module _ {R : Type 0} (seen : R → RackView) (a : RackView) (rest : AtRest R) (e : Found) (sound : HoldSound a e) (rested : IsRested seen a rest) where
+  abbrev x : RackView
   x = seen (below_of rest.slices)
 
-  abbrev stays : Stays a x
+  abbrev stays : SameRack a x
   stays = rested.stays
 
   abbrev means : MeansTheSame (disks_of a) (now_in a) (now_in x)
@@ -148,7 +148,7 @@ module _ {R : Type 0} (seen : R → Seen) (a : Seen) (rest : AtRest R) (e : Foun
       ∙ ap (λ (o : Option Group). Some (option_map_or (λ group. volume_by (linear_of (joined_arrays f) group) (arrays_held f) ∷ []) o [])) of.group_is
 
   -- disks that were only read since mean what they meant
-  pub means_still : (y : Seen) → OnlyReads x y → MeansTheSame (disks_of a) (now_in a) (now_in y)
+  pub means_still : (y : RackView) → OnlyReads x y → MeansTheSame (disks_of a) (now_in a) (now_in y)
   means_still y reads =
       means_then (disks_of a) (now_in a) (now_in x) (now_in y) means
       (subst (λ (k : Disks). MeansTheSame k (now_in x) (now_in y)) (sym disks_same)

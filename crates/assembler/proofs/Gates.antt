@@ -3,7 +3,7 @@ use Rattle.std.proofs.Common.{◌≡◌, ◌≢◌, ◌⊎◌, ℕ, ◌+◌, ◌
 use Rattle.std.specs.Option.{option_map_or}
 use Rattle.std.proofs.lemmas.Bool.{both_ways, cases_Bool, cases_eq, cases_lt}
 use Rattle.rack.specs.Moments.{Leaves}
-use Rattle.rack.specs.Seen.{Image, IsLive, Seen}
+use Rattle.rack.specs.Seen.{Image, IsLive, RackView}
 use Rattle.rack.specs.Sequences.{WritesOnly}
 use Rattle.rack.specs.Targets.{Target, look}
 use Rattle.rack.specs.Values.{IsSector, IsSingle, Keeps, MayLeave, Values}
@@ -35,8 +35,8 @@ use Rattle.pool_scan.specs.Scanning.{now_in}
 use Rattle.pool_check.specs.declared.Checked.{Checked}
 use Rattle.pool_rest.specs.Resting.{IsIdle}
 use Rattle.pool_rest.specs.SoundLogs.{HasSoundLogs}
-use Rattle.pool_model.specs.Left.{AreAlone}
-use Rattle.pool_model.specs.Openings.{HoldOpened, IsIdleIn}
+use Rattle.pool_model.specs.Left.{NoStraySuperblock}
+use Rattle.pool_model.specs.Openings.{RecoversInOpening, IsIdleIn}
 use Rattle.pool_model.proofs.Found.{found_is}
 use Rattle.pool_model.proofs.GatesSame.{HoldButGates, gates_opened, idle_holds}
 use Rattle.pool_model.proofs.Landing.{tables_apart}
@@ -49,19 +49,19 @@ use Rattle.assembler_laws.proofs.Drives.{sliced_at}
 use Rattle.assembler_laws.proofs.Still.{replays_nothing}
 
 -- Gates of the pool e were closed: the disks hold it but for these, nothing is pending, and so it is at each moment.
-pub record IsClosedSo (e : Found) (y b : Seen) : Type 0 where
+pub record IsClosedSo (e : Found) (y b : RackView) : Type 0 where
   pub now : Found
   pub same : IsSamePool e now
   pub sound : HoldSound b now
   pub idle : IsIdle b
-  pub leaves : y.traced → Leaves y b (HoldOpened e 0)
+  pub leaves : y.traced → Leaves y b (RecoversInOpening e 0)
 
 -- the sector of a gate in the slices
 abbrev IsGate : ℕ → ℕ → Type 0
 IsGate k u = (slice_of k ≡ 0) × (u ≡ gate_sector)
 
 -- contents of disks are as the disks read, but for gates of their log slices; nothing is pending there, and no log is damaged
-record AreClosed (t : Slices) (y : Seen) (i : Image) : Type 0 where
+record AreClosed (t : Slices) (y : RackView) (i : Image) : Type 0 where
   off : (d u : ℕ) → d < y.disks → u < y.sectors d → (i d u ≡ now_in y d u) ⊎ IsSliced t d u (i d u)
   alike : (k u : ℕ) → u < sectors_of t k → (IsGate k u → ⊥) → sliced t i k u ≡ sliced t (now_in y) k u
   none : pending (deciding (sliced t i)) (sliced t i) ≡ []
@@ -78,7 +78,7 @@ in_slice t j k u within = ap (λ (b : Bool). if b then j (disk_of t k) (first_of
 past_slice : (t : Slices) (j : Image) (k u : ℕ) → sectors_of t k ≤ u → sliced t j k u ≡ []
 past_slice t j k u past = ap (λ (b : Bool). if b then j (disk_of t k) (first_of t k + u) else []) (le-ltb u (sectors_of t k) past)
 
-module _ (f e : Found) (t : Slices) (y : Seen) (checked : Checked) (absent : List ℕ) (orderly : IsOrderly t) (l : LogView)
+module _ (f e : Found) (t : Slices) (y : RackView) (checked : Checked) (absent : List ℕ) (orderly : IsOrderly t) (l : LogView)
     (members : AreMembers f.state t y checked absent) (rest : HoldRested y f e) (seats_f : (p : ℕ) → f.seats p ≡ slice_seat t p) (empty : l.pending ≡ [])
     (on : List ℕ) (opened : Opened f.state f.state l on (slices_of t y)) (few : (k : ℕ) → 272 ≤ k → sectors_of t k ≡ 0) where
   idle_y : IsIdlePool (disks_of y) (now_in y) e
@@ -229,7 +229,7 @@ module _ (f e : Found) (t : Slices) (y : Seen) (checked : Checked) (absent : Lis
   can : CanReplay l (slices_of t y)
   can = opened_can_replay f.state f.state l on (slices_of t y) opened
 
-  module _ (b : Seen) (only : WritesOnly y b (IsSliced t)) (replay : ReplayCall l (current_places f.state) [] (slices_of t y) (slices_of t b))
+  module _ (b : RackView) (only : WritesOnly y b (IsSliced t)) (replay : ReplayCall l (current_places f.state) [] (slices_of t y) (slices_of t b))
       (quiet : (c : Image) → LogsStand (slices_of t b) c → pending (deciding c) c ≡ []) where
     live : (d u : ℕ) → d < y.disks → u < y.sectors d → IsLive y b d u
     live d u low within = record {
@@ -302,10 +302,10 @@ module _ (f e : Found) (t : Slices) (y : Seen) (checked : Checked) (absent : Lis
         whole = replays.whole;
       }
 
-      opened_there : HoldOpened e 0 i
+      opened_there : RecoversInOpening e 0 i
       opened_there =
           gates_opened (disks_of y) i e (found_is (disks_of y) (now_in y) e rest.sound.found_is).1 rest.sound.sound (tables_apart e rest.tables)
-          (subst (AreAlone e) (ap (λ (h : Found). h.contents) idle_y.same) rest.alone) (closed_holds i closed_there)
+          (subst (NoStraySuperblock e) (ap (λ (h : Found). h.contents) idle_y.same) rest.alone) (closed_holds i closed_there)
 
     -- ---- at the end
 

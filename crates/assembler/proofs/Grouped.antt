@@ -3,7 +3,7 @@ use Rattle.std.proofs.Common.{◌≡◌, ℕ, ◌<◌, ◌≤◌, Bool, if◌the
 use Rattle.rack.specs.Values.{MayLeave}
 use Rattle.rack.specs.Joins.{leaves_then, leaves_weaker}
 use Rattle.rack.specs.Moments.{Leaves}
-use Rattle.rack.specs.Seen.{Image, IsLive, IsPick, Seen}
+use Rattle.rack.specs.Seen.{Image, IsLive, IsPick, RackView}
 use Rattle.lvm_group.specs.Brought.{IsEven}
 use Rattle.lvm_group.specs.Group.{group_in}
 use Rattle.lvm_group.specs.Images.{HoldOnly, IsSettled, IsVolume, MeansVolume, over}
@@ -25,7 +25,7 @@ use Rattle.assembler_laws.specs.Holding.{HoldsArrays}
 use Rattle.assembler.specs.Volume.{AllLive, OpensVolume}
 use Rattle.assembler.proofs.Volumes.{live_before, now as now_held, served as served_by}
 
-module _ {R : Type 0} (seen : R → Seen) (runs : R → R → Type 0) (f : Found) (a : Seen) (x y : RaidRack R)
+module _ {R : Type 0} (seen : R → RackView) (runs : R → R → Type 0) (f : Found) (a : RackView) (x y : RaidRack R)
     (holds : HoldsArrays f (raid_in x) a (slices_seen seen x)) (fresh : (n : ℕ) → refused_in x n ≡ 0)
     (l : Linear) (seqno : ℕ) (opens : OpensVolume seen runs x y l seqno) (alive : AllLive (raid_in y))
     (few : (raid_in x).state.joined ≤ 16) (all : (raid_in x).state.joined ≡ (raid_in x).state.made) (own : HaveOwnAreas f) where
@@ -35,10 +35,10 @@ module _ {R : Type 0} (seen : R → Seen) (runs : R → R → Type 0) (f : Found
   abbrev joined : ℕ
   joined = (raid_in x).state.joined
 
-  abbrev p : Seen
+  abbrev p : RackView
   p = raid_seen seen x
 
-  abbrev q : Seen
+  abbrev q : RackView
   q = raid_seen seen opens.mid
 
   -- the arrays' contents before

@@ -1,6 +1,6 @@
 -- What stops inside an opening leave, part by part: the drives as they were checked, the arrays made, the texts brought up.
 use Rattle.std.proofs.Common.{◌≡◌, ℕ, ◌<◌, ◌≤◌, List, None, refl, sym, ap, subst, ◌∙◌, arith}
-use Rattle.rack.specs.Seen.{Image, Seen}
+use Rattle.rack.specs.Seen.{Image, RackView}
 use Rattle.rack.specs.Joins.{leaves_then, leaves_weaker}
 use Rattle.rack.specs.Moments.{Leaves}
 use Rattle.rack.specs.Sequences.{OnlyReads, WritesOnly}
@@ -36,7 +36,7 @@ use Rattle.assembler.proofs.Volumes.{opened_writes}
 use Rattle.assembler.proofs.Moments.{GivesArrays, alike_values, brought_leave, e, gives_volume, made_leave, read_leave}
 
 -- What holds of the arrays' contents at each moment from one rack of arrays to another holds of what the disks below give.
-pub brought_says : {R : Type 0} (seen : R → Seen) (raid last : RaidRack R) (P : Image → Type 0) (later : ℕ → ℕ → List ℕ → Type 0)
+pub brought_says : {R : Type 0} (seen : R → RackView) (raid last : RaidRack R) (P : Image → Type 0) (later : ℕ → ℕ → List ℕ → Type 0)
     → Leaves (raid_seen seen raid) (raid_seen seen last) P → WritesOnly (seen (below_of (slices_in raid))) (seen (below_of (slices_in last))) later
     → (seen (below_of (slices_in raid))).traced
     → Leaves (seen (below_of (slices_in raid))) (seen (below_of (slices_in last)))
@@ -52,14 +52,14 @@ brought_says seen raid last P later late written traced =
           (sliced (tables (slices_in last)) i, (i, stop, λ j u. refl), λ j u. refl);
     }
 
-module _ (f : Found) (t : Slices) (y : Seen) (checked : Checked) (absent : List ℕ) (orderly : IsOrderly t)
+module _ (f : Found) (t : Slices) (y : RackView) (checked : Checked) (absent : List ℕ) (orderly : IsOrderly t)
     (m : AreMembers f.state t y checked absent) (steady : AreSteady y) (pool : IsPoolOn f.state t y f)
     (found : IsChecked (is_well None) f checked) (sound : IsSoundPool f) (log : LogView) (idle : IsIdle f.state t y log) where
   -- contents that are, replayed, as the checked drives read
   abbrev pub IsAsRead : Image → Type 0
   IsAsRead i = IsAlike (replayed (sectors_of t) (sliced t i)) (e f t y checked absent orderly m steady pool found sound)
 
-  pub opening_leaves : {R : Type 0} (seen : R → Seen) (runs : R → R → Type 0) (a : Seen) (raid last : RaidRack R) (l : Linear) (seqno : ℕ) (of : IsVolumeOf f l)
+  pub opening_leaves : {R : Type 0} (seen : R → RackView) (runs : R → R → Type 0) (a : RackView) (raid last : RaidRack R) (l : Linear) (seqno : ℕ) (of : IsVolumeOf f l)
       (may : ℕ → ℕ → List ℕ → Type 0) (later : ℕ → ℕ → List ℕ → Type 0)
       → Leaves a y IsAsRead
       → HoldsArrays f (raid_in raid) (slices_seen t y) (slices_shown seen raid) → AllLive (raid_in raid) → AllLive (raid_in last)
@@ -69,8 +69,8 @@ module _ (f : Found) (t : Slices) (y : Seen) (checked : Checked) (absent : List 
       → Leaves a (seen (below_of (slices_in last))) (HoldsAt (tables (slices_in last)) l (volume_by (linear_of (joined_arrays f) of.group) (arrays_held f)))
   opening_leaves seen runs a raid last l seqno of may later early holds made alive same writes traced opens ordered inside written after =
       let v : Raid = raid_in raid in
-      let z : Seen = seen (below_of (slices_in raid)) in
-      let w : Seen = seen (below_of (slices_in last)) in
+      let z : RackView = seen (below_of (slices_in raid)) in
+      let w : RackView = seen (below_of (slices_in last)) in
       let volume : Volume = volume_by (linear_of (joined_arrays f) of.group) (arrays_held f) in
       let p = raid_seen seen raid in
       let q = raid_seen seen last in
@@ -92,7 +92,7 @@ module _ (f : Found) (t : Slices) (y : Seen) (checked : Checked) (absent : List 
       three
 
   -- and what holds of contents that before their first extents have what the pool's arrays hold there, where it holds while texts are brought up
-  pub saying_leaves : {R : Type 0} (seen : R → Seen) (a : Seen) (raid last : RaidRack R) (P : Image → Type 0)
+  pub saying_leaves : {R : Type 0} (seen : R → RackView) (a : RackView) (raid last : RaidRack R) (P : Image → Type 0)
       (may : ℕ → ℕ → List ℕ → Type 0) (later : ℕ → ℕ → List ℕ → Type 0)
       → Leaves a y IsAsRead
       → HoldsArrays f (raid_in raid) (slices_seen t y) (slices_shown seen raid) → AllLive (raid_in raid)
@@ -103,8 +103,8 @@ module _ (f : Found) (t : Slices) (y : Seen) (checked : Checked) (absent : List 
       → Leaves a (seen (below_of (slices_in last))) (λ i. P (arrays_in (replayed (sectors_of (tables (slices_in last))) (sliced (tables (slices_in last)) i))))
   saying_leaves seen a raid last P may later early holds made same there writes traced given late written after =
       let v : Raid = raid_in raid in
-      let z : Seen = seen (below_of (slices_in raid)) in
-      let w : Seen = seen (below_of (slices_in last)) in
+      let z : RackView = seen (below_of (slices_in raid)) in
+      let w : RackView = seen (below_of (slices_in last)) in
       let says : Slices → Image → Type 0 = λ u i. P (arrays_in (replayed (sectors_of u) (sliced u i))) in
       let one : Leaves a y (says t) =
       leaves_weaker IsAsRead (says t)
@@ -121,7 +121,7 @@ module _ (f : Found) (t : Slices) (y : Seen) (checked : Checked) (absent : List 
       leaves_then (says (tables (slices_in last))) (subst (λ u. Leaves a z (says u)) (sym there) (leaves_then (says t) one two)) three
 
   -- and where an array is bad, and nothing is written any more, the arrays
-  pub refused_leaves : {R : Type 0} (seen : R → Seen) (runs : R → R → Type 0) (a : Seen) (raid last : RaidRack R) (g : Found)
+  pub refused_leaves : {R : Type 0} (seen : R → RackView) (runs : R → R → Type 0) (a : RackView) (raid last : RaidRack R) (g : Found)
       (may : ℕ → ℕ → List ℕ → Type 0) (later : ℕ → ℕ → List ℕ → Type 0) → IsSamePool g f
       → Leaves a y IsAsRead
       → HoldsArrays f (raid_in raid) (slices_seen t y) (slices_shown seen raid) → AllLive (raid_in raid) → AllLive (raid_in last)
@@ -132,8 +132,8 @@ module _ (f : Found) (t : Slices) (y : Seen) (checked : Checked) (absent : List 
       → Leaves a (seen (below_of (slices_in last))) (GivesPool g t)
   refused_leaves seen runs a raid last g may later pool_is early holds made alive ready same writes traced kept reads written after =
       let v : Raid = raid_in raid in
-      let z : Seen = seen (below_of (slices_in raid)) in
-      let w : Seen = seen (below_of (slices_in last)) in
+      let z : RackView = seen (below_of (slices_in raid)) in
+      let w : RackView = seen (below_of (slices_in last)) in
       let book = holds.after.same in
       let joined_is : f.state.joined ≡ g.state.joined = ap (λ (s : State). s.joined) pool_is.state in
       let gives : (i : Image) → GivesArrays f v t i → GivesPool g t i =

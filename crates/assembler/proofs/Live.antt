@@ -6,7 +6,7 @@ use Rattle.std.proofs.lemmas.Bool.{and_from, both_ways, cases_Bool, cases_lt}
 use Rattle.std.proofs.lemmas.List.{length-map}
 use Rattle.std.proofs.lemmas.List.Sums.{sum_by-cons}
 use Rattle.std.proofs.lemmas.Option.{none-some}
-use Rattle.rack.specs.Seen.{Seen}
+use Rattle.rack.specs.Seen.{RackView}
 use Rattle.slice_rack.specs.Slices.{Slices, seat_of}
 use Rattle.md_super.specs.declared.superblock.Super.{Super}
 use Rattle.pool_state.specs.declared.contents.State.{State}
@@ -34,7 +34,7 @@ use Rattle.pool_scan.proofs.Valid.{valid_arrays, valid_places}
 use Rattle.pool_check.specs.Founded.{IsFounded}
 use Rattle.pool_check.specs.declared.Checked.{Checked}
 use Rattle.raid_laws.specs.Moves.{IsSet, Mends}
-use Rattle.raid_laws.specs.Raid.{Raid, gone_in, is_empty, is_left, is_over, is_used_up}
+use Rattle.raid_laws.specs.Raid.{Raid, gone_in, is_empty, is_left, is_failed, is_used_up}
 use Rattle.raid_laws.proofs.Founding.{position_named}
 use Rattle.raid_rack.proofs.Live.{live_still}
 use Rattle.raid_laws.proofs.Noted.{current_few, gone_some}
@@ -194,11 +194,11 @@ module _ (s : State) (seats : Seats) (n : ℕ) (v : View) (f : IsFounded s seats
 
 -- ---- all of them
 
-module _ (s : State) (t : Slices) (y : Seen) (checked : Checked) (absent places : List ℕ) (m : AreMembers s t y checked absent)
+module _ (s : State) (t : Slices) (y : RackView) (checked : Checked) (absent places : List ℕ) (m : AreMembers s t y checked absent)
     (v : Raid) (state : v.state ≡ s)
     (are : (n : ℕ) (u : View) → slice_get checked.arrays.items n ≡ Some u → v.arrays n ≡ gone places (restarted u))
     (same : (p : ℕ) → names places p ≡ names absent p)
-    (w : Raid) (b c : Seen) (mends : Mends v w b c)
+    (w : Raid) (b c : RackView) (mends : Mends v w b c)
     (rules : (n : ℕ) (u : View) → slice_get checked.arrays.items n ≡ Some u → IsArray u) (set : IsSet v b) (quiet : (place : ℕ) → HasFault b c place → ⊥) where
   unseated : (p : ℕ) → names places p ≡ true → is_current s p ≡ true → seat_of t p ≡ None
   unseated p lost current = empty (seat_of t p) (of (is_none (seat_of t p)) (is_current s p) (sym (m.absent_is p) ∙ sym (same p) ∙ lost))
@@ -241,7 +241,7 @@ module _ (s : State) (t : Slices) (y : Seen) (checked : Checked) (absent places 
       let some = array_present s (seat_of t) n at.0 founded (rules n at.0 at.1) places unseated in
       let before = used_still v w moves.number moves.book.epoch moves.book.same.made moves.events unused in
       live_still v w b c set moves.set mends.heeded moves.arrays (record { left = moves.left; cause = moves.cause }) moves.book.same.made each quiet unused n z low
-      (or_from (is_over v n) (spent_in (v.arrays n) z)
+      (or_from (is_failed v n) (spent_in (v.arrays n) z)
       (or_from (is_empty v) (is_used_up v || (present (v.arrays n).seats == 0)) (not_empty v whole.0 few left)
       (or_from (is_used_up v) (present (v.arrays n).seats == 0) before
       (ap (λ (k : View). present k.seats == 0) is ∙ ne_eqb (present (gone places (restarted at.0)).seats) 0 (λ none. omega (arith, some, none)))))

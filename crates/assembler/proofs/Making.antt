@@ -1,7 +1,7 @@
 -- What is known once the rack of a pool's arrays is made: gates were closed, tables were made to agree, and losses were marked.
 use Rattle.std.proofs.Common.{◌≡◌, ◌⊎◌, ℕ, Bool, true, false, not, is_none, unwrap_or, List, [], ◌∷◌, Option, Some, None, inl, inr, refl, sym, ap, subst, ◌∙◌}
 use Rattle.std.proofs.lemmas.Bool.{and_parts, both_ways, cases_Bool}
-use Rattle.rack.specs.Seen.{Rose, Seen, Stays}
+use Rattle.rack.specs.Seen.{Rose, RackView, SameRack}
 use Rattle.rack.specs.Joins.{rose_early, rose_later, stays_then}
 use Rattle.rack.specs.Sequences.{WritesOnly}
 use Rattle.slice_rack.specs.Runs.{IsSliced, Runs}
@@ -37,7 +37,7 @@ by_list [] none some = none refl
 by_list (p ∷ ps) none some = some (λ is. cc)
 
 -- a fault of a slice is one of its place's disk, if that has one
-pub fault_seat : (t : Slices) (a b : Seen) (p slice : ℕ) → place_of slice ≡ p → Rose (a.faults (disk_of t slice)) (b.faults (disk_of t slice))
+pub fault_seat : (t : Slices) (a b : RackView) (p slice : ℕ) → place_of slice ≡ p → Rose (a.faults (disk_of t slice)) (b.faults (disk_of t slice))
     → (seat_of t p ≡ None) ⊎ Goes a b (seat_of t) p
 fault_seat t a b p slice place rose = by (seat_of t p) refl
   where
@@ -47,14 +47,14 @@ fault_seat t a b p slice place rose = by (seat_of t p) refl
         inr (disk, seat, subst (λ k. Rose (a.faults k) (b.faults k)) (ap (λ q. unwrap_or (seat_of t q) 0) place ∙ ap (λ o. unwrap_or o 0) seat) rose)
 
 -- whoever is marked in calls has refused one
-pub marked_calls : (p q : ℕ → Bool) (v w : Raid) (t u : Slices) (a b : Seen) → u ≡ t → RaidRuns p q v w (slices_of t a) (slices_of u b) → IsHeeded v
+pub marked_calls : (p q : ℕ → Bool) (v w : Raid) (t u : Slices) (a b : RackView) → u ≡ t → RaidRuns p q v w (slices_of t a) (slices_of u b) → IsHeeded v
     → AreMarkedFor a b (seat_of t) v.state w.state
 marked_calls p q v w t u a b same runs heeded place current off =
     let fault = runs.caused.cause place (heeded_left v place heeded current) (lost_so (is_current w.state place) (not (gone_in w place)) off) in
     fault_seat t a b place fault.0 fault.1 (subst (λ j. Rose (a.faults (disk_of t fault.0)) (b.faults (disk_of j fault.0))) same fault.2)
 
 -- marks in a row
-pub marked_then : (a b c : Seen) (seats : Seats) (s t u : State) → Stays a b → Stays b c → AreMarkedFor a b seats s t → AreMarkedFor b c seats t u → AreMarkedFor a c seats s u
+pub marked_then : (a b c : RackView) (seats : Seats) (s t u : State) → SameRack a b → SameRack b c → AreMarkedFor a b seats s t → AreMarkedFor b c seats t u → AreMarkedFor a c seats s u
 marked_then a b c seats s t u first second one two place current off = elim (cases_Bool (is_current t place)) [
   | inl on ↦ elim (two place on off) [
     | inl none ↦ inl none
@@ -67,12 +67,12 @@ marked_then a b c seats s t u first second one two place current off = elim (cas
 ]
 
 -- no disk refused a call in any part of it
-pub record IsQuiet (y b d z : Seen) : Type 0 where
+pub record IsQuiet (y b d z : RackView) : Type 0 where
   pub closing : IsUnfaulted y b
   pub mending : IsUnfaulted b d
   pub marking : IsUnfaulted d z
 
-quiet_parts : (y b d z : Seen) → Stays y b → Stays b d → Stays d z → IsUnfaulted y z → IsQuiet y b d z
+quiet_parts : (y b d z : RackView) → SameRack y b → SameRack b d → SameRack d z → IsUnfaulted y z → IsQuiet y b d z
 quiet_parts y b d z yb bd dz quiet =
     let yd : IsUnfaulted y d = quiet_first y d z dz quiet in
     let bz : IsUnfaulted b z = quiet_last y b z yb quiet in
@@ -84,7 +84,7 @@ gone_absent went absent nobody same p is = by_list absent
     (λ none. absurd (both_ways (names went p) (ap (λ ps. names ps p) (nobody none)) is))
     (λ some. sym (ap (λ ps. names ps p) (same some)) ∙ is)
 
-module _ (s : State) (t u w k : Slices) (y b d z : Seen) (went places : List ℕ) (checked : Checked) (absent : List ℕ) (orderly : IsOrderly t)
+module _ (s : State) (t u w k : Slices) (y b d z : RackView) (went places : List ℕ) (checked : Checked) (absent : List ℕ) (orderly : IsOrderly t)
     (m : AreMembers s t y checked absent) (l : LogView) (one two : Type 0) (closing : Runs t u y b one)
     (replay : absent ≡ [] → ReplayCall l (current_places s) went (slices_of t y) (slices_of u b))
     (still : (absent ≡ [] → ⊥) → went ≡ absent) (mends : MendsTables b d s (seat_of u) checked.agreed went places) (tables : w ≡ u) (marking : Runs w k d z two) where
@@ -139,7 +139,7 @@ module _ (s : State) (t u w k : Slices) (y b d z : Seen) (went places : List ℕ
         ]
   ]
     where
-      mended_before : Stays y d
+      mended_before : SameRack y d
       mended_before = stays_then mended.closing.stays mended.mends.only.stays
 
   -- each drive has its table at every moment

@@ -2,7 +2,7 @@
 use Rattle.std.proofs.Common.{◌≡◌, ℕ, ◌-◌, ◌<◌, ◌^◌, ◌&&◌, Bool, true, false, not, is_some, List, [], Option, Some, None, refl, sym, ap, ap₂, subst, ◌∙◌, inl, arith}
 use Rattle.std.proofs.lemmas.Bool.{and_parts, both_ways}
 use Rattle.rack.specs.Moments.{Leaves}
-use Rattle.rack.specs.Seen.{Image, Seen}
+use Rattle.rack.specs.Seen.{Image, RackView}
 use Rattle.rack.specs.Sequences.{OnlyReads, WritesOnly}
 use Rattle.rack.specs.Values.{MayLeave, Values}
 use Rattle.slice_rack.specs.Runs.{IsSliced}
@@ -18,9 +18,9 @@ use Rattle.array_image.specs.States.{is_current}
 use Rattle.array_core.proofs.Stripped.{some_same}
 use Rattle.array_model.proofs.Keeping.{live_after, live_on, reading_live, reading_outside}
 use Rattle.array_model.proofs.Opening.{opens_holds}
-use Rattle.array_model.specs.ArrayCalls.{Covers}
+use Rattle.array_model.specs.ArrayCalls.{IncludesSpent}
 use Rattle.array_model.specs.View.{has_gone, sectors_of as sectors_in, shape_of}
-use Rattle.log_laws.specs.Kept.{LogKept}
+use Rattle.log_laws.specs.Kept.{LogInvariant}
 use Rattle.log_laws.specs.Saying.{HoldsCopies}
 use Rattle.log_laws.specs.Standing.{LogsStand, deciding}
 use Rattle.pool_image.specs.Alike.{IsSamePool}
@@ -28,19 +28,19 @@ use Rattle.pool_image.specs.Drives.{Found, slices_of as slices_found}
 use Rattle.pool_image.specs.Meaning.{array_sectors, arrays_held, shape_of as shape_found, truth_of}
 use Rattle.pool_image.specs.Volumes.{Arrays}
 use Rattle.pool_image.proofs.Founds.{joined_same, super_same, truths_same}
-use Rattle.raid_laws.specs.Book.{IsAfter}
+use Rattle.raid_laws.specs.Book.{OnlyMarksSince}
 use Rattle.raid_laws.specs.Laws.{live_parts}
-use Rattle.raid_laws.specs.Moves.{IsAmid, IsSet, Mends, PartOf, Moves}
+use Rattle.raid_laws.specs.Moves.{IsTrackedInCall, IsSet, Mends, SubCall, ChangesNoData}
 use Rattle.raid_laws.specs.Opening.{OpensRaid}
-use Rattle.raid_laws.specs.Raid.{Raid, gone_in, held_in, is_over, spent_of}
+use Rattle.raid_laws.specs.Raid.{Raid, gone_in, held_in, is_failed, spent_of}
 use Rattle.raid_laws.specs.Reach.{KeepsReach}
 use Rattle.raid_laws.specs.Rows.{KeepsLacking}
 use Rattle.raid_laws.specs.Since.{HoldsSince}
 use Rattle.raid_laws.proofs.Noted.{current_few, gone_from}
 use Rattle.raid_laws.proofs.Opening.{opened_amid}
 use Rattle.raid_laws.proofs.Over.{number_room, someone_left}
-use Rattle.pool_model.specs.Left.{AreAlone, IsPickOff}
-use Rattle.pool_model.specs.Openings.{HadOnePool, HaveOnePool, HoldOpened}
+use Rattle.pool_model.specs.Left.{NoStraySuperblock, IsPickOutsideSlices}
+use Rattle.pool_model.specs.Openings.{HadOnePool, HaveOnePool, RecoversInOpening}
 use Rattle.pool_model.specs.Stopped.{HaveTables}
 use Rattle.pool_model.proofs.AbsentCopies.{absent_holds, absent_since}
 use Rattle.pool_model.proofs.Amid.{IsReady}
@@ -56,14 +56,14 @@ use Rattle.assembler.proofs.Mended.{reads_move}
 use Rattle.assembler_laws.proofs.Shapes.{shape_left}
 
 -- What slices read as now a stop may leave, so an array that was opened on them goes by its own shape.
-left_now : (x : Seen) → IsLeft x (replayed x.sectors (reading x))
+left_now : (x : RackView) → IsLeft x (replayed x.sectors (reading x))
 left_now x = (
   reading x,
   record { picks = λ d u live. inl (reading_live x d u live); inside = λ d u past. reading_outside x d u past },
   λ d u. refl,
 )
 
-durable_is : (v : Raid) (x : Seen) (n : ℕ) (vals : ℕ → Values) (spent : ℕ → Bool) → OpensRaid v x → n < v.state.joined → (amid : IsAmid v x n vals spent)
+durable_is : (v : Raid) (x : RackView) (n : ℕ) (vals : ℕ → Values) (spent : ℕ → Bool) → OpensRaid v x → n < v.state.joined → (amid : IsTrackedInCall v x n vals spent)
     → amid.durable ≡ shape_of (v.arrays n)
 durable_is v x n vals spent opens joined amid =
     let r = replayed x.sectors (reading x) in
@@ -73,19 +73,19 @@ durable_is v x n vals spent opens joined amid =
 
 -- The arrays v of a pool e, which is f but for gates, stand over slices t as the disks b have them. Making tables agree has left the disks d since then, and the marks
 -- that come now leave the disks z and the arrays w, of which no sector is spent.
-module _ (e f : Found) (pool : IsSamePool f e) (t : Slices) (v w : Raid) (a : Seen) (b d z : Seen) (stand : StandOver f v (slices_of t b)) (set : IsSet v (slices_of t b))
+module _ (e f : Found) (pool : IsSamePool f e) (t : Slices) (v w : Raid) (a : RackView) (b d z : RackView) (stand : StandOver f v (slices_of t b)) (set : IsSet v (slices_of t b))
     (reads : OnlyReads (slices_of t b) (slices_of t d)) (marks : Mends v w (slices_of t d) (slices_of t z)) (made : HoldsArrays f w a (slices_of t z)) (alive : AllLive w)
     (unseated : (p : ℕ) → gone_in v p ≡ true → seat_of t p ≡ None)
     (found : IsFound e) (stays_one : HadOnePool e → HaveOnePool e) (ready : IsReady e t v d) (same : v.state ≡ e.state) (have : HaveTables e)
-    (alone : (i : Image) → IsPickOff t d i → AreAlone e i) (orderly : IsOrderly t) (inside : IsInside t d) (lasting : d.lasting)
+    (alone : (i : Image) → IsPickOutsideSlices t d i → NoStraySuperblock e i) (orderly : IsOrderly t) (inside : IsInside t d) (lasting : d.lasting)
     (only : WritesOnly d z (IsSliced t)) (marks_are : (p : ℕ) → is_current w.state p ≡ (is_current e.state p && is_some (e.seats p))) (traced : d.traced) where
-  abbrev before : Seen
+  abbrev before : RackView
   before = slices_of t b
 
-  abbrev mid : Seen
+  abbrev mid : RackView
   mid = slices_of t d
 
-  abbrev after : Seen
+  abbrev after : RackView
   after = slices_of t z
 
   abbrev vals : ℕ → ℕ → Values
@@ -117,34 +117,34 @@ module _ (e f : Found) (pool : IsSamePool f e) (t : Slices) (v w : Raid) (a : Se
   sizes : (n : ℕ) → n < e.state.made → sectors_in (w.arrays n) ≡ array_sectors e n
   sizes n low = made.sectors n (small n low) ∙ sym (ap (λ (k : Arrays). k.sectors n) (joined_same f e pool))
 
-  goes : (n : ℕ) → n < e.state.made → is_over w n ≡ false
+  goes : (n : ℕ) → n < e.state.made → is_failed w n ≡ false
   goes n low =
       let some : 0 < sectors_in (w.arrays n) = (let room = made.room n (small n low) in let is = made.sectors n (small n low) in omega (arith, room, is)) in
       (live_parts w n 0 (alive n 0 (low_after n low) some)).0
 
-  covers : (n : ℕ) → Covers (w.arrays n) (spent_of w n)
+  covers : (n : ℕ) → IncludesSpent (w.arrays n) (spent_of w n)
   covers n y free = (live_parts w n y free).1
 
-  part : (n : ℕ) → n < e.state.made → PartOf v w mid after n (vals n) (vals n) (spent_of w n)
+  part : (n : ℕ) → n < e.state.made → SubCall v w mid after n (vals n) (vals n) (spent_of w n)
   part n low = marks.moves.parts n (vals n) (spent_of w n) (low_joined n low) (low_made n low) (goes n low) (covers n)
 
-  opened : (n : ℕ) → n < e.state.made → IsAmid v before n (vals n) (spent_of w n)
+  opened : (n : ℕ) → n < e.state.made → IsTrackedInCall v before n (vals n) (spent_of w n)
   opened n low = opened_amid v before n (spent_of w n) stand.opens (low_joined n low)
 
-  still : (n : ℕ) → n < e.state.made → is_over v n ≡ false
+  still : (n : ℕ) → n < e.state.made → is_failed v n ≡ false
   still n low = marks.moves.still n (low_made n low) (goes n low)
 
-  covers_still : (n : ℕ) → n < e.state.made → Covers (v.arrays n) (spent_of w n)
+  covers_still : (n : ℕ) → n < e.state.made → IncludesSpent (v.arrays n) (spent_of w n)
   covers_still n low y free = marks.moves.spent n y (low_made n low) (covers n y free)
 
   -- reads leave them as they stand
-  read : Moves v v before mid
+  read : ChangesNoData v v before mid
   read = reads_move v before mid set (low_made 0 first) reads
 
-  part_read : (n : ℕ) → n < e.state.made → PartOf v v before mid n (vals n) (vals n) (spent_of w n)
+  part_read : (n : ℕ) → n < e.state.made → SubCall v v before mid n (vals n) (vals n) (spent_of w n)
   part_read n low = read.parts n (vals n) (spent_of w n) (low_joined n low) (low_made n low) (still n low) (covers_still n low)
 
-  amid : (n : ℕ) → n < e.state.made → IsAmid v mid n (vals n) (spent_of w n)
+  amid : (n : ℕ) → n < e.state.made → IsTrackedInCall v mid n (vals n) (spent_of w n)
   amid n low = (part_read n low).holds (opened n low)
 
   -- ---- members
@@ -195,7 +195,7 @@ module _ (e f : Found) (pool : IsSamePool f e) (t : Slices) (v w : Raid) (a : Se
 
   -- ---- the log slices
 
-  kept : LogKept v.state v.number (gone_in v) mid
+  kept : LogInvariant v.state v.number (gone_in v) mid
   kept = (amid 0 first).stood.log
 
   none_gone : (p : ℕ) → gone_in v p ≡ true → sectors_of t (log_slice p) ≡ 0
@@ -229,7 +229,7 @@ module _ (e f : Found) (pool : IsSamePool f e) (t : Slices) (v w : Raid) (a : Se
   room : w.state.epoch < 2 ^ 63 - 1
   room = (let most = (number_room w 0 (goes 0 first)).1 in omega (arith, most))
 
-  someone : (s : State) → IsAfter v.state s → IsAfter s w.state → (p d : ℕ) × (is_current s p ≡ true) × (e.seats p ≡ Some d)
+  someone : (s : State) → OnlyMarksSince v.state s → OnlyMarksSince s w.state → (p d : ℕ) × (is_current s p ≡ true) × (e.seats p ≡ Some d)
   someone s later sooner =
       let one = someone_left w 0 (goes 0 first) in
       let drive = some_drive (e.seats one.0) (and_parts (is_current e.state one.0) (is_some (e.seats one.0)) (sym (marks_are one.0) ∙ one.1)).1 in
@@ -239,7 +239,7 @@ module _ (e f : Found) (pool : IsSamePool f e) (t : Slices) (v w : Raid) (a : Se
       some_drive None is = absurd (both_ways false refl is)
       some_drive (Some k) is = (k, refl)
 
-  pub marked_leaves : Leaves d z (HoldOpened e 0)
+  pub marked_leaves : Leaves d z (RecoversInOpening e 0)
   marked_leaves =
       marking_leaves e t v w d z (spent_of w) vals found stays_one ready same have alone orderly inside lasting only part amid members means copies since room someone live
       (marks.moves.plan ∙ ap (λ (s : State). s.plan) same) marks_are

@@ -4,7 +4,7 @@ use Rattle.std.specs.List.{list_all}
 use Rattle.std.specs.Option.{option_map_or, option_or}
 use Rattle.std.proofs.lemmas.Bool.{and_parts, both_ways, cases_lt}
 use Rattle.std.proofs.lemmas.Option.{none-some}
-use Rattle.rack.specs.Seen.{Image, Seen}
+use Rattle.rack.specs.Seen.{Image, RackView}
 use Rattle.gpt_table.specs.declared.Table.{Table}
 use Rattle.slice_rack.specs.Slices.{Slices}
 use Rattle.pool_state.specs.declared.contents.State.{State}
@@ -59,7 +59,7 @@ table_room f place d is = of (f.identities d).table is
         let low : end_of log + 32 < f.disks.sectors d = ltb-true (end_of log + 32) (f.disks.sectors d) three.1 in
         omega (arith, low)
 
-module _ (x : Seen) (known : List Known) (s : State) (t : Slices) (on : List ℕ) (l : LogView) (is_pending : Bool) (damaged : Option ℕ) (f : Found)
+module _ (x : RackView) (known : List Known) (s : State) (t : Slices) (on : List ℕ) (l : LogView) (is_pending : Bool) (damaged : Option ℕ) (f : Found)
     (is : IsFoundOn x known s t on l is_pending damaged f) (whole : damaged ≡ None) where
   abbrev h : Found
   h = g x known s t on l is_pending damaged
@@ -114,7 +114,7 @@ module _ (x : Seen) (known : List Known) (s : State) (t : Slices) (on : List ℕ
   check_passes checked found = well_passes f log_found found.sound
 
   -- and drives that didn't for what the check says, where no disk has refused a call
-  pub check_fails : (y : Seen) (gone : List ℕ) (why : Refusal) → is_valid s 0 ≡ true
+  pub check_fails : (y : RackView) (gone : List ℕ) (why : Refusal) → is_valid s 0 ≡ true
       → ((p d : ℕ) → names gone p ≡ true → seat_by s known p ≡ Some d → ⊥) → IsUnfaulted x y
       → FailsCheck x y known s gone damaged why → refused_by f ≡ meant_by why
   check_fails y gone why valid nobody quiet fails =

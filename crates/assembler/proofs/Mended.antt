@@ -3,7 +3,7 @@ use Rattle.std.proofs.Common.{◌≡◌, ◌⊎◌, ℕ, ◌+◌, ◌<◌, ◌�
 use Rattle.std.proofs.lemmas.Bool.{and_from, and_parts, both_ways, cases_Bool}
 use Rattle.std.proofs.lemmas.Map.Views.{any-filter_same}
 use Rattle.rack.specs.Values.{Keeps, MayLeave}
-use Rattle.rack.specs.Seen.{IsLive, Seen, Stays}
+use Rattle.rack.specs.Seen.{IsLive, RackView, SameRack}
 use Rattle.rack.specs.Joins.{stays_then}
 use Rattle.rack.specs.Sequences.{OnlyReads, WritesOnly}
 use Rattle.rack.proofs.Writing.{only_quiet, only_then, only_weaker}
@@ -32,7 +32,7 @@ use Rattle.pool_check.proofs.TableSectors.{table_end}
 use Rattle.raid_laws.specs.Agreeing.{MakesAgree}
 use Rattle.raid_laws.proofs.Agreeing.{agree_then}
 use Rattle.raid_laws.specs.Raid.{Raid}
-use Rattle.raid_laws.specs.Moves.{IsSet, Mends, Moves}
+use Rattle.raid_laws.specs.Moves.{IsSet, Mends, ChangesNoData}
 use Rattle.raid_laws.proofs.Added.{names_current}
 use Rattle.raid_laws.proofs.Calls.{moves_read, reads_notes}
 use Rattle.raid_laws.proofs.Moving.{moves_then}
@@ -48,14 +48,14 @@ use Rattle.raid_rack.proofs.Truths.{makes_after}
 
 -- ---- reads before losses are mended
 
-pub reads_move : (v : Raid) (a b : Seen) → IsSet v a → 0 < v.state.made → OnlyReads a b → Moves v v a b
+pub reads_move : (v : Raid) (a b : RackView) → IsSet v a → 0 < v.state.made → OnlyReads a b → ChangesNoData v v a b
 reads_move v a b set some reads =
     moves_read v v.arrays 0 a b set
     (reads_notes v v.arrays 0 a b set some reads (λ n other. refl)
     (notes_none (v.arrays 0) a b)
     (λ s durable vals spent covers. keeping_calls a b set.lasting reads.stays reads.keeps s durable (v.arrays 0) vals spent))
 
-pub reads_mend : (v w : Raid) (a b c : Seen) → IsSet v a → 0 < v.state.made → OnlyReads a b → Mends v w b c → Mends v w a c
+pub reads_mend : (v w : Raid) (a b c : RackView) → IsSet v a → 0 < v.state.made → OnlyReads a b → Mends v w b c → Mends v w a c
 reads_mend v w a b c set some reads mends = record {
   moves = moves_then v v w a b c (reads_move v a b set some reads) mends.moves;
   heeded = mends.heeded;
@@ -63,7 +63,7 @@ reads_mend v w a b c set some reads mends = record {
 }
 
 -- losses that are mended twice
-pub mends_then : (v w z : Raid) (a b c : Seen) → Mends v w a b → Mends w z b c → Mends v z a c
+pub mends_then : (v w z : Raid) (a b c : RackView) → Mends v w a b → Mends w z b c → Mends v z a c
 mends_then v w z a b c one two = record {
   moves = moves_then v w z a b c one.moves two.moves;
   heeded = two.heeded;
@@ -74,11 +74,11 @@ mends_then v w z a b c one two = record {
 }
 
 -- superblocks that agree after calls, some reads before which are calls of the same arrays
-pub reads_agree : (v w : Raid) (a b c : Seen) → IsSet v a → 0 < v.state.made → OnlyReads a b → Moves v w b c → MakesAgree v w b c → MakesAgree v w a c
+pub reads_agree : (v w : Raid) (a b c : RackView) → IsSet v a → 0 < v.state.made → OnlyReads a b → ChangesNoData v w b c → MakesAgree v w b c → MakesAgree v w a c
 reads_agree v w a b c set some reads moves agree = agree_then v v w a b c (reads_move v a b set some reads) moves agree
 
 -- and superblocks that are all written
-pub reads_makes : (v w : Raid) (a b c : Seen) → IsSet v a → 0 < v.state.made → OnlyReads a b → MakesTruths v w b c → MakesTruths v w a c
+pub reads_makes : (v w : Raid) (a b c : RackView) → IsSet v a → 0 < v.state.made → OnlyReads a b → MakesTruths v w b c → MakesTruths v w a c
 reads_makes v w a b c set some reads = makes_after v v w a b c set.lasting (reads_move v a b set some reads)
 
 -- ---- sectors of tables
@@ -90,11 +90,11 @@ outside n u room behind (inl early) (inr high) = omega (arith, room, early, high
 outside n u room behind (inr late) (inr high) = omega (arith, late, high)
 
 -- nor is another one that a replay writes
-pub drive_never : (a : Seen) (known : List Known) (s : State) (d : ℕ) → arrays_first + 32 < a.sectors d → (u : ℕ) (v : List ℕ) → IsOfCopies (a.sectors d) u
+pub drive_never : (a : RackView) (known : List Known) (s : State) (d : ℕ) → arrays_first + 32 < a.sectors d → (u : ℕ) (v : List ℕ) → IsOfCopies (a.sectors d) u
     → IsOfDrive a known s d u v → ⊥
 drive_never a known s d room u v of is = outside (a.sectors d) u room is.behind is.before (table_end (a.sectors d) u of)
 
-module _ (s : State) (t : Slices) (a : Seen) (checked : Checked) (absent : List ℕ) (orderly : IsOrderly t) (m : AreMembers s t a checked absent) where
+module _ (s : State) (t : Slices) (a : RackView) (checked : Checked) (absent : List ℕ) (orderly : IsOrderly t) (m : AreMembers s t a checked absent) where
   slices_apart : (p d u : ℕ) (v : List ℕ) → seat_of t p ≡ Some d → IsSliced t d u v → (u < 34) ⊎ (a.sectors d ≤ u + 33) → ⊥
   slices_apart p d u v seat is at_end = (let at = sliced_at s t a checked absent orderly m d u v is in outside (a.sectors d) u (m.room p d seat) at.2 at.3 at_end)
 
@@ -102,12 +102,12 @@ module _ (s : State) (t : Slices) (a : Seen) (checked : Checked) (absent : List 
   slices_never p d n few seat same u v of is = slices_apart p d u v seat is (subst (λ k. (u < 34) ⊎ (k ≤ u + 33)) (sym same) (table_end n u of))
 
   -- writes to slices keep tables
-  slices_keep : (b : Seen) (p d n : ℕ) → WritesOnly a b (IsSliced t) → p < 16 → seat_of t p ≡ Some d → a.sectors d ≡ n
+  slices_keep : (b : RackView) (p d n : ℕ) → WritesOnly a b (IsSliced t) → p < 16 → seat_of t p ≡ Some d → a.sectors d ≡ n
       → (u : ℕ) → IsOfCopies n u → IsLive a b d u → Keeps (a.held d u) (b.held d u)
   slices_keep b p d n only few seat same u of live = only.others d u live (λ v. slices_never p d n few seat same u v of)
 
   -- and writes to tables keep slices
-  pub tables_read : (b : Seen) → WritesOnly a b (IsTableSector a b (seat_of t) 16) → OnlyReads (slices_of t a) (slices_of t b)
+  pub tables_read : (b : RackView) → WritesOnly a b (IsTableSector a b (seat_of t) 16) → OnlyReads (slices_of t a) (slices_of t b)
   tables_read b only = record {
     stays = stays_sliced m.fit.1 only.stays;
     keeps = record {
@@ -135,7 +135,7 @@ module _ (s : State) (t : Slices) (a : Seen) (checked : Checked) (absent : List 
 
   -- ---- places that are left
 
-  module _ (x y : Seen) (gone now : List ℕ) (mends : MendsTables x y s (seat_of t) checked.agreed gone now) where
+  module _ (x y : RackView) (gone now : List ℕ) (mends : MendsTables x y s (seat_of t) checked.agreed gone now) where
     -- the places that are left out
     pub left_named : (p : ℕ) → names now p ≡ (is_none (mends.left p) && is_current s p)
     left_named p =
@@ -174,18 +174,18 @@ module _ (s : State) (t : Slices) (a : Seen) (checked : Checked) (absent : List 
 -- ---- in the making of a rack of arrays: gates are closed, tables are made to agree, and then losses are marked
 
 -- the slices lie as before, and gates and tables were written
-pub record IsMended (s : State) (t : Slices) (a b c : Seen) (agreed : List Bool) (gone now : List ℕ) : Type 0 where
+pub record IsMended (s : State) (t : Slices) (a b c : RackView) (agreed : List Bool) (gone now : List ℕ) : Type 0 where
   pub closing : WritesOnly a b (IsSliced t)
   pub mends : MendsTables b c s (seat_of t) agreed gone now
 
-pub mended_so : (s : State) (t u : Slices) (a b c : Seen) (agreed : List Bool) (gone now : List ℕ) (own : Type 0) → (slices_of t a).fit → Runs t u a b own
+pub mended_so : (s : State) (t u : Slices) (a b c : RackView) (agreed : List Bool) (gone now : List ℕ) (own : Type 0) → (slices_of t a).fit → Runs t u a b own
     → MendsTables b c s (seat_of u) agreed gone now → IsMended s t a b c agreed gone now
 mended_so s t u a b c agreed gone now own fit runs mends =
     record { closing = runs.apart fit.0 fit.1; mends = subst (λ k. MendsTables b c s (seat_of k) agreed gone now) runs.tables mends }
 
-module _ (s : State) (t : Slices) (a b c : Seen) (gone now : List ℕ) (checked : Checked) (absent : List ℕ) (orderly : IsOrderly t)
+module _ (s : State) (t : Slices) (a b c : RackView) (gone now : List ℕ) (checked : Checked) (absent : List ℕ) (orderly : IsOrderly t)
     (m : AreMembers s t a checked absent) (is : IsMended s t a b c checked.agreed gone now) where
-  pub mended_stays : Stays a c
+  pub mended_stays : SameRack a c
   mended_stays = stays_then is.closing.stays is.mends.only.stays
 
   pub closed_members : AreMembers s t b checked absent
@@ -198,11 +198,11 @@ module _ (s : State) (t : Slices) (a b c : Seen) (gone now : List ℕ) (checked 
   mended_reads = tables_read s t b checked absent orderly closed_members c is.mends.only
 
   -- losses are marked
-  pub marking_so : (w k : Slices) (e : Seen) (own : Type 0) → w ≡ t → Runs w k c e own → WritesOnly c e (IsSliced t)
+  pub marking_so : (w k : Slices) (e : RackView) (own : Type 0) → w ≡ t → Runs w k c e own → WritesOnly c e (IsSliced t)
   marking_so w k e own same runs =
       subst (λ u. WritesOnly c e (IsSliced u)) same (runs.apart mended_members.fit.0 (subst (λ u. IsInside u c) (sym same) mended_members.fit.1))
 
-  module _ (e : Seen) (marking : WritesOnly c e (IsSliced t)) where
+  module _ (e : RackView) (marking : WritesOnly c e (IsSliced t)) where
     pub rack_writes : WritesOnly a e (IsSlicedOrTable a e t)
     rack_writes =
         only_then (IsSlicedOrTable a e t) (only_weaker (IsSliced t) (IsSlicedOrTable a e t) (λ d u v at. inl at) is.closing)
@@ -233,13 +233,13 @@ module _ (s : State) (t : Slices) (a b c : Seen) (gone now : List ℕ) (checked 
 
 -- ---- in an opening: the pending record, the drives' check, the rack of arrays, the volume
 
-module _ (s r : State) (t : Slices) (a x y z w : Seen) (checked : Checked) (absent : List ℕ) (known : List Known) (orderly : IsOrderly t) (m : AreMembers s t y checked absent)
-    (early : WritesOnly a x (IsOfDrive a known r)) (reads : OnlyReads x y) (stays : Stays y z) (texts : WritesOnly z w (IsSliced t))
+module _ (s r : State) (t : Slices) (a x y z w : RackView) (checked : Checked) (absent : List ℕ) (known : List Known) (orderly : IsOrderly t) (m : AreMembers s t y checked absent)
+    (early : WritesOnly a x (IsOfDrive a known r)) (reads : OnlyReads x y) (stays : SameRack y z) (texts : WritesOnly z w (IsSliced t))
     (p d : ℕ) (seat : seat_of t p ≡ Some d) where
-  xz : Stays x z
+  xz : SameRack x z
   xz = stays_then reads.stays stays
 
-  az : Stays a z
+  az : SameRack a z
   az = stays_then early.stays xz
 
   few : p < 16

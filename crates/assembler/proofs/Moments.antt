@@ -3,7 +3,7 @@ use Rattle.std.proofs.Common.{◌≡◌, ℕ, ◌+◌, ◌<◌, ◌≤◌, Bool,
 use Rattle.std.specs.Option.{option_map_or}
 use Rattle.std.proofs.lemmas.Bool.{both_ways}
 use Rattle.std.proofs.lemmas.Option.{none-some}
-use Rattle.rack.specs.Seen.{Image, Seen, IsLive, IsPick}
+use Rattle.rack.specs.Seen.{Image, RackView, IsLive, IsPick}
 use Rattle.rack.specs.Moments.{Leaves}
 use Rattle.rack.specs.Sequences.{OnlyReads, WritesOnly}
 use Rattle.slice_rack.specs.Slices.{Slices, IsOrderly, disk_of, first_of, seat_of, sectors_of}
@@ -41,7 +41,7 @@ use Rattle.pool_check.specs.Layers.{IsOpened}
 use Rattle.pool_check.specs.Refusing.{is_well}
 use Rattle.raid_laws.specs.Marking.{SaysBetween}
 use Rattle.raid_rack.specs.declared.arrays.RaidRack.{RaidRack}
-use Rattle.raid_laws.specs.Raid.{Raid, is_over, spent_of}
+use Rattle.raid_laws.specs.Raid.{Raid, is_failed, spent_of}
 use Rattle.raid_rack.specs.RaidRack.{raid_in, raid_seen, slices_in, slices_seen as slices_shown}
 use Rattle.raid_laws.proofs.Founding.{position_named}
 use Rattle.pool_model.specs.Grouped.{IsVolumeOf}
@@ -58,7 +58,7 @@ use Rattle.assembler_laws.proofs.Truthful.{shape_said, super_unseated, truth_now
 
 -- ---- contents that are as the slices read
 
-module _ (f : Found) (t : Slices) (x : Seen) (checked : Checked) (absent : List ℕ) (orderly : IsOrderly t)
+module _ (f : Found) (t : Slices) (x : RackView) (checked : Checked) (absent : List ℕ) (orderly : IsOrderly t)
     (m : AreMembers f.state t x checked absent) (steady : AreSteady x) (pool : IsPoolOn f.state t x f)
     (found : IsChecked (is_well None) f checked) (sound : IsSoundPool f) where
   abbrev pub e : Image
@@ -176,7 +176,7 @@ module _ (f : Found) (t : Slices) (x : Seen) (checked : Checked) (absent : List 
 -- ---- by what stops leave
 
 -- what a stop in calls that only read leaves is what the slices read as
-pub reads_leave : (t : Slices) (a x : Seen) → IsOrderly t → IsWithin t x → OnlyReads a x → AreSteady a → (i : Image) → IsPick a x a.held i
+pub reads_leave : (t : Slices) (a x : RackView) → IsOrderly t → IsWithin t x → OnlyReads a x → AreSteady a → (i : Image) → IsPick a x a.held i
     → (j k : ℕ) → sliced t i j k ≡ reading (slices_seen t x) j k
 reads_leave t a x orderly inside reads steady i pick j k = by (nat_lt k (sectors_of t j)) refl
   where
@@ -212,7 +212,7 @@ GivesArrays f v t i =
     (n y : ℕ) → n < f.state.joined → y < sectors_in_array (v.arrays n) → arrays_in (replayed (sectors_of t) (sliced t i)) n y ≡ arrays_held f n y
 
 -- at each moment in which arrays are made, contents give them
-pub made_leave : (f : Found) (v : Raid) (t : Slices) (x z : Seen) (may : ℕ → ℕ → List ℕ → Type 0)
+pub made_leave : (f : Found) (v : Raid) (t : Slices) (x z : RackView) (may : ℕ → ℕ → List ℕ → Type 0)
     → HoldsArrays f v (slices_seen t x) (slices_seen t z) → AllLive v → WritesOnly x z may → x.traced → Leaves x z (GivesArrays f v t)
 made_leave f v t x z may holds alive writes traced =
     let stops = writes.stops traced in
@@ -223,7 +223,7 @@ made_leave f v t x z may holds alive writes traced =
       new = λ k i since until stop n y joined inside.
           let live : spent_of v n y ≡ false = alive n y (subst (λ j. n < j) (sym holds.after.same.joined) joined) inside in
           says_values f v.state n (spent_of v n) (replayed (sectors_of t) (sliced t i)) y
-          ((holds.leaves n joined (or_left (is_over v n) _ live) traced).new k (sliced t i) since until (i, stop, λ j u. refl)
+          ((holds.leaves n joined (or_left (is_failed v n) _ live) traced).new k (sliced t i) since until (i, stop, λ j u. refl)
           (λ j u past. ap (λ (b : Bool). if b then i (disk_of t j) (first_of t j + u) else []) (le-ltb u (sectors_of t j) past)))
           live;
     }
@@ -235,7 +235,7 @@ made_leave f v t x z may holds alive writes traced =
 -- ---- the volume
 
 -- contents that give the arrays give the volume that lies on them
-pub gives_volume : (f : Found) (l : Linear) (of : IsVolumeOf f l) (b : Seen) (v : Raid) (t : Slices) (i : Image) → AreOrderly l → IsInside l b
+pub gives_volume : (f : Found) (l : Linear) (of : IsVolumeOf f l) (b : RackView) (v : Raid) (t : Slices) (i : Image) → AreOrderly l → IsInside l b
     → ((n : ℕ) → b.sectors n ≡ sectors_in_array (v.arrays n)) → GivesArrays f v t i → HoldsAt t l (volume_by (linear_of (joined_arrays f) of.group) (arrays_held f)) i
 gives_volume f l of b v t i orderly inside sizes gives s within =
     let low : s < sectors_in l = subst (λ (m : Linear). s < sectors_in m) (sym of.linear) within in
@@ -247,7 +247,7 @@ gives_volume f l of b v t i orderly inside sizes gives s within =
     ∙ ap (λ (m : Linear). contents_of m (arrays_held f) 0 s) of.linear
 
 -- texts are brought up before the first extents: at each moment of it contents give the volume
-pub brought_leave : {R : Type 0} (seen : R → Seen) (f : Found) (a : Seen) (x y : RaidRack R) (may : ℕ → ℕ → List ℕ → Type 0) (l : Linear) (of : IsVolumeOf f l)
+pub brought_leave : {R : Type 0} (seen : R → RackView) (f : Found) (a : RackView) (x y : RaidRack R) (may : ℕ → ℕ → List ℕ → Type 0) (l : Linear) (of : IsVolumeOf f l)
     → HoldsArrays f (raid_in x) a (slices_shown seen x) → AllLive (raid_in y) → (raid_in y).state.joined ≡ f.state.joined
     → AreOrderly l → IsInside l (raid_seen seen y) → WritesOnly (raid_seen seen x) (raid_seen seen y) (IsBefore f.state.joined)
     → WritesOnly (seen (below_of (slices_in x))) (seen (below_of (slices_in y))) may → (seen (below_of (slices_in x))).traced
@@ -286,7 +286,7 @@ brought_leave seen f a x y may l of holds alive ready orderly inside writes bay 
     }
 
 -- and while the arrays are only read, contents give them
-pub read_leave : {R : Type 0} (seen : R → Seen) (f : Found) (a : Seen) (x y : RaidRack R) (may : ℕ → ℕ → List ℕ → Type 0)
+pub read_leave : {R : Type 0} (seen : R → RackView) (f : Found) (a : RackView) (x y : RaidRack R) (may : ℕ → ℕ → List ℕ → Type 0)
     → HoldsArrays f (raid_in x) a (slices_shown seen x) → AllLive (raid_in y) → (raid_in y).state.joined ≡ f.state.joined → f.state.joined ≤ (raid_in y).state.made
     → ((n : ℕ) → sectors_in_array ((raid_in y).arrays n) ≡ sectors_in_array ((raid_in x).arrays n))
     → OnlyReads (raid_seen seen x) (raid_seen seen y)

@@ -1,7 +1,7 @@
 -- The log's number that an opening finds is that of a gate which a drive of the pool had.
 use Rattle.std.proofs.Common.{◌≡◌, ℕ, ◌+◌, ◌<◌, ◌≤◌, Bool, true, nat_lt, if◌then◌else◌, List, [], Option, Some, None, unwrap_or, inl, inr, refl, sym, ap, subst, ◌∙◌, ltb-true, lt-ltb, arith}
 use Rattle.std.proofs.lemmas.Bool.{and_parts}
-use Rattle.rack.specs.Seen.{Seen}
+use Rattle.rack.specs.Seen.{RackView}
 use Rattle.rack.specs.Sequences.{OnlyReads}
 use Rattle.slice_rack.specs.Slices.{IsOrderly, Slices, disk_of, first_of, seat_of, sectors_of}
 use Rattle.slice_rack.specs.Sliced.{slices_of}
@@ -22,7 +22,7 @@ use Rattle.assembler_laws.specs.Holding.{HoldPool}
 use Rattle.assembler_laws.specs.Members.{AreMembers}
 use Rattle.assembler.specs.Sound.{HaveGatesUpTo}
 
-module _ (f : Found) (t : Slices) (y : Seen) (checked : Checked) (absent : List ℕ) (orderly : IsOrderly t) (m : AreMembers f.state t y checked absent)
+module _ (f : Found) (t : Slices) (y : RackView) (checked : Checked) (absent : List ℕ) (orderly : IsOrderly t) (m : AreMembers f.state t y checked absent)
     (l : LogView) (holds : HoldPool f.state t y l f) where
   log_place : (p : ℕ) → place_of (log_slice p) ≡ p
   log_place p = omega arith
@@ -50,7 +50,7 @@ module _ (f : Found) (t : Slices) (y : Seen) (checked : Checked) (absent : List 
           (d, seat, ap gate_of (sym read) ∙ is)
 
   -- so no bound of the numbers of the gates before is below it
-  pub number_found : (a x : Seen) (s : State) (is_pending : Bool) (damaged : Option ℕ) (e : Found) → IsSettled a x s is_pending damaged → OnlyReads x y → AllTold x → IsLasting x
+  pub number_found : (a x : RackView) (s : State) (is_pending : Bool) (damaged : Option ℕ) (e : Found) → IsSettled a x s is_pending damaged → OnlyReads x y → AllTold x → IsLasting x
       → ((p : ℕ) → seat_of t p ≡ pool_seat s (disks_of x) (identities_of (disks_of x) (now_in x)) p) → ((p : ℕ) → e.seats p ≡ seat_of t p)
       → (most : ℕ) → HaveGatesUpTo a e most → l.number ≤ most
   number_found a x s is_pending damaged e settled reads told lasts seats_x seats_e most bound =

@@ -3,7 +3,7 @@ use Rattle.std.proofs.Common.{◌≡◌, ◌≢◌, ℕ, ◌<◌, ◌≤◌, ◌
 use Rattle.std.specs.Option.{option_or}
 use Rattle.std.proofs.lemmas.Bool.{both_ways, cases_lt}
 use Rattle.std.proofs.lemmas.Option.{none-some}
-use Rattle.rack.specs.Seen.{Seen}
+use Rattle.rack.specs.Seen.{RackView}
 use Rattle.pool_state.specs.declared.contents.State.{State}
 use Rattle.log_laws.specs.View.{names}
 use Rattle.pool_image.specs.Disks.{disks_of}
@@ -32,7 +32,7 @@ meant_check (TooFew array) = refl
 meant_check (DirtyDegraded array) = refl
 
 -- and so does that of a search for the pool
-pub meant_finding : (x : Seen) (fault : FindFault) (why : Refusal) → why ≡ by_finding fault → why ≢ refusal.Memory → IsMeant x fault
+pub meant_finding : (x : RackView) (fault : FindFault) (why : Refusal) → why ≡ by_finding fault → why ≢ refusal.Memory → IsMeant x fault
     → refusal_of (disks_of x) (now_in x) ≡ meant_by why
 meant_finding x finding.NoPool why is some meant = meant ∙ sym (ap meant_by is)
 meant_finding x finding.TwoPools why is some meant = meant ∙ sym (ap meant_by is)
@@ -55,7 +55,7 @@ memory_sound array is = none-some (meaning.bad_volume array) (ap meant_by is)
 
 -- ---- the check of the drives, of which some places had gone before
 
-module _ (x y : Seen) (known : List Known) (s : State) (gone : List ℕ) (seats now : List (Option ℕ))
+module _ (x y : RackView) (known : List Known) (s : State) (gone : List ℕ) (seats now : List (Option ℕ))
     (each : (p : ℕ) → p < 16 → seats_by seats p ≡ (if names gone p then None else seat_by s known p))
     (beyond : (p : ℕ) → 16 ≤ p → seats_by seats p ≡ None) (loses : Loses x y (seats_by seats) (seats_by now)) where
   seats_are : (p : ℕ) → seats_by seats p ≡ seats_left known s gone p

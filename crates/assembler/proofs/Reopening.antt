@@ -1,6 +1,6 @@
 -- What a stop inside an opening leaves means the volume: while gates, tables and marks alone are written, and while the arrays' texts are brought up to date.
 use Rattle.std.proofs.Common.{◌≡◌, ℕ, ◌<◌, ◌≤◌, length, None, sym, ap, subst, ◌∙◌, arith}
-use Rattle.rack.specs.Seen.{Image, Seen}
+use Rattle.rack.specs.Seen.{Image, RackView}
 use Rattle.slice_rack.specs.Slices.{Slices, sectors_of}
 use Rattle.slice_rack.specs.Sliced.{sliced}
 use Rattle.shr_base.specs.declared.Id.{Id}
@@ -17,7 +17,7 @@ use Rattle.raid_rack.specs.declared.arrays.RaidRack.{RaidRack}
 use Rattle.raid_laws.specs.Raid.{Raid}
 use Rattle.raid_rack.specs.RaidRack.{raid_in, raid_seen, refused_in, slices_seen}
 use Rattle.pool_model.specs.Grouped.{HaveOwnAreas}
-use Rattle.pool_model.specs.Openings.{HadOnePool, HoldOpened}
+use Rattle.pool_model.specs.Openings.{HadOnePool, RecoversInOpening}
 use Rattle.pool_model.specs.Reopening.{AreWholeSectors, HoldMeaning}
 use Rattle.pool_model.proofs.OpenedMeaning.{opened_meaning}
 use Rattle.pool_model.proofs.Openings.{opened_from}
@@ -26,7 +26,7 @@ use Rattle.assembler.specs.Volume.{AllLive, OpensVolume}
 use Rattle.assembler.proofs.Bringing.{GivesOpened}
 use Rattle.assembler.proofs.Grouped.{arrays_are, extent_is, given_volume}
 
-module _ {R : Type 0} (seen : R → Seen) (runs : R → R → Type 0) (e f : Found) (pool : IsSamePool e f) (a : Seen) (raid last : RaidRack R)
+module _ {R : Type 0} (seen : R → RackView) (runs : R → R → Type 0) (e f : Found) (pool : IsSamePool e f) (a : RackView) (raid last : RaidRack R)
     (holds : HoldsArrays f (raid_in raid) a (slices_seen seen raid)) (fresh : (n : ℕ) → refused_in raid n ≡ 0)
     (l : Linear) (seqno : ℕ) (opens : OpensVolume seen runs raid last l seqno) (alive : AllLive (raid_in last))
     (most : (raid_in raid).state.joined ≤ 16) (both : (raid_in raid).state.joined ≡ (raid_in raid).state.made)
@@ -83,7 +83,7 @@ module _ {R : Type 0} (seen : R → Seen) (runs : R → R → Type 0) (e f : Fou
   -- ---- contents
 
   -- whose arrays have all that they had
-  pub still_meaning : (i : Image) → HoldOpened e 0 i → HoldMeaning e l i
+  pub still_meaning : (i : Image) → RecoversInOpening e 0 i → HoldMeaning e l i
   unfolding opened_from
   still_meaning i still =
       opened_meaning e l i (opened_from e 0 data_start i (omega arith) still) all sizes sized room whole extent arrays (arrays_held e)

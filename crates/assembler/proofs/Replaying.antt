@@ -6,7 +6,7 @@ use Rattle.std.proofs.lemmas.Bool.{cases_eq, ne_eqb}
 use Rattle.std.proofs.lemmas.Option.{none-some}
 use Rattle.rack.specs.Joins.{leaves_weaker}
 use Rattle.rack.specs.Moments.{Leaves}
-use Rattle.rack.specs.Seen.{Image, Seen}
+use Rattle.rack.specs.Seen.{Image, RackView}
 use Rattle.rack.specs.Sequences.{OnlyReads}
 use Rattle.gpt_table.specs.Changes.{the_table}
 use Rattle.slice_rack.specs.Slices.{IsOrderly, Slices, seat_of, sectors_of}
@@ -34,8 +34,8 @@ use Rattle.pool_rest.specs.Moments.{AreOfDrives, StandsMidway, TakesLower}
 use Rattle.pool_rest.specs.Resting as resting
 use Rattle.pool_rest.specs.Standing.{IsLaid}
 use Rattle.pool_rest.specs.declared.resting.AtRest.{AtRest}
-use Rattle.pool_model.specs.Left.{AreAlone}
-use Rattle.pool_model.specs.Openings.{HoldOpened, IsIdleIn, MayReplay}
+use Rattle.pool_model.specs.Left.{NoStraySuperblock}
+use Rattle.pool_model.specs.Openings.{RecoversInOpening, IsIdleIn, MayReplay}
 use Rattle.pool_model.specs.Stopped.{LieApart, StoodInLog}
 use Rattle.pool_model.proofs.Found.{few_places, found_is}
 use Rattle.pool_model.proofs.Openings.{opened_same}
@@ -52,7 +52,7 @@ use Rattle.assembler_laws.proofs.Rest.{nothing_decodes, ok_of, state_of_latest}
 
 -- ---- log slices of drives, as they are laid
 
-laid_drives : (x : Seen) (known : List Known) (s : State) (t : Slices) (on : List ℕ) → IsOrderly t → IsInside t x → IsLaid x known s t on → AreOfDrives x (seat_by s known) t
+laid_drives : (x : RackView) (known : List Known) (s : State) (t : Slices) (on : List ℕ) → IsOrderly t → IsInside t x → IsLaid x known s t on → AreOfDrives x (seat_by s known) t
 unfolding extent_by
 laid_drives x known s t on orderly inside laid = record {
   orderly = orderly;
@@ -91,9 +91,9 @@ laid_drives x known s t on orderly inside laid = record {
 
 -- ---- where they are brought to rest
 
-module _ {R : Type 0} (seen : R → Seen) (a : Seen) (rest : AtRest R) (e : Found) (sound : HoldSound a e) (rested : IsRested seen a rest) (apart : LieApart e)
-    (alone : AreAlone e e.contents) where
-  abbrev x : Seen
+module _ {R : Type 0} (seen : R → RackView) (a : RackView) (rest : AtRest R) (e : Found) (sound : HoldSound a e) (rested : IsRested seen a rest) (apart : LieApart e)
+    (alone : NoStraySuperblock e e.contents) where
+  abbrev x : RackView
   x = seen (below_of rest.slices)
 
   abbrev pool : Found
@@ -112,7 +112,7 @@ module _ {R : Type 0} (seen : R → Seen) (a : Seen) (rest : AtRest R) (e : Foun
   idle_rest = idle x known rest.state (tables rest.slices) rest.on.items rest.log rest.pending rest.damaged pool (rest_found seen a rest e sound rested)
 
   -- what they hold in the end
-  rest_agrees : (i : Image) → Agree (disks_of a) i (now_in x) → HoldOpened e 0 i
+  rest_agrees : (i : Image) → Agree (disks_of a) i (now_in x) → RecoversInOpening e 0 i
   rest_agrees i agree =
       let at = rest_found seen a rest e sound rested in
       let whole : damaged_log (current_places rest.state) (standing_by (disks_of x) (now_in x) rest.state).logs ≡ None = sym rested.stands.damaged_is ∙ rested.settled.whole in
@@ -208,11 +208,11 @@ module _ {R : Type 0} (seen : R → Seen) (a : Seen) (rest : AtRest R) (e : Foun
         → (TakesLower a → (t : Slices) → AreOfDrives x (seat_by rest.state rest.scan.disks.items) t
         → ((before : Standing) → standing (disks_of a) (now_in a) ≡ Some before → state_in (sliced t (now_in a)) ≡ Some before.state)
         → a.traced → Leaves a x (λ i. StandsMidway (disks_of a) (now_in a) i ⊎ Agree (disks_of a) i (now_in x)))
-        → a.traced → Leaves a x (HoldOpened e 0)
+        → a.traced → Leaves a x (RecoversInOpening e 0)
     replaying_leaves may idle midway traced = elim may [
       | inl none ↦ rereading_leaves a x e sound apart alone (inl none) (idle none) traced
       | inr amid ↦
-          leaves_weaker (λ i. StandsMidway (disks_of a) (now_in a) i ⊎ Agree (disks_of a) i (now_in x)) (HoldOpened e 0)
+          leaves_weaker (λ i. StandsMidway (disks_of a) (now_in a) i ⊎ Agree (disks_of a) i (now_in x)) (RecoversInOpening e 0)
           (λ i stop. elim stop [
             | inl mid ↦ midway_holds (disks_of a) (now_in a) i e sound.found_is sound.sound sound.logs apart alone (inr amid) mid
             | inr end ↦ rest_agrees i end

@@ -1,18 +1,18 @@
 -- While disks are only read, what a stop leaves holds the pool that they had, whatever is pending there.
 use Rattle.std.proofs.Common.{◌<◌, sym, subst}
 use Rattle.rack.specs.Moments.{Leaves}
-use Rattle.rack.specs.Seen.{Seen}
+use Rattle.rack.specs.Seen.{RackView}
 use Rattle.rack.specs.Sequences.{OnlyReads}
 use Rattle.pool_image.specs.Disks.{disks_of}
 use Rattle.pool_image.specs.Drives.{Found}
 use Rattle.pool_scan.specs.Scanning.{now_in}
-use Rattle.pool_model.specs.Left.{AreAlone}
-use Rattle.pool_model.specs.Openings.{HoldOpened, MayReplay}
+use Rattle.pool_model.specs.Left.{NoStraySuperblock}
+use Rattle.pool_model.specs.Openings.{RecoversInOpening, MayReplay}
 use Rattle.pool_model.specs.Stopped.{LieApart}
 use Rattle.pool_model.proofs.Rereading.{agree_holds}
 use Rattle.assembler.specs.Sound.{HoldSound}
 
-pub rereading_leaves : (x y : Seen) (f : Found) → HoldSound x f → LieApart f → AreAlone f f.contents → MayReplay (disks_of x) (now_in x) f → OnlyReads x y → x.traced → Leaves x y (HoldOpened f 0)
+pub rereading_leaves : (x y : RackView) (f : Found) → HoldSound x f → LieApart f → NoStraySuperblock f f.contents → MayReplay (disks_of x) (now_in x) f → OnlyReads x y → x.traced → Leaves x y (RecoversInOpening f 0)
 rereading_leaves x y f sound apart alone may reads traced =
     let stops = reads.keeps.stops traced in
     record {

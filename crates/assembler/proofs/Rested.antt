@@ -1,6 +1,6 @@
 -- Disks that hold a pool at rest do so after they were read.
 use Rattle.std.proofs.Common.{◌≡◌, ◌<◌, ◌≤◌, Some, sym, ap, ap₂, subst, ◌∙◌, arith}
-use Rattle.rack.specs.Seen.{Seen}
+use Rattle.rack.specs.Seen.{RackView}
 use Rattle.rack.specs.Sequences.{OnlyReads}
 use Rattle.pool_state.specs.declared.contents.State.{State}
 use Rattle.array_image.specs.Places.{arrays_first}
@@ -11,7 +11,7 @@ use Rattle.pool_scan.specs.Scanning.{now_in}
 use Rattle.pool_rest.specs.Resting.{IsIdle}
 use Rattle.pool_rest.specs.SoundLogs.{HasSoundLogs}
 use Rattle.pool_model.specs.InService.{IsOutset}
-use Rattle.pool_model.specs.Left.{AreAlone}
+use Rattle.pool_model.specs.Left.{NoStraySuperblock}
 use Rattle.pool_model.specs.Openings.{HaveGoodTables, IsIdleIn}
 use Rattle.pool_model.specs.Stopped.{HaveTables}
 use Rattle.pool_model.proofs.Found.{found_is}
@@ -24,8 +24,8 @@ use Rattle.assembler_laws.specs.Holding.{AreSteady}
 use Rattle.assembler.specs.Rested.{HoldRested}
 use Rattle.assembler.specs.Sound.{HoldSound}
 
-module _ (x y : Seen) (f : Found) (sound : HoldSound x f) (idle : IsIdle x) (steady : AreSteady y) (joined : f.state.joined ≡ f.state.made) (tables : HaveTables f) (good : HaveGoodTables f)
-    (alone : AreAlone f (now_in x)) (reads : OnlyReads x y) where
+module _ (x y : RackView) (f : Found) (sound : HoldSound x f) (idle : IsIdle x) (steady : AreSteady y) (joined : f.state.joined ≡ f.state.made) (tables : HaveTables f) (good : HaveGoodTables f)
+    (alone : NoStraySuperblock f (now_in x)) (reads : OnlyReads x y) where
   on : f.disks ≡ disks_of x
   on = (found_is (disks_of x) (now_in x) f sound.found_is).1
 
@@ -72,7 +72,7 @@ module _ (x y : Seen) (f : Found) (sound : HoldSound x f) (idle : IsIdle x) (ste
       good = good_same f held.now held.same good;
       tables = have_same f held.now held.same tables;
       alone =
-          subst (AreAlone held.now) (sym (ap (λ (h : Found). h.contents) idle_y.same))
-          (own_alone f held.now held.same outset.made.1 outset.truths (subst (AreAlone f) (ap (λ (h : Found). h.contents) idle_x.same) alone));
+          subst (NoStraySuperblock held.now) (sym (ap (λ (h : Found). h.contents) idle_y.same))
+          (own_alone f held.now held.same outset.made.1 outset.truths (subst (NoStraySuperblock f) (ap (λ (h : Found). h.contents) idle_x.same) alone));
     },
   )

@@ -4,7 +4,7 @@ use Rattle.std.specs.List.{slice_index}
 use Rattle.std.proofs.lemmas.Bool.{both_ways}
 use Rattle.std.proofs.lemmas.List.Folds.{list_any_at}
 use Rattle.std.proofs.lemmas.Option.{get_or_from_slice_get}
-use Rattle.rack.specs.Seen.{Seen, Stays}
+use Rattle.rack.specs.Seen.{RackView, SameRack}
 use Rattle.slice_rack.specs.Slices.{Slices, seat_of, sectors_of}
 use Rattle.slice_rack.specs.Sliced.{slices_of}
 use Rattle.slice_rack.specs.Runs.{inside_still}
@@ -24,7 +24,7 @@ use Rattle.assembler_laws.specs.Members.{AreMembers}
 use Rattle.assembler_laws.proofs.Seating.{few_place, members_set, seated}
 
 -- what members are goes by the sizes of disks
-pub members_later : (s : State) (t : Slices) (x y : Seen) (checked : Checked) (absent : List ℕ) → Stays x y → AreMembers s t x checked absent → AreMembers s t y checked absent
+pub members_later : (s : State) (t : Slices) (x y : RackView) (checked : Checked) (absent : List ℕ) → SameRack x y → AreMembers s t x checked absent → AreMembers s t y checked absent
 members_later s t x y checked absent stays m = record {
   valid = m.valid;
   fit = (stays.fit, inside_still stays m.fit.1);
@@ -51,7 +51,7 @@ pub twice : (places : List ℕ) (o : Option View) → option_map (gone places) (
 twice places None = refl
 twice places (Some v) = refl
 
-module _ (s : State) (t : Slices) (x : Seen) (checked : Checked) (absent : List ℕ) (m : AreMembers s t x checked absent)
+module _ (s : State) (t : Slices) (x : RackView) (checked : Checked) (absent : List ℕ) (m : AreMembers s t x checked absent)
     (rules : (n : ℕ) (v : View) → slice_get checked.arrays.items n ≡ Some v → IsArray v) where
   module _ (gone_now : List ℕ) (more : (p : ℕ) → names absent p ≡ true → names gone_now p ≡ true) where
     pub array_now : (items : List View) → ((n : ℕ) → slice_get items n ≡ option_map (λ v. gone gone_now (restarted v)) (slice_get checked.arrays.items n))

@@ -3,7 +3,7 @@ use Rattle.std.proofs.Common.{◌≡◌, ℕ, ◌<◌, ◌≤◌, true, false, �
 use Rattle.std.specs.Option.{option_map_or}
 use Rattle.std.proofs.lemmas.Bool.{and_parts}
 use Rattle.arrayvec.specs.ArrayVec.{ArrayVec}
-use Rattle.rack.specs.Seen.{Image, IsLive, Seen}
+use Rattle.rack.specs.Seen.{Image, IsLive, RackView}
 use Rattle.rack.specs.Sequences.{OnlyReads}
 use Rattle.slice_rack.specs.Slices.{Slices}
 use Rattle.pool_state.specs.declared.contents.State.{State}
@@ -23,10 +23,10 @@ use Rattle.pool_image.proofs.Founds.{joined_same, super_same, truths_same}
 use Rattle.raid_rack.specs.declared.arrays.RaidRack.{RaidRack}
 use Rattle.raid_laws.specs.Agreeing.{SupersAgree}
 use Rattle.raid_rack.specs.AllRuns.{AreCalls}
-use Rattle.raid_laws.specs.Book.{IsAfter, after_then}
+use Rattle.raid_laws.specs.Book.{OnlyMarksSince, after_then}
 use Rattle.raid_laws.specs.Cleaning.{NoneFails}
 use Rattle.raid_laws.specs.Laws.{live_parts}
-use Rattle.raid_laws.specs.Raid.{Raid, is_over}
+use Rattle.raid_laws.specs.Raid.{Raid, is_failed}
 use Rattle.raid_rack.specs.RaidRack.{IsFit, arrays_in, raid_in, raid_seen, slices_seen, written_in}
 use Rattle.raid_rack.proofs.AgreeStill.{agree_spared, truth_spared}
 use Rattle.pool_model.specs.Left.{IsServed, LeavesClean}
@@ -40,13 +40,13 @@ use Rattle.assembler_laws.proofs.Clean.{earlier_told}
 use Rattle.assembler_laws.proofs.Founded.{array_later, array_same}
 use Rattle.assembler_laws.proofs.Shapes.{shape_heeded}
 
-module _ {R : Type 0} (seen : R → Seen) (runs : R → R → Type 0) (e f : Found) (pool : IsSamePool e f) (a : Seen) (raid last : RaidRack R)
+module _ {R : Type 0} (seen : R → RackView) (runs : R → R → Type 0) (e f : Found) (pool : IsSamePool e f) (a : RackView) (raid last : RaidRack R)
     (kept : AreCalls seen runs raid last) (holds : HoldsArrays f (raid_in raid) a (slices_seen seen raid)) (alive : AllLive (raid_in last))
     (ready : (raid_in raid).state.joined ≤ (raid_in raid).state.made) where
   abbrev v : Raid
   v = raid_in last
 
-  abbrev y : Seen
+  abbrev y : RackView
   y = slices_seen seen last
 
   low_of : (n : ℕ) → n < e.state.joined → n < f.state.joined
@@ -61,13 +61,13 @@ module _ {R : Type 0} (seen : R → Seen) (runs : R → R → Type 0) (e f : Fou
   sizes : (n : ℕ) → n < f.state.joined → sectors_in (v.arrays n) ≡ array_sectors f n
   sizes n low = kept.2.sectors n ∙ holds.sectors n low
 
-  lasts : (n : ℕ) → n < f.state.joined → is_over v n ≡ false
+  lasts : (n : ℕ) → n < f.state.joined → is_failed v n ≡ false
   lasts n low =
       let some : 0 < sectors_in (v.arrays n) = (let room = holds.room n low in let is = sizes n low in omega (arith, room, is)) in
       (live_parts v n 0 (alive n 0 (now_low n low) some)).0
 
-  pub later : IsAfter e.state v.state
-  later = after_then e.state (raid_in raid).state v.state (subst (λ (s : State). IsAfter s (raid_in raid).state) pool.state holds.after) kept.1.book
+  pub later : OnlyMarksSince e.state v.state
+  later = after_then e.state (raid_in raid).state v.state (subst (λ (s : State). OnlyMarksSince s (raid_in raid).state) pool.state holds.after) kept.1.book
 
   pub served : (t : Slices) → AreSlicesOf e t → e.state.joined ≡ e.state.made → IsServed e t v y
   served t lie all = record {
@@ -130,7 +130,7 @@ module _ {R : Type 0} (seen : R → Seen) (runs : R → R → Type 0) (e f : Fou
   module _ (before : IsFit (arrays_in raid) (slices_seen seen raid)) (still : AreStill seen raid last) (fresh : (n : ℕ) → written_in raid n ≡ false)
       (none : NoneFails (slices_seen seen raid) y) where
     module _ (n : ℕ) (low : n < f.state.joined) where
-      goes : is_over (raid_in raid) n ≡ false
+      goes : is_failed (raid_in raid) n ≡ false
       goes = kept.1.moments.still n (lasts n low)
 
       agree : (r : Image) → IsLeft y r → SupersAgree v.state r n

@@ -1,7 +1,7 @@
 -- While both copies of the partition tables of a pool's drives are made to agree, what a stop leaves holds the pool that was at rest.
 use Rattle.std.proofs.Common.{◌≡◌, ℕ, ◌+◌, ◌-◌, ◌<◌, ◌≤◌, ◌⊎◌, Bool, List, Some, sym, ap, subst, ◌∙◌, inl, inr, arith}
 use Rattle.rack.specs.Moments.{Leaves}
-use Rattle.rack.specs.Seen.{Image, IsLive, Seen}
+use Rattle.rack.specs.Seen.{Image, IsLive, RackView}
 use Rattle.gpt_table.specs.declared.TableCopy.{TableCopy}
 use Rattle.gpt_table.specs.declared.TableCopy.TheVariants.{Backup, Primary}
 use Rattle.gpt_table.specs.Changes.{the_table}
@@ -13,8 +13,8 @@ use Rattle.pool_image.specs.Drives.{Found}
 use Rattle.pool_image.proofs.Identities.{seat_inside, table_same}
 use Rattle.pool_scan.specs.Scanning.{now_in}
 use Rattle.pool_rest.specs.Resting.{IsIdle}
-use Rattle.pool_model.specs.Left.{AreAlone, HasNoSuper}
-use Rattle.pool_model.specs.Openings.{HaveGoodTables, HoldOpened, IsButTables}
+use Rattle.pool_model.specs.Left.{NoStraySuperblock, HasNoSuper}
+use Rattle.pool_model.specs.Openings.{HaveGoodTables, RecoversInOpening, IsButTables}
 use Rattle.pool_model.specs.Stopped.{LieApart}
 use Rattle.pool_model.proofs.Found.{few_places, found_is, seated_below}
 use Rattle.pool_model.proofs.NoSuper.{no_super_replaced}
@@ -24,8 +24,8 @@ use Rattle.pool_model.proofs.TableRoom.{log_room}
 use Rattle.assembler_laws.specs.Mending.{MendsTables}
 use Rattle.assembler.specs.Sound.{HoldSound}
 
-module _ (x y : Seen) (f : Found) (s : State) (seats : Seats) (agreed : List Bool) (gone now : List ℕ) (sound : HoldSound x f) (idle : IsIdle x)
-    (tables : HaveGoodTables f) (apart : LieApart f) (same : (p : ℕ) → seats p ≡ f.seats p) (mends : MendsTables x y s seats agreed gone now) (alone : AreAlone f (now_in x)) (traced : x.traced) where
+module _ (x y : RackView) (f : Found) (s : State) (seats : Seats) (agreed : List Bool) (gone now : List ℕ) (sound : HoldSound x f) (idle : IsIdle x)
+    (tables : HaveGoodTables f) (apart : LieApart f) (same : (p : ℕ) → seats p ≡ f.seats p) (mends : MendsTables x y s seats agreed gone now) (alone : NoStraySuperblock f (now_in x)) (traced : x.traced) where
   disks : f.disks ≡ disks_of x
   disks = (found_is (disks_of x) (now_in x) f sound.found_is).1
 
@@ -93,7 +93,7 @@ module _ (x y : Seen) (f : Found) (s : State) (seats : Seats) (agreed : List Boo
     }
 
     -- what came to a table is no superblock
-    alone_now : AreAlone f i
+    alone_now : NoStraySuperblock f i
     alone_now n p d first low seat none begins within =
         let u : ℕ = first + super_sector in
         let at = (found_is (disks_of x) (now_in x) f sound.found_is).0 in
@@ -104,7 +104,7 @@ module _ (x y : Seen) (f : Found) (s : State) (seats : Seats) (agreed : List Boo
           | inr sector ↦ no_super_replaced f.state.pool.0 n sector.value.copy sector.value.table u (i d u) sector.value.within
         ]
 
-  pub settling_leaves : Leaves x y (HoldOpened f 0)
+  pub settling_leaves : Leaves x y (RecoversInOpening f 0)
   settling_leaves =
       let stops = mends.only.stops traced in
       record {

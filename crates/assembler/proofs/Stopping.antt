@@ -2,7 +2,7 @@
 use Rattle.std.proofs.Common.{◌≡◌, ℕ, ◌<◌, ◌&&◌, not, is_none, is_some, List, [], slice_get, Option, Some, None, sym, ap, ap₂, subst, ◌∙◌, arith}
 use Rattle.rack.specs.Joins.{keeps_same, leaves_same, leaves_then, leaves_weaker, stays_same}
 use Rattle.rack.specs.Moments.{Leaves}
-use Rattle.rack.specs.Seen.{Image, IsPick, Seen, Stays}
+use Rattle.rack.specs.Seen.{Image, IsPick, RackView, SameRack}
 use Rattle.rack.specs.Sequences.{OnlyReads, WritesOnly}
 use Rattle.rack.proofs.Writing.{only_none}
 use Rattle.slice_rack.specs.Runs.{IsSliced, inside_still}
@@ -23,13 +23,13 @@ use Rattle.pool_check.specs.declared.Checked.{Checked}
 use Rattle.pool_check.specs.Checking.{IsChecked}
 use Rattle.pool_check.specs.Refusing.{is_well}
 use Rattle.pool_rest.specs.Resting.{IsIdle, IsOfDrive}
-use Rattle.raid_laws.specs.Book.{IsAfter, after_same}
+use Rattle.raid_laws.specs.Book.{OnlyMarksSince, after_same}
 use Rattle.raid_laws.specs.Moves.{IsSet, Mends}
 use Rattle.raid_laws.specs.Raid.{Raid}
 use Rattle.raid_laws.proofs.Noted.{current_few}
 use Rattle.pool_model.specs.InService.{IsOutset}
-use Rattle.pool_model.specs.Left.{AreAlone, AreElsewhere, IsPickOff}
-use Rattle.pool_model.specs.Openings.{HaveGoodTables, HoldOpened}
+use Rattle.pool_model.specs.Left.{NoStraySuperblock, AreElsewhere, IsPickOutsideSlices}
+use Rattle.pool_model.specs.Openings.{HaveGoodTables, RecoversInOpening}
 use Rattle.pool_model.specs.Pools.{AreSlicesOf}
 use Rattle.pool_model.specs.Stopped.{LieApart}
 use Rattle.pool_model.proofs.Amid.{IsReady}
@@ -57,11 +57,11 @@ use Rattle.assembler.proofs.Marked.{marked_leaves}
 use Rattle.assembler_laws.proofs.Marks.{marks_of, some_is}
 use Rattle.assembler.proofs.Mended.{IsMended, mended_reads, mended_stays, rack_keeps, rack_writes}
 
-disks_still : (a b : Seen) → Stays a b → disks_of a ≡ disks_of b
+disks_still : (a b : RackView) → SameRack a b → disks_of a ≡ disks_of b
 disks_still a b stays = ap₂ (λ count sectors. record { count = count; sectors = sectors }) (sym stays.disks) (λ i d. sym (stays.sectors d) i)
 
 -- nothing is called
-still_reads : (y : Seen) → y.fit → OnlyReads y y
+still_reads : (y : RackView) → y.fit → OnlyReads y y
 still_reads y fit = record {
   stays = stays_same y fit;
   keeps = record { held = λ d u live. keeps_same (y.held d u); stops = λ traced. leaves_same y (IsPick y y y.held) };
@@ -69,15 +69,15 @@ still_reads y fit = record {
 
 -- The disks y hold the pool e at rest, as they were checked, which is f but for gates. They are b once gates are closed, d once tables agree, and z once the arrays v are w,
 -- on which the places without a disk are marked.
-module _ (f e : Found) (s : State) (t : Slices) (y b d z : Seen) (went places : List ℕ) (checked : Checked) (absent : List ℕ) (orderly : IsOrderly t) (l : LogView)
+module _ (f e : Found) (s : State) (t : Slices) (y b d z : RackView) (went places : List ℕ) (checked : Checked) (absent : List ℕ) (orderly : IsOrderly t) (l : LogView)
     (holds : HoldPool s t y l f) (found : IsChecked (is_well None) f checked) (members : AreMembers s t y checked absent) (rest : HoldRested y f e)
     (rules : (n : ℕ) (u : View) → slice_get checked.arrays.items n ≡ Some u → IsArray u)
     (v w : Raid) (state : v.state ≡ s) (number : v.number ≡ l.number)
     (are : (n : ℕ) (u : View) → slice_get checked.arrays.items n ≡ Some u → v.arrays n ≡ gone places (restarted u)) (nobody : places ≡ absent)
     (mended : IsMended s t y b d checked.agreed went places) (closed : absent ≡ [] → ReplayCall l (current_places s) [] (slices_of t y) (slices_of t b))
     (still : (absent ≡ [] → ⊥) → b ≡ y)
-    (settles : (g : Found) → HoldSound b g → IsIdle b → HaveGoodTables g → LieApart g → ((p : ℕ) → seat_of t p ≡ g.seats p) → AreAlone g (now_in b) → b.traced
-    → Leaves b d (HoldOpened g 0))
+    (settles : (g : Found) → HoldSound b g → IsIdle b → HaveGoodTables g → LieApart g → ((p : ℕ) → seat_of t p ≡ g.seats p) → NoStraySuperblock g (now_in b) → b.traced
+    → Leaves b d (RecoversInOpening g 0))
     (marking : WritesOnly d z (IsSliced t)) (set : IsSet v (slices_of t b)) (marks : Mends v w (slices_of t d) (slices_of t z))
     (made : HoldsArrays f w (slices_of t y) (slices_of t z)) (alive : AllLive w)
     (marked : (p : ℕ) → is_current w.state p ≡ (is_current s p && not (names absent p))) (traced : y.traced) where
@@ -108,7 +108,7 @@ module _ (f e : Found) (s : State) (t : Slices) (y b d z : Seen) (went places : 
       by_list absent
       (λ none. stand_closed f s t y checked absent places orderly l holds found members rules v state number are nobody none (slices_of t b) (closed none))
       (λ some.
-      subst (λ (k : Seen). StandOver f v (slices_of t k)) (sym (still some))
+      subst (λ (k : RackView). StandOver f v (slices_of t k)) (sym (still some))
       (stand_still f s t y checked absent places orderly l holds found members rules v state number are nobody some))
 
   gates : IsClosedSo e y b
@@ -121,7 +121,7 @@ module _ (f e : Found) (s : State) (t : Slices) (y b d z : Seen) (went places : 
       (subst (λ (k : State). ReplayCall l (current_places k) [] (slices_of t y) (slices_of t b)) (sym holds.pool.state) (closed none)) stand.idle)
       (λ some.
       subst (IsClosedSo e y) (sym (still some))
-      (record { now = e; same = same_self e; sound = rest.sound; idle = rest.idle; leaves = λ traced. leaves_same y (HoldOpened e 0) }))
+      (record { now = e; same = same_self e; sound = rest.sound; idle = rest.idle; leaves = λ traced. leaves_same y (RecoversInOpening e 0) }))
 
   abbrev g : Found
   g = gates.now
@@ -131,21 +131,21 @@ module _ (f e : Found) (s : State) (t : Slices) (y b d z : Seen) (went places : 
 
   -- ---- tables
 
-  alone_y : AreAlone e e.contents
-  alone_y = subst (AreAlone e) (ap (λ (h : Found). h.contents) idle_y.same) rest.alone
+  alone_y : NoStraySuperblock e e.contents
+  alone_y = subst (NoStraySuperblock e) (ap (λ (h : Found). h.contents) idle_y.same) rest.alone
 
-  alone_b : AreAlone g (now_in b)
-  alone_b = subst (AreAlone g) (sym (ap (λ (h : Found). h.contents) idle_b.same)) (own_alone e g gates.same outset.made.1 outset.truths alone_y)
+  alone_b : NoStraySuperblock g (now_in b)
+  alone_b = subst (NoStraySuperblock g) (sym (ap (λ (h : Found). h.contents) idle_b.same)) (own_alone e g gates.same outset.made.1 outset.truths alone_y)
 
-  settling : Leaves b d (HoldOpened e 0)
+  settling : Leaves b d (RecoversInOpening e 0)
   settling =
-      leaves_weaker (HoldOpened g 0) (HoldOpened e 0)
+      leaves_weaker (RecoversInOpening g 0) (RecoversInOpening e 0)
       (λ i. opened_same e g 0 i gates.same (one_rested (disks_of y) (now_in y) e rest.sound.found_is rest.sound.logs (disks_of b) (now_in b) g idle_b gates.same))
       (settles g gates.sound gates.idle (good_same e g gates.same rest.good) (same_apart e g gates.same (tables_apart e rest.tables)) (λ p. seats p ∙ sym (gates.same.seats p)) alone_b (mended.closing.stays.traced traced))
 
   -- ---- marks
 
-  stays : Stays y d
+  stays : SameRack y d
   stays = mended_stays s t y b d went places checked absent orderly members mended
 
   inside : IsInside t d
@@ -161,7 +161,7 @@ module _ (f e : Found) (s : State) (t : Slices) (y b d z : Seen) (went places : 
   writes = rack_writes s t y b d went places checked absent orderly members mended d none_now
 
   -- outside the slices the disks say what they said
-  as_before : (i : Image) → IsPickOff t d i → AreElsewhere e i
+  as_before : (i : Image) → IsPickOutsideSlices t d i → AreElsewhere e i
   as_before =
       elsewhere s s t y y y d d checked absent [] orderly members
       (only_none y (IsOfDrive y [] s) members.fit.0) (still_reads y members.fit.0)
@@ -176,7 +176,7 @@ module _ (f e : Found) (s : State) (t : Slices) (y b d z : Seen) (went places : 
       (on f s t y checked absent places orderly l holds found members rules v state number are nobody) found.opened)
 
   -- and no superblock of an array stands there on a drive that is no member of it
-  lone : (i : Image) → IsPickOff t d i → AreAlone e i
+  lone : (i : Image) → IsPickOutsideSlices t d i → NoStraySuperblock e i
   lone =
       alone_off e t y d rest.alone rest.sound.steady at.1 (λ p disk seat. members.fit.1.seats p disk (seats p ∙ seat))
       (unsliced e t orderly slices outset.made.1 outset.truths) y d writes
@@ -186,7 +186,7 @@ module _ (f e : Found) (s : State) (t : Slices) (y b d z : Seen) (went places : 
     disks = at.1 ∙ disks_still y d stays;
     outset = outset;
     slices = slices;
-    after = subst (IsAfter e.state) (sym same_state) (after_same e.state);
+    after = subst (OnlyMarksSince e.state) (sym same_state) (after_same e.state);
     joined = rest.joined;
     geometry = λ n u low truth.
         geometry_now f s t y checked absent places orderly l holds found members rules v state number are nobody n u (small n low) (sym (truths_same f e rest.same n) ∙ truth);
@@ -200,11 +200,11 @@ module _ (f e : Found) (s : State) (t : Slices) (y b d z : Seen) (went places : 
       ∙ ap (λ b. is_current s p && b) (some_is (seat_of t p))
       ∙ ap₂ (λ (r : State) (o : Option ℕ). is_current r p && is_some o) (sym holds.pool.state ∙ sym rest.same.state) (seats p)
 
-  marking_now : Leaves d z (HoldOpened e 0)
+  marking_now : Leaves d z (RecoversInOpening e 0)
   marking_now =
       marked_leaves e f rest.same t v w (slices_of t y) b d z stand set (mended_reads s t y b d went places checked absent orderly members mended) marks made alive
       (gone_unseated f s t y checked absent places orderly l holds found members rules v state number are nobody)
       at.0 (one_after (disks_of y) (now_in y) e rest.sound.found_is rest.sound.logs) ready same_state rest.tables lone orderly inside (stays.lasting members.lasting) marking marks_are (stays.traced traced)
 
-  pub making_leaves : Leaves y z (HoldOpened e 0)
-  making_leaves = leaves_then (HoldOpened e 0) (leaves_then (HoldOpened e 0) (gates.leaves traced) settling) marking_now
+  pub making_leaves : Leaves y z (RecoversInOpening e 0)
+  making_leaves = leaves_then (RecoversInOpening e 0) (leaves_then (RecoversInOpening e 0) (gates.leaves traced) settling) marking_now

@@ -1,7 +1,7 @@
 -- The volume that is opened on arrays which hold what a pool's drives mean is the volume of the meaning.
 use Rattle.std.proofs.Common.{◌≡◌, ◌⊎◌, ℕ, ◌<◌, ◌≤◌, Bool, true, false, nat_lt, if◌then◌else◌, List, [], Some, refl, sym, ap, inl, inr, subst, ◌∙◌, arith}
 use Rattle.rack.specs.Values.{MayLeave}
-use Rattle.rack.specs.Seen.{IsLive, Rose, Seen}
+use Rattle.rack.specs.Seen.{IsLive, Rose, RackView}
 use Rattle.rack.specs.Sequences.{OnlyReads, WritesOnly}
 use Rattle.rack.proofs.Writing.{only_quiet, only_then}
 use Rattle.slice_rack.specs.SliceRack.{below_of, tables}
@@ -38,7 +38,7 @@ use Rattle.assembler.specs.Volume.{AreStill, IsShort, AllLive, HasBadVolume, Hol
 -- ---- the volume of the meaning
 
 -- what the arrays hold, as they were read and as the meaning has it
-module _ (f : Found) (a b : Seen) (sizes : (n : ℕ) → n < f.state.joined → a.sectors n ≡ array_sectors f n)
+module _ (f : Found) (a b : RackView) (sizes : (n : ℕ) → n < f.state.joined → a.sectors n ≡ array_sectors f n)
     (whole : AreWholeArrays (joined_arrays f)) (served : AreServed a b f.state.joined) (now : AreNow a f.state.joined (arrays_held f)) where
   alike : (n : ℕ) → n < f.state.joined → within_sectors a (arrays_held f) n ≡ shown_in (joined_arrays f) n
   alike n low =
@@ -68,7 +68,7 @@ module _ (f : Found) (a b : Seen) (sizes : (n : ℕ) → n < f.state.joined → 
       ∙ bad.bad_in (arrays_held f) served now
 
 -- each sector of the volume holds what the meaning's volume does
-pub volume_holds : (f : Found) (a b : Seen) (l : Linear) (of : IsVolumeOf f l) → IsOrderly l → IsInside l b → WritesOnly a b (IsBefore f.state.joined)
+pub volume_holds : (f : Found) (a b : RackView) (l : Linear) (of : IsVolumeOf f l) → IsOrderly l → IsInside l b → WritesOnly a b (IsBefore f.state.joined)
     → ((n : ℕ) → n < f.state.joined → a.told n)
     → ((n s : ℕ) (u : List ℕ) → n < f.state.joined → a.spent n s ≡ false → MayLeave (a.held n s) u → u ≡ arrays_held f n s)
     → HoldsVolume (volume_of l b) (volume_by (linear_of (joined_arrays f) of.group) (arrays_held f))
@@ -96,13 +96,13 @@ volume_holds f a b l of orderly inside writes told values =
 -- ---- calls of a rack of arrays
 
 -- what can be had after calls could be had before them
-pub live_before : {R : Type 0} (seen : R → Seen) (runs : R → R → Type 0) (x y : RaidRack R) → AreCalls seen runs x y → AllLive (raid_in y) → AllLive (raid_in x)
+pub live_before : {R : Type 0} (seen : R → RackView) (runs : R → R → Type 0) (x y : RaidRack R) → AreCalls seen runs x y → AllLive (raid_in y) → AllLive (raid_in x)
 live_before seen runs x y kept alive n s joined inside =
     kept.2.spent n s
     (alive n s (subst (λ k. n < k) (sym kept.1.book.same.joined) joined) (subst (λ k. s < k) (sym (kept.2.sectors n)) inside))
 
 -- an opening writes texts alone to the arrays
-pub opened_writes : {R : Type 0} (seen : R → Seen) (runs : R → R → Type 0) (x y : RaidRack R) (l : Linear) (seqno : ℕ) → OpensVolume seen runs x y l seqno
+pub opened_writes : {R : Type 0} (seen : R → RackView) (runs : R → R → Type 0) (x y : RaidRack R) (l : Linear) (seqno : ℕ) → OpensVolume seen runs x y l seqno
     → WritesOnly (raid_seen seen x) (raid_seen seen y) (IsBefore (raid_in x).state.joined)
 opened_writes seen runs x y l seqno opens =
     let may = IsBefore (raid_in x).state.joined in
@@ -110,7 +110,7 @@ opened_writes seen runs x y l seqno opens =
 
 -- ---- on the arrays that an opening has made
 
-module _ {R : Type 0} (seen : R → Seen) (runs : R → R → Type 0) (f : Found) (a : Seen) (x : RaidRack R)
+module _ {R : Type 0} (seen : R → RackView) (runs : R → R → Type 0) (f : Found) (a : RackView) (x : RaidRack R)
     (holds : HoldsArrays f (raid_in x) a (slices_seen seen x)) (fresh : (n : ℕ) → refused_in x n ≡ 0) where
   book : IsSameBook f.state (raid_in x).state
   book = holds.after.same
@@ -168,7 +168,7 @@ module _ {R : Type 0} (seen : R → Seen) (runs : R → R → Type 0) (f : Found
 -- ---- sectors that are spent
 
 -- where no disk refused a call and numbers aren't used up, no sector is spent
-pub live_later : {R : Type 0} (seen : R → Seen) (runs : R → R → Type 0) (x y : RaidRack R) → AreCalls seen runs x y
+pub live_later : {R : Type 0} (seen : R → RackView) (runs : R → R → Type 0) (x y : RaidRack R) → AreCalls seen runs x y
     → IsFit (arrays_in x) (slices_seen seen x) → IsFit (arrays_in y) (slices_seen seen y) → IsUnfaulted (seen (below_of (slices_in x))) (seen (below_of (slices_in y)))
     → (raid_in x).state.joined ≤ (raid_in x).state.made → is_used_up (raid_in y) ≡ false → (is_used_up (raid_in x) ≡ false → AllLive (raid_in x)) → AllLive (raid_in y)
 live_later seen runs x y kept before after quiet ready unused alive n s joined inside =
@@ -183,7 +183,7 @@ live_later seen runs x y kept before after quiet ready unused alive n s joined i
 -- ---- why none was opened
 
 -- a bad array is named only where numbers aren't used up
-pub unopened_cause : {R : Type 0} (seen : R → Seen) (x y : RaidRack R) (why : Refusal) (f : VolumeFault) → IsFit (arrays_in y) (slices_seen seen y)
+pub unopened_cause : {R : Type 0} (seen : R → RackView) (x y : RaidRack R) (why : Refusal) (f : VolumeFault) → IsFit (arrays_in y) (slices_seen seen y)
     → why ≡ (if is_used_up (raid_in y) then Memory else by_volume f)
     → IsUnopened (raid_in x).state.pool.0 (raid_in x).state.extent (raid_in x).state.joined (raid_seen seen x) (raid_seen seen y) f
     → OnlyReads (raid_seen seen x) (raid_seen seen y) → ((n : ℕ) → written_in y n ≡ written_in x n) → Spares (written_in y) (slices_seen seen x) (slices_seen seen y)

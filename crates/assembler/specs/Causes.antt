@@ -1,6 +1,6 @@
 -- Why no volume was opened, by what was read of the disks, whatever these tell and whoever goes.
 use Rattle.std.specs.Prelude.{◌≡◌, ◌⊎◌, ℕ, ◌≤◌, Bool, true, false, List, slice_get, Option, Some, None}
-use Rattle.rack.specs.Seen.{Seen}
+use Rattle.rack.specs.Seen.{RackView}
 use Rattle.rack.specs.Sequences.{OnlyReads}
 use Rattle.slice_rack.specs.Slices.{Slices, seat_of}
 use Rattle.slice_rack.specs.Runs.{Runs}
@@ -23,7 +23,7 @@ use Rattle.pool_check.specs.Checking.{IsChecked}
 use Rattle.pool_check.specs.Drives.{AreCopied, AreDrivesOf, Drives, Loses, found_with}
 use Rattle.pool_check.specs.Refusing.{CountsAbsent, absent_among, is_well, refusal_by}
 use Rattle.raid_rack.specs.declared.arrays.RaidRack.{RaidRack}
-use Rattle.raid_laws.specs.Book.{IsAfter}
+use Rattle.raid_laws.specs.Book.{OnlyMarksSince}
 use Rattle.raid_rack.specs.declared.arrays.Arrays.{Arrays}
 use Rattle.raid_rack.specs.AllRuns.{Serves}
 use Rattle.raid_laws.specs.Raid.{is_used_up, raid_of}
@@ -36,14 +36,14 @@ use Rattle.assembler_laws.specs.Members.{AreMembers}
 use Rattle.assembler.specs.Refusing.{by_check, by_finding, refused_left}
 
 -- No pool was found, or two, by what was read of the copies on the disks: before anything was written, or once the pending record was.
-pub record FindsNoPool (x y : Seen) (why : Refusal) : Type 0 where
+pub record FindsNoPool (x y : RackView) (why : Refusal) : Type 0 where
   pub fault : FindFault
   pub said : why ≡ by_finding fault
   pub cause : IsRefused x y fault
 
 -- The log slices of the pool's drives were read, and the disks are y then: `bad` is the lowest place whose log isn't well formed, of those
 -- whose disk refused no call.
-pub record HasReadLogs (x y : Seen) (known : List Known) (s : State) (bad : Option ℕ) : Type 0 where
+pub record HasReadLogs (x y : RackView) (known : List Known) (s : State) (bad : Option ℕ) : Type 0 where
   pub slices : Slices
   pub on : List ℕ
   pub log : LogView
@@ -55,7 +55,7 @@ pub record HasReadLogs (x y : Seen) (known : List Known) (s : State) (bad : Opti
 -- disk only where that refused a call, and of each disk that is left the copy was read that it holds. The refusal is the first one of the
 -- pool that the disks left make, by what they hold. Else it is that of the log that isn't well formed, whose drive went later. Whatever the
 -- disks tell it is want of drives exactly where two or more current places have none left, and says how many.
-pub record RefusesDrives (x y z : Seen) (known : List Known) (s : State) (bad : Option ℕ) (why : Refusal) : Type 0 where
+pub record RefusesDrives (x y z : RackView) (known : List Known) (s : State) (bad : Option ℕ) (why : Refusal) : Type 0 where
   pub fault : CheckFault
   pub said : why ≡ by_check fault
   pub only : OnlyReads y z
@@ -68,7 +68,7 @@ pub record RefusesDrives (x y z : Seen) (known : List Known) (s : State) (bad : 
 -- The drives passed their check, by tables t of their slices: the arrays are those that the disks left make, and their members' slices are laid.
 -- A place has lost its disk only where that refused a call, and at most one has none. The disks were x before the opening, y at rest and z after
 -- the check.
-pub record HasChecked (x y z : Seen) (known : List Known) (s : State) (t : Slices) (checked : Checked) : Type 0 where
+pub record HasChecked (x y z : RackView) (known : List Known) (s : State) (t : Slices) (checked : Checked) : Type 0 where
   pub only : OnlyReads y z
   pub absent : List ℕ
   pub members : AreMembers s t z checked absent
@@ -95,32 +95,32 @@ arrays_on rack = record {
 }
 
 -- what its slices show, and what it shows as a rack
-abbrev pub slices_on : {R : Type 0} → (R → Seen) → ArraysOn R → Seen
+abbrev pub slices_on : {R : Type 0} → (R → RackView) → ArraysOn R → RackView
 slices_on seen x = slices_of x.slices (seen x.below)
 
-abbrev pub seen_on : {R : Type 0} → (R → Seen) → ArraysOn R → Seen
+abbrev pub seen_on : {R : Type 0} → (R → RackView) → ArraysOn R → RackView
 seen_on seen x = raid_of (IsFit x.arrays (slices_on seen x)) x.refused (raid_by x.arrays) (slices_on seen x)
 
 -- No memory could be had to open a volume: nothing was written on the arrays, and numbers aren't used up. Or they are.
-abbrev pub IsShortOn : {R : Type 0} → (R → Seen) → ArraysOn R → ArraysOn R → Type 0
+abbrev pub IsShortOn : {R : Type 0} → (R → RackView) → ArraysOn R → ArraysOn R → Type 0
 IsShortOn seen x y = (OnlyReads (seen_on seen x) (seen_on seen y) × (is_used_up (raid_by y.arrays) ≡ false)) ⊎ (is_used_up (raid_by y.arrays) ≡ true)
 
 -- An array's part of the volume group is bad, the lowest such array, by what was read of the arrays. Nothing was written on them, and numbers aren't used up.
-pub record IsBadOn {R : Type 0} (seen : R → Seen) (x y : ArraysOn R) (array : ℕ) : Type 0 where
+pub record IsBadOn {R : Type 0} (seen : R → RackView) (x y : ArraysOn R) (array : ℕ) : Type 0 where
   pub reads : OnlyReads (seen_on seen x) (seen_on seen y)
   pub bad : IsBadVolume (raid_by x.arrays).state.pool.0 (raid_by x.arrays).state.extent (raid_by x.arrays).state.joined (seen_on seen x) (seen_on seen y) array
   pub unused : is_used_up (raid_by y.arrays) ≡ false
 
 -- Arrays were made over the slices of a pool's drives, and no volume was opened on them. They are those that the disks left make, with those drives
 -- marked missing that were so, had no disk or refused a call, and were `last` in the end. The rack was `mid` at rest.
-pub record RefusesArrays {R : Type 0} (seen : R → Seen) (runs : R → R → Type 0) (rack mid back : R) (known : List Known) (s : State) (why : Refusal) : Type 0 where
+pub record RefusesArrays {R : Type 0} (seen : R → RackView) (runs : R → R → Type 0) (rack mid back : R) (known : List Known) (s : State) (why : Refusal) : Type 0 where
   pub at : R
   pub made : ArraysOn R
   pub last : ArraysOn R
   pub kept : runs mid at × runs at made.below
   pub checked : Checked
   pub drives : HasChecked (seen rack) (seen mid) (seen at) known s made.slices checked
-  pub book : IsAfter s (raid_by made.arrays).state
+  pub book : OnlyMarksSince s (raid_by made.arrays).state
   pub marks : AreMarkedFor (seen rack) (seen made.below) (seat_by s known) s (raid_by made.arrays).state
   pub arrays : (n : ℕ) (v : View) → slice_get checked.arrays.items n ≡ Some v → IsSameArray v ((raid_by made.arrays).arrays n)
   pub fit : IsFit made.arrays (slices_on seen made)
@@ -133,7 +133,7 @@ pub record RefusesArrays {R : Type 0} (seen : R → Seen) (runs : R → R → Ty
 
 -- A pool was found and brought to rest, and the rack was `mid` then: by what was read of its disks the state is the newest one, of one
 -- pool, and the logs are those of its drives. Its drives were refused, or its arrays.
-pub record RefusesPool {R : Type 0} (seen : R → Seen) (runs : R → R → Type 0) (rack back : R) (why : Refusal) : Type 0 where
+pub record RefusesPool {R : Type 0} (seen : R → RackView) (runs : R → R → Type 0) (rack back : R) (why : Refusal) : Type 0 where
   pub mid : R
   pub kept : runs rack mid
   pub early : WritesDrives (seen rack) (seen mid)
@@ -146,5 +146,5 @@ pub record RefusesPool {R : Type 0} (seen : R → Seen) (runs : R → R → Type
   pub cause : RefusesDrives (seen rack) (seen mid) (seen back) known state bad why ⊎ ((bad ≡ None) × RefusesArrays seen runs rack mid back known state why)
 
 -- the first cause in the order of refusals
-abbrev pub HasRefusalCause : {R : Type 0} → (R → Seen) → (R → R → Type 0) → R → R → Refusal → Type 0
+abbrev pub HasRefusalCause : {R : Type 0} → (R → RackView) → (R → R → Type 0) → R → R → Refusal → Type 0
 HasRefusalCause seen runs rack back why = FindsNoPool (seen rack) (seen back) why ⊎ RefusesPool seen runs rack back why

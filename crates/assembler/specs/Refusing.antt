@@ -1,7 +1,7 @@
 -- Refusals of an opening, by those of its parts and by their causes.
 use Rattle.std.specs.Prelude.{◌≡◌, ℕ, nat_lt, not, ◌&&◌, if◌then◌else◌, Bool, true, false, List, Option, Some, None, option_map}
 use Rattle.std.specs.Option.{option_or}
-use Rattle.rack.specs.Seen.{Seen}
+use Rattle.rack.specs.Seen.{RackView}
 use Rattle.pool_state.specs.declared.contents.State.{State}
 use Rattle.log_laws.specs.View.{names}
 use Rattle.pool_image.specs.Disks.{Seats}
@@ -70,7 +70,7 @@ refused_left bad f = option_or (refused_with (is_well bad) None f) (option_map (
 -- The drives didn't pass their check, by what was read of them: a place has lost its disk only where that refused a call, and the
 -- refusal is the first one of the pool that the disks left make, or else the log that isn't well formed. Whatever they tell it says how
 -- many are wanting, where two or more are.
-pub record FailsCheck (x y : Seen) (known : List Known) (s : State) (gone : List ℕ) (bad : Option ℕ) (why : Refusal) : Type 0 where
+pub record FailsCheck (x y : RackView) (known : List Known) (s : State) (gone : List ℕ) (bad : Option ℕ) (why : Refusal) : Type 0 where
   pub fault : CheckFault
   pub said : why ≡ by_check fault
   pub seats : Seats

@@ -1,7 +1,7 @@
 -- The volume that is opened on the arrays of a pool.
 use Rattle.std.specs.Prelude.{◌≡◌, ◌⊎◌, ◌&&◌, ℕ, ◌+◌, ◌*◌, ◌<◌, true, false, not, List}
 use Rattle.rack.specs.Values.{MayLeave}
-use Rattle.rack.specs.Seen.{Seen}
+use Rattle.rack.specs.Seen.{RackView}
 use Rattle.rack.specs.Sequences.{OnlyReads}
 use Rattle.pool_state.specs.declared.contents.State.{State}
 use Rattle.array_image.specs.States.{is_current}
@@ -23,7 +23,7 @@ use Rattle.assembler.specs.declared.refusal.Refusal.{Refusal}
 use Rattle.assembler.specs.declared.refusal.Refusal.TheVariants.{BadVolume, Memory}
 
 -- The superblocks of each array were made to agree where one had been written; else nothing was called. No value came or went.
-pub record Agrees {R : Type 0} (seen : R → Seen) (runs : R → R → Type 0) (x y : RaidRack R) : Type 0 where
+pub record Agrees {R : Type 0} (seen : R → RackView) (runs : R → R → Type 0) (x y : RaidRack R) : Type 0 where
   pub kept : AreCalls seen runs x y
   pub values : KeepsRack (raid_seen seen x) (raid_seen seen y)
   pub supers : ((y ≡ x) × ((n : ℕ) → written_in x n ≡ false)) ⊎ MakesAgree (raid_in x) (raid_in y) (slices_seen seen x) (slices_seen seen y)
@@ -31,7 +31,7 @@ pub record Agrees {R : Type 0} (seen : R → Seen) (runs : R → R → Type 0) (
 
 -- A volume was opened on these arrays, by what was read of them, and their texts were brought up to it: the arrays were `mid` then. After
 -- that their superblocks were made to agree.
-pub record OpensVolume {R : Type 0} (seen : R → Seen) (runs : R → R → Type 0) (x y : RaidRack R) (l : Linear) (seqno : ℕ) : Type 0 where
+pub record OpensVolume {R : Type 0} (seen : R → RackView) (runs : R → R → Type 0) (x y : RaidRack R) (l : Linear) (seqno : ℕ) : Type 0 where
   pub mid : RaidRack R
   pub opens : Opens (raid_in x).state.pool.0 (raid_in x).state.extent (raid_in x).state.joined (raid_seen seen x) (raid_seen seen mid) l seqno
   pub brings : BringsUp (raid_in x).state.pool.0 (raid_in x).state.joined l seqno opens.runs.group (raid_seen seen x) (raid_seen seen mid)
@@ -45,7 +45,7 @@ pub record OpensVolume {R : Type 0} (seen : R → Seen) (runs : R → R → Type
 
 -- Nothing was written on arrays, which were y then, and numbers aren't used up. Where no drive refused a call, the slices of those that hadn't
 -- been written hold what they held.
-pub record AreStill {R : Type 0} (seen : R → Seen) (x y : RaidRack R) : Type 0 where
+pub record AreStill {R : Type 0} (seen : R → RackView) (x y : RaidRack R) : Type 0 where
   pub reads : OnlyReads (raid_seen seen x) (raid_seen seen y)
   pub fit : IsFit (arrays_in y) (slices_seen seen y)
   pub unwritten : (n : ℕ) → written_in y n ≡ written_in x n
@@ -53,24 +53,24 @@ pub record AreStill {R : Type 0} (seen : R → Seen) (x y : RaidRack R) : Type 0
   pub unused : is_used_up (raid_in y) ≡ false
 
 -- No memory could be had, and nothing was written; or numbers are used up.
-abbrev pub IsShort : {R : Type 0} → (R → Seen) → RaidRack R → RaidRack R → Type 0
+abbrev pub IsShort : {R : Type 0} → (R → RackView) → RaidRack R → RaidRack R → Type 0
 IsShort seen x y = AreStill seen x y ⊎ (is_used_up (raid_in y) ≡ true)
 
 -- An array is bad, by what was read of the arrays, and nothing was written on them.
-pub record HasBadVolume {R : Type 0} (seen : R → Seen) (x y : RaidRack R) (array : ℕ) : Type 0 where
+pub record HasBadVolume {R : Type 0} (seen : R → RackView) (x y : RaidRack R) (array : ℕ) : Type 0 where
   pub still : AreStill seen x y
   pub bad : IsBadVolume (raid_in x).state.pool.0 (raid_in x).state.extent (raid_in x).state.joined (raid_seen seen x) (raid_seen seen y) array
 
 -- No volume was opened: no memory could be had, or numbers are used up, or an array is bad. The arrays were `last` then, over the rack that is
 -- given back.
-pub record RefusesVolume {R : Type 0} (seen : R → Seen) (runs : R → R → Type 0) (x : RaidRack R) (rack : R) (why : Refusal) : Type 0 where
+pub record RefusesVolume {R : Type 0} (seen : R → RackView) (runs : R → R → Type 0) (x : RaidRack R) (rack : R) (why : Refusal) : Type 0 where
   pub last : RaidRack R
   pub back : below_of (slices_in last) ≡ rack
   pub cause : ((why ≡ Memory) × IsShort seen x last) ⊎ ((array : ℕ) × (why ≡ BadVolume array) × HasBadVolume seen x last array)
   pub kept : AreCalls seen runs x last
 
 -- A rack's one disk is a volume: of its size, and each sector that isn't spent holds what the volume does and nothing else.
-pub record HoldsVolume (x : Seen) (v : Volume) : Type 0 where
+pub record HoldsVolume (x : RackView) (v : Volume) : Type 0 where
   pub sectors : x.sectors 0 ≡ v.sectors
   pub contents : (s : ℕ) (u : List ℕ) → s < v.sectors → x.spent 0 s ≡ false → MayLeave (x.held 0 s) u → u ≡ v.contents s
 

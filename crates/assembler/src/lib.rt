@@ -14,7 +14,7 @@
 //! they mean, over the slices of their pool's drives (`IsMeantBy`), and they are refused only as their meaning is (`IsMeantRefusal`), or for
 //! want of memory; both copies of each drive's partition table are the table that its disk had, and the superblocks of each array agree,
 //! durably (`HaveAgreed`). In all, only drives are written (`WritesPool` of specs/Writing.antt of assembler_laws). At each moment of it what a stop leaves holds the pool still, so that
-//! it may be opened again (`StopsHold`, `HoldOpened` of pool_model), says its volume (`IsMeantBy.says`), isn't refused, and means it again
+//! it may be opened again (`StopsHold`, `RecoversInOpening` of pool_model), says its volume (`IsMeantBy.says`), isn't refused, and means it again
 //! (`StopsMean`, `HoldMeaning` of pool_model). Targets land in that pool as they did in the one that there was, so
 //! the next opening tells of its stops too, however often openings are stopped (`holds_opened`, `holds_left`, proofs/Again.antt; `holds_amid` for a call that was stopped,
 //! `holds_landing` for what a pool leaves between its calls).

@@ -9,8 +9,8 @@ ghost use Rattle.pool_check.specs.Drives.{seats_by};
 ghost use Rattle.assembler_laws.specs.Mending.{MendsTables};
 ghost use Rattle.assembler.specs.Sound.{HoldSound};
 ghost use Rattle.pool_image.specs.Drives.{Found};
-ghost use Rattle.pool_model.specs.Left.{AreAlone};
-ghost use Rattle.pool_model.specs.Openings.{HaveGoodTables, HoldOpened};
+ghost use Rattle.pool_model.specs.Left.{NoStraySuperblock};
+ghost use Rattle.pool_model.specs.Openings.{HaveGoodTables, RecoversInOpening};
 ghost use Rattle.pool_model.specs.Stopped.{LieApart};
 ghost use Rattle.pool_rest.specs.Resting.{IsIdle};
 ghost use Rattle.pool_scan.specs.Scanning.{now_in};
@@ -68,8 +68,8 @@ pub(crate) fn mend_tables<R: Rack>(
     // Where the disks hold a sound pool at rest, of which each drive has its table and targets land in the slices, what a stop leaves holds it still, if no superblock
     // stands where a place that is no member would have a slice.
     ensures moments { (f : Found) → HoldSound (R.seen (below_of slices.old)) f → IsIdle (R.seen (below_of slices.old)) → HaveGoodTables f → LieApart f
-        → ((p : ℕ) → seat_of (tables slices.old) p ≡ f.seats p) → AreAlone f (now_in (R.seen (below_of slices.old))) → (R.seen (below_of slices.old)).traced
-        → Leaves (R.seen (below_of slices.old)) (R.seen (below_of slices.new)) (HoldOpened f 0) }
+        → ((p : ℕ) → seat_of (tables slices.old) p ≡ f.seats p) → NoStraySuperblock f (now_in (R.seen (below_of slices.old))) → (R.seen (below_of slices.old)).traced
+        → Leaves (R.seen (below_of slices.old)) (R.seen (below_of slices.new)) (RecoversInOpening f 0) }
 {
     let mut seats = seats;
     leave_out(&mut seats, gone);

@@ -12,7 +12,7 @@ ghost use Rattle.array_model.specs.View.{View, IsArray, IsSameArray, sectors_of}
 ghost use Rattle.lvm_group.specs.Shown.{total};
 ghost use Rattle.raid_laws.specs.Agreeing.{MakesAgree};
 ghost use Rattle.raid_laws.specs.Truths.{KeepsTruths, MakesTruths};
-ghost use Rattle.raid_laws.specs.Book.{IsAfter};
+ghost use Rattle.raid_laws.specs.Book.{OnlyMarksSince};
 ghost use Rattle.raid_laws.specs.Moves.{AreMarked, Mends, RaisesBy};
 ghost use Rattle.raid_rack.specs.RaidRack.{IsFit, IsRunning, SliceRuns, arrays_in, raid_in, raid_seen, refused_in, slices_in, slices_seen, written_in};
 ghost use Rattle.log_laws.specs.Opening.{ReplayCall};
@@ -29,8 +29,8 @@ ghost use Rattle.assembler_laws.specs.Raising.{RaisesOver};
 ghost use Rattle.assembler.specs.Rested.{HoldRested};
 ghost use Rattle.assembler.specs.Volume.{AllLive, MarksAbsent};
 ghost use Rattle.assembler_laws.specs.Writing.{IsSlicedOrTable};
-ghost use Rattle.pool_model.specs.Left.{AreAlone};
-ghost use Rattle.pool_model.specs.Openings.{HoldOpened};
+ghost use Rattle.pool_model.specs.Left.{NoStraySuperblock};
+ghost use Rattle.pool_model.specs.Openings.{RecoversInOpening};
 ghost use Rattle.rack.specs.Moments.{Leaves};
 ghost use Rattle.rack.specs.Sequences.{WritesOnly};
 
@@ -124,7 +124,7 @@ pub(crate) fn make_rack<R: Rack>(members: Members<R>, seconds: u64) -> RaidRack<
     ensures made { (raid_in result).state.made ≡ members.state.made }
     ensures joined { (raid_in result).state.joined ≡ members.state.joined }
     ensures extent { (raid_in result).state.extent ≡ members.state.extent }
-    ensures book { IsAfter members.state (raid_in result).state }
+    ensures book { OnlyMarksSince members.state (raid_in result).state }
     // Its numbers rise by a bounded number: marks are one commit, and one more for each drive that goes meanwhile, and a last one is for stale superblocks.
     ensures raises { RaisesOver 35 members.state members.log.number members.checked.arrays.items (raid_in result) }
     // The arrays are those that were opened, whomever they have lost.
@@ -154,7 +154,7 @@ pub(crate) fn make_rack<R: Rack>(members: Members<R>, seconds: u64) -> RaidRack<
         → IsUnfaulted (R.seen (below_of members.slices)) (R.seen (below_of (slices_in result)))
         → AllLive (raid_in result)
         → (R.seen (below_of members.slices)).traced
-        → Leaves (R.seen (below_of members.slices)) (R.seen (below_of (slices_in result))) (HoldOpened e 0) }
+        → Leaves (R.seen (below_of members.slices)) (R.seen (below_of (slices_in result))) (RecoversInOpening e 0) }
 {
     let Members {
         slices,

@@ -5,11 +5,11 @@ use Rattle.std.specs.Option.{option_map_or}
 use Rattle.std.proofs.lemmas.Bool.{both_ways, cases_Bool, cases_lt}
 use Rattle.std.proofs.lemmas.Option.{none-some}
 use Rattle.rack.specs.Values.{MayLeave}
-use Rattle.rack.specs.Seen.{Image, Seen, IsLive}
+use Rattle.rack.specs.Seen.{Image, RackView, IsLive}
 use Rattle.slice_rack.specs.Slices.{Slices, IsOrderly, seat_of}
 use Rattle.md_super.specs.declared.superblock.Super.{Super}
 use Rattle.array_image.specs.Arrays.{place_with}
-use Rattle.array_image.specs.Left.{IsClosed, IsLeft, reading}
+use Rattle.array_image.specs.Left.{NothingPending, IsLeft, reading}
 use Rattle.array_image.specs.Places.{member_slice}
 use Rattle.array_image.specs.SoundArray.{IsSoundArray, array_fields}
 use Rattle.array_image.specs.States.{is_current}
@@ -78,7 +78,7 @@ found_seat z None same = absurd (of (is_rebuilding z) same)
     of true is = cc
     of false is = cc
 
-module _ (f : Found) (t : Slices) (x : Seen) (checked : Checked) (absent : List ℕ) (orderly : IsOrderly t)
+module _ (f : Found) (t : Slices) (x : RackView) (checked : Checked) (absent : List ℕ) (orderly : IsOrderly t)
     (m : AreMembers f.state t x checked absent) (steady : AreSteady x) (pool : IsPoolOn f.state t x f)
     (opened : AreOpened f f.state.made checked.arrays.items checked.extents.items checked.stale.items)
     (sound : IsSoundPool f) (here : absent ≡ []) (fresh : list_any (λ flag. flag) checked.stale.items ≡ false)
@@ -167,7 +167,7 @@ module _ (f : Found) (t : Slices) (x : Seen) (checked : Checked) (absent : List 
 -- ---- after calls that wrote nothing of an array
 
 -- what a stop leaves of its slices is as they read
-pub left_reads : (n : ℕ) (a c : Seen) → ((d : ℕ) → 272 ≤ d → c.sectors d ≡ 0) → ((d : ℕ) → c.sectors d ≡ a.sectors d) → IsClosed n c
+pub left_reads : (n : ℕ) (a c : RackView) → ((d : ℕ) → 272 ≤ d → c.sectors d ≡ 0) → ((d : ℕ) → c.sectors d ≡ a.sectors d) → NothingPending n c
     → ((place u : ℕ) → place < 16 → u < c.sectors (member_slice place n) → IsLive c c (member_slice place n) u)
     → ((place u : ℕ) (value : List ℕ) → place < 16 → u < c.sectors (member_slice place n) → MayLeave (c.held (member_slice place n) u) value
     → value ≡ (a.held (member_slice place n) u).current)

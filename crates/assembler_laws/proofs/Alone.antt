@@ -4,7 +4,7 @@ use Rattle.std.proofs.Common.{◌≡◌, ℕ, zero, suc, ◌+◌, ◌-◌, ◌<�
 use Rattle.std.specs.Option.{option_and_then, option_map_or}
 use Rattle.std.proofs.lemmas.Bool.{and_parts, both_ways, cases_Bool, cases_eq, cases_lt}
 use Rattle.rack.specs.Moments.{Leaves}
-use Rattle.rack.specs.Seen.{Image, IsLive, Seen}
+use Rattle.rack.specs.Seen.{Image, IsLive, RackView}
 use Rattle.rack.specs.Sequences.{WritesOnly}
 use Rattle.rack.specs.Values.{MayLeave}
 use Rattle.slice_rack.specs.Runs.{IsSliced}
@@ -20,7 +20,7 @@ use Rattle.pool_image.specs.Replay.{Extent}
 use Rattle.pool_image.proofs.Founds.{first_behind}
 use Rattle.pool_image.proofs.Truths.{extent_found}
 use Rattle.pool_scan.specs.Scanning.{now_in}
-use Rattle.pool_model.specs.Left.{AreAlone, HasNoSuper, IsPickOff}
+use Rattle.pool_model.specs.Left.{NoStraySuperblock, HasNoSuper, IsPickOutsideSlices}
 use Rattle.pool_model.specs.Pools.{AreSlicesOf}
 use Rattle.pool_model.proofs.Layers.{IsLaid, laid}
 use Rattle.pool_model.proofs.NoSuper.{no_super_replaced}
@@ -124,11 +124,11 @@ module _ (f : Found) (t : Slices) (orderly : IsOrderly t) (slices : AreSlicesOf 
 -- ---- what may be left outside the slices
 
 -- The pool f is that of the disks x. From there on slices were written, and tables were settled.
-module _ (f : Found) (t : Slices) (x w : Seen) (alone : AreAlone f (now_in x)) (steady : AreSteady x) (disks : f.disks ≡ disks_of x)
+module _ (f : Found) (t : Slices) (x w : RackView) (alone : NoStraySuperblock f (now_in x)) (steady : AreSteady x) (disks : f.disks ≡ disks_of x)
     (inside : (p d : ℕ) → f.seats p ≡ Some d → d < x.disks)
     (free : (n p d first : ℕ) → n < f.state.made → f.seats p ≡ Some d → is_member f n p ≡ false → first_of f n ≡ Some first → (v : List ℕ) → IsSliced t d (first + super_sector) v → ⊥)
-    (y z : Seen) (late : WritesOnly x w (IsSlicedOrTable y z t)) where
-  pub alone_off : (i : Image) → IsPickOff t w i → AreAlone f i
+    (y z : RackView) (late : WritesOnly x w (IsSlicedOrTable y z t)) where
+  pub alone_off : (i : Image) → IsPickOutsideSlices t w i → NoStraySuperblock f i
   alone_off i off n p d first low seat none begins within =
       let u : ℕ = first + super_sector in
       let there : d < x.disks = inside p d seat in
@@ -149,8 +149,8 @@ module _ (f : Found) (t : Slices) (x w : Seen) (alone : AreAlone f (now_in x)) (
       ]
 
 -- and so it is at each stop inside calls that write slices alone
-pub alone_stops : (f : Found) (t : Slices) (x y : Seen) → x.lasting → WritesOnly x y (IsSliced t) → ((i : Image) → IsPickOff t x i → AreAlone f i) → x.traced
-    → Leaves x y (AreAlone f)
+pub alone_stops : (f : Found) (t : Slices) (x y : RackView) → x.lasting → WritesOnly x y (IsSliced t) → ((i : Image) → IsPickOutsideSlices t x i → NoStraySuperblock f i) → x.traced
+    → Leaves x y (NoStraySuperblock f)
 alone_stops f t x y lasting only alone traced =
     let stops = only.stops traced in
     record {

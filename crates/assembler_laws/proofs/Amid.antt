@@ -3,7 +3,7 @@ use Rattle.std.proofs.Common.{◌≡◌, ℕ, ◌<◌, ◌≤◌, Bool, if◌the
 use Rattle.std.specs.Option.{option_map_or}
 use Rattle.std.proofs.lemmas.Bool.{cases_lt}
 use Rattle.rack.specs.Values.{Values, IsSingle, MayLeave}
-use Rattle.rack.specs.Seen.{Image, Seen, IsLive}
+use Rattle.rack.specs.Seen.{Image, RackView, IsLive}
 use Rattle.rack.specs.Joins.{leaves_weaker}
 use Rattle.rack.specs.Moments.{Leaves}
 use Rattle.rack.specs.Targets.{look}
@@ -24,7 +24,7 @@ use Rattle.log_laws.specs.Opening.{ReplayCall, Replays}
 use Rattle.commit_log.proofs.Replayable.{opened_can_replay}
 use Rattle.array_model.specs.View.{shape_of}
 use Rattle.array_model.proofs.Keeping.{reading_live, reading_outside}
-use Rattle.raid_laws.specs.Book.{IsAfter, after_same}
+use Rattle.raid_laws.specs.Book.{OnlyMarksSince, after_same}
 use Rattle.raid_laws.specs.Marking.{SaysBetween}
 use Rattle.raid_laws.specs.Raid.{Raid}
 use Rattle.raid_laws.proofs.Opening.{IsAtRest}
@@ -36,7 +36,7 @@ unfolding replayed
 replayed_outside sectors c d k past =
     ap (λ (b : Bool). if b then unwrap_or (look (pending (option_map_or current_places (state_in c) []) c) d k) (c d k) else c d k) (le-ltb k (sectors d) past)
 
-module _ (v : Raid) (l : LogView) (on : List ℕ) (a : Seen) (at : IsAtRest v l on a) (n : ℕ) (joined : n < v.state.joined) where
+module _ (v : Raid) (l : LogView) (on : List ℕ) (a : RackView) (at : IsAtRest v l on a) (n : ℕ) (joined : n < v.state.joined) where
   -- contents that a stop leaves in the middle, replayed, are as the slices read
   module _ (c : Image) (inside : IsInside a.sectors c) (replays : Replays a c) where
     abbrev r : Image
@@ -74,7 +74,7 @@ module _ (v : Raid) (l : LogView) (on : List ℕ) (a : Seen) (at : IsAtRest v l 
         (λ live. subst (λ j. IsLive a a (member_slice place j) k → IsSingle (a.held (member_slice place j) k)) (at.numbers n joined)
         (λ here. (at.arrays n joined).single place k here) live)
 
-    says_read : (w : State) (vals : ℕ → Values) (spent : ℕ → Bool) → IsAfter v.state w
+    says_read : (w : State) (vals : ℕ → Values) (spent : ℕ → Bool) → OnlyMarksSince v.state w
         → ((y : ℕ) → MayLeave (vals y) (value_by (shape_of (v.arrays n)) (reading a) n y)) → SaysBetween v.state w n vals spent r
     says_read w vals spent after values =
         let number = at.numbers n joined in
@@ -101,7 +101,7 @@ module _ (v : Raid) (l : LogView) (on : List ℕ) (a : Seen) (at : IsAtRest v l 
         of_some y z is = cc
 
   -- so they say the arrays at each moment
-  pub closing_leaves : (b : Seen) → ReplayCall l on [] a b → (w : State) (vals : ℕ → Values) (spent : ℕ → Bool) → IsAfter v.state w
+  pub closing_leaves : (b : RackView) → ReplayCall l on [] a b → (w : State) (vals : ℕ → Values) (spent : ℕ → Bool) → OnlyMarksSince v.state w
       → ((y : ℕ) → MayLeave (vals y) (value_by (shape_of (v.arrays n)) (reading a) n y)) → a.traced
       → Leaves a b (λ c. IsInside a.sectors c → SaysBetween v.state w n vals spent (replayed a.sectors c))
   closing_leaves b replay w vals spent after values traced =

@@ -5,7 +5,7 @@ use Rattle.std.proofs.Math.Nat.{mul-le-mul_right}
 use Rattle.std.specs.List.{range_with_len}
 use Rattle.std.proofs.lemmas.Bool.{and_parts, and_from, both_ways, cases_Bool}
 use Rattle.std.proofs.lemmas.List.{length-map}
-use Rattle.rack.specs.Seen.{Image, Held, Seen, IsLive}
+use Rattle.rack.specs.Seen.{Image, Held, RackView, IsLive}
 use Rattle.slice_rack.specs.Slices.{Slices, IsOrderly, disk_of, first_of, seat_of, sectors_of as slice_sectors}
 use Rattle.slice_rack.specs.Sliced.{slices_of as slices_seen}
 use Rattle.slice_rack.specs.Laws.{disk_below, sector_below}
@@ -20,7 +20,7 @@ use Rattle.array_image.specs.Held.{Among, current_in, held_by}
 use Rattle.array_image.proofs.Frames.{value_by_data}
 use Rattle.array_image.proofs.Sources.{held_current}
 use Rattle.array_model.proofs.Keeping.{reading_live}
-use Rattle.array_image.specs.Left.{IsClosed}
+use Rattle.array_image.specs.Left.{NothingPending}
 use Rattle.array_image.specs.SoundArray.{IsSoundArray, first_unsynced}
 use Rattle.array_model.specs.declared.Seat.{Seat}
 use Rattle.array_model.specs.declared.Seat.TheVariants.{Whole, Missing, Rebuilding}
@@ -112,7 +112,7 @@ sectors_least v array = by (first_layout v.truth) wide
     by (mirror n) many = omega arith
     by (parity n) many = let more : 1 * v.truth.size ≤ (n - 1) * v.truth.size = mul-le-mul_right v.truth.size (omega (arith, many)) in omega (arith, more)
 
-module _ (f : Found) (t : Slices) (x : Seen) (checked : Checked) (absent : List ℕ) (orderly : IsOrderly t)
+module _ (f : Found) (t : Slices) (x : RackView) (checked : Checked) (absent : List ℕ) (orderly : IsOrderly t)
     (m : AreMembers f.state t x checked absent) (steady : AreSteady x) (pool : IsPoolOn f.state t x f)
     (opened : AreOpened f f.state.made checked.arrays.items checked.extents.items checked.stale.items)
     (rules : (n : ℕ) (v : View) → slice_get checked.arrays.items n ≡ Some v → IsArray v)
@@ -245,7 +245,7 @@ module _ (f : Found) (t : Slices) (x : Seen) (checked : Checked) (absent : List 
 
   -- ---- what its slices hold
 
-  opens_now : IsClosed n (slices_seen t x) → OpensOn f.state w (slices_seen t x)
+  opens_now : NothingPending n (slices_seen t x) → OpensOn f.state w (slices_seen t x)
   opens_now closed =
       let truth = truth_now f t x checked absent orderly m steady pool opened n made tr of.truth_is own in
       record {
@@ -282,7 +282,7 @@ module _ (f : Found) (t : Slices) (x : Seen) (checked : Checked) (absent : List 
       young : (b : Bool) → b ≡ true → (if not b then tr.size / 128 else first_unsynced tr) ≤ first_unsynced tr
       young b is = subst (λ (c : Bool). (if not c then tr.size / 128 else first_unsynced tr) ≤ first_unsynced tr) (sym is) (omega arith)
 
-  pub opens_array : IsClosed n (slices_seen t x) → OpensOn f.state (gone absent (restarted v)) (slices_seen t x)
+  pub opens_array : NothingPending n (slices_seen t x) → OpensOn f.state (gone absent (restarted v)) (slices_seen t x)
   opens_array closed = subst (λ (z : View). OpensOn f.state (gone absent (restarted z)) (slices_seen t x)) (sym of.view) (opens_now closed)
 
   -- ---- their values

@@ -1,6 +1,6 @@
 -- Truths that leave no row to resync, where those of the pool leave none.
 use Rattle.std.proofs.Common.{◌≡◌, ℕ, ◌-◌, ◌*◌, ◌/◌, ◌^◌, ◌<◌, Bool, true, false, if◌then◌else◌, List, Some, sym, ap, subst, ◌∙◌, le-ltb, arith}
-use Rattle.rack.specs.Seen.{Image, Seen}
+use Rattle.rack.specs.Seen.{Image, RackView}
 use Rattle.slice_rack.specs.Slices.{Slices}
 use Rattle.md_super.specs.declared.superblock.Super.{Super}
 use Rattle.array_image.specs.Left.{IsLeft}
@@ -12,7 +12,7 @@ use Rattle.array_core.proofs.Stripped.{some_same}
 use Rattle.array_model.specs.Says.{IsEarlier}
 use Rattle.array_model.specs.View.{View, rows_of}
 use Rattle.raid_laws.specs.Agreeing.{AgreeLeaving}
-use Rattle.raid_laws.specs.Raid.{IsTold, Raid, is_over}
+use Rattle.raid_laws.specs.Raid.{IsTracked, Raid, is_failed}
 use Rattle.raid_laws.proofs.Rows.{left_old}
 use Rattle.pool_image.specs.Drives.{Found}
 use Rattle.pool_image.specs.Meaning.{truth_of}
@@ -34,16 +34,16 @@ none_left t u v rows young size sized small left clean =
     le-ltb u.resync_offset u.size (omega (arith, offset, sized, small))
 
 -- the truth of what a stop leaves is one of the run, or an earlier one
-pub earlier_told : (v : Raid) (x : Seen) (n : ℕ) → IsTold v x n → is_over v n ≡ false → (r : Image) → IsLeft x r → (u : Super) → truth_in v.state r n ≡ Some u
+pub earlier_told : (v : Raid) (x : RackView) (n : ℕ) → IsTracked v x n → is_failed v n ≡ false → (r : Image) → IsLeft x r → (u : Super) → truth_in v.state r n ≡ Some u
     → IsEarlier u (v.arrays n).truth
 earlier_told v x n told goes r left u truth =
     let stood = told.stood goes in
     stood.holds.truth r left u (subst (λ k. truth_in v.state r k ≡ Some u) (sym stood.number) truth)
 
 -- so it is after a commit of the superblocks
-pub clean_left : (f : Found) (n : ℕ) (v w : Raid) (c : Seen) → ((t : Super) → truth_of f n ≡ Some t → IsArrayOf f n t (v.arrays n))
+pub clean_left : (f : Found) (n : ℕ) (v w : Raid) (c : RackView) → ((t : Super) → truth_of f n ≡ Some t → IsArrayOf f n t (v.arrays n))
     → ((t : Super) → truth_of f n ≡ Some t → IsArrayOf f n t (w.arrays n)) → ((t : Super) → truth_of f n ≡ Some t → t.size < 2 ^ 48)
-    → IsTold w c n → is_over w n ≡ false → (r : Image) → IsLeft c r → AgreeLeaving (v.arrays n) w.state r n → LeavesClean f w.state n r
+    → IsTracked w c n → is_failed w n ≡ false → (r : Image) → IsLeft c r → AgreeLeaving (v.arrays n) w.state r n → LeavesClean f w.state n r
 clean_left f n v w c before after small told goes r left at t u truth clean now =
     let was = before t truth in
     let is = after t truth in
@@ -51,7 +51,7 @@ clean_left f n v w c before after small told goes r left at t u truth clean now 
     none_left t u (v.arrays n) was.rows was.young was.geometry.size size (small t truth) (at.left u now was.young) clean
 
 -- the truth of an array that was opened is one that it can go by
-pub usable_truth : (f : Found) (t : Slices) (x : Seen) (checked : Checked) (absent : List ℕ) → AreMembers f.state t x checked absent
+pub usable_truth : (f : Found) (t : Slices) (x : RackView) (checked : Checked) (absent : List ℕ) → AreMembers f.state t x checked absent
     → AreOpened f f.state.made checked.arrays.items checked.extents.items checked.stale.items
     → (n : ℕ) (z : Super) → n < f.state.made → truth_of f n ≡ Some z → is_truth z ≡ true
 usable_truth f t x checked absent m opened n z low truth =

@@ -1,7 +1,7 @@
 -- A pool's arrays as they stand over the slices of its drives once gates are closed, before the places without a disk are marked.
 use Rattle.std.proofs.Common.{◌≡◌, ℕ, ◌<◌, true, List, [], slice_get, Option, Some, None, inl, inr, refl, sym, ap, subst, ◌∙◌}
 use Rattle.std.proofs.lemmas.Bool.{both_ways}
-use Rattle.rack.specs.Seen.{Image, Seen}
+use Rattle.rack.specs.Seen.{Image, RackView}
 use Rattle.rack.specs.Values.{MayLeave}
 use Rattle.slice_rack.specs.Slices.{Slices, IsOrderly, seat_of}
 use Rattle.slice_rack.specs.Sliced.{slices_of as slices_seen}
@@ -29,13 +29,13 @@ use Rattle.assembler_laws.proofs.Holding.{before, before_is, data_kept, founds, 
 use Rattle.assembler_laws.proofs.Still.{none_pending}
 
 -- Arrays stand over slices: each that is ready for the volume is that of its superblocks there, its sectors have the pool's values, and nothing is pending.
-pub record StandOver (f : Found) (v : Raid) (b : Seen) : Type 0 where
+pub record StandOver (f : Found) (v : Raid) (b : RackView) : Type 0 where
   pub opens : OpensRaid v b
   pub arrays : (n : ℕ) (u : Super) → n < f.state.joined → truth_of f n ≡ Some u → IsArrayOf f n u (v.arrays n)
   pub values : (n y : ℕ) (u : List ℕ) → n < f.state.joined → MayLeave (held_in v b n y) u → u ≡ arrays_held f n y
   pub idle : (c : Image) → LogsStand b c → pending (deciding c) c ≡ []
 
-module _ (f : Found) (s : State) (t : Slices) (x : Seen) (checked : Checked) (absent gone_now : List ℕ) (orderly : IsOrderly t) (l : LogView)
+module _ (f : Found) (s : State) (t : Slices) (x : RackView) (checked : Checked) (absent gone_now : List ℕ) (orderly : IsOrderly t) (l : LogView)
     (holds : HoldPool s t x l f) (found : IsChecked (is_well None) f checked) (members : AreMembers s t x checked absent)
     (rules : (n : ℕ) (v : View) → slice_get checked.arrays.items n ≡ Some v → IsArray v)
     (v : Raid) (state : v.state ≡ s) (number : v.number ≡ l.number)
@@ -92,7 +92,7 @@ module _ (f : Found) (s : State) (t : Slices) (x : Seen) (checked : Checked) (ab
       })
 
   -- where none is, gates are closed
-  pub stand_closed : absent ≡ [] → (b : Seen) → ReplayCall l (current_places s) [] (slices_seen t x) b → StandOver f v b
+  pub stand_closed : absent ≡ [] → (b : RackView) → ReplayCall l (current_places s) [] (slices_seen t x) b → StandOver f v b
   stand_closed none b replay =
       let call : ReplayCall l (current_places f.state) [] (slices_seen t x) b =
       subst (λ k. ReplayCall l (current_places k) [] (slices_seen t x) b) (sym holds.pool.state) replay in

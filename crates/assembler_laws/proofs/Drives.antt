@@ -3,7 +3,7 @@ use Rattle.std.proofs.Common.{◌≡◌, ◌⊎◌, ℕ, ◌+◌, ◌-◌, ◌<�
 use Rattle.std.specs.Option.{option_and_then, option_map_or}
 use Rattle.std.proofs.lemmas.Bool.{cases_eq}
 use Rattle.std.proofs.lemmas.Option.{none-some}
-use Rattle.rack.specs.Seen.{Seen}
+use Rattle.rack.specs.Seen.{RackView}
 use Rattle.rack.specs.Sequences.{OnlyReads, WritesOnly}
 use Rattle.rack.proofs.Writing.{only_weaker}
 use Rattle.slice_rack.specs.Runs.{IsSliced}
@@ -45,7 +45,7 @@ laid_member seats arrays extents n p e is = of (slice_get arrays n) refl is
     of None at is = absurd (none-some e is)
     of (Some v) at is = of_name v at (is_named v.truth p) (is_some (seats p)) refl is
 
-module _ (s : State) (t : Slices) (y : Seen) (checked : Checked) (absent : List ℕ) (orderly : IsOrderly t) (m : AreMembers s t y checked absent) where
+module _ (s : State) (t : Slices) (y : RackView) (checked : Checked) (absent : List ℕ) (orderly : IsOrderly t) (m : AreMembers s t y checked absent) where
   -- a sector of a slice, on the disk of the slice's place
   module _ (k u d : ℕ) (inside : u < sectors_of t k) (seat : seat_of t (place_of k) ≡ Some d) where
     abbrev p : ℕ
@@ -103,7 +103,7 @@ module _ (s : State) (t : Slices) (y : Seen) (checked : Checked) (absent : List 
           )
 
 -- so only drives are written after reads, where only slices and tables are
-module _ (s : State) (t : Slices) (x y z w : Seen) (checked : Checked) (absent : List ℕ) (known : List Known) (orderly : IsOrderly t)
+module _ (s : State) (t : Slices) (x y z w : RackView) (checked : Checked) (absent : List ℕ) (known : List Known) (orderly : IsOrderly t)
     (m : AreMembers s t y checked absent) (seats : (p d : ℕ) → seat_of t p ≡ Some d → seat_by s known p ≡ Some d)
     (reads : OnlyReads x y) (writes : WritesOnly y z (IsSlicedOrTable y z t)) (texts : WritesOnly z w (IsSliced t)) where
   earlier : (d u : ℕ) (v : List ℕ) → IsSlicedOrTable y z t d u v → IsDriveOrTable x w known s d u v
@@ -122,9 +122,9 @@ module _ (s : State) (t : Slices) (x y z w : Seen) (checked : Checked) (absent :
   writes_drives = only_weaker (IsSlicedOrTable y z t) (IsDriveOrTable x w known s) earlier (rack_then t x y z w reads writes texts)
 
 -- in an opening: the drives' check, then the rack of arrays, then the volume
-pub members_drives : (s : State) (t : Slices) (y : Seen) (checked : Checked) (absent : List ℕ) (known : List Known) (r : State) → IsOrderly t → AreMembers s t y checked absent
+pub members_drives : (s : State) (t : Slices) (y : RackView) (checked : Checked) (absent : List ℕ) (known : List Known) (r : State) → IsOrderly t → AreMembers s t y checked absent
     → s ≡ r → ((p d : ℕ) → seat_of t p ≡ Some d → seat_by r known p ≡ Some d)
-    → (x z w : Seen) → OnlyReads x y → WritesOnly y z (IsSlicedOrTable y z t) → WritesOnly z w (IsSliced t) → WritesOnly x w (IsDriveOrTable x w known r)
+    → (x z w : RackView) → OnlyReads x y → WritesOnly y z (IsSlicedOrTable y z t) → WritesOnly z w (IsSliced t) → WritesOnly x w (IsDriveOrTable x w known r)
 members_drives s t y checked absent known r orderly m same seats x z w reads one two =
     subst (λ k. WritesOnly x w (IsDriveOrTable x w known k)) same
     (writes_drives s t x y z w checked absent known orderly m (λ p d seat. subst (λ k. seat_by k known p ≡ Some d) (sym same) (seats p d seat)) reads one two)

@@ -1,7 +1,7 @@
 -- The pool that disks' contents have is that of a run that brought them to rest.
 use Rattle.std.proofs.Common.{◌≡◌, ℕ, ◌≤◌, Bool, true, false, is_some, List, [], Option, Some, None, inl, inr, refl, sym, ap, subst, ◌∙◌, arith}
 use Rattle.std.proofs.lemmas.Bool.{both_ways, cases_lt}
-use Rattle.rack.specs.Seen.{Seen}
+use Rattle.rack.specs.Seen.{RackView}
 use Rattle.slice_rack.specs.Slices.{Slices, seat_of}
 use Rattle.slice_rack.specs.Sliced.{slices_of as slices_seen}
 use Rattle.pool_state.specs.declared.contents.State.{State}
@@ -28,7 +28,7 @@ use Rattle.pool_check.proofs.Meant.{drives_now, found_is}
 use Rattle.raid_laws.proofs.Noted.{current_few}
 use Rattle.assembler_laws.specs.Holding.{HoldPool, IsFoundOn, IsPoolOn, drives_of}
 
-module _ (x : Seen) (known : List Known) (s : State) (t : Slices) (on : List ℕ) (l : LogView) (is_pending : Bool) (damaged : Option ℕ) where
+module _ (x : RackView) (known : List Known) (s : State) (t : Slices) (on : List ℕ) (l : LogView) (is_pending : Bool) (damaged : Option ℕ) where
   abbrev pub disks : Disks
   disks = disks_of x
 

@@ -13,11 +13,11 @@ use Rattle.pool_image.specs.Drives.{Found}
 use Rattle.pool_image.specs.Meaning.{super_at, truth_of}
 use Rattle.pool_check.specs.Layers.{IsOpened}
 use Rattle.raid_laws.specs.Losing.{geometry_then}
-use Rattle.raid_laws.specs.Moves.{LosesOnly}
+use Rattle.raid_laws.specs.Moves.{OnlyFailures}
 use Rattle.assembler_laws.specs.Holding.{IsArrayOf}
 
 -- losses leave it so
-pub array_later : (f : Found) (n : ℕ) (t : Super) (u w : View) → IsArrayOf f n t u → LosesOnly u w → IsArrayOf f n t w
+pub array_later : (f : Found) (n : ℕ) (t : Super) (u w : View) → IsArrayOf f n t u → OnlyFailures u w → IsArrayOf f n t w
 array_later f n t u w of only = record {
   geometry = geometry_then t u.truth w.truth of.geometry only.same.geometry;
   rows = only.same.resync ∙ of.rows;
@@ -41,7 +41,7 @@ array_same f g n t v same of = record {
 }
 
 pub array_founded : (f : Found) (n : ℕ) (t : Super) (u before w : View) (places : List ℕ) → IsOpened f n u → n < f.state.joined → truth_of f n ≡ Some t
-    → before ≡ gone places (restarted u) → LosesOnly before w
+    → before ≡ gone places (restarted u) → OnlyFailures before w
     → ((k : ℕ) → k < t.raid_disks → slice_get before.seats k ≡ Some (option_map_or seat_by (super_at f n (place_by t k)) Missing)) → IsArrayOf f n t w
 array_founded f n t u before w places of joined truth is only said =
     let same = some_same of.truth t (sym of.truth_is ∙ truth) in

@@ -3,7 +3,7 @@ use Rattle.std.proofs.Common.{◌≡◌, ◌⊎◌, ℕ, ◌+◌, ◌^◌, ◌<�
 use Rattle.std.specs.List.{list_any, range_with_len}
 use Rattle.std.proofs.lemmas.Bool.{and_parts, both_ways, cases_Bool}
 use Rattle.rack.specs.Values.{MayLeave}
-use Rattle.rack.specs.Seen.{Image, Seen, IsLive, Rose, Stays}
+use Rattle.rack.specs.Seen.{Image, RackView, IsLive, Rose, SameRack}
 use Rattle.rack.specs.Joins.{leaves_same, leaves_then, leaves_weaker, stays_same}
 use Rattle.rack.specs.Moments.{Leaves}
 use Rattle.rack.specs.Sequences.{OnlyReads}
@@ -14,8 +14,8 @@ use Rattle.md_super.specs.declared.superblock.Super.{Super}
 use Rattle.pool_state.specs.declared.contents.State.{State}
 use Rattle.array_image.specs.Places.{data_sector, log_slice, member_slice}
 use Rattle.array_image.specs.States.{current_places, is_current}
-use Rattle.array_image.specs.Held.{IsSettled, held_by}
-use Rattle.array_image.specs.Left.{IsClosed, IsInside, IsLeft, reading}
+use Rattle.array_image.specs.Held.{IsSynced, held_by}
+use Rattle.array_image.specs.Left.{NothingPending, IsInside, IsLeft, reading}
 use Rattle.array_image.specs.SoundArray.{array_fields}
 use Rattle.array_image.specs.Supers.{is_unclean, truth_in}
 use Rattle.array_image.proofs.Frames.{Agree, supers_same, truth_by_supers}
@@ -44,8 +44,8 @@ use Rattle.raid_laws.specs.Cleaning.{NoneFails}
 use Rattle.raid_laws.proofs.Agreed.{agree_by}
 use Rattle.raid_laws.specs.Losing.{arrays_same}
 use Rattle.raid_laws.specs.Truths.{KeepsTruths, MakesTruths}
-use Rattle.raid_laws.specs.Raid.{AreLive, IsTold, Raid, gone_in, held_in, is_over, spent_of}
-use Rattle.raid_laws.specs.Book.{IsAfter}
+use Rattle.raid_laws.specs.Raid.{AreLive, IsTracked, Raid, gone_in, held_in, is_failed, spent_of}
+use Rattle.raid_laws.specs.Book.{OnlyMarksSince}
 use Rattle.raid_laws.specs.Marking.{SaysBetween}
 use Rattle.raid_laws.specs.Moves.{IsHeeded, IsSet, KeepsArrays, Mends}
 use Rattle.raid_laws.specs.Opening.{OpenedRaid, OpensRaid}
@@ -89,7 +89,7 @@ finds_named l on other is_pending c same finds =
       opened = λ is. let some = finds.opened is in (some.0, some.1, sym (same some.0) ∙ some.2, some.3, some.4);
     })
 
-module _ (f : Found) (t : Slices) (x : Seen) (checked : Checked) (absent : List ℕ) (orderly : IsOrderly t)
+module _ (f : Found) (t : Slices) (x : RackView) (checked : Checked) (absent : List ℕ) (orderly : IsOrderly t)
     (m : AreMembers f.state t x checked absent) (steady : AreSteady x) (pool : IsPoolOn f.state t x f)
     (found : IsChecked (is_well None) f checked) (sound : IsSoundPool f)
     (rules : (n : ℕ) (v : View) → slice_get checked.arrays.items n ≡ Some v → IsArray v)
@@ -200,11 +200,11 @@ module _ (f : Found) (t : Slices) (x : Seen) (checked : Checked) (absent : List 
     }
 
     -- then gates are closed
-    module _ (number_is : number ≡ l.number) (b : Seen) (replay : ReplayCall l (current_places f.state) [] (slices_seen t x) b) where
+    module _ (number_is : number ≡ l.number) (b : RackView) (replay : ReplayCall l (current_places f.state) [] (slices_seen t x) b) where
       pub holds_closed : OpensRaid v b
       holds_closed = opens_raid v l (current_places f.state) (slices_seen t x) b (rests l number_is idle_all) replay
 
-      pub says_closing : (n : ℕ) → n < f.state.joined → (w : State) (spent : ℕ → Bool) → IsAfter f.state w → x.traced
+      pub says_closing : (n : ℕ) → n < f.state.joined → (w : State) (spent : ℕ → Bool) → OnlyMarksSince f.state w → x.traced
           → Leaves (slices_seen t x) b (λ c. IsInside (sectors_of t) c → SaysBetween f.state w n (pool_values f n) spent (replayed (sectors_of t) c))
       says_closing n less w spent after =
           let made = low_joined n less in
@@ -214,7 +214,7 @@ module _ (f : Found) (t : Slices) (x : Seen) (checked : Checked) (absent : List 
           ∙ array_read f t x checked absent orderly m steady pool found.opened rules sound n less made at.0 at.1 y))
 
   -- closing gates moves no sector of an array
-  pub data_kept : (l : LogView) → l.pending ≡ [] → (b : Seen) → ReplayCall l (current_places f.state) [] (slices_seen t x) b
+  pub data_kept : (l : LogView) → l.pending ≡ [] → (b : RackView) → ReplayCall l (current_places f.state) [] (slices_seen t x) b
       → (n place s : ℕ) → n < 16 → IsLive (slices_seen t x) (slices_seen t x) (member_slice place n) s
       → (b.held (member_slice place n) s).current ≡ ((slices_seen t x).held (member_slice place n) s).current
   unfolding look
@@ -225,11 +225,11 @@ module _ (f : Found) (t : Slices) (x : Seen) (checked : Checked) (absent : List 
 
   -- where no superblock was stale and none is absent, they agree in whatever calls leave that only read, and their truth is the pool's
   pub agree_still : (l : LogView) → number ≡ l.number → IsIdle f.state t x l → absent ≡ [] → list_any (λ flag. flag) checked.stale.items ≡ false
-      → (b : Seen) → OpensRaid v b → Stays (slices_seen t x) b
+      → (b : RackView) → OpensRaid v b → SameRack (slices_seen t x) b
       → ((n place s : ℕ) → n < 16 → IsLive (slices_seen t x) (slices_seen t x) (member_slice place n) s
       → (b.held (member_slice place n) s).current ≡ ((slices_seen t x).held (member_slice place n) s).current)
-      → (w : Raid) (c : Seen) → OnlyReads b c → w.state ≡ f.state → IsHeeded w → OpenedRaid v w b c
-      → (n : ℕ) → n < f.state.joined → is_over w n ≡ false → (r : Image) → IsLeft c r
+      → (w : Raid) (c : RackView) → OnlyReads b c → w.state ≡ f.state → IsHeeded w → OpenedRaid v w b c
+      → (n : ℕ) → n < f.state.joined → is_failed w n ≡ false → (r : Image) → IsLeft c r
       → SupersAgree w.state r n × LeavesClean f w.state n r × (truth_in w.state r n ≡ truth_of f n)
   agree_still l number_is log none fresh b opens stays kept w c reads same heeded marks n less goes r left =
       let a = slices_seen t x in
@@ -244,7 +244,7 @@ module _ (f : Found) (t : Slices) (x : Seen) (checked : Checked) (absent : List 
       λ place u low inside. told.slices goes n place u made_now low inside in
       let agree : Agree n r (reading a) =
       left_reads n a c (λ d high. sectors d ∙ none_past f t x checked absent orderly m steady pool found.opened d high) sectors
-      (subst (λ k. IsClosed k c) stood.number (stood.holds.closed (heeded n made_now))) live
+      (subst (λ k. NothingPending k c) stood.number (stood.holds.closed (heeded n made_now))) live
       (λ place u value low inside may.
       let d = member_slice place n in
       let early : u < b.sectors d = subst (λ k. u < k) (reads.stays.sectors d) inside in
@@ -266,13 +266,13 @@ module _ (f : Found) (t : Slices) (x : Seen) (checked : Checked) (absent : List 
         here ∙ sym of.truth_is,
       )
     where
-      opens_lasting : {b : Seen} → Stays (slices_seen t x) b → b.lasting
+      opens_lasting : {b : RackView} → SameRack (slices_seen t x) b → b.lasting
       opens_lasting stays = stays.lasting m.lasting
 
   -- ---- after the marks
 
   -- an array's sectors have one value, which is that of the pool
-  pub value_held : (b : Seen) → OpensRaid v b
+  pub value_held : (b : RackView) → OpensRaid v b
       → ((n place s : ℕ) → n < 16 → IsLive (slices_seen t x) (slices_seen t x) (member_slice place n) s
       → (b.held (member_slice place n) s).current ≡ ((slices_seen t x).held (member_slice place n) s).current)
       → (n y : ℕ) (u : List ℕ) → n < f.state.joined → MayLeave (held_in v b n y) u → u ≡ array_in f.state (slices_of f) n y
@@ -281,22 +281,22 @@ module _ (f : Found) (t : Slices) (x : Seen) (checked : Checked) (absent : List 
       let at = array_at n made in
       let few = few_made f t x checked absent orderly m steady pool found.opened n made in
       let array = opens.arrays n less in
-      let settled : IsSettled (shape_of (arrays n)) n b.held =
-      subst (λ k. IsSettled (shape_of (arrays n)) k b.held) (opens.numbers n less)
+      let settled : IsSynced (shape_of (arrays n)) n b.held =
+      subst (λ k. IsSynced (shape_of (arrays n)) k b.held) (opens.numbers n less)
       (λ k s among counts. array.single k.place (data_sector + s) (array.open_slices k s among counts)) in
       held_single (shape_of (arrays n)) n b.held y settled u may
       ∙ ap (λ (z : View). (held_by (shape_of z) b.held n y).current) (are n at.0 at.1)
       ∙ array_values f t x checked absent orderly m steady pool found.opened rules sound n less made at.0 at.1 b.held (λ place s. kept n place s few) y
 
-  pub holds_marked : (b : Seen) → OpensRaid v b → Stays (slices_seen t x) b
+  pub holds_marked : (b : RackView) → OpensRaid v b → SameRack (slices_seen t x) b
       → ((n place s : ℕ) → n < 16 → IsLive (slices_seen t x) (slices_seen t x) (member_slice place n) s
       → (b.held (member_slice place n) s).current ≡ ((slices_seen t x).held (member_slice place n) s).current)
-      → ((n : ℕ) → n < f.state.joined → (w : State) (spent : ℕ → Bool) → IsAfter f.state w → x.traced
+      → ((n : ℕ) → n < f.state.joined → (w : State) (spent : ℕ → Bool) → OnlyMarksSince f.state w → x.traced
       → Leaves (slices_seen t x) b (λ c. IsInside (sectors_of t) c → SaysBetween f.state w n (pool_values f n) spent (replayed (sectors_of t) c)))
-      → (w : Raid) (c : Seen) → IsAfter f.state w.state → w.state.plan ≡ f.state.plan → ((n : ℕ) → array_sectors_of (w.arrays n) ≡ array_sectors_of (arrays n))
+      → (w : Raid) (c : RackView) → OnlyMarksSince f.state w.state → w.state.plan ≡ f.state.plan → ((n : ℕ) → array_sectors_of (w.arrays n) ≡ array_sectors_of (arrays n))
       → OpenedRaid v w b c
-      → ((n : ℕ) → n < f.state.joined → is_over w n ≡ false → (r : Image) → IsLeft c r → SupersAgree w.state r n × LeavesClean f w.state n r)
-      → ((n : ℕ) → n < f.state.joined → is_over w n ≡ false → HoldTruth (w.arrays n) c)
+      → ((n : ℕ) → n < f.state.joined → is_failed w n ≡ false → (r : Image) → IsLeft c r → SupersAgree w.state r n × LeavesClean f w.state n r)
+      → ((n : ℕ) → n < f.state.joined → is_failed w n ≡ false → HoldTruth (w.arrays n) c)
       → ((n : ℕ) (z : Super) → n < f.state.joined → truth_of f n ≡ Some z → IsArrayOf f n z (w.arrays n))
       → HoldsArrays f w (slices_seen t x) c
   holds_marked b opens stays kept closing w c after plan sizes marks agree truths founds = record {
@@ -335,12 +335,12 @@ module _ (f : Found) (t : Slices) (x : Seen) (checked : Checked) (absent : List 
 -- ---- as the rack is made
 
 -- nobody went in calls in which no disk refused one
-pub nobody_went : (l : LogView) (on lost : List ℕ) (a b : Seen) → ReplayCall l on lost a b → ((d : ℕ) → Rose (a.faults d) (b.faults d) → ⊥) → lost ≡ []
+pub nobody_went : (l : LogView) (on lost : List ℕ) (a b : RackView) → ReplayCall l on lost a b → ((d : ℕ) → Rose (a.faults d) (b.faults d) → ⊥) → lost ≡ []
 nobody_went l on [] a b replay quiet = refl
 nobody_went l on (p ∷ lost) a b replay quiet =
     absurd (let cause = replay.gone.cause p (ap (λ (k : Bool). k || names lost p) (eq-eqb p p refl)) in quiet cause.0 cause.2)
 
-module _ (f : Found) (s : State) (t : Slices) (x : Seen) (checked : Checked) (absent gone_now : List ℕ) (orderly : IsOrderly t) (l : LogView)
+module _ (f : Found) (s : State) (t : Slices) (x : RackView) (checked : Checked) (absent gone_now : List ℕ) (orderly : IsOrderly t) (l : LogView)
     (holds : HoldPool s t x l f) (found : IsChecked (is_well None) f checked) (members : AreMembers s t x checked absent)
     (rules : (n : ℕ) (v : View) → slice_get checked.arrays.items n ≡ Some v → IsArray v)
     (v : Raid) (state : v.state ≡ s) (number : v.number ≡ l.number)
@@ -381,7 +381,7 @@ module _ (f : Found) (s : State) (t : Slices) (x : Seen) (checked : Checked) (ab
       some_truth a b same = cc
 
   -- after a commit of superblocks they leave no row to resync where the pool's leave none
-  marked_clean : gone_now ≡ absent → (w : Raid) → KeepsArrays v w → (c : Seen) → (n : ℕ) → n < f.state.joined → IsTold w c n → is_over w n ≡ false → (r : Image) → IsLeft c r
+  marked_clean : gone_now ≡ absent → (w : Raid) → KeepsArrays v w → (c : RackView) → (n : ℕ) → n < f.state.joined → IsTracked w c n → is_failed w n ≡ false → (r : Image) → IsLeft c r
       → AgreeLeaving (before.arrays n) w.state r n → SupersAgree w.state r n × LeavesClean f w.state n r
   marked_clean nobody w keeps c n less told goes r left at = (
     at.agree,
@@ -401,13 +401,13 @@ module _ (f : Found) (s : State) (t : Slices) (x : Seen) (checked : Checked) (ab
       omega (arith, least, less, is)
 
   -- superblocks that were all written say their arrays' truths
-  made_truths : (w : Raid) (b c : Seen) → IsSet v b → OpensRaid before b → MakesTruths v w b c → (n : ℕ) → n < f.state.joined → HoldTruth (w.arrays n) c
+  made_truths : (w : Raid) (b c : RackView) → IsSet v b → OpensRaid before b → MakesTruths v w b c → (n : ℕ) → n < f.state.joined → HoldTruth (w.arrays n) c
   made_truths w b c set opens makes n less =
       makes n (low_made n less)
       (live_tells v b n set (subst (λ k. AreLive k b) (sym (ap (λ (k : State). k.made) (state ∙ same))) opens.slices) (low_made n less))
 
   -- where a place is absent
-  pub rack_still : (absent ≡ [] → ⊥) → gone_now ≡ absent → (w : Raid) (c : Seen) → Mends v w (slices_seen t x) c → MakesAgree v w (slices_seen t x) c → NoneFails (slices_seen t x) c
+  pub rack_still : (absent ≡ [] → ⊥) → gone_now ≡ absent → (w : Raid) (c : RackView) → Mends v w (slices_seen t x) c → MakesAgree v w (slices_seen t x) c → NoneFails (slices_seen t x) c
       → IsSet v (slices_seen t x) → MakesTruths v w (slices_seen t x) c → HoldsArrays f w (slices_seen t x) c
   rack_still away none w c mends agree quiet set makes =
       let now : (n : ℕ) (u : View) → slice_get checked.arrays.items n ≡ Some u → before.arrays n ≡ gone absent (restarted u) =
@@ -417,7 +417,7 @@ module _ (f : Found) (s : State) (t : Slices) (x : Seen) (checked : Checked) (ab
       holds_marked f t x checked absent orderly m holds.steady pool found holds.sound rules v.arrays v.number now
       (slices_seen t x) opens (stays_same (slices_seen t x) m.fit) (λ n place k low live. refl)
       (λ n less k spent after traced. leaves_same (slices_seen t x) (λ i. IsInside (sectors_of t) i → SaysBetween f.state k n (pool_values f n) spent (replayed (sectors_of t) i)))
-      w c (subst (λ k. IsAfter k w.state) (state ∙ same) mends.moves.book) (mends.moves.plan ∙ ap (λ (k : State). k.plan) (state ∙ same)) mends.moves.sectors marks
+      w c (subst (λ k. OnlyMarksSince k w.state) (state ∙ same) mends.moves.book) (mends.moves.plan ∙ ap (λ (k : State). k.plan) (state ∙ same)) mends.moves.sectors marks
       (λ n less goes r left.
       marked_clean none w mends.moves.arrays c n less (marks.told n less) goes r left
       (marks.agree (subst (λ k. MakesAgree k w (slices_seen t x) c) before_is agree) quiet n less goes r left))
@@ -425,8 +425,8 @@ module _ (f : Found) (s : State) (t : Slices) (x : Seen) (checked : Checked) (ab
       (founds none w mends.moves.arrays)
 
   -- where none is, and none goes
-  pub rack_closed : absent ≡ [] → gone_now ≡ [] → (b : Seen) → ReplayCall l (current_places s) gone_now (slices_seen t x) b
-      → (w : Raid) (c : Seen) → Mends v w b c
+  pub rack_closed : absent ≡ [] → gone_now ≡ [] → (b : RackView) → ReplayCall l (current_places s) gone_now (slices_seen t x) b
+      → (w : Raid) (c : RackView) → Mends v w b c
       → IsSet v b
       → (MakesAgree v w b c × NoneFails b c × MakesTruths v w b c)
       ⊎ (OnlyReads b c × (w.state ≡ v.state) × (list_any (λ flag. flag) checked.stale.items ≡ false) × IsSet v c × KeepsTruths v w c c)
@@ -443,7 +443,7 @@ module _ (f : Found) (s : State) (t : Slices) (x : Seen) (checked : Checked) (ab
       holds_marked f t x checked absent orderly m holds.steady pool found holds.sound rules v.arrays v.number now
       b opens replay.stays kept
       (says_closing f t x checked absent orderly m holds.steady pool found holds.sound rules v.arrays v.number now l log none number b call)
-      w c (subst (λ k. IsAfter k w.state) (state ∙ same) mends.moves.book) (mends.moves.plan ∙ ap (λ (k : State). k.plan) (state ∙ same)) mends.moves.sectors marks
+      w c (subst (λ k. OnlyMarksSince k w.state) (state ∙ same) mends.moves.book) (mends.moves.plan ∙ ap (λ (k : State). k.plan) (state ∙ same)) mends.moves.sectors marks
       (elim either [
         | inl made ↦ λ n less goes r left.
             marked_clean (nobody ∙ sym none) w mends.moves.arrays c n less (marks.told n less) goes r left

@@ -1,7 +1,7 @@
 -- A pool that disks hold at rest they hold after reads, whose slices are those of the same drives.
 use Rattle.std.proofs.Common.{◌≡◌, ℕ, ◌+◌, ◌<◌, Bool, true, false, ◌&&◌, nat_lt, is_none, is_some, if◌then◌else◌, List, [], length, Option, Some, None, unwrap_or, inl, inr, refl, sym, ap, ap₂, subst, ◌∙◌, ltb-true, arith}
 use Rattle.rack.specs.Values.{Keeps}
-use Rattle.rack.specs.Seen.{Image, Seen}
+use Rattle.rack.specs.Seen.{Image, RackView}
 use Rattle.rack.specs.Sequences.{OnlyReads}
 use Rattle.slice_rack.specs.Slices.{Slices, IsOrderly, disk_of, first_of, place_of, seat_of, sectors_of}
 use Rattle.slice_rack.specs.Sliced.{IsInside, slices_of as slices_seen}
@@ -41,7 +41,7 @@ finds_logs l on places is_pending c e same finds =
       opened = λ is. let some = finds.opened is in (some.0, some.1, some.2, gate some.0 ∙ some.3, some.4);
     }
 
-module _ (s : State) (t w : Slices) (x y : Seen) (orderly : IsOrderly t) (now_orderly : IsOrderly w) (reads : OnlyReads x y) (inside : IsInside t x)
+module _ (s : State) (t w : Slices) (x y : RackView) (orderly : IsOrderly t) (now_orderly : IsOrderly w) (reads : OnlyReads x y) (inside : IsInside t x)
     (seats : (p : ℕ) → seat_of w p ≡ seat_of t p)
     (sizes : (p d : ℕ) → seat_of t p ≡ Some d → sectors_of w (log_slice p) ≡ sectors_of t (log_slice p))
     (firsts : (p d : ℕ) → seat_of t p ≡ Some d → first_of w (log_slice p) ≡ first_of t (log_slice p))

@@ -2,7 +2,7 @@
 use Rattle.std.proofs.Common.{◌≡◌, ◌⊎◌, ℕ, ◌<◌, ◌≤◌, Bool, true, false, is_none, if◌then◌else◌, List, filter, Option, Some, None, inl, inr, refl, sym, ap, ◌∙◌}
 use Rattle.std.proofs.lemmas.Bool.{cases_lt}
 use Rattle.std.proofs.lemmas.Option.{none-some}
-use Rattle.rack.specs.Seen.{Seen}
+use Rattle.rack.specs.Seen.{RackView}
 use Rattle.rack.specs.Sequences.{WritesOnly}
 use Rattle.rack.proofs.Writing.{only_weaker}
 use Rattle.slice_rack.specs.Sliced.{slices_of}
@@ -14,7 +14,7 @@ use Rattle.pool_check.specs.Drives.{Loses, flag_by, seats_by}
 use Rattle.pool_check.specs.Settling.{AreDistinct, IsSettled, IsTableSector, IsTrueOf, KeepsTable}
 use Rattle.assembler_laws.specs.Mending.{MendsTables}
 
-module _ (t : Slices) (x : Seen) (orderly : IsOrderly t) (fit : (slices_of t x).fit) (gone : List ℕ) (first left : List (Option ℕ))
+module _ (t : Slices) (x : RackView) (orderly : IsOrderly t) (fit : (slices_of t x).fit) (gone : List ℕ) (first left : List (Option ℕ))
     (are : (p : ℕ) → seats_by first p ≡ seat_of t p)
     (each : (p : ℕ) → p < 16 → seats_by left p ≡ (if names gone p then None else seats_by first p))
     (beyond : (p : ℕ) → 16 ≤ p → seats_by left p ≡ seats_by first p) (agreed : List Bool) where
@@ -39,7 +39,7 @@ module _ (t : Slices) (x : Seen) (orderly : IsOrderly t) (fit : (slices_of t x).
   pub left_distinct : AreDistinct (seats_by left)
   left_distinct p q d low high one two = orderly.one_place p q d (kept p d one) (kept q d two)
 
-  pub mends_so : (y : Seen) (now : List (Option ℕ)) → WritesOnly x y (IsTableSector x y (seats_by left) 16) → Loses x y (seats_by left) (seats_by now)
+  pub mends_so : (y : RackView) (now : List (Option ℕ)) → WritesOnly x y (IsTableSector x y (seats_by left) 16) → Loses x y (seats_by left) (seats_by now)
       → ((d : ℕ) → KeepsTable x y d) → ((p d : ℕ) → p < 16 → seats_by now p ≡ Some d → IsTrueOf x d (flag_by agreed p) → IsSettled x y d)
       → (s : State) (places : List ℕ) → places ≡ filter (λ p. is_none (seats_by now p)) (current_places s) → MendsTables x y s (seat_of t) agreed gone places
   mends_so y now only loses tables settled s places listed = record {

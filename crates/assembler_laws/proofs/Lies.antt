@@ -3,7 +3,7 @@ use Rattle.std.proofs.Common.{◌≡◌, ℕ, suc, ◌<◌, Bool, false, ◌&&�
 use Rattle.std.specs.Option.{option_and_then, option_map_or}
 use Rattle.std.proofs.lemmas.Bool.{cases_lt}
 use Rattle.std.proofs.lemmas.Option.{slice_get_past}
-use Rattle.rack.specs.Seen.{Seen}
+use Rattle.rack.specs.Seen.{RackView}
 use Rattle.slice_rack.specs.Slices.{Slices, IsOrderly, place_of, seat_of, sectors_of}
 use Rattle.md_super.specs.declared.superblock.Super.{Super}
 use Rattle.pool_state.specs.declared.contents.State.{State}
@@ -27,7 +27,7 @@ use Rattle.assembler_laws.specs.Members.{AreMembers}
 use Rattle.pool_model.specs.Pools.{AreSlicesOf, extent_in}
 use Rattle.assembler_laws.proofs.Shows.{few_made, few_place, members, no_slice, slots}
 
-module _ (f : Found) (t : Slices) (x : Seen) (checked : Checked) (absent : List ℕ) (orderly : IsOrderly t)
+module _ (f : Found) (t : Slices) (x : RackView) (checked : Checked) (absent : List ℕ) (orderly : IsOrderly t)
     (m : AreMembers f.state t x checked absent) (steady : AreSteady x) (pool : IsPoolOn f.state t x f)
     (opened : AreOpened f f.state.made checked.arrays.items checked.extents.items checked.stale.items) where
   few_seat : (p d : ℕ) → f.seats p ≡ Some d → p < 16

@@ -1,7 +1,7 @@
 -- Which places are marked missing once a rack of arrays is made.
 use Rattle.std.proofs.Common.{◌≡◌, ℕ, ◌<◌, ◌⊎◌, ◌&&◌, ◌||◌, Bool, true, false, not, is_none, is_some, List, [], ◌∷◌, slice_get, Option, Some, None, inl, inr, refl, sym, ap, subst, ◌∙◌, arith}
 use Rattle.std.proofs.lemmas.Bool.{and_from, and_parts, both_ways, cases_Bool}
-use Rattle.rack.specs.Seen.{Seen}
+use Rattle.rack.specs.Seen.{RackView}
 use Rattle.slice_rack.specs.Slices.{Slices, seat_of}
 use Rattle.pool_state.specs.declared.contents.State.{State}
 use Rattle.array_image.specs.States.{is_current}
@@ -38,7 +38,7 @@ pub lost_so : (current there : Bool) → current ≡ false → (current && there
 lost_so true there off = absurd (both_ways true off refl)
 lost_so false there off = refl
 
-module _ (s : State) (t : Slices) (y : Seen) (checked : Checked) (absent places : List ℕ) (m : AreMembers s t y checked absent)
+module _ (s : State) (t : Slices) (y : RackView) (checked : Checked) (absent places : List ℕ) (m : AreMembers s t y checked absent)
     (v : Raid) (state : v.state ≡ s)
     (are : (n : ℕ) (u : View) → slice_get checked.arrays.items n ≡ Some u → v.arrays n ≡ gone places (restarted u)) where
   made : v.state.made ≡ s.made
@@ -64,7 +64,7 @@ module _ (s : State) (t : Slices) (y : Seen) (checked : Checked) (absent places 
   ]
 
   -- whoever is marked was left out, or has refused a call since
-  pub marked_for : (w : Raid) (b c : Seen) → Mends v w b c → (p : ℕ) → is_current s p ≡ true → is_current w.state p ≡ false
+  pub marked_for : (w : Raid) (b c : RackView) → Mends v w b c → (p : ℕ) → is_current s p ≡ true → is_current w.state p ≡ false
       → (names places p ≡ true) ⊎ HasFault b c p
   marked_for w b c mends p current off = elim (cases_Bool (names places p)) [
     | inl out ↦ inl out
@@ -74,7 +74,7 @@ module _ (s : State) (t : Slices) (y : Seen) (checked : Checked) (absent places 
         inr (mends.moves.cause p left (lost_so (is_current w.state p) (not (gone_in w p)) off))
   ]
 
-  module _ (same : (p : ℕ) → names places p ≡ names absent p) (w : Raid) (b c : Seen) (mends : Mends v w b c) where
+  module _ (same : (p : ℕ) → names places p ≡ names absent p) (w : Raid) (b c : RackView) (mends : Mends v w b c) where
     -- the absent places alone went in the arrays
     pub went_is : (n p : ℕ) → n < v.state.made → p < 16 → has_gone (v.arrays n) p ≡ names absent p
     went_is n p low few = went_names n p low few ∙ same p
@@ -120,7 +120,7 @@ module _ (s : State) (t : Slices) (y : Seen) (checked : Checked) (absent places 
     ]
 
 -- calls in which no disk refused one mark nobody
-pub marks_still : (p q : ℕ → Bool) (v w : Raid) (b c : Seen) → RaidRuns p q v w b c → IsHeeded v → IsHeeded w → ((place : ℕ) → HasFault b c place → ⊥)
+pub marks_still : (p q : ℕ → Bool) (v w : Raid) (b c : RackView) → RaidRuns p q v w b c → IsHeeded v → IsHeeded w → ((place : ℕ) → HasFault b c place → ⊥)
     → (place : ℕ) → is_current w.state place ≡ is_current v.state place
 marks_still p q v w b c runs before after quiet place = elim (cases_Bool (is_current w.state place)) [
   | inl on ↦ on ∙ sym (runs.book.current place on)

@@ -5,7 +5,7 @@ use Rattle.std.specs.List.{range_with_len, slice_index}
 use Rattle.std.proofs.lemmas.Bool.{and_parts, both_ways, cases_lt}
 use Rattle.std.proofs.lemmas.List.Folds.{list_any_at}
 use Rattle.std.proofs.lemmas.Option.{none-some}
-use Rattle.rack.specs.Seen.{Image, Seen}
+use Rattle.rack.specs.Seen.{Image, RackView}
 use Rattle.rack.specs.Targets.{look}
 use Rattle.slice_rack.specs.Slices.{Slices, IsOrderly, disk_of, first_of, seat_of, sectors_of}
 use Rattle.slice_rack.specs.Sliced.{slices_of as slices_seen}
@@ -68,7 +68,7 @@ state_of_latest c s one own few is each = by (foremost epoch_of (map (copy_in c)
           ])
         ]
 
-module _ (f : Found) (t : Slices) (x : Seen) (checked : Checked) (absent : List ℕ) (orderly : IsOrderly t)
+module _ (f : Found) (t : Slices) (x : RackView) (checked : Checked) (absent : List ℕ) (orderly : IsOrderly t)
     (m : AreMembers f.state t x checked absent) (steady : AreSteady x) (pool : IsPoolOn f.state t x f)
     (found : IsChecked (is_well None) f checked) (sound : IsSoundPool f) where
   abbrev pub e : Image

@@ -4,7 +4,7 @@ use Rattle.std.specs.Option.{option_and_then, option_map_or}
 use Rattle.std.proofs.lemmas.Bool.{and_parts, both_ways}
 use Rattle.std.proofs.lemmas.List.{length-map}
 use Rattle.std.proofs.lemmas.Option.{slice_get_within}
-use Rattle.rack.specs.Seen.{Seen}
+use Rattle.rack.specs.Seen.{RackView}
 use Rattle.slice_rack.specs.Slices.{Slices, seat_of, sectors_of}
 use Rattle.slice_rack.specs.Sliced.{slices_of}
 use Rattle.pool_state.specs.declared.contents.State.{State}
@@ -38,7 +38,7 @@ got (x ∷ xs) (suc n) below = got xs n (omega (arith, below))
 restarted_array : (v : View) → IsArray v → IsArray (restarted v)
 restarted_array v is_array = array_with v (map (restart v.truth.size) v.seats) v.went (length-map v.seats (restart v.truth.size)) is_array
 
-module _ (s : State) (t : Slices) (x : Seen) (checked : Checked) (absent : List ℕ) (m : AreMembers s t x checked absent)
+module _ (s : State) (t : Slices) (x : RackView) (checked : Checked) (absent : List ℕ) (m : AreMembers s t x checked absent)
     (rules : (n : ℕ) (v : View) → slice_get checked.arrays.items n ≡ Some v → IsArray v)
     (gone_now : List ℕ) (more : (p : ℕ) → names absent p ≡ true → names gone_now p ≡ true) where
   -- whoever is current and isn't absent has a disk

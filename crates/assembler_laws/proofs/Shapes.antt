@@ -4,7 +4,7 @@ use Rattle.std.specs.Option.{option_map_or}
 use Rattle.std.specs.List.{range_with_len}
 use Rattle.std.proofs.lemmas.Bool.{both_ways}
 use Rattle.arrayvec.specs.ArrayVec.{ArrayVec}
-use Rattle.rack.specs.Seen.{Seen}
+use Rattle.rack.specs.Seen.{RackView}
 use Rattle.slice_rack.specs.Slices.{Slices, disk_of, first_of as slice_first, sectors_of}
 use Rattle.md_super.specs.declared.superblock.Super.{Super}
 use Rattle.array_image.specs.Arrays.{final_layout, first_layout, member_by, member_in, place_with, shape_by}
@@ -98,7 +98,7 @@ unseated None none = refl
 unseated (Some d) none = absurd (both_ways true none refl)
 
 -- The members whose places are left are on current places of the pool, and no other current place has a disk.
-module _ (f : Found) (slices : Slices) (lie : AreSlicesOf f slices) (n : ℕ) (few : n < 16) (t : Super) (v : Raid) (y : Seen) (of : IsArrayOf f n t (v.arrays n))
+module _ (f : Found) (slices : Slices) (lie : AreSlicesOf f slices) (n : ℕ) (few : n < 16) (t : Super) (v : Raid) (y : RackView) (of : IsArrayOf f n t (v.arrays n))
     (seated : IsSeated v.state n (v.arrays n) y)
     (kept : (p : ℕ) → (is_current v.state p && not (has_gone (v.arrays n) p)) ≡ true → is_current f.state p ≡ true)
     (lost : (p : ℕ) → (is_current v.state p && not (has_gone (v.arrays n) p)) ≡ false → (is_current f.state p && is_some (f.seats p)) ≡ false) where
@@ -157,7 +157,7 @@ module _ (f : Found) (slices : Slices) (lie : AreSlicesOf f slices) (n : ℕ) (f
   shape_left truth = ap (option_map (shape_by f.state (slices_of f) n)) truth ∙ ap Some (sym same_shape)
 
 -- an array that was heeded, by a book that marks just the places without a disk, or some of them
-pub shape_heeded : (f : Found) (slices : Slices) → AreSlicesOf f slices → (n : ℕ) → n < 16 → (t : Super) (v : Raid) (y : Seen) → IsArrayOf f n t (v.arrays n)
+pub shape_heeded : (f : Found) (slices : Slices) → AreSlicesOf f slices → (n : ℕ) → n < 16 → (t : Super) (v : Raid) (y : RackView) → IsArrayOf f n t (v.arrays n)
     → IsSeated v.state n (v.arrays n) y → (v.arrays n).went ≡ [] → ((p : ℕ) → is_current v.state p ≡ true → is_current f.state p ≡ true)
     → ((p : ℕ) → is_current v.state p ≡ false → (is_current f.state p && is_some (f.seats p)) ≡ false) → truth_of f n ≡ Some t → shape_found f n ≡ Some (shape_of (v.arrays n))
 shape_heeded f slices lie n few t v y of seated heeded kept lost =

@@ -3,7 +3,7 @@ use Rattle.std.proofs.Common.{◌≡◌, ℕ, zero, suc, ◌∷◌, ◌+◌, ◌
 use Rattle.std.specs.Prelude.{unwrap_or}
 use Rattle.std.specs.Option.{option_and_then, option_map_or}
 use Rattle.std.proofs.lemmas.Bool.{cases_lt}
-use Rattle.rack.specs.Seen.{Image, Seen, IsLive}
+use Rattle.rack.specs.Seen.{Image, RackView, IsLive}
 use Rattle.slice_rack.specs.Slices.{Slices, IsOrderly, disk_of, first_of, sectors_of, seat_of}
 use Rattle.slice_rack.specs.Sliced.{sliced, slices_of as slices_seen}
 use Rattle.slice_rack.specs.Laws.{disk_below, sector_below}
@@ -39,7 +39,7 @@ names_members f n p v opened =
     ap (λ (w : View). is_named w.truth p) opened.view
     ∙ sym (ap (λ (o : Option Super). option_map_or (λ t. is_named t p) o false) opened.truth_is)
 
-module _ (f : Found) (t : Slices) (x : Seen) (checked : Checked) (absent : List ℕ) (orderly : IsOrderly t)
+module _ (f : Found) (t : Slices) (x : RackView) (checked : Checked) (absent : List ℕ) (orderly : IsOrderly t)
     (m : AreMembers f.state t x checked absent) (steady : AreSteady x) (pool : IsPoolOn f.state t x f)
     (opened : AreOpened f f.state.made checked.arrays.items checked.extents.items checked.stale.items) where
   -- the contents as they read now

@@ -4,7 +4,7 @@ use Rattle.std.specs.Result.{result_ok}
 use Rattle.std.proofs.lemmas.Bool.{both_ways, cases_lt}
 use Rattle.std.proofs.lemmas.Option.{none-some}
 use Rattle.rack.specs.Values.{MayLeave}
-use Rattle.rack.specs.Seen.{Image, Seen}
+use Rattle.rack.specs.Seen.{Image, RackView}
 use Rattle.rack.specs.Targets.{look}
 use Rattle.pool_state.specs.declared.contents.Copied.{Copied}
 use Rattle.pool_state.specs.declared.contents.State.{State}
@@ -13,12 +13,12 @@ use Rattle.array_image.specs.Places.{log_slice, member_slice}
 use Rattle.array_image.specs.Record.{pending}
 use Rattle.array_image.specs.States.{copy_in, is_current}
 use Rattle.array_image.specs.Arrays.{replayed}
-use Rattle.array_image.specs.Left.{IsClosed, reading}
+use Rattle.array_image.specs.Left.{NothingPending, reading}
 use Rattle.log_laws.specs.View.{LogView}
 use Rattle.log_laws.specs.Standing.{LogsStand, StatesStand, deciding}
 use Rattle.log_laws.specs.Commits.{Stands}
 use Rattle.log_laws.specs.Opening.{CanReplay, StandsAmid}
-use Rattle.log_laws.specs.Kept.{IsNoLater, LogKept}
+use Rattle.log_laws.specs.Kept.{IsNoLater, LogInvariant}
 use Rattle.log_laws.specs.AtRest.{CopiesAgree, Opened}
 use Rattle.commit_log.proofs.Amid.{replayed_as}
 use Rattle.log_laws.proofs.Counting.{decides_small}
@@ -29,7 +29,7 @@ use Rattle.raid_laws.specs.Raid.{Raid, gone_in}
 use Rattle.raid_laws.specs.Opening.{OpensRaid}
 use Rattle.raid_laws.proofs.Opening.{IsAtRest}
 
-module _ (s : State) (l : LogView) (on : List ℕ) (a : Seen) (opened : Opened s s l on a) (idle : l.pending ≡ []) where
+module _ (s : State) (l : LogView) (on : List ℕ) (a : RackView) (opened : Opened s s l on a) (idle : l.pending ≡ []) where
   -- what a stop leaves of the log slices is as a replay that has nothing to write leaves them
   amid : (c : Image) → LogsStand a c → StandsAmid l.pending a c
   amid c stand = record {
@@ -47,7 +47,7 @@ module _ (s : State) (l : LogView) (on : List ℕ) (a : Seen) (opened : Opened s
   replays_nothing c d k stand = replayed_as a c [] d k (none_pending c stand) ∙ put_none a.sectors [] c d k refl
 
   -- nothing is pending for an array
-  pub rest_closed : (n : ℕ) → IsClosed n a
+  pub rest_closed : (n : ℕ) → NothingPending n a
   rest_closed n c picks place k = replays_nothing c (member_slice place n) k picks
 
   -- a sector of a log slice is what it reads
@@ -63,7 +63,7 @@ module _ (s : State) (l : LogView) (on : List ℕ) (a : Seen) (opened : Opened s
   -- The log is as a commit finds it, where a current place has gone.
   pub still_kept : (gone : ℕ → Bool) → (p : ℕ) × (is_current s p ≡ true) × (gone p ≡ true)
       → ((p : ℕ) → is_current s p ≡ true → gone p ≡ false → 0 < a.sectors (log_slice p)) → CopiesAgree s gone a
-      → LogKept s l.number gone a
+      → LogInvariant s l.number gone a
   still_kept gone away there agree = record {
     logs = λ p k few inside. can.logs p k few inside;
     few = few_places;
@@ -115,10 +115,10 @@ module _ (s : State) (l : LogView) (on : List ℕ) (a : Seen) (opened : Opened s
       }
 
 -- Where a drive is absent no gate is closed: the slices hold the arrays as they are.
-pub opens_still : (v : Raid) (l : LogView) (on : List ℕ) (a : Seen) → IsAtRest v l on a → (p : ℕ) × (is_current v.state p ≡ true) × (gone_in v p ≡ true) → OpensRaid v a
+pub opens_still : (v : Raid) (l : LogView) (on : List ℕ) (a : RackView) → IsAtRest v l on a → (p : ℕ) × (is_current v.state p ≡ true) × (gone_in v p ≡ true) → OpensRaid v a
 opens_still v l on a at away = record {
   few = at.few;
-  log = subst (λ k. LogKept v.state k (gone_in v) a) (sym at.number) (still_kept v.state l on a at.opened at.idle (gone_in v) away at.there at.copies);
+  log = subst (λ k. LogInvariant v.state k (gone_in v) a) (sym at.number) (still_kept v.state l on a at.opened at.idle (gone_in v) away at.there at.copies);
   someone = at.someone;
   slices = λ n place k below small inside. let made = at.made in at.opened.rest.live (member_slice place n) k (omega (arith, below, made, small)) inside;
   numbers = at.numbers;

@@ -2,7 +2,7 @@
 use Rattle.std.proofs.Common.{◌≡◌, ℕ, suc, ◌+◌, ◌-◌, ◌<◌, ◌≤◌, ◌&&◌, Bool, nat_lt, if◌then◌else◌, List, Option, Some, None, inl, inr, refl, sym, ap, subst, ◌∙◌, le-leb, ltb-true, arith}
 use Rattle.std.specs.Prelude.{unwrap_or}
 use Rattle.std.proofs.lemmas.Bool.{and_parts, cases_Bool, cases_eq}
-use Rattle.rack.specs.Seen.{Seen}
+use Rattle.rack.specs.Seen.{RackView}
 use Rattle.gpt_table.specs.Changes.{the_table}
 use Rattle.slice_rack.specs.Slices.{Slices, IsOrderly, disk_of, first_of, seat_of, sectors_of}
 use Rattle.slice_rack.specs.Sliced.{IsInside}
@@ -26,9 +26,9 @@ use Rattle.pool_model.specs.Pools.{AreSlicesOf, extent_in}
 use Rattle.pool_model.specs.Stopped.{HaveTables}
 use Rattle.assembler_laws.proofs.Finding.{same}
 
-module _ (x : Seen) (known : List Known) (s : State) (r : Slices) (on : List ℕ) (l : LogView) (is_pending : Bool) (damaged : Option ℕ) (f : Found)
+module _ (x : RackView) (known : List Known) (s : State) (r : Slices) (on : List ℕ) (l : LogView) (is_pending : Bool) (damaged : Option ℕ) (f : Found)
     (is : IsFoundOn x known s r on l is_pending damaged f)
-    (t : Slices) (y : Seen) (checked : Checked) (absent : List ℕ) (orderly : IsOrderly t) (m : AreMembers f.state t y checked absent)
+    (t : Slices) (y : RackView) (checked : Checked) (absent : List ℕ) (orderly : IsOrderly t) (m : AreMembers f.state t y checked absent)
     (lie : AreSlicesOf f t) (inside : IsInside t x) (beyond : (k : ℕ) → 272 ≤ k → sectors_of t k ≡ 0) (have : HaveTables f) where
   seated : (p : ℕ) → seat_of t p ≡ seat_by s known p
   seated p =

@@ -3,7 +3,7 @@ use Rattle.std.proofs.Common.{◌≡◌, ◌≢◌, ℕ, ◌<◌, Bool, true, fa
 use Rattle.std.proofs.lemmas.Bool.{and_from, and_parts, both_ways, cases_Bool}
 use Rattle.arrayvec.specs.ArrayVec.{ArrayVec}
 use Rattle.rack.specs.Values.{MayLeave}
-use Rattle.rack.specs.Seen.{Image, Seen, IsLive}
+use Rattle.rack.specs.Seen.{Image, RackView, IsLive}
 use Rattle.md_super.specs.declared.superblock.Super.{Super}
 use Rattle.md_super.specs.Profile.{profiled, rules}
 use Rattle.array_image.specs.Arrays.{place_with, replayed}
@@ -28,7 +28,7 @@ use Rattle.raid_laws.specs.Raid.{AreLive, Raid}
 use Rattle.raid_laws.proofs.Seated.{place_few}
 
 -- the superblocks' sectors of an array whose slices are told are so
-pub live_tells : (v : Raid) (x : Seen) (n : ℕ) → IsSet v x → AreLive v.state.made x → n < v.state.made → TellSupers (v.arrays n) x
+pub live_tells : (v : Raid) (x : RackView) (n : ℕ) → IsSet v x → AreLive v.state.made x → n < v.state.made → TellSupers (v.arrays n) x
 live_tells v x n set live low k inside there =
     let u = v.arrays n in
     let seated = set.arrays n low in
@@ -38,13 +38,13 @@ live_tells v x n set live low k inside there =
     (subst (λ m. super_sector < x.sectors (member_slice (place_at u k) m)) seated.number (omega (arith, long))))
 
 -- contents that have a value in one sector, and read elsewhere
-abbrev with_one : Seen → (d s : ℕ) → List ℕ → Image
+abbrev with_one : RackView → (d s : ℕ) → List ℕ → Image
 with_one x d s value e t = if (e == d) && (t == s) then value else reading x e t
 
-one_here : (x : Seen) (d s : ℕ) (value : List ℕ) → with_one x d s value d s ≡ value
+one_here : (x : RackView) (d s : ℕ) (value : List ℕ) → with_one x d s value d s ≡ value
 one_here x d s value = ap (λ (b : Bool). if b then value else reading x d s) (and_from (d == d) (s == s) (eq-eqb d d refl) (eq-eqb s s refl))
 
-pick_one : (x : Seen) (d s : ℕ) (value : List ℕ) → s < x.sectors d → MayLeave (x.held d s) value → Picks x (with_one x d s value)
+pick_one : (x : RackView) (d s : ℕ) (value : List ℕ) → s < x.sectors d → MayLeave (x.held d s) value → Picks x (with_one x d s value)
 pick_one x d s value there may = record {
   picks = λ e t live. elim (cases_Bool ((e == d) && (t == s))) [
     | inl here ↦
@@ -88,7 +88,7 @@ seat_current (Some (Rebuilding to)) current gone there is =
     (and_parts current (not gone) (not_false (current && not gone) (ap (λ (o : Option Bool). unwrap_or o true) (sym is)))).0
 
 -- Slices that a replay leaves as they are, of an array whose superblocks agree on this truth in whatever a stop leaves.
-module _ (v : Raid) (x : Seen) (n : ℕ) (set : IsSet v x) (low : n < v.state.made)
+module _ (v : Raid) (x : RackView) (n : ℕ) (set : IsSet v x) (low : n < v.state.made)
     (quiet : (c : Image) → Stands x c → (d t : ℕ) → replayed x.sectors c d t ≡ c d t)
     (z : Super) (fields : array_fields z ≡ array_fields (v.arrays n).truth)
     (agree : (r : Image) → IsLeft x r → SupersAgree v.state r n × (truth_in v.state r n ≡ Some z)) where

@@ -3,7 +3,7 @@ use Rattle.std.proofs.Common.{◌≡◌, ℕ, ◌+◌, ◌<◌, Bool, true, fals
 use Rattle.std.specs.Option.{option_map_or}
 use Rattle.std.proofs.lemmas.Bool.{both_ways, cases_Bool}
 use Rattle.std.proofs.lemmas.Option.{none-some}
-use Rattle.rack.specs.Seen.{Image, Seen}
+use Rattle.rack.specs.Seen.{Image, RackView}
 use Rattle.slice_rack.specs.Slices.{Slices, IsOrderly}
 use Rattle.md_super.specs.declared.superblock.Super.{Super}
 use Rattle.array_image.specs.Places.{data_sector, member_slice, place_of, super_sector}
@@ -30,7 +30,7 @@ use Rattle.assembler_laws.specs.Members.{AreMembers}
 use Rattle.assembler_laws.specs.Holding.{AreSteady, IsPoolOn}
 use Rattle.assembler_laws.proofs.Shows.{few_made, few_place, now, reads_member, reads_other, unseated}
 
-module _ (f : Found) (t : Slices) (x : Seen) (checked : Checked) (absent : List ℕ) (orderly : IsOrderly t)
+module _ (f : Found) (t : Slices) (x : RackView) (checked : Checked) (absent : List ℕ) (orderly : IsOrderly t)
     (m : AreMembers f.state t x checked absent) (steady : AreSteady x) (pool : IsPoolOn f.state t x f)
     (opened : AreOpened f f.state.made checked.arrays.items checked.extents.items checked.stale.items) where
   abbrev e : Image

@@ -4,7 +4,7 @@ use Rattle.std.specs.Option.{option_map_or}
 use Rattle.std.proofs.lemmas.Bool.{cases_lt, ne_eqb}
 use Rattle.std.proofs.lemmas.Map.Views.{any-filter_same}
 use Rattle.std.proofs.lemmas.Option.{none-some}
-use Rattle.rack.specs.Seen.{Seen, Stays}
+use Rattle.rack.specs.Seen.{RackView, SameRack}
 use Rattle.pool_state.specs.Valid.{is_valid}
 use Rattle.pool_state.specs.declared.contents.State.{State}
 use Rattle.slice_rack.specs.Slices.{Slices, IsOrderly, seat_of, first_of, sectors_of}
@@ -26,7 +26,7 @@ use Rattle.pool_rest.specs.Standing.{IsLaid}
 use Rattle.raid_laws.proofs.Added.{names_current}
 use Rattle.assembler_laws.specs.Members.{AreMembers}
 
-module _ (x : Seen) (known : List Known) (s : State) (t : Slices) (on : List ℕ) (laid : IsLaid x known s t on)
+module _ (x : RackView) (known : List Known) (s : State) (t : Slices) (on : List ℕ) (laid : IsLaid x known s t on)
     (fit : (slices_of t x).fit) where
   current_at : (p d : ℕ) → seat_of t p ≡ Some d → is_current s p ≡ true
   current_at p d seat = elim (cases_lt p 16) [
@@ -101,7 +101,7 @@ module _ (x : Seen) (known : List Known) (s : State) (t : Slices) (on : List ℕ
 
   -- ---- without the places that have lost their disk
 
-  module _ (y : Seen) (before after : List (Option ℕ))
+  module _ (y : RackView) (before after : List (Option ℕ))
       (were : (p d : ℕ) → seats_by before p ≡ Some d → seat_of t p ≡ Some d)
       (loses : Loses x y (seats_by before) (seats_by after))
       (u : Slices) (orderly : IsOrderly u)
@@ -176,7 +176,7 @@ module _ (x : Seen) (known : List Known) (s : State) (t : Slices) (on : List ℕ
     -- ---- with the members' slices
 
     module _ (checked : Checked) (absent : List ℕ) (w : Slices) (kept : KeepsLogs u w)
-        (valid : is_valid s 0 ≡ true) (lasting : x.lasting) (stays : Stays x y) (fit_w : (slices_of w y).fit)
+        (valid : is_valid s 0 ≡ true) (lasting : x.lasting) (stays : SameRack x y) (fit_w : (slices_of w y).fit)
         (laid_w : HasMembers (seats_by after) checked.arrays.items checked.extents.items w)
         (founded : AreFounded s (seats_by after) checked.arrays.items checked.stale.items)
         (slots : AreSlots x.sectors (seats_by after) checked.arrays.items checked.extents.items)
@@ -224,14 +224,14 @@ module _ (x : Seen) (known : List Known) (s : State) (t : Slices) (on : List ℕ
 
 -- ---- where no disk refused a call
 
-pub nobody_lost : (x y : Seen) (before after : Seats) → IsUnfaulted x y → Loses x y before after → (p : ℕ) → after p ≡ before p
+pub nobody_lost : (x y : RackView) (before after : Seats) → IsUnfaulted x y → Loses x y before after → (p : ℕ) → after p ≡ before p
 nobody_lost x y before after quiet loses p = elim (loses p) [
   | inl same ↦ same
   | inr lost ↦ absurd (let goes = lost.1 in quiet goes.0 goes.2)
 ]
 
 -- each disk of a place is that of its slices, where no place with a disk has gone
-pub seats_before : (x : Seen) (known : List Known) (s : State) (t : Slices) (on : List ℕ) → IsLaid x known s t on → (gone : List ℕ) (seats : Seats)
+pub seats_before : (x : RackView) (known : List Known) (s : State) (t : Slices) (on : List ℕ) → IsLaid x known s t on → (gone : List ℕ) (seats : Seats)
     → ((p d : ℕ) → names gone p ≡ true → seat_by s known p ≡ Some d → ⊥)
     → ((p : ℕ) → 16 ≤ p → seats p ≡ None) → ((p : ℕ) → p < 16 → seats p ≡ (if names gone p then None else seat_by s known p))
     → (p : ℕ) → seats p ≡ seat_of t p
@@ -246,7 +246,7 @@ seats_before x known s t on laid gone seats nobody beyond are p = elim (cases_lt
     of true is (Some d) seat = absurd (nobody p d is seat)
 
 -- a slice's disk was taken for its place
-pub taken_by : (x : Seen) (known : List Known) (s : State) (t : Slices) (on : List ℕ) → IsLaid x known s t on → (p d : ℕ) → seat_of t p ≡ Some d → seat_by s known p ≡ Some d
+pub taken_by : (x : RackView) (known : List Known) (s : State) (t : Slices) (on : List ℕ) → IsLaid x known s t on → (p d : ℕ) → seat_of t p ≡ Some d → seat_by s known p ≡ Some d
 taken_by x known s t on laid p d seat = elim (cases_lt p 16) [
   | inl few ↦ sym (laid.seats p few) ∙ seat
   | inr past ↦ absurd (none-some d (sym (laid.beyond p past) ∙ seat))

@@ -1,7 +1,7 @@
 -- What is written on the disks of a rack, part after part.
 use Rattle.std.proofs.Common.{◌≡◌, ◌⊎◌, ℕ, ◌+◌, ◌<◌, ◌≤◌, List, Some, inl, sym, subst, ◌∙◌}
 use Rattle.rack.specs.Values.{Keeps}
-use Rattle.rack.specs.Seen.{IsLive, Seen, Stays}
+use Rattle.rack.specs.Seen.{IsLive, RackView, SameRack}
 use Rattle.rack.specs.Joins.{live_first, live_second, stays_then}
 use Rattle.rack.specs.Sequences.{OnlyReads, WritesOnly}
 use Rattle.rack.proofs.Writing.{only_then, only_quiet, only_weaker}
@@ -18,7 +18,7 @@ use Rattle.pool_rest.specs.Resting.{IsOfDrive, WritesDrives}
 use Rattle.assembler_laws.specs.Writing.{IsSlicedOrTable}
 
 -- reads after it write nothing more
-pub writes_then_reads : (a b c : Seen) → WritesDrives a b → OnlyReads b c → WritesDrives a c
+pub writes_then_reads : (a b c : RackView) → WritesDrives a b → OnlyReads b c → WritesDrives a c
 writes_then_reads a b c writes reads = record {
   known = writes.known;
   state = writes.state;
@@ -27,7 +27,7 @@ writes_then_reads a b c writes reads = record {
 }
 
 -- reads, then slices and tables, then slices alone
-pub rack_then : (t : Slices) (x y z w : Seen) → OnlyReads x y → WritesOnly y z (IsSlicedOrTable y z t) → WritesOnly z w (IsSliced t) → WritesOnly x w (IsSlicedOrTable y z t)
+pub rack_then : (t : Slices) (x y z w : RackView) → OnlyReads x y → WritesOnly y z (IsSlicedOrTable y z t) → WritesOnly z w (IsSliced t) → WritesOnly x w (IsSlicedOrTable y z t)
 rack_then t x y z w reads rack texts =
     only_then (IsSlicedOrTable y z t) (only_quiet (IsSlicedOrTable y z t) reads.stays reads.keeps)
     (only_then (IsSlicedOrTable y z t) rack (only_weaker (IsSliced t) (IsSlicedOrTable y z t) (λ d u v at. inl at) texts))
@@ -35,7 +35,7 @@ rack_then t x y z w reads rack texts =
 -- ---- sectors of tables
 
 -- Tables are settled from b to c, after calls since a that bring no value to a disk's table, and before other calls up to e.
-module _ (a b c e : Seen) (first : Stays a b) (mid : Stays b c) (last : Stays c e) where
+module _ (a b c e : RackView) (first : SameRack a b) (mid : SameRack b c) (last : SameRack c e) where
   module _ (d : ℕ) (untouched : (u : ℕ) → IsOfCopies (a.sectors d) u → IsLive a b d u → Keeps (a.held d u) (b.held d u)) where
     abbrev n : ℕ
     n = a.sectors d

@@ -2,7 +2,7 @@
 use Rattle.std.specs.Prelude.{◌≡◌, ◌⊎◌, ℕ, ◌<◌, ◌≤◌, ◌&&◌, nat_lt, Bool, false, List, [], length, slice_get, Option, Some, None}
 use Rattle.std.specs.Option.{option_map_or}
 use Rattle.rack.specs.Values.{MayLeave, Values, only}
-use Rattle.rack.specs.Seen.{Image, Seen}
+use Rattle.rack.specs.Seen.{Image, RackView}
 use Rattle.rack.specs.Moments.{Leaves}
 use Rattle.slice_rack.specs.Slices.{Slices, seat_of, sectors_of}
 use Rattle.slice_rack.specs.Sliced.{slices_of as slices_seen}
@@ -28,24 +28,24 @@ use Rattle.pool_rest.specs.Resting.{AreSectors, AreSingle, StandsNow}
 use Rattle.pool_check.specs.Drives.{Drives}
 use Rattle.array_core.specs.TruthHeld.{HoldTruth}
 use Rattle.raid_laws.specs.Agreeing.{SupersAgree}
-use Rattle.raid_laws.specs.Raid.{Raid, IsTold, held_in, is_over, live_of, spent_of}
+use Rattle.raid_laws.specs.Raid.{Raid, IsTracked, held_in, is_failed, live_of, spent_of}
 use Rattle.array_image.specs.SoundArray.{first_unsynced}
 use Rattle.array_model.specs.declared.Seat.TheVariants.{Missing}
 use Rattle.array_model.specs.View.{View, HasGeometry, sectors_of as sectors_in}
 use Rattle.array_core.specs.Opening.{seat_by}
 use Rattle.array_core.specs.Slots.{place_by}
-use Rattle.raid_laws.specs.Book.{IsAfter}
+use Rattle.raid_laws.specs.Book.{OnlyMarksSince}
 use Rattle.raid_laws.specs.Marking.{SaysBetween}
 
 -- Disks are told, none of their sectors is spent or will be, and each has one value, of 512 bytes.
-pub record AreSteady (x : Seen) : Type 0 where
+pub record AreSteady (x : RackView) : Type 0 where
   pub told : AllTold x
   pub lasts : IsLasting x
   pub single : AreSingle x
   pub sized : AreSectors x
 
 -- The pool of these disks: its state and its seats are those of the run, and its drives hold and say what they read as.
-pub record IsPoolOn (s : State) (t : Slices) (x : Seen) (f : Found) : Type 0 where
+pub record IsPoolOn (s : State) (t : Slices) (x : RackView) (f : Found) : Type 0 where
   pub state : f.state ≡ s
   pub seats : (p : ℕ) → f.seats p ≡ seat_of t p
   pub chosen : (p : ℕ) → f.seats p ≡ pool_seat f.state f.disks f.identities p
@@ -54,7 +54,7 @@ pub record IsPoolOn (s : State) (t : Slices) (x : Seen) (f : Found) : Type 0 whe
   pub identities : (p d : ℕ) → f.seats p ≡ Some d → f.identities d ≡ identities_of f.disks f.contents d
 
 -- The log is that of the places that have a log slice: no log is damaged, and nothing is pending.
-pub record IsIdle (s : State) (t : Slices) (x : Seen) (l : LogView) : Type 0 where
+pub record IsIdle (s : State) (t : Slices) (x : RackView) (l : LogView) : Type 0 where
   pub on : List ℕ
   pub places : (p : ℕ) → names on p ≡ (is_current s p && nat_lt 0 (sectors_of t (log_slice p)))
   pub is_pending : Bool
@@ -66,7 +66,7 @@ abbrev pub drives_of : Found → Drives
 drives_of f = record { disks = f.disks; before = f.before; contents = f.contents; identities = f.identities }
 
 -- Disks that a pool is opened on: they are told, and hold this pool at rest, which is sound.
-pub record HoldPool (s : State) (t : Slices) (x : Seen) (l : LogView) (f : Found) : Type 0 where
+pub record HoldPool (s : State) (t : Slices) (x : RackView) (l : LogView) (f : Found) : Type 0 where
   pub steady : AreSteady x
   pub pool : IsPoolOn s t x f
   pub log : IsIdle s t x l
@@ -74,7 +74,7 @@ pub record HoldPool (s : State) (t : Slices) (x : Seen) (l : LogView) (f : Found
 
 -- Disks as they were brought to rest: they are told, their contents have this pool, which is sound, and nothing is pending there; the
 -- scan and the log say what they hold.
-pub record IsFoundOn (x : Seen) (known : List Known) (s : State) (t : Slices) (on : List ℕ) (l : LogView) (is_pending : Bool) (damaged : Option ℕ) (f : Found) : Type 0 where
+pub record IsFoundOn (x : RackView) (known : List Known) (s : State) (t : Slices) (on : List ℕ) (l : LogView) (is_pending : Bool) (damaged : Option ℕ) (f : Found) : Type 0 where
   pub steady : AreSteady x
   pub found_is : found (disks_of x) (now_in x) ≡ Some f
   pub scan : AreOf (disks_of x) (identities_of (disks_of x) (now_in x)) known
@@ -100,10 +100,10 @@ pub record IsArrayOf (f : Found) (n : ℕ) (t : Super) (v : View) : Type 0 where
 -- Calls on slices a, which left arrays over slices b: marks alone may have come to the pool's state. Each array that is ready for the
 -- volume is told and has the pool's sectors, of which each that can be had has one value, that of the pool's contents. At each moment
 -- contents say so, by a state between the two. Afterwards the superblocks of each array agree.
-pub record HoldsArrays (f : Found) (v : Raid) (a b : Seen) : Type 0 where
-  pub after : IsAfter f.state v.state
+pub record HoldsArrays (f : Found) (v : Raid) (a b : RackView) : Type 0 where
+  pub after : OnlyMarksSince f.state v.state
   pub plan : v.state.plan ≡ f.state.plan
-  pub told : (n : ℕ) → n < f.state.joined → IsTold v b n
+  pub told : (n : ℕ) → n < f.state.joined → IsTracked v b n
   pub arrays : (n : ℕ) (t : Super) → n < f.state.joined → truth_of f n ≡ Some t → IsArrayOf f n t (v.arrays n)
   pub sectors : (n : ℕ) → n < f.state.joined → sectors_in (v.arrays n) ≡ array_sectors f n
   pub values : (n y : ℕ) (u : List ℕ) → n < f.state.joined → live_of v n y → MayLeave (held_in v b n y) u → u ≡ arrays_held f n y
@@ -111,11 +111,11 @@ pub record HoldsArrays (f : Found) (v : Raid) (a b : Seen) : Type 0 where
   pub whole : (n y : ℕ) → n < f.state.joined → length (arrays_held f n y) ≡ 512
   pub room : (n : ℕ) → n < f.state.joined → data_start ≤ array_sectors f n
   pub leaves :
-      (n : ℕ) → n < f.state.joined → is_over v n ≡ false → a.traced
+      (n : ℕ) → n < f.state.joined → is_failed v n ≡ false → a.traced
       → Leaves a b (λ c. IsInside a.sectors c → SaysBetween f.state v.state n (pool_values f n) (spent_of v n) (replayed a.sectors c))
   -- the superblocks of each agree, durably
-  pub agree : (n : ℕ) → n < f.state.joined → is_over v n ≡ false → (r : Image) → IsLeft b r → SupersAgree v.state r n
+  pub agree : (n : ℕ) → n < f.state.joined → is_failed v n ≡ false → (r : Image) → IsLeft b r → SupersAgree v.state r n
   -- and say its truth
-  pub truths : (n : ℕ) → n < f.state.joined → is_over v n ≡ false → HoldTruth (v.arrays n) b
+  pub truths : (n : ℕ) → n < f.state.joined → is_failed v n ≡ false → HoldTruth (v.arrays n) b
   -- and leave no row to resync where the pool's left none
-  pub clean : (n : ℕ) → n < f.state.joined → is_over v n ≡ false → (r : Image) → IsLeft b r → LeavesClean f v.state n r
+  pub clean : (n : ℕ) → n < f.state.joined → is_failed v n ≡ false → (r : Image) → IsLeft b r → LeavesClean f v.state n r

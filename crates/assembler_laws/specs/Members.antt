@@ -1,6 +1,6 @@
 -- The arrays of a pool over the slices of its drives, before they are a rack, whatever the disks tell.
 use Rattle.std.specs.Prelude.{◌≡◌, ℕ, ◌+◌, ◌<◌, ◌&&◌, true, is_none, List, filter, Some}
-use Rattle.rack.specs.Seen.{Seen}
+use Rattle.rack.specs.Seen.{RackView}
 use Rattle.slice_rack.specs.Slices.{Slices, first_of, seat_of, sectors_of}
 use Rattle.slice_rack.specs.Sliced.{slices_of}
 use Rattle.pool_state.specs.declared.contents.State.{State}
@@ -15,7 +15,7 @@ use Rattle.pool_check.specs.Laying.{HasMembers}
 
 -- The state is valid, each current place has a disk with its log slice or is absent, the arrays are those of the superblocks on these
 -- disks, and their members' slices are laid.
-pub record AreMembers (s : State) (t : Slices) (x : Seen) (checked : Checked) (absent : List ℕ) : Type 0 where
+pub record AreMembers (s : State) (t : Slices) (x : RackView) (checked : Checked) (absent : List ℕ) : Type 0 where
   pub valid : is_valid s 0 ≡ true
   pub fit : (slices_of t x).fit
   pub lasting : x.lasting

@@ -1,6 +1,6 @@
 -- What an opening writes to the partition tables of a pool's drives.
 use Rattle.std.specs.Prelude.{◌≡◌, ◌⊎◌, ℕ, ◌<◌, Bool, true, is_none, List, filter, Some, None}
-use Rattle.rack.specs.Seen.{Seen}
+use Rattle.rack.specs.Seen.{RackView}
 use Rattle.rack.specs.Sequences.{WritesOnly}
 use Rattle.pool_state.specs.declared.contents.State.{State}
 use Rattle.array_image.specs.States.{current_places}
@@ -11,7 +11,7 @@ use Rattle.pool_check.specs.Settling.{IsSettled, IsTableSector, IsTrueOf, KeepsT
 
 -- Both copies of the table of each place's disk were made to agree, but of those places that had gone, where the place's flag is true of it. `left` are the disks of those that are
 -- left, and `now` the current places without one: each had none, had gone, or its disk refused a call.
-pub record MendsTables (x y : Seen) (s : State) (seats : Seats) (agreed : List Bool) (gone now : List ℕ) : Type 0 where
+pub record MendsTables (x y : RackView) (s : State) (seats : Seats) (agreed : List Bool) (gone now : List ℕ) : Type 0 where
   pub only : WritesOnly x y (IsTableSector x y seats 16)
   pub left : Seats
   pub listed : now ≡ filter (λ p. is_none (left p)) (current_places s)

@@ -4,7 +4,7 @@ use Rattle.std.proofs.lemmas.Bool.{cases_lt}
 use Rattle.std.proofs.lemmas.List.{take_all, take-append-le}
 use Rattle.rack.specs.declared.Gone.{Gone}
 use Rattle.rack.specs.Values.{MayLeave, Keeps}
-use Rattle.rack.specs.Seen.{IsLive, Rose, Stays}
+use Rattle.rack.specs.Seen.{IsLive, Rose, SameRack}
 use Rattle.rack.specs.Sequences.{OnlyReads}
 use Rattle.buffered_bay.specs.StoreCalls.{HasFault, Stores}
 use Rattle.buffer_tests.specs.OneFile.{Contents, at, held_of, names_of, place_of, seen_of, view_of, Copies}
@@ -17,7 +17,7 @@ first_disk (Some name) d has = omega (arith, has)
 -- what no call changes
 stays_of :
     (name : Option (List ℕ)) (sectors : ℕ) (c k : Contents) (before after : ℕ) → before ≤ after
-    → Stays (seen_of name sectors c before) (seen_of name sectors k after)
+    → SameRack (seen_of name sectors c before) (seen_of name sectors k after)
 stays_of name sectors c k before after grows =
     record {
       fit = tt;

@@ -1,7 +1,7 @@
 -- One file in memory, as contracts see it.
 use Rattle.std.specs.Prelude.{◌≡◌, ◌⊎◌, ℕ, zero, suc, ◌+◌, ◌<◌, ◌≤◌, List, [], ◌∷◌, length, get_or, Option, Some, None, false}
 use Rattle.rack.specs.Values.{Values}
-use Rattle.rack.specs.Seen.{Seen}
+use Rattle.rack.specs.Seen.{RackView}
 use Rattle.rack.specs.Shelf.{Shelf}
 use Rattle.buffered_bay.specs.View.{View}
 
@@ -28,7 +28,7 @@ names_of None = []
 names_of (Some name) = name ∷ []
 
 -- the file as a rack, which tells contents and no stops
-abbrev pub seen_of : Option (List ℕ) → ℕ → Contents → ℕ → Seen
+abbrev pub seen_of : Option (List ℕ) → ℕ → Contents → ℕ → RackView
 seen_of name sectors c faults =
     record {
       disks = length (names_of name);

@@ -3,7 +3,7 @@ use Rattle.std.proofs.Common.{◌≡◌, ◌≢◌, ◌⊎◌, ℕ, zero, suc, �
 use Rattle.rack.specs.declared.AttachFault.{AttachFault}
 use Rattle.rack.specs.declared.AttachFault.TheVariants.{Memory, Twice}
 use Rattle.rack.specs.Values.{Keeps}
-use Rattle.rack.specs.Seen.{Seen}
+use Rattle.rack.specs.Seen.{RackView}
 use Rattle.rack.specs.Joins.{keeps_same}
 use Rattle.rack.specs.Shelf.{Attaches, IsSame, SameDisk, Shelf}
 use Rattle.buffered_bay.specs.View.{View, IsPlain}
@@ -82,7 +82,7 @@ windows_push {tells} {a} {b} {d = d} ws w plain windows first count unsynced att
     }
 
 -- nothing was called
-same_still : (a : Seen) (s : Shelf) → IsSame a a s s
+same_still : (a : RackView) (s : Shelf) → IsSame a a s s
 same_still a s =
     record {
       disks = refl;
@@ -98,7 +98,7 @@ same_still a s =
     }
 
 pub is_twice :
-    (a : Seen) (s : Shelf) (name : List ℕ) (d : ℕ) → slice_get s.names d ≡ Some name
+    (a : RackView) (s : Shelf) (name : List ℕ) (d : ℕ) → slice_get s.names d ≡ Some name
     → ((e : ℕ) → slice_get s.names e ≡ Some name → e ≡ d)
     → Attaches a a s s name (Err (Twice d))
 is_twice a s name d at only =
@@ -111,7 +111,7 @@ is_twice a s name d at only =
     }
 
 pub is_full :
-    (a : Seen) (s : Shelf) (name : List ℕ) → ((d : ℕ) → slice_get s.names d ≢ Some name) → Attaches a a s s name (Err Memory)
+    (a : RackView) (s : Shelf) (name : List ℕ) → ((d : ℕ) → slice_get s.names d ≢ Some name) → Attaches a a s s name (Err Memory)
 is_full a s name none =
     record {
       faults = omega arith;

@@ -2,7 +2,7 @@
 use Rattle.std.proofs.Common.{◌≡◌, ℕ, ◌<◌, List, Bool, true, false, if◌then◌else◌, Ok, Err, Result, IfErr, OnOk, OnErr, ◌⊎◌, ◌==◌, ◌&&◌, ◌∙◌, inl, inr}
 use Rattle.rack.specs.declared.Gone.{Gone}
 use Rattle.rack.specs.Values.{Values, MayLeave, Keeps, append}
-use Rattle.rack.specs.Seen.{Held, Seen, IsLive, IsPick, Rose, Stays, appended}
+use Rattle.rack.specs.Seen.{Held, RackView, IsLive, IsPick, Rose, SameRack, appended}
 use Rattle.rack.specs.Calls.{HasCause, Reads, Writes, Syncs}
 use Rattle.rack.specs.Joins.{keeps_append, keeps_then, leaves_then, leaves_weaker, live_first, live_second, stays_then, keeps_all_then, rose_since}
 use Rattle.rack.specs.Sequences.{OnlyReads}
@@ -17,18 +17,18 @@ use Rattle.buffered_bay.specs.Buffered.{Quiet}
 
 -- faults that rose later rose over the whole time
 gone_since :
-    {a b : Seen} {X : Type 0} (c : Seen) (disk : ℕ) (r : Result X Gone) → Stays a b
+    {a b : RackView} {X : Type 0} (c : RackView) (disk : ℕ) (r : Result X Gone) → SameRack a b
     → IfErr r (λ e. (e.disk ≡ disk) × Rose (b.faults disk) (c.faults disk))
     → IfErr r (λ e. (e.disk ≡ disk) × Rose (a.faults disk) (c.faults disk))
 gone_since c disk (Ok x) stays gone = tt
 gone_since c disk (Err e) stays gone = (gone.0, rose_since (stays.faults disk) gone.1)
 
-fault_since : {a b c : Seen} {X : Type 0} (disk : ℕ) (r : Result X Gone) → Stays a b → HasFault b c disk r → HasFault a c disk r
+fault_since : {a b c : RackView} {X : Type 0} (disk : ℕ) (r : Result X Gone) → SameRack a b → HasFault b c disk r → HasFault a c disk r
 fault_since {c = c} disk r stays fault =
     record { gone = gone_since c disk r stays fault.gone; steady = λ steady. fault.steady (stays.steady steady) }
 
 cause_since :
-    {a b c : Seen} {X : Type 0} (disk sector : ℕ) (r : Result X Gone) → Stays a b → HasCause b c disk sector r → HasCause a c disk sector r
+    {a b c : RackView} {X : Type 0} (disk sector : ℕ) (r : Result X Gone) → SameRack a b → HasCause b c disk sector r → HasCause a c disk sector r
 cause_since {c = c} disk sector r stays cause =
     record {
       served = cause.served;
@@ -38,7 +38,7 @@ cause_since {c = c} disk sector r stays cause =
 
 -- a refusal's cause, of files without spent sectors
 pub cause_of :
-    {tells : Type 0} {a b : Seen} {X : Type 0} (disk sector : ℕ) (r : Result X Gone) → IsPlain tells b → HasFault a b disk r
+    {tells : Type 0} {a b : RackView} {X : Type 0} (disk sector : ℕ) (r : Result X Gone) → IsPlain tells b → HasFault a b disk r
     → HasCause a b disk sector r
 cause_of disk sector (Ok x) plain fault = record { served = plain.unspent disk sector; gone = tt; spent = λ steady. tt }
 cause_of disk sector (Err e) plain fault = record { served = tt; gone = fault.gone; spent = λ steady. absurd (cc (fault.steady steady)) }
@@ -56,7 +56,7 @@ quiet_then {s = s} {t} {u} {disk} r first second =
     }
 
 read_value :
-    {tells : Type 0} {a b c : Seen} {X : Type 0} (disk sector : ℕ) (into : List ℕ) (r : Result X Gone)
+    {tells : Type 0} {a b c : RackView} {X : Type 0} (disk sector : ℕ) (into : List ℕ) (r : Result X Gone)
     → IsPlain tells b → OnlyReads a b → disk < a.disks → sector < a.sectors disk
     → Reads b c disk sector into r → OnOk r (a.told disk → into ≡ (a.held disk sector).current)
 read_value disk sector into (Err e) plain first has inside second = tt
@@ -64,7 +64,7 @@ read_value disk sector into (Ok x) plain first has inside second =
     λ told. second.value (first.stays.told disk told) ∙ same_after disk sector first has inside told (plain.unspent disk sector)
 
 pub reads_then :
-    {tells : Type 0} {a b c : Seen} {X : Type 0} (disk sector : ℕ) (into : List ℕ) (r : Result X Gone)
+    {tells : Type 0} {a b c : RackView} {X : Type 0} (disk sector : ℕ) (into : List ℕ) (r : Result X Gone)
     → IsPlain tells b → OnlyReads a b → disk < a.disks → sector < a.sectors disk
     → Reads b c disk sector into r → Reads a c disk sector into r
 reads_then disk sector into r plain first has inside second =
@@ -86,7 +86,7 @@ keeps_appended :
 keeps_appended g h disk sector v d s keeps = appended_choice ((d == disk) && (s == sector)) (g d s) (h d s) v keeps
 
 write_done :
-    {a b c : Seen} {X : Type 0} (disk sector : ℕ) (v : List ℕ) (r : Result X Gone) → OnlyReads a b → Writes b c disk sector v r
+    {a b c : RackView} {X : Type 0} (disk sector : ℕ) (v : List ℕ) (r : Result X Gone) → OnlyReads a b → Writes b c disk sector v r
     → OnOk r ((d s : ℕ) → IsLive a c d s → Keeps (appended a.held disk sector v d s) (c.held d s))
 write_done disk sector v (Err e) first second = tt
 write_done {a} {b} {c} disk sector v (Ok x) first second =
@@ -96,7 +96,7 @@ write_done {a} {b} {c} disk sector v (Ok x) first second =
     (second.done d s (live_second first.stays live))
 
 write_failed :
-    {a b c : Seen} {X : Type 0} (disk sector : ℕ) (v : List ℕ) (r : Result X Gone) → OnlyReads a b → Writes b c disk sector v r
+    {a b c : RackView} {X : Type 0} (disk sector : ℕ) (v : List ℕ) (r : Result X Gone) → OnlyReads a b → Writes b c disk sector v r
     → OnErr r ((d s : ℕ) → IsLive a c d s → Keeps (a.held d s) (c.held d s) ⊎ Keeps (appended a.held disk sector v d s) (c.held d s))
 write_failed disk sector v (Ok x) first second = tt
 write_failed {a} {b} {c} disk sector v (Err e) first second =
@@ -108,7 +108,7 @@ write_failed {a} {b} {c} disk sector v (Err e) first second =
     ]
 
 pub writes_then :
-    {a b c : Seen} {X : Type 0} (disk sector : ℕ) (v : List ℕ) (r : Result X Gone)
+    {a b c : RackView} {X : Type 0} (disk sector : ℕ) (v : List ℕ) (r : Result X Gone)
     → OnlyReads a b → Writes b c disk sector v r → Writes a c disk sector v r
 writes_then {a} {b} {c} disk sector v r first second =
     record {
@@ -134,13 +134,13 @@ writes_then {a} {b} {c} disk sector v r first second =
     }
 
 sync_done :
-    {a b c : Seen} {X : Type 0} (disk : ℕ) (r : Result X Gone) → OnlyReads a b → Syncs b c disk r
+    {a b c : RackView} {X : Type 0} (disk : ℕ) (r : Result X Gone) → OnlyReads a b → Syncs b c disk r
     → OnOk r ((s : ℕ) (v : List ℕ) → IsLive a c disk s → MayLeave (c.held disk s) v → v ≡ (c.held disk s).current)
 sync_done disk (Err e) first second = tt
 sync_done disk (Ok x) first second = λ s v live leaves. second.done s v (live_second first.stays live) leaves
 
 pub syncs_then :
-    {a b c : Seen} {X : Type 0} (disk : ℕ) (r : Result X Gone) → OnlyReads a b → Syncs b c disk r → Syncs a c disk r
+    {a b c : RackView} {X : Type 0} (disk : ℕ) (r : Result X Gone) → OnlyReads a b → Syncs b c disk r → Syncs a c disk r
 syncs_then {c = c} disk r first second =
     record {
       stays = stays_then first.stays second.stays;

@@ -3,7 +3,7 @@ use Rattle.std.proofs.Common.{◌≡◌, ◌≢◌, ℕ, zero, suc, ◌+◌, ◌
 use Rattle.std.proofs.lemmas.Bool.{cases_eq}
 use Rattle.std.proofs.lemmas.Option.{slice_get_within}
 use Rattle.rack.specs.Values.{Values, Keeps, IsSingle}
-use Rattle.rack.specs.Seen.{Seen, IsLive, Stays}
+use Rattle.rack.specs.Seen.{RackView, IsLive, SameRack}
 use Rattle.rack.specs.Sequences.{OnlyReads}
 use Rattle.buffered_bay.specs.View.{View, IsPlain}
 use Rattle.buffered_bay.specs.Buffered.{IsWindow, AreWindows}
@@ -11,7 +11,7 @@ use Rattle.buffered_bay.specs.declared.windows.Window.{Window}
 
 -- a sector of files that tell is live over a call
 pub live :
-    {tells : Type 0} {a b : Seen} (d s : ℕ) → IsPlain tells a → IsPlain tells b → Stays a b → tells
+    {tells : Type 0} {a b : RackView} (d s : ℕ) → IsPlain tells a → IsPlain tells b → SameRack a b → tells
     → d < a.disks → s < a.sectors d → IsLive a b d s
 live {tells} {a} {b} d s before after stays t disk sector =
     record {

@@ -3,14 +3,14 @@ use Rattle.std.specs.Prelude.{◌≡◌, ◌≢◌, ◌⊎◌, ℕ, ◌+◌, ◌
 use Rattle.rack.specs.declared.Gone.{Gone}
 use Rattle.rack.specs.declared.AttachFault.{AttachFault}
 use Rattle.rack.specs.Values.{IsSingle}
-use Rattle.rack.specs.Seen.{Seen, IsLive, Rose}
+use Rattle.rack.specs.Seen.{RackView, IsLive, Rose}
 use Rattle.rack.specs.Calls.{KeepsAll, Writes}
 use Rattle.rack.specs.Sequences.{OnlyReads}
 use Rattle.rack.specs.Shelf.{Attaches, Shelf}
 use Rattle.buffered_bay.specs.View.{View}
 
 -- a refusal comes only where that disk's faults rose, and never from files that are steady
-pub record HasFault (a b : Seen) (disk : ℕ) {X : Type 0} (result : Result X Gone) : Type 0 where
+pub record HasFault (a b : RackView) (disk : ℕ) {X : Type 0} (result : Result X Gone) : Type 0 where
   pub gone : IfErr result (λ e. (e.disk ≡ disk) × Rose (a.faults disk) (b.faults disk))
   pub steady : a.steady → IsOk result
 

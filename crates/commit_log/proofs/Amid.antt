@@ -2,7 +2,7 @@
 use Rattle.std.proofs.Common.{◌≡◌, ◌≢◌, ◌⊎◌, ℕ, ◌+◌, ◌%◌, ◌<◌, ◌≤◌, ◌==◌, ◌&&◌, Bool, true, false, nat_lt, nat_le, if◌then◌else◌, List, [], ◌∷◌, Some, None, unwrap_or, refl, ap, subst, ◌∙◌, inl, inr, arith, eqb-true, eq-eqb, ltb-true}
 use Rattle.std.proofs.lemmas.Bool.{cases_Bool, both_ways, and_parts, leb-true, ne_eqb, cond-true, cond-false}
 use Rattle.rack.specs.Values.{MayLeave}
-use Rattle.rack.specs.Seen.{Image, Seen, IsLive}
+use Rattle.rack.specs.Seen.{Image, RackView, IsLive}
 use Rattle.rack.specs.Targets.{Target, look, put}
 use Rattle.shr_base.specs.Blocks.{bytes_at}
 use Rattle.array_image.specs.Places.{slice_of, place_of, log_slice, log_sectors}
@@ -19,7 +19,7 @@ use Rattle.commit_log.proofs.Deciding.{names_first, names_later, names_either}
 abbrev pub in_half : ℕ → ℕ → Bool
 in_half number t = nat_le (half_of number) t && nat_lt t (half_of number + 4092)
 
-pub record Terms (l : LogView) (on : List ℕ) (number : ℕ) (opened closed : List ℕ) (a : Seen) : Type 0 where
+pub record Terms (l : LogView) (on : List ℕ) (number : ℕ) (opened closed : List ℕ) (a : RackView) : Type 0 where
   pub number_is : number ≡ l.number + 1
   pub opened_is : gate_of opened ≡ Some (record { is_open = true; number = number })
   pub closed_is : gate_of closed ≡ Some (record { is_open = false; number = number })
@@ -37,14 +37,14 @@ pub record IsShut (xs : List Target) (closed : List ℕ) (c : Image) (p : ℕ) :
   pub written : IsWritten xs c
 
 -- the parts of the log that no commit of this number writes are as before
-pub record IsAround (on : List ℕ) (number : ℕ) (a : Seen) (c : Image) : Type 0 where
+pub record IsAround (on : List ℕ) (number : ℕ) (a : RackView) (c : Image) : Type 0 where
   pub inside : IsInside a.sectors c
   pub parts :
       (p t : ℕ) → IsLive a a (log_slice p) t → 1 < t → (names on p ≡ false) ⊎ (in_half number t ≡ false)
       → MayLeave (a.held (log_slice p) t) (c (log_slice p) t)
 
 -- before a target is written
-pub record IsEarly (l : LogView) (on : List ℕ) (number : ℕ) (opened : List ℕ) (a : Seen) (c : Image) : Type 0 where
+pub record IsEarly (l : LogView) (on : List ℕ) (number : ℕ) (opened : List ℕ) (a : RackView) (c : Image) : Type 0 where
   pub around : IsAround on number a c
   pub gates :
       (p : ℕ) → IsLive a a (log_slice p) gate_sector
@@ -52,7 +52,7 @@ pub record IsEarly (l : LogView) (on : List ℕ) (number : ℕ) (opened : List �
   pub others : (d t : ℕ) → IsLive a a d t → (IsLogPart d t → ⊥) → MayLeave (a.held d t) (c d t)
 
 -- once the gates of those left are open
-pub record IsLate (l : LogView) (on lost : List ℕ) (number : ℕ) (opened closed : List ℕ) (a : Seen) (c : Image) : Type 0 where
+pub record IsLate (l : LogView) (on lost : List ℕ) (number : ℕ) (opened closed : List ℕ) (a : RackView) (c : Image) : Type 0 where
   pub around : IsAround on number a c
   pub gates :
       (p : ℕ) → IsLive a a (log_slice p) gate_sector
@@ -121,21 +121,21 @@ other_half number before k is below =
     odd_next m n odd is = omega (arith, odd, is)
 
 -- the same targets put into contents that agree
-pub same_replayed : (a : Seen) (c e : Image) (d t : ℕ) → pending (deciding c) c ≡ pending (deciding e) e → c d t ≡ e d t
+pub same_replayed : (a : RackView) (c e : Image) (d t : ℕ) → pending (deciding c) c ≡ pending (deciding e) e → c d t ≡ e d t
     → replayed a.sectors c d t ≡ replayed a.sectors e d t
 unfolding replayed
 same_replayed a c e d t targets here =
     ap (λ (xs : List Target). put a.sectors xs c d t) targets
     ∙ ap (λ (v : List ℕ). if nat_lt t (a.sectors d) then unwrap_or (look (pending (deciding e) e) d t) v else v) here
 
-pub replayed_as : (a : Seen) (c : Image) (xs : List Target) (d t : ℕ) → pending (deciding c) c ≡ xs → replayed a.sectors c d t ≡ put a.sectors xs c d t
+pub replayed_as : (a : RackView) (c : Image) (xs : List Target) (d t : ℕ) → pending (deciding c) c ≡ xs → replayed a.sectors c d t ≡ put a.sectors xs c d t
 unfolding replayed
 replayed_as a c xs d t targets = ap (λ (ys : List Target). put a.sectors ys c d t) targets
 
 -- ---- gates that decide
 
 -- the gate of a place that decides: none, or one from before
-pub data IsOld (l : LogView) (a : Seen) (c : Image) (p : ℕ) : Type 0 where
+pub data IsOld (l : LogView) (a : RackView) (c : Image) (p : ℕ) : Type 0 where
   absent : c (log_slice p) gate_sector ≡ [] → IsOld l a c p
   lower : (g : Gate) → gate_of (c (log_slice p) gate_sector) ≡ Some g → g.number ≤ l.number → IsOld l a c p
 

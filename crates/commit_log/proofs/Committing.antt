@@ -4,7 +4,7 @@ use Rattle.std.specs.Option.{option_map_or}
 use Rattle.std.specs.List.{list_any}
 use Rattle.std.proofs.lemmas.Bool.{cases_Bool, cases_eq, ne_eqb, both_ways, cond-true, cond-false}
 use Rattle.rack.specs.Values.{MayLeave}
-use Rattle.rack.specs.Seen.{Image, Seen, IsLive, Stays}
+use Rattle.rack.specs.Seen.{Image, RackView, IsLive, SameRack}
 use Rattle.rack.specs.Moments.{Leaves}
 use Rattle.rack.specs.Targets.{Target}
 use Rattle.rack.specs.Joins.{stays_same, stays_then, live_first, live_second, leaves_weaker, leaves_then}
@@ -18,7 +18,7 @@ use Rattle.array_image.proofs.Replays.{SameLogs, pending_same}
 use Rattle.pool_state.specs.declared.contents.State.{State}
 use Rattle.log_laws.specs.View.{LogView, names, next_number, in_order}
 use Rattle.log_laws.specs.Standing.{IsLogPart, IsInside, LogsStand, deciding, IsReady, SomeoneDecides}
-use Rattle.log_laws.specs.Commits.{Stands, Commits, Committed, Rests, StandsMidway, IsOutside, CommitCall}
+use Rattle.log_laws.specs.Commits.{Stands, ImageInCommit, ImageAfterCommit, Rests, StandsMidway, IsOutside, CommitCall}
 use Rattle.log_laws.specs.Phases.{Calls, IsLogOf, IsOnEach, IsOfRecord, IsTargeted, has_target, AllLeft}
 use Rattle.log_laws.proofs.Calling.{calls_weaker, calls_then}
 use Rattle.commit_log.proofs.Restored.{restored, restored_there, pending_at_by}
@@ -30,7 +30,7 @@ use Rattle.commit_log.proofs.Ended.{late_committed, late_midway, late_rests}
 use Rattle.commit_log.proofs.Told.{Told, early_at_first, early_at_opening, late_at_targets, late_at_end, ending_after, shut_after}
 
 -- what a commit's calls did
-pub record Done (l : LogView) (on lost : List ℕ) (number : ℕ) (opened closed bytes : List ℕ) (count : ℕ) (a r g t b : Seen) (w0 w1 w2 w3 w4 : ℕ → Bool) : Type 0 where
+pub record Done (l : LogView) (on lost : List ℕ) (number : ℕ) (opened closed bytes : List ℕ) (count : ℕ) (a r g t b : RackView) (w0 w1 w2 w3 w4 : ℕ → Bool) : Type 0 where
   pub story : Story l on number opened closed bytes count a r g t b w0 w1 w2 w3 w4
   pub parts : Parts l on number opened closed bytes count a
   pub number_is : number ≡ next_number l.number
@@ -51,7 +51,7 @@ data IsOfCommit (l : LogView) (on : List ℕ) (number : ℕ) (opened closed byte
   of_target : IsPayload l.added d s v → IsOfCommit l on number opened closed bytes count d s v
   of_closing : IsOnEach on (length on) gate_sector closed d s v → IsOfCommit l on number opened closed bytes count d s v
 
-calls_of : (l : LogView) (on : List ℕ) (number : ℕ) (opened closed bytes : List ℕ) (count : ℕ) (a r g t b : Seen) (w0 w1 w2 w3 w4 : ℕ → Bool)
+calls_of : (l : LogView) (on : List ℕ) (number : ℕ) (opened closed bytes : List ℕ) (count : ℕ) (a r g t b : RackView) (w0 w1 w2 w3 w4 : ℕ → Bool)
     → Story l on number opened closed bytes count a r g t b w0 w1 w2 w3 w4
     → Calls a b (IsCalled l on) (IsOfCommit l on number opened closed bytes count) w0 w4
 calls_of l on number opened closed bytes count a r g t b w0 w1 w2 w3 w4 story =
@@ -76,7 +76,7 @@ other_of l on number opened closed bytes count d s v other (of_target is) = is
 other_of l on number opened closed bytes count d s v other (of_closing is) = absurd (each_no_other on closed d s v other is)
 
 -- gates as its own alone
-gate_number : (l : LogView) (on lost : List ℕ) (number : ℕ) (opened closed bytes : List ℕ) (count : ℕ) (a r g t b : Seen) (w0 w1 w2 w3 w4 : ℕ → Bool) (p : ℕ) (v : List ℕ)
+gate_number : (l : LogView) (on lost : List ℕ) (number : ℕ) (opened closed bytes : List ℕ) (count : ℕ) (a r g t b : RackView) (w0 w1 w2 w3 w4 : ℕ → Bool) (p : ℕ) (v : List ℕ)
     → Done l on lost number opened closed bytes count a r g t b w0 w1 w2 w3 w4
     → IsOfCommit l on number opened closed bytes count (log_slice p) gate_sector v
     → (h : Gate) × (gate_of v ≡ Some h) × (h.number ≤ next_number l.number)
@@ -89,7 +89,7 @@ gate_number l on lost number opened closed bytes count a r g t b w0 w1 w2 w3 w4 
     (record { is_open = false; number = number }, ap gate_of is.value ∙ done.closed_is, omega (arith, done.number_is))
 
 -- the log's other sectors it doesn't write
-not_around : (l : LogView) (on : List ℕ) (number : ℕ) (opened closed bytes : List ℕ) (count : ℕ) (a : Seen) (p t : ℕ) (v : List ℕ)
+not_around : (l : LogView) (on : List ℕ) (number : ℕ) (opened closed bytes : List ℕ) (count : ℕ) (a : RackView) (p t : ℕ) (v : List ℕ)
     → Parts l on number opened closed bytes count a → 0 < t → (names on p ≡ false) ⊎ ((t ≢ gate_sector) × IsOutside number t)
     → IsOfCommit l on number opened closed bytes count (log_slice p) t v → ⊥
 not_around l on number opened closed bytes count a p t v parts some out (of_record is) =
@@ -115,7 +115,7 @@ next_above n = elim (cases_Bool (nat_lt n (2 ^ 63 - 1))) [
 ]
 
 -- with room for numbers all that the theorem stands on is there
-told_of : (l : LogView) (on lost : List ℕ) (number : ℕ) (opened closed bytes : List ℕ) (count : ℕ) (a r g t b : Seen) (w0 w1 w2 w3 w4 : ℕ → Bool)
+told_of : (l : LogView) (on lost : List ℕ) (number : ℕ) (opened closed bytes : List ℕ) (count : ℕ) (a r g t b : RackView) (w0 w1 w2 w3 w4 : ℕ → Bool)
     → Done l on lost number opened closed bytes count a r g t b w0 w1 w2 w3 w4 → IsReady l on a
     → Told l on lost number opened closed bytes count a r g t b w0 w1 w2 w3 w4
 told_of l on lost number opened closed bytes count a r g t b w0 w1 w2 w3 w4 done ready = record {
@@ -138,15 +138,15 @@ told_of l on lost number opened closed bytes count a r g t b w0 w1 w2 w3 w4 done
 }
 
 -- at each moment contents are as in one of its parts
-moments_of : (P : Image → Type 0) (l : LogView) (on lost : List ℕ) (number : ℕ) (opened closed bytes : List ℕ) (count : ℕ) (a r g t b : Seen) (w0 w1 w2 w3 w4 : ℕ → Bool)
+moments_of : (P : Image → Type 0) (l : LogView) (on lost : List ℕ) (number : ℕ) (opened closed bytes : List ℕ) (count : ℕ) (a r g t b : RackView) (w0 w1 w2 w3 w4 : ℕ → Bool)
     → Done l on lost number opened closed bytes count a r g t b w0 w1 w2 w3 w4 → a.traced → IsReady l on a
     → ((c : Image) → IsEarly l on number opened a c → P c) → ((c : Image) → IsLate l on lost number opened closed a c → P c)
     → Leaves a b (λ c. IsInside a.sectors c → P c)
 moments_of P l on lost number opened closed bytes count a r g t b w0 w1 w2 w3 w4 done traced ready early late =
     let told : Told l on lost number opened closed bytes count a r g t b w0 w1 w2 w3 w4 = told_of l on lost number opened closed bytes count a r g t b w0 w1 w2 w3 w4 done ready in
-    let to_r : Stays a r = told.begun.writes.calls.only.stays in
-    let to_g : Stays a g = stays_then to_r told.opens.calls.only.stays in
-    let to_t : Stays a t = stays_then to_g told.writes.calls.only.stays in
+    let to_r : SameRack a r = told.begun.writes.calls.only.stays in
+    let to_g : SameRack a g = stays_then to_r told.opens.calls.only.stays in
+    let to_t : SameRack a t = stays_then to_g told.writes.calls.only.stays in
     let Q : Image → Type 0 = λ c. IsInside a.sectors c → P c in
     leaves_then Q
     (leaves_weaker _ Q
@@ -166,19 +166,19 @@ moments_of P l on lost number opened closed bytes count a r g t b w0 w1 w2 w3 w4
     (told.closes.calls.only.stops (to_t.traced traced)))))
 
 -- all or nothing
-stops_of : (l : LogView) (on lost : List ℕ) (number : ℕ) (opened closed bytes : List ℕ) (count : ℕ) (a r g t b : Seen) (w0 w1 w2 w3 w4 : ℕ → Bool)
+stops_of : (l : LogView) (on lost : List ℕ) (number : ℕ) (opened closed bytes : List ℕ) (count : ℕ) (a r g t b : RackView) (w0 w1 w2 w3 w4 : ℕ → Bool)
     → Done l on lost number opened closed bytes count a r g t b w0 w1 w2 w3 w4 → a.traced → IsReady l on a → SomeoneDecides l.added on lost a
-    → Leaves a b (λ c. IsInside a.sectors c → Commits l.added a c)
+    → Leaves a b (λ c. IsInside a.sectors c → ImageInCommit l.added a c)
 stops_of l on lost number opened closed bytes count a r g t b w0 w1 w2 w3 w4 done traced ready someone =
     let terms = (told_of l on lost number opened closed bytes count a r g t b w0 w1 w2 w3 w4 done ready).begun.terms in
-    moments_of (Commits l.added a) l on lost number opened closed bytes count a r g t b w0 w1 w2 w3 w4 done traced ready
+    moments_of (ImageInCommit l.added a) l on lost number opened closed bytes count a r g t b w0 w1 w2 w3 w4 done traced ready
     (λ c early. early_commits l on number opened closed a c ready terms early)
     (λ c late.
     let all = late_committed l on lost number opened closed a c ready terms someone late in
     record { before = all.before; stands = all.stands; either = inr all.all; whole = λ before. all.whole })
 
 -- and what the log slices say
-midway_of : (l : LogView) (on lost : List ℕ) (number : ℕ) (opened closed bytes : List ℕ) (count : ℕ) (a r g t b : Seen) (w0 w1 w2 w3 w4 : ℕ → Bool)
+midway_of : (l : LogView) (on lost : List ℕ) (number : ℕ) (opened closed bytes : List ℕ) (count : ℕ) (a r g t b : RackView) (w0 w1 w2 w3 w4 : ℕ → Bool)
     → Done l on lost number opened closed bytes count a r g t b w0 w1 w2 w3 w4 → a.traced → IsReady l on a → SomeoneDecides l.added on lost a
     → Leaves a b (λ c. IsInside a.sectors c → StandsMidway l on a c)
 midway_of l on lost number opened closed bytes count a r g t b w0 w1 w2 w3 w4 done traced ready someone =
@@ -207,7 +207,7 @@ off_log d s = not (slice_of d == 0)
 pub on_log : (p s : ℕ) → off_log (log_slice p) s ≡ false
 on_log p s = ap not (eq-eqb (slice_of (log_slice p)) 0 (slice_of_log p))
 
-pub off_log_pick : {a b : Seen} → Stays a b → a.lasting → (c : Image) → LogsStand b c → (d s : ℕ) → IsLive a a d s → MayLeave (b.held d s) (restored off_log b c d s)
+pub off_log_pick : {a b : RackView} → SameRack a b → a.lasting → (c : Image) → LogsStand b c → (d s : ℕ) → IsLive a a d s → MayLeave (b.held d s) (restored off_log b c d s)
 off_log_pick {a} {b} stays lasting c stands d s live =
     elim (cases_Bool (off_log d s)) [
       | inl other ↦ inl (cond-true (off_log d s) (b.held d s).current (c d s) other)
@@ -222,8 +222,8 @@ off_log_pick {a} {b} stays lasting c stands d s live =
     not_false true is = refl
     not_false false is = absurd (both_ways true is refl)
 
-rests_of : (l : LogView) (on lost : List ℕ) (number : ℕ) (opened closed bytes : List ℕ) (count : ℕ) (a r g t b : Seen) (w0 w1 w2 w3 w4 : ℕ → Bool) (c : Image)
-    → Done l on lost number opened closed bytes count a r g t b w0 w1 w2 w3 w4 → Stays a b → IsReady l on a → SomeoneDecides l.added on lost a
+rests_of : (l : LogView) (on lost : List ℕ) (number : ℕ) (opened closed bytes : List ℕ) (count : ℕ) (a r g t b : RackView) (w0 w1 w2 w3 w4 : ℕ → Bool) (c : Image)
+    → Done l on lost number opened closed bytes count a r g t b w0 w1 w2 w3 w4 → SameRack a b → IsReady l on a → SomeoneDecides l.added on lost a
     → LogsStand b c → Rests number l.added lost c
 rests_of l on lost number opened closed bytes count a r g t b w0 w1 w2 w3 w4 c done stays ready someone stands =
     let told : Told l on lost number opened closed bytes count a r g t b w0 w1 w2 w3 w4 = told_of l on lost number opened closed bytes count a r g t b w0 w1 w2 w3 w4 done ready in
@@ -238,9 +238,9 @@ rests_of l on lost number opened closed bytes count a r g t b w0 w1 w2 w3 w4 c d
     (ending_after l on lost number opened closed bytes count a r g t b w0 w1 w2 w3 w4 e told picks))
     (shut_after l on lost number opened closed bytes count a r g t b w0 w1 w2 w3 w4 e told picks))
 
-after_of : (l : LogView) (on lost : List ℕ) (number : ℕ) (opened closed bytes : List ℕ) (count : ℕ) (a r g t b : Seen) (w0 w1 w2 w3 w4 : ℕ → Bool) (c : Image)
-    → Done l on lost number opened closed bytes count a r g t b w0 w1 w2 w3 w4 → Stays a b → IsReady l on a → SomeoneDecides l.added on lost a
-    → Stands b c → Committed l.added a c
+after_of : (l : LogView) (on lost : List ℕ) (number : ℕ) (opened closed bytes : List ℕ) (count : ℕ) (a r g t b : RackView) (w0 w1 w2 w3 w4 : ℕ → Bool) (c : Image)
+    → Done l on lost number opened closed bytes count a r g t b w0 w1 w2 w3 w4 → SameRack a b → IsReady l on a → SomeoneDecides l.added on lost a
+    → Stands b c → ImageAfterCommit l.added a c
 after_of l on lost number opened closed bytes count a r g t b w0 w1 w2 w3 w4 c done stays ready someone stands =
     let told : Told l on lost number opened closed bytes count a r g t b w0 w1 w2 w3 w4 = told_of l on lost number opened closed bytes count a r g t b w0 w1 w2 w3 w4 done ready in
     let picks : (d s : ℕ) → IsLive a a d s → MayLeave (b.held d s) (c d s) =
@@ -265,13 +265,13 @@ has_of_place (x ∷ xs) d p is has =
           (has_of_place xs d p is (sym (ap (λ y. y || has_target xs d) (ne_eqb x.disk d other)) ∙ has))
     ]
 
-pub commit_call : (l : LogView) (on lost : List ℕ) (number : ℕ) (opened closed bytes : List ℕ) (count : ℕ) (a r g t b : Seen) (w0 w1 w2 w3 w4 : ℕ → Bool)
+pub commit_call : (l : LogView) (on lost : List ℕ) (number : ℕ) (opened closed bytes : List ℕ) (count : ℕ) (a r g t b : RackView) (w0 w1 w2 w3 w4 : ℕ → Bool)
     → Done l on lost number opened closed bytes count a r g t b w0 w1 w2 w3 w4 → CommitCall l on lost a b
 commit_call l on lost number opened closed bytes count a r g t b w0 w1 w2 w3 w4 done =
     let all : Calls a b (IsCalled l on) (IsOfCommit l on number opened closed bytes count) w0 w4 =
     calls_of l on number opened closed bytes count a r g t b w0 w1 w2 w3 w4 done.story in
-    let to_r : Stays a r = done.story.writes_record.calls.only.stays in
-    let to_g : Stays a g = stays_then to_r done.story.opens.calls.only.stays in
+    let to_r : SameRack a r = done.story.writes_record.calls.only.stays in
+    let to_g : SameRack a g = stays_then to_r done.story.opens.calls.only.stays in
     record {
       stays = all.only.stays;
       gone = record {
@@ -298,7 +298,7 @@ commit_call l on lost number opened closed bytes count a r g t b w0 w1 w2 w3 w4 
           ];
       gates = λ none p v named live left.
           let all4 : AllLeft w4 = λ q. sym (done.lost_are q) ∙ ap (λ ps. names ps q) none in
-          let to_t : Stays a t = stays_then to_g done.story.writes_targets.calls.only.stays in
+          let to_t : SameRack a t = stays_then to_g done.story.writes_targets.calls.only.stays in
           let is : v ≡ closed =
           done.story.closes.durable (log_slice p) gate_sector closed v (live_second to_t live) (all4 (place_of (log_slice p)))
           ((λ q. done.story.closes.calls.still q (all4 q)), record { disk = named_log on p named; there = refl; value = refl }) left in
@@ -319,7 +319,7 @@ commit_call l on lost number opened closed bytes count a r g t b w0 w1 w2 w3 w4 
       written = λ d s w v live left is held.
           let had = done.parts.targets d s w is in
           let at_t : w3 (place_of d) ≡ false = done.story.closes.calls.still (place_of d) (sym (done.lost_are (place_of d)) ∙ left) in
-          let to_t : Stays a t = stays_then to_g done.story.writes_targets.calls.only.stays in
+          let to_t : SameRack a t = stays_then to_g done.story.writes_targets.calls.only.stays in
           let live_t : IsLive a t d s = live_first done.story.closes.calls.only.stays live in
           let kept = done.story.closes.calls.only.others d s (live_second to_t live) (λ u both. each_no_other on closed d s u had.1 both.1.1) in
           done.story.writes_targets.durable d s w v (live_second to_g live_t) at_t

@@ -3,13 +3,13 @@ use Rattle.std.proofs.Common.{◌≡◌, ◌⊎◌, ℕ, ◌+◌, ◌<◌, ◌�
 use Rattle.std.specs.Option.{option_map_or}
 use Rattle.std.proofs.lemmas.Bool.{cases_Bool, cases_eq, cases_lt, both_ways, or_parts, ne_eqb}
 use Rattle.rack.specs.Values.{MayLeave}
-use Rattle.rack.specs.Seen.{Image, Seen, IsLive}
+use Rattle.rack.specs.Seen.{Image, RackView, IsLive}
 use Rattle.array_image.specs.Places.{slice_of, place_of, log_slice, log_sectors}
 use Rattle.array_image.specs.Record.{Gate, GateAt, gate_sector, gate_of, half_of, record_in, pending_at, pending, damaged_log}
 use Rattle.array_image.proofs.Frames.{state_same}
 use Rattle.log_laws.specs.View.{LogView, names}
 use Rattle.log_laws.specs.Standing.{IsLogPart, StatesStand, deciding, IsWhole, Decides, IsReady}
-use Rattle.log_laws.specs.Commits.{Stands, Commits, Committed, StandsMidway}
+use Rattle.log_laws.specs.Commits.{Stands, ImageInCommit, ImageAfterCommit, StandsMidway}
 use Rattle.commit_log.proofs.Restored.{restored, restored_there, restored_picks, restored_inside, pending_by}
 use Rattle.commit_log.proofs.Undamaged.{whole_by}
 use Rattle.log_laws.proofs.Counting.{decides_small, named_decides}
@@ -68,20 +68,20 @@ not_of_log-other number on c d t other =
 -- ---- what decides
 
 -- it hasn't the number of the commit
-old_number : (l : LogView) (number : ℕ) (a : Seen) (c : Image) (p : ℕ) → number ≡ l.number + 1 → IsOld l a c p
+old_number : (l : LogView) (number : ℕ) (a : RackView) (c : Image) (p : ℕ) → number ≡ l.number + 1 → IsOld l a c p
     → has_number number (c (log_slice p) gate_sector) ≡ false
 old_number l number a c p is (absent none) = ap (λ block. has_number number block) none ∙ ap (λ (o : Option Gate). option_map_or (λ g. g.number == number) o false) no_gate_in_nothing
 old_number l number a c p is (lower g has below) =
     ap (λ (o : Option Gate). option_map_or (λ g. g.number == number) o false) has ∙ ne_eqb g.number number (λ same. absurd (omega (arith, same, below, is)))
 
-pub early_states : (l : LogView) (on : List ℕ) (number : ℕ) (opened : List ℕ) (a : Seen) (c : Image) → IsEarly l on number opened a c → StatesStand l.added a c
+pub early_states : (l : LogView) (on : List ℕ) (number : ℕ) (opened : List ℕ) (a : RackView) (c : Image) → IsEarly l on number opened a c → StatesStand l.added a c
 early_states l on number opened a c early = record {
   picks = λ p live. inl (early.others (log_slice p) 0 live (not_state p));
   inside = λ p none. early.around.inside p 0 (omega (arith, none));
 }
 
 -- each gate that decides is old, or a place has the whole record
-early_gate : (l : LogView) (on : List ℕ) (number : ℕ) (opened : List ℕ) (a : Seen) (c : Image) → IsReady l on a → IsEarly l on number opened a c
+early_gate : (l : LogView) (on : List ℕ) (number : ℕ) (opened : List ℕ) (a : RackView) (c : Image) → IsReady l on a → IsEarly l on number opened a c
     → (p : ℕ) → Decides c p → IsOld l a c p ⊎ ((names on p ≡ true) × IsNew number l.added opened c p)
 early_gate l on number opened a c ready early p decides =
     elim (cases_lt gate_sector (a.sectors (log_slice p))) [
@@ -97,10 +97,10 @@ early_gate l on number opened a c ready early p decides =
 
 -- ---- contents with the log as it was
 
-log_restored : ℕ → List ℕ → Seen → Image → Image
+log_restored : ℕ → List ℕ → RackView → Image → Image
 log_restored number on a c = restored (of_log number on c) a c
 
-log_inside : (l : LogView) (on : List ℕ) (number : ℕ) (opened closed : List ℕ) (a : Seen) (c : Image) (p t : ℕ) → Terms l on number opened closed a
+log_inside : (l : LogView) (on : List ℕ) (number : ℕ) (opened closed : List ℕ) (a : RackView) (c : Image) (p t : ℕ) → Terms l on number opened closed a
     → a.sectors (log_slice p) ≤ t → of_log number on c (log_slice p) t ≡ false
 log_inside l on number opened closed a c p t terms past =
     elim (cases_Bool (names on p)) [
@@ -111,7 +111,7 @@ log_inside l on number opened closed a c p t terms past =
           (ap (λ b. b && has_number number (c (log_slice p) t)) (ne_eqb t 1 (λ one. absurd (omega (arith, one, size, past)))))
     ]
 
-has_opened : (l : LogView) (on : List ℕ) (number : ℕ) (opened closed : List ℕ) (a : Seen) (c : Image) (p : ℕ) → Terms l on number opened closed a
+has_opened : (l : LogView) (on : List ℕ) (number : ℕ) (opened closed : List ℕ) (a : RackView) (c : Image) (p : ℕ) → Terms l on number opened closed a
     → IsNew number l.added opened c p → has_number number (c (log_slice p) gate_sector) ≡ true
 has_opened l on number opened closed a c p terms new =
     ap (has_number number) new.gate ∙ ap (λ (o : Option Gate). option_map_or (λ g. g.number == number) o false) terms.opened_is ∙ eq-eqb number number refl
@@ -126,7 +126,7 @@ log_free number on c p t free =
           (sym (ap (λ b. b && (in_half number t || ((t == 1) && has_number number (c (log_slice p) t)))) here) ∙ sym (in_log number on c p t) ∙ free))
     ]
 
-gate_pick : (l : LogView) (on : List ℕ) (number : ℕ) (opened closed : List ℕ) (a : Seen) (c : Image) (p : ℕ) → Terms l on number opened closed a
+gate_pick : (l : LogView) (on : List ℕ) (number : ℕ) (opened closed : List ℕ) (a : RackView) (c : Image) (p : ℕ) → Terms l on number opened closed a
     → IsEarly l on number opened a c → IsLive a a (log_slice p) gate_sector → of_log number on c (log_slice p) gate_sector ≡ false
     → MayLeave (a.held (log_slice p) gate_sector) (c (log_slice p) gate_sector)
 gate_pick l on number opened closed a c p terms early live free =
@@ -139,7 +139,7 @@ gate_pick l on number opened closed a c p terms early live free =
           ]
     ]
 
-log_pick : (l : LogView) (on : List ℕ) (number : ℕ) (opened closed : List ℕ) (a : Seen) (c : Image) (p t : ℕ) → Terms l on number opened closed a
+log_pick : (l : LogView) (on : List ℕ) (number : ℕ) (opened closed : List ℕ) (a : RackView) (c : Image) (p t : ℕ) → Terms l on number opened closed a
     → IsEarly l on number opened a c → IsLive a a (log_slice p) t → 0 < t → of_log number on c (log_slice p) t ≡ false
     → MayLeave (a.held (log_slice p) t) (c (log_slice p) t)
 log_pick l on number opened closed a c p t terms early live some free =
@@ -155,7 +155,7 @@ log_pick l on number opened closed a c p t terms early live some free =
           ]
     ]
 
-log_stands : (l : LogView) (on : List ℕ) (number : ℕ) (opened closed : List ℕ) (a : Seen) (c : Image) → Terms l on number opened closed a
+log_stands : (l : LogView) (on : List ℕ) (number : ℕ) (opened closed : List ℕ) (a : RackView) (c : Image) → Terms l on number opened closed a
     → IsEarly l on number opened a c → Stands a (log_restored number on a c)
 unfolding log_restored
 log_stands l on number opened closed a c terms early = record {
@@ -179,7 +179,7 @@ log_stands l on number opened closed a c terms early = record {
         ]
 
 -- the same places decide there
-log_deciding : (number : ℕ) (on : List ℕ) (a : Seen) (c : Image) → deciding c ≡ deciding (log_restored number on a c)
+log_deciding : (number : ℕ) (on : List ℕ) (a : RackView) (c : Image) → deciding c ≡ deciding (log_restored number on a c)
 unfolding log_restored
 log_deciding number on a c =
     ap (λ (s : Option State). option_map_or current_places s [])
@@ -192,7 +192,7 @@ record SameLog (c e : Image) : Type 0 where
   gates : (p : ℕ) → names (deciding e) p ≡ true → c (log_slice p) gate_sector ≡ e (log_slice p) gate_sector
   records : (g : GateAt) → pending_at (deciding e) e ≡ Some g → record_in c g.place g.gate.number ≡ record_in e g.place g.gate.number
 
-log_same : (l : LogView) (on : List ℕ) (number : ℕ) (opened closed : List ℕ) (a : Seen) (c : Image) → IsReady l on a → Terms l on number opened closed a
+log_same : (l : LogView) (on : List ℕ) (number : ℕ) (opened closed : List ℕ) (a : RackView) (c : Image) → IsReady l on a → Terms l on number opened closed a
     → IsEarly l on number opened a c → ((p : ℕ) → names (deciding c) p ≡ true → IsOld l a c p)
     → SameLog c (log_restored number on a c)
 unfolding log_restored
@@ -236,7 +236,7 @@ record Someone (l : LogView) (on : List ℕ) (number : ℕ) (opened : List ℕ) 
   new : IsNew number l.added opened c place
 
 -- all gates that decide are old, or one has the whole record
-early_either : (l : LogView) (on : List ℕ) (number : ℕ) (opened closed : List ℕ) (a : Seen) (c : Image) → IsReady l on a
+early_either : (l : LogView) (on : List ℕ) (number : ℕ) (opened closed : List ℕ) (a : RackView) (c : Image) → IsReady l on a
     → IsEarly l on number opened a c → ((p : ℕ) → names (deciding c) p ≡ true → IsOld l a c p) ⊎ Deciders l number opened closed a c
 early_either l on number opened closed a c ready early =
     elim (each_or (IsOld l a c) (Someone l on number opened c) (deciding c)
@@ -259,8 +259,8 @@ early_either l on number opened closed a c ready early =
       })
     ]
 
-pub early_commits : (l : LogView) (on : List ℕ) (number : ℕ) (opened closed : List ℕ) (a : Seen) (c : Image) → IsReady l on a → Terms l on number opened closed a
-    → IsEarly l on number opened a c → Commits l.added a c
+pub early_commits : (l : LogView) (on : List ℕ) (number : ℕ) (opened closed : List ℕ) (a : RackView) (c : Image) → IsReady l on a → Terms l on number opened closed a
+    → IsEarly l on number opened a c → ImageInCommit l.added a c
 unfolding log_restored
 early_commits l on number opened closed a c ready terms early =
     elim (early_either l on number opened closed a c ready early) [
@@ -274,7 +274,7 @@ early_commits l on number opened closed a c ready terms early =
         whole = log_whole c (log_restored number on a c) (log_same l on number opened closed a c ready terms early olds);
       }
       | inr deciders ↦
-          let committed : Committed l.added a c =
+          let committed : ImageAfterCommit l.added a c =
           all_committed l on number opened closed a c terms early.around
           (λ p live. elim (early.gates p live) [ inl old ↦ inl old | inr new ↦ inr new.0 ])
           (λ d t live other. inl (early.others d t live other))
@@ -284,7 +284,7 @@ early_commits l on number opened closed a c ready terms early =
     ]
 
 -- and what the log slices say, as they stand
-pub early_midway : (l : LogView) (on : List ℕ) (number : ℕ) (opened closed : List ℕ) (a : Seen) (c : Image) → IsReady l on a → Terms l on number opened closed a
+pub early_midway : (l : LogView) (on : List ℕ) (number : ℕ) (opened closed : List ℕ) (a : RackView) (c : Image) → IsReady l on a → Terms l on number opened closed a
     → IsEarly l on number opened a c → StandsMidway l on a c
 unfolding log_restored
 early_midway l on number opened closed a c ready terms early =

@@ -1,26 +1,26 @@
 -- Once the gates of those left are open, and after the commit.
 use Rattle.std.proofs.Common.{◌≡◌, ◌≢◌, ◌⊎◌, ℕ, true, not, List, [], ◌∷◌, refl, sym, ◌∙◌, inl, inr, arith}
 use Rattle.std.proofs.lemmas.Bool.{cases_lt, and_parts, both_ways}
-use Rattle.rack.specs.Seen.{Image, Seen}
+use Rattle.rack.specs.Seen.{Image, RackView}
 use Rattle.array_image.specs.Places.{log_slice}
 use Rattle.array_image.specs.Record.{gate_sector, pending}
 use Rattle.log_laws.specs.View.{LogView, names}
 use Rattle.log_laws.specs.Standing.{StatesStand, deciding, Decides, IsReady, SomeoneDecides}
-use Rattle.log_laws.specs.Commits.{Committed, Rests, StandsMidway}
+use Rattle.log_laws.specs.Commits.{ImageAfterCommit, Rests, StandsMidway}
 use Rattle.log_laws.proofs.Counting.{decides_small}
 use Rattle.commit_log.proofs.Amid.{Terms, IsShut, IsLate, absent, lower, not_state}
 use Rattle.commit_log.proofs.Late.{Decider, is_old, is_new, is_shut, Deciders, late_pending, late_whole, shut_pending, pending_number}
 use Rattle.commit_log.proofs.Midway.{HasGates, deciders_pends}
 use Rattle.commit_log.proofs.Whole.{all_committed}
 
-late_states : (l : LogView) (on lost : List ℕ) (number : ℕ) (opened closed : List ℕ) (a : Seen) (c : Image)
+late_states : (l : LogView) (on lost : List ℕ) (number : ℕ) (opened closed : List ℕ) (a : RackView) (c : Image)
     → IsLate l on lost number opened closed a c → StatesStand l.added a c
 late_states l on lost number opened closed a c late = record {
   picks = λ p live. late.others (log_slice p) 0 live (not_state p);
   inside = λ p none. late.around.inside p 0 (omega (arith, none));
 }
 
-late_gate : (l : LogView) (on lost : List ℕ) (number : ℕ) (opened closed : List ℕ) (a : Seen) (c : Image) → IsReady l on a
+late_gate : (l : LogView) (on lost : List ℕ) (number : ℕ) (opened closed : List ℕ) (a : RackView) (c : Image) → IsReady l on a
     → IsLate l on lost number opened closed a c → (p : ℕ) → Decides c p → Decider l number opened closed a c p
 late_gate l on lost number opened closed a c ready late p decides =
     elim (cases_lt gate_sector (a.sectors (log_slice p))) [
@@ -35,7 +35,7 @@ late_gate l on lost number opened closed a c ready late p decides =
     ]
 
 -- a place that is left decides
-late_deciders : (l : LogView) (on lost : List ℕ) (number : ℕ) (opened closed : List ℕ) (a : Seen) (c : Image) → IsReady l on a
+late_deciders : (l : LogView) (on lost : List ℕ) (number : ℕ) (opened closed : List ℕ) (a : RackView) (c : Image) → IsReady l on a
     → SomeoneDecides l.added on lost a → IsLate l on lost number opened closed a c → Deciders l number opened closed a c
 late_deciders l on lost number opened closed a c ready someone late =
     let one = someone c (late_states l on lost number opened closed a c late) in
@@ -47,8 +47,8 @@ late_deciders l on lost number opened closed a c ready someone late =
     }
 
 -- all targets are there
-pub late_committed : (l : LogView) (on lost : List ℕ) (number : ℕ) (opened closed : List ℕ) (a : Seen) (c : Image) → IsReady l on a
-    → Terms l on number opened closed a → SomeoneDecides l.added on lost a → IsLate l on lost number opened closed a c → Committed l.added a c
+pub late_committed : (l : LogView) (on lost : List ℕ) (number : ℕ) (opened closed : List ℕ) (a : RackView) (c : Image) → IsReady l on a
+    → Terms l on number opened closed a → SomeoneDecides l.added on lost a → IsLate l on lost number opened closed a c → ImageAfterCommit l.added a c
 late_committed l on lost number opened closed a c ready terms someone late =
     all_committed l on number opened closed a c terms late.around
     (λ p live. elim (late.gates p live) [ inl old ↦ inl old | inr new ↦ inr new.0 ])
@@ -57,7 +57,7 @@ late_committed l on lost number opened closed a c ready terms someone late =
     (late_whole l on number opened closed a c terms (late_deciders l on lost number opened closed a c ready someone late))
 
 -- what the log slices say, as they stand
-pub late_midway : (l : LogView) (on lost : List ℕ) (number : ℕ) (opened closed : List ℕ) (a : Seen) (c : Image) → IsReady l on a
+pub late_midway : (l : LogView) (on lost : List ℕ) (number : ℕ) (opened closed : List ℕ) (a : RackView) (c : Image) → IsReady l on a
     → Terms l on number opened closed a → SomeoneDecides l.added on lost a → IsLate l on lost number opened closed a c → StandsMidway l on a c
 late_midway l on lost number opened closed a c ready terms someone late =
     let states = late_states l on lost number opened closed a c late in
@@ -71,7 +71,7 @@ late_midway l on lost number opened closed a c ready terms someone late =
     }
 
 -- nothing but they is pending, and nothing where nobody went
-pub late_rests : (l : LogView) (on lost : List ℕ) (number : ℕ) (opened closed : List ℕ) (a : Seen) (c : Image) → IsReady l on a
+pub late_rests : (l : LogView) (on lost : List ℕ) (number : ℕ) (opened closed : List ℕ) (a : RackView) (c : Image) → IsReady l on a
     → Terms l on number opened closed a → SomeoneDecides l.added on lost a → IsLate l on lost number opened closed a c
     → (lost ≡ [] → (p : ℕ) → names on p ≡ true → IsShut l.added closed c p)
     → Rests number l.added lost c

@@ -4,7 +4,7 @@ use Rattle.std.specs.Option.{option_and_then, option_map_or}
 use Rattle.std.specs.List.{list_all, list_any, range_with_len}
 use Rattle.std.proofs.lemmas.Bool.{cases_Bool, cases_eq, both_ways, and_from, and_parts, ne_eqb}
 use Rattle.std.proofs.lemmas.Option.{none-some}
-use Rattle.rack.specs.Seen.{Image, Seen}
+use Rattle.rack.specs.Seen.{Image, RackView}
 use Rattle.rack.specs.Joins.{rose_early, rose_later}
 use Rattle.rack.specs.Targets.{Target}
 use Rattle.rack.proofs.Reading.{only_reads_join}
@@ -24,7 +24,7 @@ use Rattle.commit_log.proofs.LeftPlaces.{foremost_left, all_left, any_left, find
 
 -- ---- a scan after places went
 
-pub scan_dropped : {a b c : Seen} (on : List ℕ) (s t : Scan) → IsScan on 16 a b s → Drops b c s t → IsScan on 16 a c t
+pub scan_dropped : {a b c : RackView} (on : List ℕ) (s t : Scan) → IsScan on 16 a b s → Drops b c s t → IsScan on 16 a c t
 scan_dropped {a} {b} {c} on s t scan drops = record {
   reads = only_reads_join scan.reads drops.reads;
   cause = λ p is.
@@ -71,7 +71,7 @@ scan_dropped {a} {b} {c} on s t scan drops = record {
 
 -- ---- what stands in the contents
 
-pub record Looks (on gone : List ℕ) (a r b : Seen) (s t : Scan) (broken : Option ℕ) (xs : List Target) : Type 0 where
+pub record Looks (on gone : List ℕ) (a r b : RackView) (s t : Scan) (broken : Option ℕ) (xs : List Target) : Type 0 where
   pub scan : IsScan on 16 a r s
   pub drops : Drops r b s t
   pub loads : Loads r t.gates broken xs
@@ -82,11 +82,11 @@ pub record Looks (on gone : List ℕ) (a r b : Seen) (s t : Scan) (broken : Opti
   pub slices : (p : ℕ) → names on p ≡ true → gate_sector < a.sectors (log_slice p)
 
 -- a gate as it reads now
-reads_gate : (a : Seen) (p : ℕ) → gate_sector < a.sectors (log_slice p) → reading a (log_slice p) gate_sector ≡ (a.held (log_slice p) gate_sector).current
+reads_gate : (a : RackView) (p : ℕ) → gate_sector < a.sectors (log_slice p) → reading a (log_slice p) gate_sector ≡ (a.held (log_slice p) gate_sector).current
 reads_gate a p there = ap (λ b. if b then (a.held (log_slice p) gate_sector).current else []) (lt-ltb gate_sector (a.sectors (log_slice p)) there)
 
 -- what a scan says of a place that was asked for and is left
-each_reads : {a r : Seen} (on : List ℕ) (s : Scan) (p : ℕ) → IsScan on 16 a r s → p < 16 → names on p ≡ true → went s.lost.places p ≡ false → a.told (log_slice p)
+each_reads : {a r : RackView} (on : List ℕ) (s : Scan) (p : ℕ) → IsScan on 16 a r s → p < 16 → names on p ≡ true → went s.lost.places p ≡ false → a.told (log_slice p)
     → gate_sector < a.sectors (log_slice p)
     → (gate_seen s.gates p ≡ gate_in (reading a) p) × (went s.damaged.places p ≡ is_bad_gate (reading a) p)
 each_reads {a} on s p scan few named left told there =
@@ -99,19 +99,19 @@ not_true true is = absurd (both_ways false refl is)
 not_true false is = refl
 
 -- a place that is left, and one that isn't
-is_here : (on gone : List ℕ) (a r b : Seen) (s t : Scan) (broken : Option ℕ) (xs : List Target) (p : ℕ) → Looks on gone a r b s t broken xs
+is_here : (on gone : List ℕ) (a r b : RackView) (s t : Scan) (broken : Option ℕ) (xs : List Target) (p : ℕ) → Looks on gone a r b s t broken xs
     → is_left on gone p ≡ true → (names on p ≡ true) × (went t.lost.places p ≡ false)
 is_here on gone a r b s t broken xs p looks left =
     let parts = and_parts (names on p) (not (names gone p)) left in
     (parts.0, sym (looks.lost_are p) ∙ not_true (names gone p) parts.1)
 
-each_after : (on gone : List ℕ) (a r b : Seen) (s t : Scan) (broken : Option ℕ) (xs : List Target) (p : ℕ) → Looks on gone a r b s t broken xs
+each_after : (on gone : List ℕ) (a r b : RackView) (s t : Scan) (broken : Option ℕ) (xs : List Target) (p : ℕ) → Looks on gone a r b s t broken xs
     → (names on p ≡ true) × (went t.lost.places p ≡ false)
     → (gate_seen t.gates p ≡ gate_in (reading a) p) × (went t.damaged.places p ≡ is_bad_gate (reading a) p)
 each_after on gone a r b s t broken xs p looks here =
     each_reads on t p (scan_dropped on s t looks.scan looks.drops) (looks.few p here.0) here.0 here.1 (looks.told p here.0) (looks.slices p here.0)
 
-nothing_else : (on gone : List ℕ) (a r b : Seen) (s t : Scan) (broken : Option ℕ) (xs : List Target) (p : ℕ) → Looks on gone a r b s t broken xs
+nothing_else : (on gone : List ℕ) (a r b : RackView) (s t : Scan) (broken : Option ℕ) (xs : List Target) (p : ℕ) → Looks on gone a r b s t broken xs
     → is_left on gone p ≡ false → (gate_seen t.gates p ≡ None) × (went t.damaged.places p ≡ false)
 nothing_else on gone a r b s t broken xs p looks other =
     (scan_dropped on s t looks.scan looks.drops).out p
@@ -123,7 +123,7 @@ nothing_else on gone a r b s t broken xs p looks other =
       ]
     ])
 
-seen_left : (on gone : List ℕ) (a r b : Seen) (s t : Scan) (broken : Option ℕ) (xs : List Target) → Looks on gone a r b s t broken xs
+seen_left : (on gone : List ℕ) (a r b : RackView) (s t : Scan) (broken : Option ℕ) (xs : List Target) → Looks on gone a r b s t broken xs
     → AreOnly (is_left on gone) None (gate_at (reading a)) (at_seen t.gates)
 seen_left on gone a r b s t broken xs looks = (
   λ p left.
@@ -133,7 +133,7 @@ seen_left on gone a r b s t broken xs looks = (
   λ p other. ap (λ (o : Option Gate). option_map (λ g. record { place = p; gate = g }) o) (nothing_else on gone a r b s t broken xs p looks other).0,
 )
 
-bad_left : (on gone : List ℕ) (a r b : Seen) (s t : Scan) (broken : Option ℕ) (xs : List Target) → Looks on gone a r b s t broken xs
+bad_left : (on gone : List ℕ) (a r b : RackView) (s t : Scan) (broken : Option ℕ) (xs : List Target) → Looks on gone a r b s t broken xs
     → AreOnly (is_left on gone) false (is_bad_gate (reading a)) (went t.damaged.places)
 bad_left on gone a r b s t broken xs looks = (
   λ p left.
@@ -143,7 +143,7 @@ bad_left on gone a r b s t broken xs looks = (
 )
 
 -- a gate that was read, when it was
-read_in : (on gone : List ℕ) (a r b : Seen) (s t : Scan) (broken : Option ℕ) (xs : List Target) (p : ℕ) (g : Gate) → Looks on gone a r b s t broken xs
+read_in : (on gone : List ℕ) (a r b : RackView) (s t : Scan) (broken : Option ℕ) (xs : List Target) (p : ℕ) (g : Gate) → Looks on gone a r b s t broken xs
     → gate_seen s.gates p ≡ Some g → (names on p ≡ true) × (gate_in (reading a) p ≡ Some g)
 read_in on gone a r b s t broken xs p g looks has =
     elim (cases_Bool (names on p)) [
@@ -166,7 +166,7 @@ at_gate gates p z is = of_gate (gate_seen gates p) is
 
 -- ---- the pending record
 
-pending_same : (on gone : List ℕ) (a r b : Seen) (s t : Scan) (broken : Option ℕ) (xs : List Target) → Looks on gone a r b s t broken xs
+pending_same : (on gone : List ℕ) (a r b : RackView) (s t : Scan) (broken : Option ℕ) (xs : List Target) → Looks on gone a r b s t broken xs
     → pending_at (left_of on gone) (reading a) ≡ pending_seen t.gates
 unfolding pending_at pending_seen
 pending_same on gone a r b s t broken xs looks =
@@ -184,7 +184,7 @@ pending_same on gone a r b s t broken xs looks =
     by_each (Some x) each = ap (λ b. if b then Some x else None) (each x.gate.number)
 
 -- it is read from a place that is left
-pending_left : (on gone : List ℕ) (a r b : Seen) (s t : Scan) (broken : Option ℕ) (xs : List Target) (x : GateAt) → Looks on gone a r b s t broken xs
+pending_left : (on gone : List ℕ) (a r b : RackView) (s t : Scan) (broken : Option ℕ) (xs : List Target) (x : GateAt) → Looks on gone a r b s t broken xs
     → pending_seen t.gates ≡ Some x → is_left on gone x.place ≡ true
 pending_left on gone a r b s t broken xs x looks is =
     elim (cases_Bool (is_left on gone x.place)) [
@@ -192,7 +192,7 @@ pending_left on gone a r b s t broken xs x looks is =
       | inr other ↦ absurd (none-some x.gate (sym (nothing_else on gone a r b s t broken xs x.place looks other).0 ∙ pending_has t.gates x is))
     ]
 
-record_is : (on gone : List ℕ) (a r b : Seen) (s t : Scan) (broken : Option ℕ) (xs : List Target) (x : GateAt) → Looks on gone a r b s t broken xs
+record_is : (on gone : List ℕ) (a r b : RackView) (s t : Scan) (broken : Option ℕ) (xs : List Target) (x : GateAt) → Looks on gone a r b s t broken xs
     → pending_seen t.gates ≡ Some x → record_in (reading a) x.place x.gate.number ≡ (if is_none broken then Some xs else None)
 record_is on gone a r b s t broken xs x looks is =
     let here = is_here on gone a r b s t broken xs x.place looks (pending_left on gone a r b s t broken xs x looks is) in
@@ -224,7 +224,7 @@ eq_swap m n =
 
 -- ---- what is damaged
 
-damaged_left : (on gone : List ℕ) (a r b : Seen) (s t : Scan) (broken : Option ℕ) (xs : List Target) → Looks on gone a r b s t broken xs
+damaged_left : (on gone : List ℕ) (a r b : RackView) (s t : Scan) (broken : Option ℕ) (xs : List Target) → Looks on gone a r b s t broken xs
     → AreOnly (is_left on gone) false (is_bad_log (left_of on gone) (reading a)) (is_damaged broken t)
 damaged_left on gone a r b s t broken xs looks =
     let c : Image = reading a in
@@ -263,7 +263,7 @@ damaged_left on gone a r b s t broken xs looks =
 
 -- ---- its targets
 
-targets_are : (on gone : List ℕ) (a r b : Seen) (s t : Scan) (broken : Option ℕ) (xs : List Target) → Looks on gone a r b s t broken xs
+targets_are : (on gone : List ℕ) (a r b : RackView) (s t : Scan) (broken : Option ℕ) (xs : List Target) → Looks on gone a r b s t broken xs
     → (if is_none (find (is_damaged broken t) (range_with_len 0 16)) then xs else []) ≡ pending (left_of on gone) (reading a)
 unfolding pending
 targets_are on gone a r b s t broken xs looks =
@@ -303,7 +303,7 @@ targets_are on gone a r b s t broken xs looks =
 
 -- ---- all of it
 
-pub finds_of : (on gone : List ℕ) (a r b : Seen) (s t : Scan) (broken : Option ℕ) (xs : List Target) (m : LogView) → Looks on gone a r b s t broken xs
+pub finds_of : (on gone : List ℕ) (a r b : RackView) (s t : Scan) (broken : Option ℕ) (xs : List Target) (m : LogView) → Looks on gone a r b s t broken xs
     → m.pending ≡ (if is_none (find (is_damaged broken t) (range_with_len 0 16)) then xs else [])
     → m.number ≡ option_map_or number_of (decisive_seen s.gates) 0 → m.is_open ≡ list_any is_open_gate (all_seen s.gates)
     → Finds m on (left_of on gone) (is_some (pending_seen t.gates)) (find (is_damaged broken t) (range_with_len 0 16)) (reading a)
@@ -363,7 +363,7 @@ finds_of on gone a r b s t broken xs m looks targets number openness = record {
         (p, g, has.0, has.1, sym (ap (λ (o : Option Gate). is_open_gate (option_map (λ h. record { place = p; gate = h }) o)) seen) ∙ is)
 
 -- a gate is one of a place that was asked for
-pub scan_asked : {a b : Seen} (on : List ℕ) (s : Scan) (p : ℕ) → IsScan on 16 a b s → is_some (gate_seen s.gates p) ≡ true → names on p ≡ true
+pub scan_asked : {a b : RackView} (on : List ℕ) (s : Scan) (p : ℕ) → IsScan on 16 a b s → is_some (gate_seen s.gates p) ≡ true → names on p ≡ true
 scan_asked on s p scan has =
     elim (cases_Bool (names on p)) [
       | inl is ↦ is
@@ -371,7 +371,7 @@ scan_asked on s p scan has =
     ]
 
 -- looking for the pending record
-pub looks_call : (on gone : List ℕ) (a r b : Seen) (s t : Scan) (broken : Option ℕ) (xs : List Target) (l m : LogView)
+pub looks_call : (on gone : List ℕ) (a r b : RackView) (s t : Scan) (broken : Option ℕ) (xs : List Target) (l m : LogView)
     → IsScan on 16 a r s → Drops r b s t → Loads r t.gates broken xs → ((p : ℕ) → names on p ≡ true → p < 16) → a.disks ≡ 272
     → ((p : ℕ) → names on p ≡ true → gate_sector < a.sectors (log_slice p)) → ((p : ℕ) → names gone p ≡ went t.lost.places p) → gone ≡ in_order gone
     → m.added ≡ l.added → m.is_lent ≡ true

@@ -2,7 +2,7 @@
 use Rattle.std.proofs.Common.{◌≡◌, ◌⊎◌, ℕ, ◌<◌, Bool, true, false, [], ◌∷◌, List, length, Ok, refl, sym, ap, subst, ◌∙◌, inl, inr, arith}
 use Rattle.std.proofs.lemmas.Bool.{both_ways, cases_Bool}
 use Rattle.std.specs.Option.{option_map_or}
-use Rattle.rack.specs.Seen.{Image, Seen, IsLive}
+use Rattle.rack.specs.Seen.{Image, RackView, IsLive}
 use Rattle.rack.specs.Targets.{Target, look}
 use Rattle.pool_state.specs.declared.contents.State.{State}
 use Rattle.pool_state.specs.Sector.{decoded}
@@ -14,13 +14,13 @@ use Rattle.log_laws.specs.View.{LogView, names}
 use Rattle.log_laws.specs.Standing.{LogsStand, deciding, IsNumbered, SomeoneDecides}
 use Rattle.log_laws.specs.Commits.{Stands}
 use Rattle.log_laws.specs.Opening.{CanReplay, HasWork, ReplayCall}
-use Rattle.log_laws.specs.Kept.{CopiesStand, HasClosedGate, LogKept}
+use Rattle.log_laws.specs.Kept.{CopiesStand, HasClosedGate, LogInvariant}
 use Rattle.commit_log.proofs.Amid.{replayed_as}
 use Rattle.log_laws.proofs.Kept.{live_on, put_none}
 use Rattle.log_laws.proofs.KeptAfter.{logs_after}
 
 -- Where nobody went, nothing is pending, and contents are as they are once they are replayed.
-pub replayed_idle : (l : LogView) (on : List ℕ) (a b : Seen) (c : Image) → ReplayCall l on [] a b → CanReplay l a → SomeoneDecides l.pending on [] a
+pub replayed_idle : (l : LogView) (on : List ℕ) (a b : RackView) (c : Image) → ReplayCall l on [] a b → CanReplay l a → SomeoneDecides l.pending on [] a
     → LogsStand b c → pending (deciding c) c ≡ []
 replayed_idle l on a b c replay can someone stand =
     elim (replay.rests can someone c stand).targets [
@@ -28,13 +28,13 @@ replayed_idle l on a b c replay can someone stand =
       | inr both ↦ absurd (both.0 refl)
     ]
 
-pub replayed_same : (l : LogView) (on : List ℕ) (a b : Seen) (c : Image) (d t : ℕ) → ReplayCall l on [] a b → CanReplay l a → SomeoneDecides l.pending on [] a
+pub replayed_same : (l : LogView) (on : List ℕ) (a b : RackView) (c : Image) (d t : ℕ) → ReplayCall l on [] a b → CanReplay l a → SomeoneDecides l.pending on [] a
     → LogsStand b c → replayed b.sectors c d t ≡ c d t
 unfolding look
 replayed_same l on a b c d t replay can someone stand =
     replayed_as b c [] d t (replayed_idle l on a b c replay can someone stand) ∙ put_none b.sectors [] c d t refl
 
-logs_of : (x : Seen) (c : Image) → Stands x c → LogsStand x c
+logs_of : (x : RackView) (c : Image) → Stands x c → LogsStand x c
 logs_of x c stand = record { picks = λ p t live. stand.picks (log_slice p) t live; inside = stand.inside }
 
 -- the log has something to write, or not
@@ -49,7 +49,7 @@ work_or_not l = elim (cases_Bool l.is_open) [
     of (x ∷ xs) is shut = inl (inl (λ none. let e = ap length (sym is ∙ none) in absurd (omega (arith, e))))
 
 -- a gate is closed by it, or was and is as it was
-closed_replayed : (l : LogView) (on : List ℕ) (a b : Seen) (p : ℕ) → ReplayCall l on [] a b → IsLive a b (log_slice p) gate_sector → names on p ≡ true
+closed_replayed : (l : LogView) (on : List ℕ) (a b : RackView) (p : ℕ) → ReplayCall l on [] a b → IsLive a b (log_slice p) gate_sector → names on p ≡ true
     → ((HasWork l → ⊥) → HasClosedGate a p) → HasClosedGate b p
 closed_replayed l on a b p replay live named shut v g left is =
     elim (work_or_not l) [
@@ -58,7 +58,7 @@ closed_replayed l on a b p replay live named shut v g left is =
     ]
 
 -- With the copies of a state as they stand then, the log is as a commit finds it.
-pub kept_opened : (s : State) (gone : ℕ → Bool) (l : LogView) (on : List ℕ) (a b : Seen)
+pub kept_opened : (s : State) (gone : ℕ → Bool) (l : LogView) (on : List ℕ) (a b : RackView)
     → ReplayCall l on [] a b → CanReplay l a → SomeoneDecides l.pending on [] a
     → ((p : ℕ) → is_current s p ≡ true → p < 16)
     → ((p : ℕ) → is_current s p ≡ true → gone p ≡ false → 0 < a.sectors (log_slice p))
@@ -66,7 +66,7 @@ pub kept_opened : (s : State) (gone : ℕ → Bool) (l : LogView) (on : List ℕ
     → ((p : ℕ) → is_current s p ≡ true → gate_sector < a.sectors (log_slice p) → names on p ≡ true)
     → ((HasWork l → ⊥) → (p : ℕ) → is_current s p ≡ true → gate_sector < a.sectors (log_slice p) → HasClosedGate a p)
     → CopiesStand s gone b
-    → LogKept s l.number gone b
+    → LogInvariant s l.number gone b
 kept_opened s gone l on a b replay can someone few there numbers named shut copies =
     let had : (p t : ℕ) → t < b.sectors (log_slice p) → t < a.sectors (log_slice p) = λ p t. subst (λ n. t < n) (replay.stays.sectors (log_slice p)) in
     record {

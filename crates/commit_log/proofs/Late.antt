@@ -3,7 +3,7 @@ use Rattle.std.proofs.Common.{◌≡◌, ◌⊎◌, ℕ, ◌≤◌, ◌==◌, �
 use Rattle.std.specs.List.{list_all}
 use Rattle.std.proofs.lemmas.Bool.{cases_Bool, both_ways, ne_eqb}
 use Rattle.std.proofs.lemmas.Option.{none-some}
-use Rattle.rack.specs.Seen.{Image, Seen}
+use Rattle.rack.specs.Seen.{Image, RackView}
 use Rattle.array_image.specs.Places.{log_slice}
 use Rattle.array_image.specs.Record.{Gate, GateAt, gate_sector, gate_of, gate_in, is_there, is_bad_gate, record_in, is_open_if_of, pending_at, pending}
 use Rattle.commit_log.specs.Scans.{number_of}
@@ -18,7 +18,7 @@ use Rattle.commit_log.proofs.Amid.{Terms, IsNew, IsShut, IsOld, absent, lower, n
 -- ---- what is pending
 
 -- the gate of a place that decides
-pub data Decider (l : LogView) (number : ℕ) (opened closed : List ℕ) (a : Seen) (c : Image) (p : ℕ) : Type 0 where
+pub data Decider (l : LogView) (number : ℕ) (opened closed : List ℕ) (a : RackView) (c : Image) (p : ℕ) : Type 0 where
   is_old : IsOld l a c p → Decider l number opened closed a c p
   is_new : IsNew number l.added opened c p → Decider l number opened closed a c p
   is_shut : IsShut l.added closed c p → Decider l number opened closed a c p
@@ -31,7 +31,7 @@ some_gate : (x y : Gate) → Some x ≡ Some y → x ≡ y
 some_gate x y is = (cc)
 
 -- its number
-number_at_most : (l : LogView) (on : List ℕ) (number : ℕ) (opened closed : List ℕ) (a : Seen) (c : Image) (p : ℕ) (g : Gate)
+number_at_most : (l : LogView) (on : List ℕ) (number : ℕ) (opened closed : List ℕ) (a : RackView) (c : Image) (p : ℕ) (g : Gate)
     → Terms l on number opened closed a → Decider l number opened closed a c p → gate_in c p ≡ Some g → g.number ≤ number
 number_at_most l on number opened closed a c p g terms (is_old (absent none)) has = absurd (none-some g (sym no_gate_in_nothing ∙ sym (ap gate_of none) ∙ has))
 number_at_most l on number opened closed a c p g terms (is_old (lower h is below)) has =
@@ -49,7 +49,7 @@ and_off true c is = is
 and_off false c is = refl
 
 -- it isn't bad
-not_bad : (l : LogView) (on : List ℕ) (number : ℕ) (opened closed : List ℕ) (a : Seen) (c : Image) (p : ℕ)
+not_bad : (l : LogView) (on : List ℕ) (number : ℕ) (opened closed : List ℕ) (a : RackView) (c : Image) (p : ℕ)
     → Terms l on number opened closed a → Decider l number opened closed a c p → is_bad_gate c p ≡ false
 not_bad l on number opened closed a c p terms (is_old (absent none)) = ap (λ (block : List ℕ). is_there block && is_none (gate_of block)) none
 not_bad l on number opened closed a c p terms (is_old (lower h is below)) = and_off (is_there (c (log_slice p) gate_sector)) _ (ap (λ (o : Option Gate). is_none o) is)
@@ -66,7 +66,7 @@ or_true true = refl
 or_true false = refl
 
 -- it is open if it has the number, or all targets are written
-open_or_written : (l : LogView) (on : List ℕ) (number : ℕ) (opened closed : List ℕ) (a : Seen) (c : Image) (p : ℕ)
+open_or_written : (l : LogView) (on : List ℕ) (number : ℕ) (opened closed : List ℕ) (a : RackView) (c : Image) (p : ℕ)
     → Terms l on number opened closed a → Decider l number opened closed a c p
     → (is_open_if_of number (gate_at c p) ≡ true) ⊎ IsWritten l.added c
 open_or_written l on number opened closed a c p terms (is_old (absent none)) =
@@ -82,7 +82,7 @@ open_or_written l on number opened closed a c p terms (is_new new) =
 open_or_written l on number opened closed a c p terms (is_shut shut) = inr shut.written
 
 -- the record that is read where all are open
-top_record : (l : LogView) (on : List ℕ) (number : ℕ) (opened closed : List ℕ) (a : Seen) (c : Image) (g : GateAt) (p : ℕ)
+top_record : (l : LogView) (on : List ℕ) (number : ℕ) (opened closed : List ℕ) (a : RackView) (c : Image) (g : GateAt) (p : ℕ)
     → Terms l on number opened closed a → Decider l number opened closed a c p
     → gate_at c p ≡ Some g → number_of g ≡ number → is_open_if_of number (gate_at c p) ≡ true
     → record_in c g.place g.gate.number ≡ Some l.added
@@ -100,13 +100,13 @@ top_record l on number opened closed a c g p terms (is_shut shut) is number_is o
     (sym (ap (is_open_if_of number) (gate_at_read c p (record { is_open = false; number = number }) (gate_read c p closed _ shut.gate terms.closed_is))) ∙ open_is))
 
 -- each place that decides has such a gate, and one of them has the number
-pub record Deciders (l : LogView) (number : ℕ) (opened closed : List ℕ) (a : Seen) (c : Image) : Type 0 where
+pub record Deciders (l : LogView) (number : ℕ) (opened closed : List ℕ) (a : RackView) (c : Image) : Type 0 where
   pub each : (p : ℕ) → Decides c p → Decider l number opened closed a c p
   pub one : ℕ
   pub one_decides : Decides c one
   pub has : IsNew number l.added opened c one ⊎ IsShut l.added closed c one
 
-one_gate : (l : LogView) (on : List ℕ) (number : ℕ) (opened closed : List ℕ) (a : Seen) (c : Image) (p : ℕ)
+one_gate : (l : LogView) (on : List ℕ) (number : ℕ) (opened closed : List ℕ) (a : RackView) (c : Image) (p : ℕ)
     → Terms l on number opened closed a → IsNew number l.added opened c p ⊎ IsShut l.added closed c p
     → (g : GateAt) × (gate_at c p ≡ Some g) × (number_of g ≡ number)
 one_gate l on number opened closed a c p terms (inl new) =
@@ -115,7 +115,7 @@ one_gate l on number opened closed a c p terms (inr shut) =
     (record { place = p; gate = record { is_open = false; number = number } }, gate_at_read c p _ (gate_read c p closed _ shut.gate terms.closed_is), refl)
 
 -- the greatest number is that of the commit
-pub number_top : (l : LogView) (on : List ℕ) (number : ℕ) (opened closed : List ℕ) (a : Seen) (c : Image)
+pub number_top : (l : LogView) (on : List ℕ) (number : ℕ) (opened closed : List ℕ) (a : RackView) (c : Image)
     → Terms l on number opened closed a → Deciders l number opened closed a c → IsTop (gate_at c) (deciding c) number
 number_top l on number opened closed a c terms deciders =
     let one = one_gate l on number opened closed a c deciders.one terms deciders.has in
@@ -126,7 +126,7 @@ number_top l on number opened closed a c terms deciders =
     (decides_named c deciders.one deciders.one_decides) one.1 one.2
 
 -- so all targets are pending, or nothing is and all are written
-pub late_pending : (l : LogView) (on : List ℕ) (number : ℕ) (opened closed : List ℕ) (a : Seen) (c : Image)
+pub late_pending : (l : LogView) (on : List ℕ) (number : ℕ) (opened closed : List ℕ) (a : RackView) (c : Image)
     → Terms l on number opened closed a → Deciders l number opened closed a c
     → (pending (deciding c) c ≡ l.added) ⊎ ((pending (deciding c) c ≡ []) × IsWritten l.added c)
 late_pending l on number opened closed a c terms deciders =
@@ -150,7 +150,7 @@ late_pending l on number opened closed a c terms deciders =
     ]
 
 -- no log is damaged
-pub late_whole : (l : LogView) (on : List ℕ) (number : ℕ) (opened closed : List ℕ) (a : Seen) (c : Image)
+pub late_whole : (l : LogView) (on : List ℕ) (number : ℕ) (opened closed : List ℕ) (a : RackView) (c : Image)
     → Terms l on number opened closed a → Deciders l number opened closed a c → IsWhole c
 late_whole l on number opened closed a c terms deciders =
     let ps : List ℕ = deciding c in
@@ -172,7 +172,7 @@ late_whole l on number opened closed a c terms deciders =
     some_gate_at x y is = (cc)
 
 -- and nothing is pending where one that decides is closed
-pub shut_pending : (l : LogView) (on : List ℕ) (number : ℕ) (opened closed : List ℕ) (a : Seen) (c : Image) (p : ℕ)
+pub shut_pending : (l : LogView) (on : List ℕ) (number : ℕ) (opened closed : List ℕ) (a : RackView) (c : Image) (p : ℕ)
     → Terms l on number opened closed a → Deciders l number opened closed a c → Decides c p → IsShut l.added closed c p
     → pending (deciding c) c ≡ []
 shut_pending l on number opened closed a c p terms deciders decides shut =
@@ -187,7 +187,7 @@ shut_pending l on number opened closed a c p terms deciders decides shut =
     ]
 
 -- what is pending has the number
-pub pending_number : (l : LogView) (on : List ℕ) (number : ℕ) (opened closed : List ℕ) (a : Seen) (c : Image) (g : GateAt)
+pub pending_number : (l : LogView) (on : List ℕ) (number : ℕ) (opened closed : List ℕ) (a : RackView) (c : Image) (g : GateAt)
     → Terms l on number opened closed a → Deciders l number opened closed a c → pending_at (deciding c) c ≡ Some g → g.gate.number ≡ number
 pending_number l on number opened closed a c g terms deciders is =
     let t : IsTop (gate_at c) (deciding c) number = number_top l on number opened closed a c terms deciders in

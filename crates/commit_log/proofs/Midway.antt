@@ -3,7 +3,7 @@ use Rattle.std.proofs.Common.{◌≡◌, ◌⊎◌, ℕ, ◌+◌, ◌-◌, ◌<�
 use Rattle.std.proofs.lemmas.Bool.{cases_lt, cond-true}
 use Rattle.std.proofs.lemmas.Option.{none-some}
 use Rattle.rack.specs.Values.{MayLeave}
-use Rattle.rack.specs.Seen.{Image, Seen, IsLive}
+use Rattle.rack.specs.Seen.{Image, RackView, IsLive}
 use Rattle.array_image.specs.Places.{log_slice}
 use Rattle.array_image.specs.Record.{Gate, GateAt, gate_of, gate_sector, pending_at, pending}
 use Rattle.log_laws.specs.View.{LogView, names, next_number}
@@ -18,12 +18,12 @@ some_gate : (x y : Gate) → Some x ≡ Some y → x ≡ y
 some_gate x y is = (cc)
 
 -- gates of places are as before the commit, or those of its places
-abbrev pub HasGates : List ℕ → Seen → Image → Type 0
+abbrev pub HasGates : List ℕ → RackView → Image → Type 0
 HasGates on a c =
     (p : ℕ) → IsLive a a (log_slice p) gate_sector
     → MayLeave (a.held (log_slice p) gate_sector) (c (log_slice p) gate_sector) ⊎ (names on p ≡ true)
 
-module _ (l : LogView) (on : List ℕ) (number : ℕ) (opened closed : List ℕ) (a : Seen) (c : Image) (ready : IsReady l on a)
+module _ (l : LogView) (on : List ℕ) (number : ℕ) (opened closed : List ℕ) (a : RackView) (c : Image) (ready : IsReady l on a)
     (terms : Terms l on number opened closed a) (deciders : Deciders l number opened closed a c) (states : StatesStand l.added a c)
     (inside : IsInside a.sectors c) (gates : HasGates on a c) where
   next_is : number ≡ next_number l.number

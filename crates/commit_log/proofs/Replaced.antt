@@ -6,7 +6,7 @@ use Rattle.rack.specs.Seen.{Image}
 use Rattle.pool_state.specs.declared.contents.State.{State}
 use Rattle.array_image.specs.Record.{gate_in}
 use Rattle.array_image.specs.States.{current_places, is_current}
-use Rattle.log_laws.specs.Saying.{IsBrought, IsReplaced, SaysReplaced, SaysState}
+use Rattle.log_laws.specs.Saying.{PendingInstalls, IsReplaced, SaysReplaced, RecoversTo}
 use Rattle.log_laws.specs.View.{names}
 use Rattle.commit_log.proofs.Fewer.{names_filter}
 use Rattle.commit_log.proofs.Replayable.{pending_named}
@@ -15,7 +15,7 @@ listed : (s : State) (p : ℕ) → names (current_places s) p ≡ true → is_cu
 unfolding current_places
 listed s p among = (names_filter (is_current s) (range_with_len 0 (length s.drives.items)) p among).0
 
-pub replaced_brings : (place : ℕ) (s t : State) (c : Image) → IsReplaced place s t c → IsBrought s t c
+pub replaced_brings : (place : ℕ) (s t : State) (c : Image) → IsReplaced place s t c → PendingInstalls s t c
 replaced_brings place s t c is = record {
   later = is.later;
   pool = is.pool;
@@ -34,7 +34,7 @@ replaced_brings place s t c is = record {
 }
 
 -- so contents say the state that it brings
-pub replaced_says : (place : ℕ) (s t : State) (sectors : ℕ → ℕ) (c : Image) → SaysReplaced place s t sectors c → SaysState t sectors c
+pub replaced_says : (place : ℕ) (s t : State) (sectors : ℕ → ℕ) (c : Image) → SaysReplaced place s t sectors c → RecoversTo t sectors c
 replaced_says place s t sectors c says = record {
   whole = says.whole;
   is_state = says.is_state;

@@ -1,7 +1,7 @@
 -- A replay from its two parts: the targets are written, and then the gates closed.
 use Rattle.std.proofs.Common.{◌≡◌, ◌⊎◌, ℕ, ◌<◌, ◌≤◌, Bool, true, false, List, [], length, Some, refl, sym, ap, subst, ◌∙◌, inl, inr, arith}
 use Rattle.rack.specs.Values.{MayLeave}
-use Rattle.rack.specs.Seen.{Image, Seen, IsLive, IsPick, Stays}
+use Rattle.rack.specs.Seen.{Image, RackView, IsLive, IsPick, SameRack}
 use Rattle.rack.specs.Moments.{Leaves}
 use Rattle.rack.specs.Targets.{Target}
 use Rattle.rack.specs.Joins.{stays_same, live_first, live_second, leaves_weaker, leaves_then}
@@ -22,7 +22,7 @@ use Rattle.commit_log.proofs.Committing.{off_log, rests_by_logs, off_log_pick, o
 use Rattle.commit_log.proofs.Restored.{restored, restored_there}
 use Rattle.commit_log.proofs.Replaying.{IsSound, can_sound, IsClosed, IsAmid, HavePayloads, replaying_of, replays_of, rests_amid}
 
-pub shuts_all : {a b : Seen} (l : LogView) (went now : ℕ → Bool) (on : List ℕ) (block : List ℕ) → HasWork l
+pub shuts_all : {a b : RackView} (l : LogView) (went now : ℕ → Bool) (on : List ℕ) (block : List ℕ) → HasWork l
     → Settles a b (IsLogOf on (length on)) (IsClosing went on block) (IsClosing went on block) went now
     → Settles a b (IsLogOf on (length on)) (IsShut l went on block) (IsShut l went on block) went now
 shuts_all l went now on block work settles = record {
@@ -30,7 +30,7 @@ shuts_all l went now on block work settles = record {
   durable = λ d s w v live here is left. settles.durable d s w v live here is.1 left;
 }
 
-pub shuts_none : (a : Seen) (l : LogView) (went : ℕ → Bool) (on : List ℕ) (block : List ℕ) → a.fit → (HasWork l → ⊥)
+pub shuts_none : (a : RackView) (l : LogView) (went : ℕ → Bool) (on : List ℕ) (block : List ℕ) → a.fit → (HasWork l → ⊥)
     → Settles a a (IsLogOf on (length on)) (IsShut l went on block) (IsShut l went on block) went went
 shuts_none a l went on block fit none = record {
   calls = calls_none a (IsLogOf on (length on)) (IsShut l went on block) went fit;
@@ -38,7 +38,7 @@ shuts_none a l went on block fit none = record {
 }
 
 -- what a replay's calls did
-pub record Replayed (l : LogView) (on lost : List ℕ) (closed : List ℕ) (a t b : Seen) (w0 w1 w2 : ℕ → Bool) : Type 0 where
+pub record Replayed (l : LogView) (on lost : List ℕ) (closed : List ℕ) (a t b : RackView) (w0 w1 w2 : ℕ → Bool) : Type 0 where
   pub writes : Settles a t (IsTargeted l.pending) (IsPayload l.pending) (IsWanted a l.pending) w0 w1
   pub closes : Settles t b (IsLogOf on (length on)) (IsShut l w1 on closed) (IsShut l w1 on closed) w1 w2
   pub closed_is : gate_of closed ≡ Some (record { is_open = false; number = l.number })
@@ -57,7 +57,7 @@ IsCalled l on d = IsLogOf on (length on) d ⊎ IsTargeted l.pending d
 abbrev MayWrite : LogView → (ℕ → Bool) → List ℕ → List ℕ → ℕ → ℕ → List ℕ → Type 0
 MayWrite l went on closed d s v = IsPayload l.pending d s v ⊎ IsShut l went on closed d s v
 
-calls_of : (l : LogView) (on lost : List ℕ) (closed : List ℕ) (a t b : Seen) (w0 w1 w2 : ℕ → Bool) → Replayed l on lost closed a t b w0 w1 w2
+calls_of : (l : LogView) (on lost : List ℕ) (closed : List ℕ) (a t b : RackView) (w0 w1 w2 : ℕ → Bool) → Replayed l on lost closed a t b w0 w1 w2
     → Calls a b (IsCalled l on) (MayWrite l w1 on closed) w0 w2
 calls_of l on lost closed a t b w0 w1 w2 done =
     calls_then (IsCalled l on) (MayWrite l w1 on closed) w0 w1 w2
@@ -81,7 +81,7 @@ target_other l d s v sound is part =
     let has = payload_look l.pending d s v is in
     valid_apart l.pending d s has.0 sound.valid has.1 part
 
-amid_at_targets : (l : LogView) (closed : List ℕ) (a : Seen) (c : Image) → CanReplay l a → IsInside a.sectors c
+amid_at_targets : (l : LogView) (closed : List ℕ) (a : RackView) (c : Image) → CanReplay l a → IsInside a.sectors c
     → ((d s : ℕ) → IsLive a a d s → MayLeave (a.held d s) (c d s) ⊎ IsPayload l.pending d s (c d s)) → IsAmid l closed a c
 amid_at_targets l closed a c can inside mix =
     let sound : IsSound l.pending = can_sound l a can in
@@ -99,11 +99,11 @@ amid_at_targets l closed a c can inside mix =
     }
 
 -- contents that the writing of the targets left, but for gates that were closed
-abbrev IsEnding : LogView → List ℕ → List ℕ → Seen → Seen → (ℕ → Bool) → Image → Type 0
+abbrev IsEnding : LogView → List ℕ → List ℕ → RackView → RackView → (ℕ → Bool) → Image → Type 0
 IsEnding l on closed a t w1 c = (d s : ℕ) → IsLive a a d s → MayLeave (t.held d s) (c d s) ⊎ IsShut l w1 on closed d s (c d s)
 
 -- where gates are closed all targets were written
-ending_written : (l : LogView) (on lost : List ℕ) (closed : List ℕ) (a t b : Seen) (w0 w1 w2 : ℕ → Bool) (c : Image) → Replayed l on lost closed a t b w0 w1 w2
+ending_written : (l : LogView) (on lost : List ℕ) (closed : List ℕ) (a t b : RackView) (w0 w1 w2 : ℕ → Bool) (c : Image) → Replayed l on lost closed a t b w0 w1 w2
     → CanReplay l a → IsEnding l on closed a t w1 c → AllLeft w1 → HavePayloads a l.pending c
 ending_written l on lost closed a t b w0 w1 w2 c done can ending all d s w is there =
     let live : IsLive a a d s = can.targets d s w is there in
@@ -113,7 +113,7 @@ ending_written l on lost closed a t b w0 w1 w2 c done can ending all d s w is th
       | inr shuts ↦ absurd (each_no_other on closed d s (c d s) (valid_apart l.pending d s w sound.valid is) shuts.1.1)
     ]
 
-amid_at_end : (l : LogView) (on lost : List ℕ) (closed : List ℕ) (a t b : Seen) (w0 w1 w2 : ℕ → Bool) (c : Image) → Replayed l on lost closed a t b w0 w1 w2
+amid_at_end : (l : LogView) (on lost : List ℕ) (closed : List ℕ) (a t b : RackView) (w0 w1 w2 : ℕ → Bool) (c : Image) → Replayed l on lost closed a t b w0 w1 w2
     → CanReplay l a → IsInside a.sectors c → IsEnding l on closed a t w1 c → IsAmid l closed a c
 amid_at_end l on lost closed a t b w0 w1 w2 c done can inside ending =
     let sound : IsSound l.pending = can_sound l a can in
@@ -155,7 +155,7 @@ amid_at_end l on lost closed a t b w0 w1 w2 c done can inside ending =
         ]
 
 -- what a stop after the call leaves
-ending_after : (l : LogView) (on lost : List ℕ) (closed : List ℕ) (a t b : Seen) (w0 w1 w2 : ℕ → Bool) (c : Image) → Replayed l on lost closed a t b w0 w1 w2
+ending_after : (l : LogView) (on lost : List ℕ) (closed : List ℕ) (a t b : RackView) (w0 w1 w2 : ℕ → Bool) (c : Image) → Replayed l on lost closed a t b w0 w1 w2
     → CanReplay l a → ((d s : ℕ) → IsLive a a d s → MayLeave (b.held d s) (c d s)) → IsEnding l on closed a t w1 c
 ending_after l on lost closed a t b w0 w1 w2 c done can picks d s live =
     elim (done.closes.calls.only.within d s (c d s) (live_between d s done.writes.calls.only.stays done.closes.calls.only.stays can.lasting live) (picks d s live)) [
@@ -164,7 +164,7 @@ ending_after l on lost closed a t b w0 w1 w2 c done can picks d s live =
     ]
 
 -- where nobody went all gates are closed
-shut_after : (l : LogView) (on lost : List ℕ) (closed : List ℕ) (a t b : Seen) (w0 w1 w2 : ℕ → Bool) (c : Image) → Replayed l on lost closed a t b w0 w1 w2
+shut_after : (l : LogView) (on lost : List ℕ) (closed : List ℕ) (a t b : RackView) (w0 w1 w2 : ℕ → Bool) (c : Image) → Replayed l on lost closed a t b w0 w1 w2
     → CanReplay l a → ((d s : ℕ) → IsLive a a d s → MayLeave (b.held d s) (c d s))
     → HasWork l → lost ≡ [] → (p : ℕ) → names on p ≡ true → IsClosed l closed a c p
 shut_after l on lost closed a t b w0 w1 w2 c done can picks work none p named =
@@ -183,11 +183,11 @@ shut_after l on lost closed a t b w0 w1 w2 c done can picks work none p named =
 
 -- ---- the clauses
 
-amid_leaves : (l : LogView) (on lost : List ℕ) (closed : List ℕ) (a t b : Seen) (w0 w1 w2 : ℕ → Bool) → Replayed l on lost closed a t b w0 w1 w2
+amid_leaves : (l : LogView) (on lost : List ℕ) (closed : List ℕ) (a t b : RackView) (w0 w1 w2 : ℕ → Bool) → Replayed l on lost closed a t b w0 w1 w2
     → a.traced → CanReplay l a → Leaves a b (λ c. IsInside a.sectors c → IsAmid l closed a c)
 amid_leaves l on lost closed a t b w0 w1 w2 done traced can =
     let P : Image → Type 0 = λ c. IsInside a.sectors c → IsAmid l closed a c in
-    let to_t : Stays a t = done.writes.calls.only.stays in
+    let to_t : SameRack a t = done.writes.calls.only.stays in
     leaves_then P
     (leaves_weaker _ P
     (λ c mix inside.
@@ -200,30 +200,30 @@ amid_leaves l on lost closed a t b w0 w1 w2 done traced can =
     (λ d s live. elim (mix d s (live_between d s to_t done.closes.calls.only.stays can.lasting live)) [ inl old ↦ inl old | inr new ↦ inr new.1 ]))
     (done.closes.calls.only.stops (to_t.traced traced)))
 
-stops_of : (l : LogView) (on lost : List ℕ) (closed : List ℕ) (a t b : Seen) (w0 w1 w2 : ℕ → Bool) → Replayed l on lost closed a t b w0 w1 w2
+stops_of : (l : LogView) (on lost : List ℕ) (closed : List ℕ) (a t b : RackView) (w0 w1 w2 : ℕ → Bool) → Replayed l on lost closed a t b w0 w1 w2
     → a.traced → CanReplay l a → Leaves a b (λ c. IsInside a.sectors c → Replays a c)
 stops_of l on lost closed a t b w0 w1 w2 done traced can =
     leaves_weaker (λ c. IsInside a.sectors c → IsAmid l closed a c) (λ c. IsInside a.sectors c → Replays a c)
     (λ c amid inside. replays_of l closed a c can (amid inside) done.closed_is)
     (amid_leaves l on lost closed a t b w0 w1 w2 done traced can)
 
-midway_of : (l : LogView) (on lost : List ℕ) (closed : List ℕ) (a t b : Seen) (w0 w1 w2 : ℕ → Bool) → Replayed l on lost closed a t b w0 w1 w2
+midway_of : (l : LogView) (on lost : List ℕ) (closed : List ℕ) (a t b : RackView) (w0 w1 w2 : ℕ → Bool) → Replayed l on lost closed a t b w0 w1 w2
     → a.traced → CanReplay l a → Leaves a b (λ c. IsInside a.sectors c → StandsReplaying l.pending a c)
 midway_of l on lost closed a t b w0 w1 w2 done traced can =
     leaves_weaker (λ c. IsInside a.sectors c → IsAmid l closed a c) (λ c. IsInside a.sectors c → StandsReplaying l.pending a c)
     (λ c amid inside. replaying_of l closed a c done.disks can (amid inside) done.closed_is)
     (amid_leaves l on lost closed a t b w0 w1 w2 done traced can)
 
-after_of : (l : LogView) (on lost : List ℕ) (closed : List ℕ) (a t b : Seen) (w0 w1 w2 : ℕ → Bool) (c : Image) → Replayed l on lost closed a t b w0 w1 w2
-    → Stays a b → CanReplay l a → Stands b c → IsAmid l closed a c
+after_of : (l : LogView) (on lost : List ℕ) (closed : List ℕ) (a t b : RackView) (w0 w1 w2 : ℕ → Bool) (c : Image) → Replayed l on lost closed a t b w0 w1 w2
+    → SameRack a b → CanReplay l a → Stands b c → IsAmid l closed a c
 after_of l on lost closed a t b w0 w1 w2 c done stays can stands =
     amid_at_end l on lost closed a t b w0 w1 w2 c done can
     (λ p s past. stands.inside p s (subst (λ n. n ≤ s) (sym (stays.sectors (log_slice p))) past))
     (ending_after l on lost closed a t b w0 w1 w2 c done can
     (λ d s live. stands.picks d s (live_between d s stays (stays_same b stays.fit) can.lasting live)))
 
-rests_of : (l : LogView) (on lost : List ℕ) (closed : List ℕ) (a t b : Seen) (w0 w1 w2 : ℕ → Bool) (c : Image) → Replayed l on lost closed a t b w0 w1 w2
-    → Stays a b → CanReplay l a → SomeoneDecides l.pending on lost a → LogsStand b c → Rests l.number l.pending lost c
+rests_of : (l : LogView) (on lost : List ℕ) (closed : List ℕ) (a t b : RackView) (w0 w1 w2 : ℕ → Bool) (c : Image) → Replayed l on lost closed a t b w0 w1 w2
+    → SameRack a b → CanReplay l a → SomeoneDecides l.pending on lost a → LogsStand b c → Rests l.number l.pending lost c
 rests_of l on lost closed a t b w0 w1 w2 c done stays can someone stands =
     let e : Image = restored off_log b c in
     let picks : (d s : ℕ) → IsLive a a d s → MayLeave (b.held d s) (e d s) = λ d s live. off_log_pick stays can.lasting c stands d s live in
@@ -240,12 +240,12 @@ nothing_written : (l : LogView) (went : ℕ → Bool) (on : List ℕ) (closed : 
 nothing_written l went on closed d s v none (inr shuts) = none shuts.0
 nothing_written l went on closed d s v none (inl new) = none (inl (λ empty. subst (λ (xs : List Target). IsPayload xs d s v) empty new))
 
-pub replay_call : (l : LogView) (on lost : List ℕ) (closed : List ℕ) (a t b : Seen) (w0 w1 w2 : ℕ → Bool) → Replayed l on lost closed a t b w0 w1 w2
+pub replay_call : (l : LogView) (on lost : List ℕ) (closed : List ℕ) (a t b : RackView) (w0 w1 w2 : ℕ → Bool) → Replayed l on lost closed a t b w0 w1 w2
     → ReplayCall l on lost a b
 replay_call l on lost closed a t b w0 w1 w2 done =
     let all : Calls a b (IsCalled l on) (MayWrite l w1 on closed) w0 w2 = calls_of l on lost closed a t b w0 w1 w2 done in
-    let stays : Stays a b = all.only.stays in
-    let to_t : Stays a t = done.writes.calls.only.stays in
+    let stays : SameRack a b = all.only.stays in
+    let to_t : SameRack a t = done.writes.calls.only.stays in
     let shut : HasWork l → lost ≡ [] → (p : ℕ) → names on p ≡ true → IsLive a b (log_slice p) gate_sector
     → (v : List ℕ) → MayLeave (b.held (log_slice p) gate_sector) v → v ≡ closed =
     λ work none p named live v left.

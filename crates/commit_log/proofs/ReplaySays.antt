@@ -7,7 +7,7 @@ use Rattle.std.proofs.lemmas.Option.{none-some}
 use Rattle.std.proofs.lemmas.Slice.Eq.{bytes_eq-Decides}
 use Rattle.rack.specs.Values.{MayLeave}
 use Rattle.rack.specs.Moments.{Leaves}
-use Rattle.rack.specs.Seen.{Image, IsLive, Seen}
+use Rattle.rack.specs.Seen.{Image, IsLive, RackView}
 use Rattle.rack.specs.Targets.{Target, look}
 use Rattle.pool_state.specs.declared.contents.Copied.{Copied}
 use Rattle.pool_state.specs.declared.contents.State.{State}
@@ -23,7 +23,7 @@ use Rattle.log_laws.specs.Standing.{IsInside, IsWhole, deciding}
 use Rattle.log_laws.specs.Commits.{Stands}
 use Rattle.log_laws.specs.Kept.{IsCopyOf, IsNoLater}
 use Rattle.log_laws.specs.Opening.{AreWritten, CanReplay, ReplayCall, Replays, StandsAmid, StandsReplaying}
-use Rattle.log_laws.specs.Saying.{AreOwnCopies, CopiesIn, IsBrought, SaysState}
+use Rattle.log_laws.specs.Saying.{AreOwnCopies, CopiesIn, PendingInstalls, RecoversTo}
 use Rattle.log_laws.proofs.Counting.{decides_small}
 use Rattle.commit_log.proofs.Amid.{log_of_place, not_state, replayed_as, slice_of_log}
 use Rattle.log_laws.proofs.Epochs.{state_either, state_latest}
@@ -33,7 +33,7 @@ use Rattle.commit_log.proofs.Restored.{pending_at_by, restored, restored_inside,
 use Rattle.log_laws.proofs.HeldCopies.{copies_same, no_look}
 
 -- what is pending meanwhile: the record yet, or nothing
-pub replay_pends : (l : LogView) (a : Seen) (c : Image) → CanReplay l a → StandsReplaying l.pending a c
+pub replay_pends : (l : LogView) (a : RackView) (c : Image) → CanReplay l a → StandsReplaying l.pending a c
     → (pending (deciding c) c ≡ l.pending) ⊎ (pending (deciding c) c ≡ [])
 replay_pends l a c can (inl amid) = inl (can.same c amid)
 replay_pends l a c can (inr done) = done.pends
@@ -43,7 +43,7 @@ abbrev is_new : LogView → Image → ℕ → ℕ → Bool
 is_new l c d t = option_map_or (bytes_eq (c d t)) (look l.pending d t) false
 
 -- the sectors but for logs', and copies that targets brought
-abbrev of_targets : LogView → Seen → Image → ℕ → ℕ → Bool
+abbrev of_targets : LogView → RackView → Image → ℕ → ℕ → Bool
 of_targets l a c d t = nat_lt t (a.sectors d) && (not (slice_of d == 0) || ((t == 0) && is_new l c d t))
 
 new_by : (o : Option (List ℕ)) (v : List ℕ) → option_map_or (bytes_eq v) o false ≡ true → o ≡ Some v
@@ -63,12 +63,12 @@ is_zero n is = elim (cases_lt 0 n) [
   | inr none ↦ omega (arith, none)
 ]
 
-module _ (t : State) (l : LogView) (a : Seen) (can : CanReplay l a) (says : (c : Image) → Stands a c → SaysState t a.sectors c) where
+module _ (t : State) (l : LogView) (a : RackView) (can : CanReplay l a) (says : (c : Image) → Stands a c → RecoversTo t a.sectors c) where
   -- ---- all targets are written
 
   module _ (c : Image) (same : (p : ℕ) → replayed a.sectors c (log_slice p) 0 ≡ c (log_slice p) 0) (state : state_in (replayed a.sectors c) ≡ Some t)
       (copies : CopiesIn t a.sectors (replayed a.sectors c)) (whole : IsWhole c) (own : AreOwnCopies t (pending (deciding c) c)) (inside : TargetsInside a.sectors c) where
-    says_done : SaysState t a.sectors c
+    says_done : RecoversTo t a.sectors c
     says_done = record {
       whole = whole;
       is_state = state;
@@ -144,7 +144,7 @@ module _ (t : State) (l : LogView) (a : Seen) (can : CanReplay l a) (says : (c :
           (λ p u past. ap (λ b. b && (not (slice_of (log_slice p) == 0) || ((u == 0) && is_new l c (log_slice p) u))) (le-ltb u (a.sectors (log_slice p)) past)) amid.inside;
     }
 
-    old : SaysState t a.sectors e
+    old : RecoversTo t a.sectors e
     old = says e stands
 
     abbrev s : State
@@ -191,7 +191,7 @@ module _ (t : State) (l : LogView) (a : Seen) (can : CanReplay l a) (says : (c :
           ]
     ]
 
-    says_new : state_in c ≡ Some t → SaysState t a.sectors c
+    says_new : state_in c ≡ Some t → RecoversTo t a.sectors c
     says_new is = record {
       whole = whole;
       is_state = state;
@@ -208,7 +208,7 @@ module _ (t : State) (l : LogView) (a : Seen) (can : CanReplay l a) (says : (c :
     not_new : s.epoch < t.epoch → state_in c ≡ Some s → (p : ℕ) → p < 16 → decoded (c (log_slice p) 0) ≡ Ok (record { state = t; own = p }) → ⊥
     not_new later is p few new = let low = state_latest s c p (record { state = t; own = p }) is few (ap result_ok new) in omega (arith, later, low)
 
-    brought_yet : state_in c ≡ Some s → IsBrought s t e → IsBrought s t c
+    brought_yet : state_in c ≡ Some s → PendingInstalls s t e → PendingInstalls s t c
     brought_yet is brought =
         let places_c : deciding c ≡ current_places s = ap (λ o. option_map_or current_places o []) is in
         let places_e : deciding e ≡ current_places s = ap (λ o. option_map_or current_places o []) old.stood_is in
@@ -239,7 +239,7 @@ module _ (t : State) (l : LogView) (a : Seen) (can : CanReplay l a) (says : (c :
         small : (p : ℕ) → is_current s p ≡ true → p < 16
         small p current = decides_small e p (s, old.stood_is, current)
 
-    says_old : state_in c ≡ Some s → IsBrought s t e → SaysState t a.sectors c
+    says_old : state_in c ≡ Some s → PendingInstalls s t e → RecoversTo t a.sectors c
     says_old is brought = record {
       whole = whole;
       is_state = state;
@@ -255,7 +255,7 @@ module _ (t : State) (l : LogView) (a : Seen) (can : CanReplay l a) (says : (c :
       inside = inside_by c (inl at_c) e stands;
     }
 
-    says_amid : SaysState t a.sectors c
+    says_amid : RecoversTo t a.sectors c
     says_amid = elim either [
       | inr new ↦ says_new new
       | inl was ↦ elim old.next [
@@ -264,7 +264,7 @@ module _ (t : State) (l : LogView) (a : Seen) (can : CanReplay l a) (says : (c :
       ]
     ]
 
-  replaying_says : (c : Image) → Replays a c → StandsReplaying l.pending a c → SaysState t a.sectors c
+  replaying_says : (c : Image) → Replays a c → StandsReplaying l.pending a c → RecoversTo t a.sectors c
   replaying_says c replays stand =
       let was = says replays.before replays.stands in
       let same : (p : ℕ) → replayed a.sectors c (log_slice p) 0 ≡ replayed a.sectors replays.before (log_slice p) 0 = λ p. replays.same (log_slice p) 0 (not_state p) in
@@ -278,7 +278,7 @@ module _ (t : State) (l : LogView) (a : Seen) (can : CanReplay l a) (says : (c :
       ]
 
   -- At each moment of a replay the log slices say the state that they said.
-  pub replay_says : (on lost : List ℕ) (b : Seen) → ReplayCall l on lost a b → a.traced → Leaves a b (λ c. IsInside a.sectors c → SaysState t a.sectors c)
+  pub replay_says : (on lost : List ℕ) (b : RackView) → ReplayCall l on lost a b → a.traced → Leaves a b (λ c. IsInside a.sectors c → RecoversTo t a.sectors c)
   replay_says on lost b call traced =
       let stops = call.stops traced can in
       let midway = call.midway traced can in

@@ -5,7 +5,7 @@ use Rattle.std.specs.List.{list_all, range_with_len}
 use Rattle.std.proofs.lemmas.Bool.{cases_Bool, cases_lt, both_ways, and_parts, and_from}
 use Rattle.std.proofs.lemmas.Option.{none-some, cond_some}
 use Rattle.rack.specs.Values.{MayLeave}
-use Rattle.rack.specs.Seen.{Image, Seen, IsLive}
+use Rattle.rack.specs.Seen.{Image, RackView, IsLive}
 use Rattle.rack.specs.Sequences.{OnlyReads}
 use Rattle.rack.specs.Targets.{Target, is_at, look}
 use Rattle.pool_state.specs.declared.contents.State.{State}
@@ -16,7 +16,7 @@ use Rattle.array_image.specs.Left.{reading}
 use Rattle.log_laws.specs.View.{LogView, names, is_left, left_of}
 use Rattle.log_laws.specs.Standing.{StatesStand, deciding, Decides, IsNumbered, SomeoneDecides}
 use Rattle.log_laws.specs.Opening.{PendingCall, StandsAmid, CanReplay}
-use Rattle.log_laws.specs.Kept.{IsCopyOf, Brings}
+use Rattle.log_laws.specs.Kept.{IsCopyOf, CarriesState}
 use Rattle.log_laws.specs.AtRest.{AtRest, IsNext, BringsCopies, Opened}
 use Rattle.commit_log.proofs.Deciding.{foremost_among, gate_at, gate_at_is, nothing_pending, record_pending, pending_is_decisive}
 use Rattle.commit_log.proofs.Undamaged.{whole_from, whole_by, whole_gates, whole_record}
@@ -109,17 +109,17 @@ loaded_more l f ps e nothing loaded =
 
 -- ---- slices at rest
 
-reads_now : (x : Seen) (d t : ℕ) → t < x.sectors d → reading x d t ≡ (x.held d t).current
+reads_now : (x : RackView) (d t : ℕ) → t < x.sectors d → reading x d t ≡ (x.held d t).current
 reads_now x d t there = ap (λ b. if b then (x.held d t).current else []) (lt-ltb t (x.sectors d) there)
 
-reads_nothing : (x : Seen) (d t : ℕ) → x.sectors d ≤ t → reading x d t ≡ []
+reads_nothing : (x : RackView) (d t : ℕ) → x.sectors d ≤ t → reading x d t ≡ []
 reads_nothing x d t past = ap (λ b. if b then (x.held d t).current else []) (le-ltb t (x.sectors d) past)
 
-only_value : (s : State) (on : List ℕ) (x : Seen) (p t : ℕ) (v : List ℕ) → AtRest s on x → p < 16 → t < x.sectors (log_slice p)
+only_value : (s : State) (on : List ℕ) (x : RackView) (p t : ℕ) (v : List ℕ) → AtRest s on x → p < 16 → t < x.sectors (log_slice p)
     → MayLeave (x.held (log_slice p) t) v → v ≡ reading x (log_slice p) t
 only_value s on x p t v rest few there may = rest.single p t few there v may ∙ sym (reads_now x (log_slice p) t there)
 
-log_live : (s : State) (on : List ℕ) (x : Seen) (p t : ℕ) → AtRest s on x → p < 16 → t < x.sectors (log_slice p) → IsLive x x (log_slice p) t
+log_live : (s : State) (on : List ℕ) (x : RackView) (p t : ℕ) → AtRest s on x → p < 16 → t < x.sectors (log_slice p) → IsLive x x (log_slice p) t
 log_live s on x p t rest few there = rest.live (log_slice p) t (omega (arith, few)) there
 
 and_true : (b : Bool) → (b && true) ≡ b
@@ -130,7 +130,7 @@ and_true false = refl
 left_is : (on : List ℕ) (p : ℕ) → is_left on [] p ≡ names on p
 left_is on p = and_true (names on p)
 
-pub names_left : (s : State) (on : List ℕ) (x : Seen) (p : ℕ) → AtRest s on x → names (left_of on []) p ≡ names on p
+pub names_left : (s : State) (on : List ℕ) (x : RackView) (p : ℕ) → AtRest s on x → names (left_of on []) p ≡ names on p
 names_left s on x p rest =
     names_listed (is_left on [])
     (λ q past. elim (cases_Bool (is_left on [] q)) [
@@ -140,7 +140,7 @@ names_left s on x p rest =
     ∙ left_is on p
 
 -- the log's record is pending by the gates of all current places
-loaded_now : (s t : State) (l : LogView) (on : List ℕ) (x : Seen) → Opened s t l on x → IsLoaded l (current_places s) (reading x)
+loaded_now : (s t : State) (l : LogView) (on : List ℕ) (x : RackView) → Opened s t l on x → IsLoaded l (current_places s) (reading x)
 loaded_now s t l on x opened =
     let rest : AtRest s on x = opened.rest in
     let e : Image = reading x in
@@ -178,7 +178,7 @@ loaded_now s t l on x opened =
 -- ---- the states that a stop may leave
 
 -- a copy is as it was, or as a target has it
-old_or_brought : (s t : State) (l : LogView) (on : List ℕ) (x : Seen) (c : Image) (p : ℕ) → Opened s t l on x → StatesStand l.pending x c → p < 16
+old_or_brought : (s t : State) (l : LogView) (on : List ℕ) (x : RackView) (c : Image) (p : ℕ) → Opened s t l on x → StatesStand l.pending x c → p < 16
     → (c (log_slice p) 0 ≡ reading x (log_slice p) 0) ⊎ (look l.pending (log_slice p) 0 ≡ Some (c (log_slice p) 0))
 old_or_brought s t l on x c p opened stand few =
     elim (cases_lt 0 (x.sectors (log_slice p))) [
@@ -190,10 +190,10 @@ old_or_brought s t l on x c p opened stand few =
     ]
 
 -- the state from before stands, or the one that the record brings
-abbrev IsBrought : State → State → Seen → Image → Type 0
+abbrev IsBrought : State → State → RackView → Image → Type 0
 IsBrought s t x c = (a : GateAt) × (pending_at (current_places s) (reading x) ≡ Some a) × (state_in c ≡ Some t) × IsNext s t (reading x)
 
-stood : (s t : State) (l : LogView) (on : List ℕ) (x : Seen) (c : Image) → Opened s t l on x → StatesStand l.pending x c
+stood : (s t : State) (l : LogView) (on : List ℕ) (x : RackView) (c : Image) → Opened s t l on x → StatesStand l.pending x c
     → (state_in c ≡ Some s) ⊎ IsBrought s t x c
 unfolding look
 stood s t l on x c opened stand = of_pending (pending_at (current_places s) (reading x)) refl
@@ -232,7 +232,7 @@ deciding_of : (c : Image) (u : State) → state_in c ≡ Some u → deciding c �
 deciding_of c u is = ap (λ (o : Option State). option_map_or current_places o []) is
 
 -- the next state's places are some of those of the state
-next_places : (s t : State) (x : Seen) (c : Image) → state_in (reading x) ≡ Some s → state_in c ≡ Some t → IsNext s t (reading x)
+next_places : (s t : State) (x : RackView) (c : Image) → state_in (reading x) ≡ Some s → state_in c ≡ Some t → IsNext s t (reading x)
     → current_places t ≡ filter (is_current t) (current_places s)
 next_places s t x c old new next =
     current_of_all t (few_in c t new)
@@ -251,7 +251,7 @@ next_places s t x c old new next =
         and_false false = refl
 
 -- whichever state stands, the record is pending by the gates that decide
-loaded_then : (s t : State) (l : LogView) (on : List ℕ) (x : Seen) (c : Image) → Opened s t l on x → StatesStand l.pending x c → IsLoaded l (deciding c) (reading x)
+loaded_then : (s t : State) (l : LogView) (on : List ℕ) (x : RackView) (c : Image) → Opened s t l on x → StatesStand l.pending x c → IsLoaded l (deciding c) (reading x)
 loaded_then s t l on x c opened stand =
     let now : IsLoaded l (current_places s) (reading x) = loaded_now s t l on x opened in
     elim (stood s t l on x c opened stand) [
@@ -261,7 +261,7 @@ loaded_then s t l on x c opened stand =
           (loaded_fewer l (is_current t) (current_places s) (reading x) new.0 new.1 (new.3.source new.0 new.1) now)
     ]
 
-loaded_amid : (s t : State) (l : LogView) (on : List ℕ) (x : Seen) (c : Image) → Opened s t l on x → StandsAmid l.pending x c → IsLoaded l (deciding c) c
+loaded_amid : (s t : State) (l : LogView) (on : List ℕ) (x : RackView) (c : Image) → Opened s t l on x → StandsAmid l.pending x c → IsLoaded l (deciding c) c
 loaded_amid s t l on x c opened amid =
     loaded_by l (deciding c) c (reading x)
     (λ p k named some below.
@@ -274,7 +274,7 @@ loaded_amid s t l on x c opened amid =
     (loaded_then s t l on x c opened amid.states)
 
 -- who decides was current before
-current_then : (s t : State) (l : LogView) (on : List ℕ) (x : Seen) (c : Image) (p : ℕ) → Opened s t l on x → StatesStand l.pending x c → Decides c p
+current_then : (s t : State) (l : LogView) (on : List ℕ) (x : RackView) (c : Image) (p : ℕ) → Opened s t l on x → StatesStand l.pending x c → Decides c p
     → is_current s p ≡ true
 current_then s t l on x c p opened stand decides =
     elim (stood s t l on x c opened stand) [
@@ -286,7 +286,7 @@ current_then s t l on x c p opened stand decides =
     some_state u v same = (cc)
 
 -- its gate is well formed, and none has a greater number
-gate_then : (s t : State) (l : LogView) (on : List ℕ) (x : Seen) (p : ℕ) → Opened s t l on x → is_current s p ≡ true → gate_sector < x.sectors (log_slice p)
+gate_then : (s t : State) (l : LogView) (on : List ℕ) (x : RackView) (p : ℕ) → Opened s t l on x → is_current s p ≡ true → gate_sector < x.sectors (log_slice p)
     → IsNumbered l.number x p
 gate_then s t l on x p opened current there v may =
     let rest : AtRest s on x = opened.rest in
@@ -318,7 +318,7 @@ valid_disk (x ∷ xs) d k v valid is =
 
 -- ---- what a replay needs
 
-pub opened_can_replay : (s t : State) (l : LogView) (on : List ℕ) (x : Seen) → Opened s t l on x → CanReplay l x
+pub opened_can_replay : (s t : State) (l : LogView) (on : List ℕ) (x : RackView) → Opened s t l on x → CanReplay l x
 opened_can_replay s t l on x opened =
     let rest : AtRest s on x = opened.rest in
     let now : IsLoaded l (current_places s) (reading x) = loaded_now s t l on x opened in
@@ -334,7 +334,7 @@ opened_can_replay s t l on x opened =
     }
 
 -- whichever state stands, a place that was asked for decides
-pub opened_someone : (s t : State) (l : LogView) (on : List ℕ) (x : Seen) (p : ℕ) → Opened s t l on x → names on p ≡ true → SomeoneDecides l.pending on [] x
+pub opened_someone : (s t : State) (l : LogView) (on : List ℕ) (x : RackView) (p : ℕ) → Opened s t l on x → names on p ≡ true → SomeoneDecides l.pending on [] x
 opened_someone s t l on x p opened named c stand =
     let rest : AtRest s on x = opened.rest in
     elim (stood s t l on x c opened stand) [
@@ -357,7 +357,7 @@ opened_someone s t l on x p opened named c stand =
         ]
 
 -- reads leave it so
-pub can_replay_later : (l : LogView) (a b : Seen) → OnlyReads a b → CanReplay l a → CanReplay l b
+pub can_replay_later : (l : LogView) (a b : RackView) → OnlyReads a b → CanReplay l a → CanReplay l b
 can_replay_later l a b reads can =
     let stays = reads.stays in
     record {
@@ -401,7 +401,7 @@ can_replay_later l a b reads can =
 -- ---- by the call
 
 -- Looking for the pending record at rest, where nobody went and no log is damaged.
-pub looked_opened : (s t : State) (l m : LogView) (on : List ℕ) (is_pending : Bool) (a b : Seen)
+pub looked_opened : (s t : State) (l m : LogView) (on : List ℕ) (is_pending : Bool) (a b : RackView)
     → PendingCall l m on [] is_pending None a b → AtRest s on a → BringsCopies s t m.pending (reading a) → Opened s t m on a
 looked_opened s t l m on is_pending a b call rest brings = record {
   rest = rest;
@@ -417,7 +417,7 @@ pub brings_no_copy : (s : State) (xs : List Target) (c : Image) → ((p : ℕ) �
 brings_no_copy s xs c none = record { copies = λ p u is. absurd (none-some u (sym (none p) ∙ is)); either = inl refl }
 
 -- that of a commit, where the state from before stands or the one that it brings, and is read from a place of the commit
-pub brought_copies : (s t u : State) (xs : List Target) (on : List ℕ) (c : Image) → Brings s t xs on → (u ≡ s) ⊎ (u ≡ t)
+pub brought_copies : (s t u : State) (xs : List Target) (on : List ℕ) (c : Image) → CarriesState s t xs on → (u ≡ s) ⊎ (u ≡ t)
     → ((a : GateAt) → pending_at (current_places u) c ≡ Some a → names on a.place ≡ true) → BringsCopies u t xs c
 brought_copies s t u xs on c brings which source = record { copies = copies; either = either which }
   where

@@ -5,7 +5,7 @@ use Rattle.std.specs.List.{list_all, list_any, range_with_len}
 use Rattle.std.proofs.lemmas.Bool.{cases_Bool, cases_eq, cases_lt, both_ways, and_from, and_parts, or_parts, ne_eqb, cond-true}
 use Rattle.std.proofs.lemmas.Option.{none-some, cond_some}
 use Rattle.rack.specs.Values.{MayLeave}
-use Rattle.rack.specs.Seen.{Image, Seen, IsLive}
+use Rattle.rack.specs.Seen.{Image, RackView, IsLive}
 use Rattle.rack.specs.Targets.{Target, look, put}
 use Rattle.shr_base.specs.Blocks.{bytes_at, number_at, put_at}
 use Rattle.shr_base.specs.Crc.{crc32_of}
@@ -69,24 +69,24 @@ pending_sound ps c = of_record (list_any (is_bad_gate c) ps) (option_and_then (�
 
 -- ---- contents as they stand
 
-pub amid_of : (xs : List Target) (x : Seen) (c : Image) → Stands x c → StandsAmid xs x c
+pub amid_of : (xs : List Target) (x : RackView) (c : Image) → Stands x c → StandsAmid xs x c
 amid_of xs x c stands = record {
   states = record { picks = λ p live. inl (stands.picks (log_slice p) 0 live); inside = λ p none. stands.inside p 0 (omega (arith, none)) };
   parts = λ p t some live. stands.picks (log_slice p) t live;
   inside = stands.inside;
 }
 
-abbrev within : Seen → ℕ → ℕ → Bool
+abbrev within : RackView → ℕ → ℕ → Bool
 within x d t = nat_lt t (x.sectors d)
 
 -- those that read now
-stands_now : (x : Seen) → Stands x (restored (within x) x (λ d t. []))
+stands_now : (x : RackView) → Stands x (restored (within x) x (λ d t. []))
 stands_now x = record {
   picks = restored_picks (within x) x (λ d t. []) (λ d t live free. absurd (both_ways (within x d t) free (lt-ltb t (x.sectors d) live.sector)));
   inside = restored_inside (within x) x (λ d t. []) (λ p t past. le-ltb t (x.sectors (log_slice p)) past) (λ p t past. refl);
 }
 
-pub can_sound : (l : LogView) (x : Seen) → CanReplay l x → IsSound l.pending
+pub can_sound : (l : LogView) (x : RackView) → CanReplay l x → IsSound l.pending
 can_sound l x can =
     let now : Image = restored (within x) x (λ d t. []) in
     subst IsSound (can.same now (amid_of l.pending x now (stands_now x))) (pending_sound (deciding now) now)
@@ -94,15 +94,15 @@ can_sound l x can =
 -- ---- in the midst
 
 -- each target has its payload, where the rack has it
-abbrev pub HavePayloads : Seen → List Target → Image → Type 0
+abbrev pub HavePayloads : RackView → List Target → Image → Type 0
 HavePayloads x xs c = (d t : ℕ) (w : List ℕ) → look xs d t ≡ Some w → t < x.sectors d → c d t ≡ w
 
 -- a gate that was closed, with all targets written
-pub record IsClosed (l : LogView) (closed : List ℕ) (a : Seen) (c : Image) (p : ℕ) : Type 0 where
+pub record IsClosed (l : LogView) (closed : List ℕ) (a : RackView) (c : Image) (p : ℕ) : Type 0 where
   pub gate : c (log_slice p) gate_sector ≡ closed
   pub written : HavePayloads a l.pending c
 
-pub record IsAmid (l : LogView) (closed : List ℕ) (a : Seen) (c : Image) : Type 0 where
+pub record IsAmid (l : LogView) (closed : List ℕ) (a : RackView) (c : Image) : Type 0 where
   pub inside : IsInside a.sectors c
   pub parts : (p t : ℕ) → 0 < t → t ≢ gate_sector → IsLive a a (log_slice p) t → MayLeave (a.held (log_slice p) t) (c (log_slice p) t)
   pub gates :
@@ -110,7 +110,7 @@ pub record IsAmid (l : LogView) (closed : List ℕ) (a : Seen) (c : Image) : Typ
       → MayLeave (a.held (log_slice p) gate_sector) (c (log_slice p) gate_sector) ⊎ IsClosed l closed a c p
   pub others : (d t : ℕ) → IsLive a a d t → (IsLogPart d t → ⊥) → MayLeave (a.held d t) (c d t) ⊎ (look l.pending d t ≡ Some (c d t))
 
-pub amid_states : (l : LogView) (closed : List ℕ) (a : Seen) (c : Image) → IsAmid l closed a c → StatesStand l.pending a c
+pub amid_states : (l : LogView) (closed : List ℕ) (a : RackView) (c : Image) → IsAmid l closed a c → StatesStand l.pending a c
 amid_states l closed a c amid = record {
   picks = λ p live. amid.others (log_slice p) 0 live (not_state p);
   inside = λ p none. amid.inside p 0 (omega (arith, none));
@@ -122,7 +122,7 @@ pub record IsStill (l : LogView) (c : Image) : Type 0 where
   pub whole : IsWhole c
   pub number : (g : GateAt) → pending_at (deciding c) c ≡ Some g → g.gate.number ≡ l.number
 
-pub record IsDone (l : LogView) (a : Seen) (c : Image) : Type 0 where
+pub record IsDone (l : LogView) (a : RackView) (c : Image) : Type 0 where
   pub none : pending_at (deciding c) c ≡ None
   pub whole : IsWhole c
   pub written : HavePayloads a l.pending c
@@ -130,21 +130,21 @@ pub record IsDone (l : LogView) (a : Seen) (c : Image) : Type 0 where
 -- ---- all gates that decide are as they were
 
 -- the gates of others
-abbrev of_others : List ℕ → Seen → ℕ → ℕ → Bool
+abbrev of_others : List ℕ → RackView → ℕ → ℕ → Bool
 of_others ps x d t = ((t == 1) && not (names ps (place_of d))) && ((slice_of d == 0) && nat_lt t (x.sectors d))
 
-not_chosen : (ps : List ℕ) (x : Seen) (p : ℕ) → names ps p ≡ true → of_others ps x (log_slice p) gate_sector ≡ false
+not_chosen : (ps : List ℕ) (x : RackView) (p : ℕ) → names ps p ≡ true → of_others ps x (log_slice p) gate_sector ≡ false
 not_chosen ps x p named =
     ap (λ q. ((1 == 1) && not (names ps q)) && ((slice_of (log_slice p) == 0) && nat_lt 1 (x.sectors (log_slice p)))) (place_of_log p)
     ∙ ap (λ b. ((1 == 1) && not b) && ((slice_of (log_slice p) == 0) && nat_lt 1 (x.sectors (log_slice p)))) named
 
-is_chosen : (ps : List ℕ) (x : Seen) (p : ℕ) → names ps p ≡ false → gate_sector < x.sectors (log_slice p) → of_others ps x (log_slice p) gate_sector ≡ true
+is_chosen : (ps : List ℕ) (x : RackView) (p : ℕ) → names ps p ≡ false → gate_sector < x.sectors (log_slice p) → of_others ps x (log_slice p) gate_sector ≡ true
 is_chosen ps x p other there =
     ap (λ q. ((1 == 1) && not (names ps q)) && ((slice_of (log_slice p) == 0) && nat_lt 1 (x.sectors (log_slice p)))) (place_of_log p)
     ∙ ap (λ b. ((1 == 1) && not b) && ((slice_of (log_slice p) == 0) && nat_lt 1 (x.sectors (log_slice p)))) other
     ∙ and_from (slice_of (log_slice p) == 0) (nat_lt 1 (x.sectors (log_slice p))) (eq-eqb (slice_of (log_slice p)) 0 (slice_of_log p)) (lt-ltb 1 (x.sectors (log_slice p)) there)
 
-no_gate : (ps : List ℕ) (x : Seen) (d t : ℕ) → t ≢ 1 → of_others ps x d t ≡ false
+no_gate : (ps : List ℕ) (x : RackView) (d t : ℕ) → t ≢ 1 → of_others ps x d t ≡ false
 no_gate ps x d t other = ap (λ b. (b && not (names ps (place_of d))) && ((slice_of d == 0) && nat_lt t (x.sectors d))) (ne_eqb t 1 other)
 
 and_off : (b c : Bool) → c ≡ false → (b && c) ≡ false
@@ -152,10 +152,10 @@ and_off true c is = is
 and_off false c is = refl
 
 -- gates of these places are old
-abbrev AreOld : Seen → Image → List ℕ → Type 0
+abbrev AreOld : RackView → Image → List ℕ → Type 0
 AreOld a c ps = (p : ℕ) → names ps p ≡ true → IsLive a a (log_slice p) gate_sector → MayLeave (a.held (log_slice p) gate_sector) (c (log_slice p) gate_sector)
 
-others_amid : (l : LogView) (closed : List ℕ) (a : Seen) (c : Image) (ps : List ℕ) → IsAmid l closed a c → AreOld a c ps
+others_amid : (l : LogView) (closed : List ℕ) (a : RackView) (c : Image) (ps : List ℕ) → IsAmid l closed a c → AreOld a c ps
     → StandsAmid l.pending a (restored (of_others ps a) a c)
 others_amid l closed a c ps amid olds = record {
   states = record {
@@ -190,7 +190,7 @@ others_amid l closed a c ps amid olds = record {
               ])
         ]
 
-still_pending : (l : LogView) (closed : List ℕ) (a : Seen) (c : Image) → CanReplay l a → IsAmid l closed a c → AreOld a c (deciding c) → IsStill l c
+still_pending : (l : LogView) (closed : List ℕ) (a : RackView) (c : Image) → CanReplay l a → IsAmid l closed a c → AreOld a c (deciding c) → IsStill l c
 still_pending l closed a c can amid olds =
     let ps : List ℕ = deciding c in
     let e : Image = restored (of_others ps a) a c in
@@ -218,7 +218,7 @@ some_gate : (x y : Gate) → Some x ≡ Some y → x ≡ y
 some_gate x y is = (cc)
 
 -- none has a greater number
-number_low : (l : LogView) (closed : List ℕ) (a : Seen) (c : Image) (p : ℕ) (g : Gate) → CanReplay l a → IsAmid l closed a c
+number_low : (l : LogView) (closed : List ℕ) (a : RackView) (c : Image) (p : ℕ) (g : Gate) → CanReplay l a → IsAmid l closed a c
     → gate_of closed ≡ Some (record { is_open = false; number = l.number })
     → Decides c p → gate_in c p ≡ Some g → g.number ≤ l.number
 number_low l closed a c p g can amid closed_is decides is =
@@ -237,7 +237,7 @@ number_low l closed a c p g can amid closed_is decides is =
     ]
 
 -- each is well formed
-not_bad : (l : LogView) (closed : List ℕ) (a : Seen) (c : Image) (p : ℕ) → CanReplay l a → IsAmid l closed a c
+not_bad : (l : LogView) (closed : List ℕ) (a : RackView) (c : Image) (p : ℕ) → CanReplay l a → IsAmid l closed a c
     → gate_of closed ≡ Some (record { is_open = false; number = l.number })
     → Decides c p → is_bad_gate c p ≡ false
 not_bad l closed a c p can amid closed_is decides =
@@ -253,7 +253,7 @@ not_bad l closed a c p can amid closed_is decides =
           ]
     ]
 
-pub done_by : (l : LogView) (closed : List ℕ) (a : Seen) (c : Image) (p : ℕ) → CanReplay l a → IsAmid l closed a c
+pub done_by : (l : LogView) (closed : List ℕ) (a : RackView) (c : Image) (p : ℕ) → CanReplay l a → IsAmid l closed a c
     → gate_of closed ≡ Some (record { is_open = false; number = l.number })
     → Decides c p → IsClosed l closed a c p → IsDone l a c
 done_by l closed a c p can amid closed_is decides shut =
@@ -278,7 +278,7 @@ done_by l closed a c p can amid closed_is decides shut =
       written = shut.written;
     }
 
-pub still_or_done : (l : LogView) (closed : List ℕ) (a : Seen) (c : Image) → CanReplay l a → IsAmid l closed a c
+pub still_or_done : (l : LogView) (closed : List ℕ) (a : RackView) (c : Image) → CanReplay l a → IsAmid l closed a c
     → gate_of closed ≡ Some (record { is_open = false; number = l.number })
     → IsStill l c ⊎ IsDone l a c
 still_or_done l closed a c can amid closed_is =
@@ -298,11 +298,11 @@ still_or_done l closed a c can amid closed_is =
     ]
 
 -- a place's gate is as it was
-abbrev HasOldGate : Seen → Image → ℕ → Type 0
+abbrev HasOldGate : RackView → Image → ℕ → Type 0
 HasOldGate a c p = IsLive a a (log_slice p) gate_sector → MayLeave (a.held (log_slice p) gate_sector) (c (log_slice p) gate_sector)
 
 -- As they stand, all gates are as they were, or all targets are written.
-pub replaying_of : (l : LogView) (closed : List ℕ) (a : Seen) (c : Image) → a.disks ≡ 272 → CanReplay l a → IsAmid l closed a c
+pub replaying_of : (l : LogView) (closed : List ℕ) (a : RackView) (c : Image) → a.disks ≡ 272 → CanReplay l a → IsAmid l closed a c
     → gate_of closed ≡ Some (record { is_open = false; number = l.number })
     → StandsReplaying l.pending a c
 replaying_of l closed a c disks can amid closed_is =
@@ -334,14 +334,14 @@ replaying_of l closed a c disks can amid closed_is =
 -- ---- contents from before
 
 -- the gates, and the targets that the rack has
-abbrev of_replay : LogView → Seen → ℕ → ℕ → Bool
+abbrev of_replay : LogView → RackView → ℕ → ℕ → Bool
 of_replay l a d t = nat_lt t (a.sectors d) && (((slice_of d == 0) && (t == 1)) || is_some (look l.pending d t))
 
 none_of : (o : Option (List ℕ)) → is_some o ≡ false → o ≡ None
 none_of None is = refl
 none_of (Some v) is = absurd (both_ways true is refl)
 
-before_stands : (l : LogView) (closed : List ℕ) (a : Seen) (c : Image) → IsAmid l closed a c → Stands a (restored (of_replay l a) a c)
+before_stands : (l : LogView) (closed : List ℕ) (a : RackView) (c : Image) → IsAmid l closed a c → Stands a (restored (of_replay l a) a c)
 before_stands l closed a c amid = record {
   picks = restored_picks (of_replay l a) a c (λ d t live free. pick d t live free);
   inside = restored_inside (of_replay l a) a c
@@ -383,7 +383,7 @@ put_where sectors xs c e d t same = by (nat_lt t (sectors d)) (look xs d t) same
     by true (Some w) same = refl
 
 -- where they are written, putting them changes nothing
-pub put_done : (x : Seen) (xs : List Target) (c : Image) (d t : ℕ) → ((w : List ℕ) → look xs d t ≡ Some w → t < x.sectors d → c d t ≡ w) → put x.sectors xs c d t ≡ c d t
+pub put_done : (x : RackView) (xs : List Target) (c : Image) (d t : ℕ) → ((w : List ℕ) → look xs d t ≡ Some w → t < x.sectors d → c d t ≡ w) → put x.sectors xs c d t ≡ c d t
 put_done x xs c d t done =
     elim (cases_lt t (x.sectors d)) [
       | inr past ↦ ap (λ b. if b then unwrap_or (look xs d t) (c d t) else c d t) (le-ltb t (x.sectors d) past)
@@ -397,7 +397,7 @@ put_done x xs c d t done =
     of_look (Some w) each = sym (each w refl)
 
 -- replayed, they are as contents from before
-pub replays_of : (l : LogView) (closed : List ℕ) (a : Seen) (c : Image) → CanReplay l a → IsAmid l closed a c
+pub replays_of : (l : LogView) (closed : List ℕ) (a : RackView) (c : Image) → CanReplay l a → IsAmid l closed a c
     → gate_of closed ≡ Some (record { is_open = false; number = l.number })
     → Replays a c
 unfolding look
@@ -439,7 +439,7 @@ replays_of l closed a c can amid closed_is =
         eqb_one n is = elim (cases_eq n 1) [ inl one ↦ one | inr other ↦ absurd (both_ways (n == 1) (ne_eqb n 1 other) is) ]
 
 -- what the next commit needs
-pub rests_amid : (l : LogView) (on lost : List ℕ) (closed : List ℕ) (a : Seen) (c : Image) → CanReplay l a → IsAmid l closed a c
+pub rests_amid : (l : LogView) (on lost : List ℕ) (closed : List ℕ) (a : RackView) (c : Image) → CanReplay l a → IsAmid l closed a c
     → gate_of closed ≡ Some (record { is_open = false; number = l.number })
     → SomeoneDecides l.pending on lost a
     → (HasWork l → lost ≡ [] → (p : ℕ) → names on p ≡ true → IsClosed l closed a c p)

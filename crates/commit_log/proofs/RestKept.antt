@@ -4,7 +4,7 @@ use Rattle.std.specs.Result.{result_ok}
 use Rattle.std.proofs.lemmas.Bool.{and_from, cases_Bool, cases_lt}
 use Rattle.std.proofs.lemmas.Option.{none-some}
 use Rattle.rack.specs.Values.{MayLeave}
-use Rattle.rack.specs.Seen.{Seen}
+use Rattle.rack.specs.Seen.{RackView}
 use Rattle.rack.specs.Targets.{look}
 use Rattle.pool_state.specs.declared.contents.Copied.{Copied}
 use Rattle.pool_state.specs.declared.contents.State.{State}
@@ -16,7 +16,7 @@ use Rattle.array_image.specs.Left.{reading}
 use Rattle.log_laws.specs.View.{LogView, names}
 use Rattle.log_laws.specs.Standing.{StatesStand}
 use Rattle.log_laws.specs.Opening.{ReplayCall}
-use Rattle.log_laws.specs.Kept.{CopiesStand, HasClosedGate, LogKept}
+use Rattle.log_laws.specs.Kept.{CopiesStand, HasClosedGate, LogInvariant}
 use Rattle.log_laws.specs.AtRest.{AtRest, CopiesAgree, Opened}
 use Rattle.log_laws.proofs.Counting.{decides_small}
 use Rattle.log_laws.proofs.Epochs.{state_latest}
@@ -29,13 +29,13 @@ ok_of (Ok y) x is = cc
 ok_of (Err e) x is = absurd (none-some x is)
 
 -- a sector of a log slice that has one value is what it reads
-read_now : (s : State) (on : List ℕ) (x : Seen) (p : ℕ) (u : List ℕ) → AtRest s on x → p < 16 → 0 < x.sectors (log_slice p)
+read_now : (s : State) (on : List ℕ) (x : RackView) (p : ℕ) (u : List ℕ) → AtRest s on x → p < 16 → 0 < x.sectors (log_slice p)
     → MayLeave (x.held (log_slice p) 0) u → u ≡ reading x (log_slice p) 0
 read_now s on x p u rest few inside may =
     rest.single p 0 few inside u may
     ∙ sym (ap (λ (b : Bool). if b then (x.held (log_slice p) 0).current else []) (lt-ltb 0 (x.sectors (log_slice p)) inside))
 
-copies_rest : (s : State) (on : List ℕ) (gone : ℕ → Bool) (x : Seen) → AtRest s on x
+copies_rest : (s : State) (on : List ℕ) (gone : ℕ → Bool) (x : RackView) → AtRest s on x
     → ((p : ℕ) → is_current s p ≡ true → gone p ≡ false → 0 < x.sectors (log_slice p))
     → CopiesAgree s gone x → CopiesStand s gone x
 copies_rest s on gone x rest there agree =
@@ -61,12 +61,12 @@ copies_rest s on gone x rest there agree =
     }
 
 -- the places that are looked at have their gate
-named_at : (s : State) (on : List ℕ) (x : Seen) → AtRest s on x → (p : ℕ) → is_current s p ≡ true → gate_sector < x.sectors (log_slice p) → names on p ≡ true
+named_at : (s : State) (on : List ℕ) (x : RackView) → AtRest s on x → (p : ℕ) → is_current s p ≡ true → gate_sector < x.sectors (log_slice p) → names on p ≡ true
 named_at s on x rest p current within =
     rest.places p ∙ and_from (is_current s p) (nat_lt 0 (x.sectors (log_slice p))) current (lt-ltb 0 (x.sectors (log_slice p)) (omega (arith, within)))
 
 -- Where no gate that was read is open, those of current places are closed.
-pub closed_rest : (s : State) (l : LogView) (on : List ℕ) (x : Seen) → Opened s s l on x → (l.is_open ≡ true → ⊥)
+pub closed_rest : (s : State) (l : LogView) (on : List ℕ) (x : RackView) → Opened s s l on x → (l.is_open ≡ true → ⊥)
     → (p : ℕ) → is_current s p ≡ true → gate_sector < x.sectors (log_slice p) → HasClosedGate x p
 closed_rest s l on x opened none p current within v g left is =
     let rest = opened.rest in
@@ -81,11 +81,11 @@ closed_rest s l on x opened none p current within v g left is =
     ]
 
 -- Where nothing is pending, closing the gates that are open leaves the log as the next commit needs it.
-pub rest_kept : (s : State) (gone : ℕ → Bool) (l : LogView) (on : List ℕ) (one : ℕ) (a b : Seen)
+pub rest_kept : (s : State) (gone : ℕ → Bool) (l : LogView) (on : List ℕ) (one : ℕ) (a b : RackView)
     → Opened s s l on a → l.pending ≡ [] → names on one ≡ true → ReplayCall l on [] a b
     → ((p : ℕ) → is_current s p ≡ true → gone p ≡ false → 0 < a.sectors (log_slice p))
     → CopiesAgree s gone a
-    → LogKept s l.number gone b
+    → LogInvariant s l.number gone b
 unfolding look
 rest_kept s gone l on one a b opened idle named replay there agree =
     let rest = opened.rest in

@@ -4,7 +4,7 @@ use Rattle.std.specs.Option.{option_and_then}
 use Rattle.std.specs.List.{list_all, list_any}
 use Rattle.std.proofs.lemmas.Bool.{cases_Bool, cond-true, cond-false}
 use Rattle.rack.specs.Values.{MayLeave}
-use Rattle.rack.specs.Seen.{Image, Seen, IsLive}
+use Rattle.rack.specs.Seen.{Image, RackView, IsLive}
 use Rattle.rack.specs.Targets.{Target, look, put}
 use Rattle.array_image.specs.Foremost.{foremost}
 use Rattle.array_image.specs.Places.{log_slice}
@@ -14,14 +14,14 @@ use Rattle.log_laws.specs.Standing.{IsInside}
 use Rattle.commit_log.proofs.Deciding.{gate_at, names_first as here_first, names_later as later_first}
 
 -- some sectors as they read before
-abbrev pub restored : (ℕ → ℕ → Bool) → Seen → Image → Image
+abbrev pub restored : (ℕ → ℕ → Bool) → RackView → Image → Image
 restored chosen a c = λ d t. if chosen d t then (a.held d t).current else c d t
 
-pub restored_there : (chosen : ℕ → ℕ → Bool) (a : Seen) (c : Image) (d t : ℕ) → chosen d t ≡ false → restored chosen a c d t ≡ c d t
+pub restored_there : (chosen : ℕ → ℕ → Bool) (a : RackView) (c : Image) (d t : ℕ) → chosen d t ≡ false → restored chosen a c d t ≡ c d t
 restored_there chosen a c d t other = cond-false (chosen d t) (a.held d t).current (c d t) other
 
 -- a stop might leave them
-pub restored_picks : (chosen : ℕ → ℕ → Bool) (a : Seen) (c : Image)
+pub restored_picks : (chosen : ℕ → ℕ → Bool) (a : RackView) (c : Image)
     → ((d t : ℕ) → IsLive a a d t → chosen d t ≡ false → MayLeave (a.held d t) (c d t))
     → (d t : ℕ) → IsLive a a d t → MayLeave (a.held d t) (restored chosen a c d t)
 restored_picks chosen a c picks d t live =
@@ -30,7 +30,7 @@ restored_picks chosen a c picks d t live =
       | inr other ↦ subst (λ v. MayLeave (a.held d t) v) (sym (restored_there chosen a c d t other)) (picks d t live other)
     ]
 
-pub restored_inside : (chosen : ℕ → ℕ → Bool) (a : Seen) (c : Image)
+pub restored_inside : (chosen : ℕ → ℕ → Bool) (a : RackView) (c : Image)
     → ((p t : ℕ) → a.sectors (log_slice p) ≤ t → chosen (log_slice p) t ≡ false) → IsInside a.sectors c → IsInside a.sectors (restored chosen a c)
 restored_inside chosen a c none inside p t past = restored_there chosen a c (log_slice p) t (none p t past) ∙ inside p t past
 

@@ -4,7 +4,7 @@ use Rattle.std.specs.Option.{option_map_or}
 use Rattle.std.proofs.lemmas.Bool.{and_from, and_parts, both_ways, cases_Bool, cond-true}
 use Rattle.rack.specs.Joins.{leaves_weaker}
 use Rattle.rack.specs.Moments.{Leaves}
-use Rattle.rack.specs.Seen.{Image, Seen}
+use Rattle.rack.specs.Seen.{Image, RackView}
 use Rattle.rack.specs.Targets.{Target, look, put}
 use Rattle.pool_state.specs.declared.contents.State.{State}
 use Rattle.pool_state.specs.Sector.{decoded}
@@ -16,9 +16,9 @@ use Rattle.array_image.specs.Arrays.{replayed}
 use Rattle.array_image.proofs.Frames.{state_same}
 use Rattle.log_laws.specs.View.{LogView, names, next_number}
 use Rattle.log_laws.specs.Standing.{IsInside, LogsStand, deciding, IsWhole, IsReady, SomeoneDecides}
-use Rattle.log_laws.specs.Commits.{Commits, CommitCall, IsPendingNow, IsPendingYet, IsWritten, StandsMidway}
-use Rattle.log_laws.specs.Kept.{IsCopyOf, IsNoLater, LogKept, AreLeft, BringsTo, MayJoin}
-use Rattle.log_laws.specs.Saying.{AreOwnCopies, CopiesIn, HoldsCopies, IsBrought, KeepsDrives, PlaceJoins, PlaceStays, SaysReplaced, SaysState}
+use Rattle.log_laws.specs.Commits.{ImageInCommit, CommitCall, IsPendingNow, IsPendingYet, IsWritten, StandsMidway}
+use Rattle.log_laws.specs.Kept.{IsCopyOf, IsNoLater, LogInvariant, AreLeft, BringsTo, MayJoin}
+use Rattle.log_laws.specs.Saying.{AreOwnCopies, CopiesIn, HoldsCopies, PendingInstalls, KeepsDrives, PlaceJoins, PlaceStays, SaysReplaced, RecoversTo}
 use Rattle.commit_log.proofs.Amid.{not_state, replayed_as, same_replayed}
 use Rattle.log_laws.proofs.Copies.{state_by_copies}
 use Rattle.log_laws.proofs.HeldCopies.{copies_same, kept_latest, logs_of, no_look, put_copies, says_by, states_of}
@@ -27,8 +27,8 @@ use Rattle.log_laws.proofs.Places.{stays_apart}
 use Rattle.commit_log.proofs.Restored.{put_there}
 
 -- at each moment it is all or nothing, and the log slices are as they are midway
-pub commit_moments : (l : LogView) (on lost : List ℕ) (a b : Seen) → CommitCall l on lost a b → a.traced → IsReady l on a → SomeoneDecides l.added on lost a
-    → Leaves a b (λ c. IsInside a.sectors c → Commits l.added a c × StandsMidway l on a c)
+pub commit_moments : (l : LogView) (on lost : List ℕ) (a b : RackView) → CommitCall l on lost a b → a.traced → IsReady l on a → SomeoneDecides l.added on lost a
+    → Leaves a b (λ c. IsInside a.sectors c → ImageInCommit l.added a c × StandsMidway l on a c)
 commit_moments l on lost a b commit traced ready someone =
     let stops = commit.stops traced ready someone in
     let midway = commit.midway traced ready someone in
@@ -40,7 +40,7 @@ commit_moments l on lost a b commit traced ready someone =
     }
 
 -- for a sector that no target is for, nothing comes to be pending
-pub midway_none : (l : LogView) (on : List ℕ) (a : Seen) (c : Image) (d t : ℕ) → StandsMidway l on a c → look l.added d t ≡ None
+pub midway_none : (l : LogView) (on : List ℕ) (a : RackView) (c : Image) (d t : ℕ) → StandsMidway l on a c → look l.added d t ≡ None
     → ((e : Image) → LogsStand a e → look (pending (deciding e) e) d t ≡ None) → look (pending (deciding c) c) d t ≡ None
 unfolding look
 midway_none l on a c d t mid none before = elim mid.pends [
@@ -49,7 +49,7 @@ midway_none l on a c d t mid none before = elim mid.pends [
   | inr (inr done) ↦ ap (λ (xs : List Target). look xs d t) done.0
 ]
 
-module _ (s t : State) (gone : ℕ → Bool) (l : LogView) (on takes : List ℕ) (a : Seen) (kept : LogKept s l.number gone a)
+module _ (s t : State) (gone : ℕ → Bool) (l : LogView) (on takes : List ℕ) (a : RackView) (kept : LogInvariant s l.number gone a)
     (brings : BringsTo s t l.number a l.added on takes) (own : AreOwnCopies t l.added) (all : t ≡ s → (p : ℕ) → is_current s p ≡ true → gone p ≡ false)
     (are_left : AreLeft s gone on) (room : l.number < 2 ^ 63 - 1)
     (place : ℕ) (was : is_current s place ≡ true) (left : gone place ≡ false) (now : is_current t place ≡ true) where
@@ -75,7 +75,7 @@ module _ (s t : State) (gone : ℕ → Bool) (l : LogView) (on takes : List ℕ)
   next_is = cond-true (nat_lt l.number (2 ^ 63 - 1)) (l.number + 1) l.number (lt-ltb l.number (2 ^ 63 - 1) room)
 
   -- what was pending is so yet
-  says_old : HoldsCopies s a → (c : Image) → IsPendingYet a c → IsWhole c → SaysState s a.sectors c
+  says_old : HoldsCopies s a → (c : Image) → IsPendingYet a c → IsWhole c → RecoversTo s a.sectors c
   says_old holds c yet whole =
       let logs = logs_of yet.before yet.stands in
       let copies =
@@ -177,7 +177,7 @@ module _ (s t : State) (gone : ℕ → Bool) (l : LogView) (on takes : List ℕ)
       stood_new : ((state_in c ≡ Some s) × NoneLater s c) ⊎ ((state_in c ≡ Some t) × NoneLater t c)
       stood_new = stands_latest s t l.number gone on takes l.added a c place kept.logs kept.copies brings mid.states few there was left
 
-      says_stood : IsWhole c → AreInside l.added → state_in c ≡ Some t → NoneLater t c → SaysState t a.sectors c
+      says_stood : IsWhole c → AreInside l.added → state_in c ≡ Some t → NoneLater t c → RecoversTo t a.sectors c
       says_stood whole fits stood latest =
           record {
             whole = whole;
@@ -192,7 +192,7 @@ module _ (s t : State) (gone : ℕ → Bool) (l : LogView) (on takes : List ℕ)
           }
 
       -- the record brings the new state
-      brought : KeepsDrives s t on → state_in c ≡ Some s → NoneLater s c → (t ≡ s) ⊎ IsBrought s t c
+      brought : KeepsDrives s t on → state_in c ≡ Some s → NoneLater s c → (t ≡ s) ⊎ PendingInstalls s t c
       brought drives state latest =
           elim brings.either [
             | inl same ↦ inl same.0
@@ -207,7 +207,7 @@ module _ (s t : State) (gone : ℕ → Bool) (l : LogView) (on takes : List ℕ)
             })
           ]
 
-      says_new : KeepsDrives s t on → IsWhole c → AreInside l.added → SaysState t a.sectors c
+      says_new : KeepsDrives s t on → IsWhole c → AreInside l.added → RecoversTo t a.sectors c
       says_new drives whole fits =
           elim stood_new [
             | inr new ↦ says_stood whole fits new.0 new.1
@@ -228,7 +228,7 @@ module _ (s t : State) (gone : ℕ → Bool) (l : LogView) (on takes : List ℕ)
       -- and it gives a place another drive, which joins
       says_replaced : (q : ℕ) → place ≢ q → names on q ≡ false → MayJoin l.number a q → s.epoch < t.epoch → t.pool ≡ s.pool
           → ((p : ℕ) → p ≢ q → is_current s p ≡ true → is_current t p ≡ true → id_of t p ≡ id_of s p)
-          → IsWhole c → AreInside l.added → SaysState t a.sectors c ⊎ SaysReplaced q s t a.sectors c
+          → IsWhole c → AreInside l.added → RecoversTo t a.sectors c ⊎ SaysReplaced q s t a.sectors c
       says_replaced q away other joins up pool ids whole fits =
           elim stood_new [
             | inr new ↦ inl (says_stood whole fits new.0 new.1)
@@ -256,7 +256,7 @@ module _ (s t : State) (gone : ℕ → Bool) (l : LogView) (on takes : List ℕ)
           ]
 
     -- nothing is pending, and all is written
-    says_done : pending (deciding c) c ≡ [] → IsWritten l.added c → IsWhole c → SaysState t a.sectors c
+    says_done : pending (deciding c) c ≡ [] → IsWritten l.added c → IsWhole c → RecoversTo t a.sectors c
     unfolding look
     says_done none writes whole =
         let same : (p : ℕ) → c (log_slice p) 0 ≡ put a.sectors l.added c (log_slice p) 0 =
@@ -276,7 +276,7 @@ module _ (s t : State) (gone : ℕ → Bool) (l : LogView) (on takes : List ℕ)
           inside = λ d u v is. absurd (no_look d u v (ap (λ (xs : List Target). look xs d u) (sym none) ∙ is));
         }
 
-    pub midway_says : HoldsCopies s a → KeepsDrives s t on → Commits l.added a c → AreInside l.added → SaysState s a.sectors c ⊎ SaysState t a.sectors c
+    pub midway_says : HoldsCopies s a → KeepsDrives s t on → ImageInCommit l.added a c → AreInside l.added → RecoversTo s a.sectors c ⊎ RecoversTo t a.sectors c
     midway_says holds drives commits fits =
         let whole = commits.whole (kept.whole commits.before commits.stands) in
         elim mid.pends [
@@ -298,8 +298,8 @@ module _ (s t : State) (gone : ℕ → Bool) (l : LogView) (on takes : List ℕ)
 
     -- Where the commit gives a place another drive: replayed, they have the state from before it, or they say the new one.
     pub midway_replaced : (q : ℕ) → place ≢ q → names on q ≡ false → MayJoin l.number a q → s.epoch < t.epoch → t.pool ≡ s.pool
-        → ((p : ℕ) → p ≢ q → is_current s p ≡ true → is_current t p ≡ true → id_of t p ≡ id_of s p) → Commits l.added a c → AreInside l.added
-        → (state_in (replayed a.sectors c) ≡ Some s) ⊎ (SaysState t a.sectors c ⊎ SaysReplaced q s t a.sectors c)
+        → ((p : ℕ) → p ≢ q → is_current s p ≡ true → is_current t p ≡ true → id_of t p ≡ id_of s p) → ImageInCommit l.added a c → AreInside l.added
+        → (state_in (replayed a.sectors c) ≡ Some s) ⊎ (RecoversTo t a.sectors c ⊎ SaysReplaced q s t a.sectors c)
     midway_replaced q away other joins up pool ids commits fits =
         let whole = commits.whole (kept.whole commits.before commits.stands) in
         elim mid.pends [
@@ -311,16 +311,16 @@ module _ (s t : State) (gone : ℕ → Bool) (l : LogView) (on takes : List ℕ)
         ]
 
   -- At each moment of a commit the log slices say the state from before it or the new one.
-  pub commit_says : HoldsCopies s a → KeepsDrives s t on → (lost : List ℕ) (b : Seen) → CommitCall l on lost a b → IsReady l on a → SomeoneDecides l.added on lost a → a.traced
-      → Leaves a b (λ c. IsInside a.sectors c → SaysState s a.sectors c ⊎ SaysState t a.sectors c)
+  pub commit_says : HoldsCopies s a → KeepsDrives s t on → (lost : List ℕ) (b : RackView) → CommitCall l on lost a b → IsReady l on a → SomeoneDecides l.added on lost a → a.traced
+      → Leaves a b (λ c. IsInside a.sectors c → RecoversTo s a.sectors c ⊎ RecoversTo t a.sectors c)
   commit_says holds drives lost b commit ready someone traced =
-      leaves_weaker (λ c. IsInside a.sectors c → Commits l.added a c × StandsMidway l on a c)
-      (λ c. IsInside a.sectors c → SaysState s a.sectors c ⊎ SaysState t a.sectors c)
+      leaves_weaker (λ c. IsInside a.sectors c → ImageInCommit l.added a c × StandsMidway l on a c)
+      (λ c. IsInside a.sectors c → RecoversTo s a.sectors c ⊎ RecoversTo t a.sectors c)
       (λ c found inside. let both = found inside in midway_says c both.1 holds drives both.0 (λ d u v is. (ready.targets d u v is).sector))
       (commit_moments l on lost a b commit traced ready someone)
 
   -- And after it they hold the copies of the new one.
-  pub commit_holds : (lost : List ℕ) (b : Seen) → CommitCall l on lost a b → IsReady l on a → SomeoneDecides l.added on lost a → HoldsCopies t b
+  pub commit_holds : (lost : List ℕ) (b : RackView) → CommitCall l on lost a b → IsReady l on a → SomeoneDecides l.added on lost a → HoldsCopies t b
   commit_holds lost b commit ready someone = record {
     copies = λ c stand.
         let done = commit.after ready someone c stand in

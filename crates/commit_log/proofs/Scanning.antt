@@ -4,7 +4,7 @@ use Rattle.std.specs.Option.{option_and_then}
 use Rattle.std.specs.List.{list_all, list_any, range_with_len}
 use Rattle.std.proofs.lemmas.Bool.{cases_eq, cases_lt, both_ways, ne_eqb}
 use Rattle.std.proofs.lemmas.Option.{none-some}
-use Rattle.rack.specs.Seen.{Seen, Rose}
+use Rattle.rack.specs.Seen.{RackView, Rose}
 use Rattle.rack.specs.Joins.{rose_early, rose_later}
 use Rattle.rack.specs.Sequences.{OnlyReads}
 use Rattle.rack.proofs.Reading.{only_reads_start, only_reads_join, same_after}
@@ -21,7 +21,7 @@ use Rattle.log_laws.proofs.Calling.{is_marked}
 use Rattle.commit_log.proofs.Deciding.{foremost_among}
 
 -- before the first one
-pub scan_start : (on : List ℕ) (a : Seen) (s : Scan) → a.fit
+pub scan_start : (on : List ℕ) (a : RackView) (s : Scan) → a.fit
     → ((p : ℕ) → gate_seen s.gates p ≡ None) → ((p : ℕ) → went s.damaged.places p ≡ false) → ((p : ℕ) → went s.lost.places p ≡ false)
     → IsScan on 0 a a s
 scan_start on a s fit gates damaged lost = record {
@@ -35,7 +35,7 @@ scan_start on a s fit gates damaged lost = record {
 }
 
 -- a place that isn't asked for
-pub scan_over : {a b : Seen} (on : List ℕ) (k : ℕ) (s : Scan) → names on k ≡ false → IsScan on k a b s → IsScan on (k + 1) a b s
+pub scan_over : {a b : RackView} (on : List ℕ) (k : ℕ) (s : Scan) → names on k ≡ false → IsScan on k a b s → IsScan on (k + 1) a b s
 scan_over on k s other scan = record {
   reads = scan.reads;
   cause = scan.cause;
@@ -55,7 +55,7 @@ scan_over on k s other scan = record {
 }
 
 -- one that was read
-pub scan_found : {a b c : Seen} (on : List ℕ) (k : ℕ) (s t : Scan) → names on k ≡ true → log_slice k < a.disks → gate_sector < a.sectors (log_slice k)
+pub scan_found : {a b c : RackView} (on : List ℕ) (k : ℕ) (s t : Scan) → names on k ≡ true → log_slice k < a.disks → gate_sector < a.sectors (log_slice k)
     → IsScan on k a b s → OnlyReads b c → IsFound k b c s t → IsScan on (k + 1) a c t
 scan_found {a} {b} {c} on k s t here has within scan reads found = record {
   reads = only_reads_join scan.reads reads;
@@ -209,10 +209,10 @@ count_less h e (suc n) place g below had none others =
 
 -- ---- places that go while it is loaded
 
-pub drops_start : (a : Seen) (s : Scan) → a.fit → Drops a a s s
+pub drops_start : (a : RackView) (s : Scan) → a.fit → Drops a a s s
 drops_start a s fit = record { reads = only_reads_start a fit; damaged = refl; each = λ p. inl (refl, refl) }
 
-pub drops_read : {a b c : Seen} (s t : Scan) → Drops a b s t → OnlyReads b c → Drops a c s t
+pub drops_read : {a b c : RackView} (s t : Scan) → Drops a b s t → OnlyReads b c → Drops a c s t
 drops_read {a} {b} {c} s t drops reads = record {
   reads = only_reads_join drops.reads reads;
   damaged = drops.damaged;
@@ -225,7 +225,7 @@ drops_read {a} {b} {c} s t drops reads = record {
       ];
 }
 
-pub drops_then : {a b c : Seen} (s t u : Scan) (place : ℕ) (g : Gate) → Drops a b s t → OnlyReads b c → gate_seen t.gates place ≡ Some g
+pub drops_then : {a b c : RackView} (s t u : Scan) (place : ℕ) (g : Gate) → Drops a b s t → OnlyReads b c → gate_seen t.gates place ≡ Some g
     → Rose (b.faults (log_slice place)) (c.faults (log_slice place))
     → gate_seen u.gates place ≡ None → ((p : ℕ) → p ≢ place → gate_seen u.gates p ≡ gate_seen t.gates p) → u.damaged ≡ t.damaged
     → ((p : ℕ) → went u.lost.places p ≡ ((p == place) || went t.lost.places p))
@@ -263,13 +263,13 @@ drops_then {a} {b} {c} s t u place g drops reads had rose none others damaged lo
 -- ---- what was loaded
 
 -- what is the same before reads is so after them
-pub agrees_later : {a b : Seen} (d : ℕ) (slice : ℕ → List ℕ) → OnlyReads a b → d < a.disks → a.told d → Agrees a d slice → Agrees b d slice
+pub agrees_later : {a b : RackView} (d : ℕ) (slice : ℕ → List ℕ) → OnlyReads a b → d < a.disks → a.told d → Agrees a d slice → Agrees b d slice
 agrees_later {a} {b} d slice reads has told agrees t below unspent =
     let within : t < a.sectors d = subst (λ n. t < n) (reads.stays.sectors d) below in
     agrees t within (reads.stays.spent d t unspent) ∙ sym (same_after d t reads has within told unspent)
 
 -- a gate that is left was read
-pub drops_had : {a b : Seen} (s t : Scan) (p : ℕ) (g : Gate) → Drops a b s t → gate_seen t.gates p ≡ Some g → gate_seen s.gates p ≡ Some g
+pub drops_had : {a b : RackView} (s t : Scan) (p : ℕ) (g : Gate) → Drops a b s t → gate_seen t.gates p ≡ Some g → gate_seen s.gates p ≡ Some g
 drops_had s t p g drops is =
     elim (drops.each p) [
       | inl same ↦ sym same.1 ∙ is

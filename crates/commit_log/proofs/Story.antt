@@ -5,7 +5,7 @@ use Rattle.std.proofs.lemmas.Bool.{both_ways, and_parts, or_parts, cond-true, co
 use Rattle.std.specs.Option.{option_or}
 use Rattle.std.proofs.lemmas.List.Folds.{list_any_at}
 use Rattle.std.proofs.lemmas.Option.{none-some, cond_some}
-use Rattle.rack.specs.Seen.{Seen}
+use Rattle.rack.specs.Seen.{RackView}
 use Rattle.rack.specs.Targets.{Target, is_at, look}
 use Rattle.rack.specs.Sequences.{IsPayload}
 use Rattle.rack.proofs.Phases.{payload_none}
@@ -20,7 +20,7 @@ use Rattle.commit_log.proofs.Deciding.{names_either}
 use Rattle.log_laws.proofs.Rounds.{early, late, which_some}
 
 -- what is known of a commit's parts: the targets, and the sectors that are written to the logs
-pub record Parts (l : LogView) (on : List ℕ) (number : ℕ) (opened closed bytes : List ℕ) (count : ℕ) (a : Seen) : Type 0 where
+pub record Parts (l : LogView) (on : List ℕ) (number : ℕ) (opened closed bytes : List ℕ) (count : ℕ) (a : RackView) : Type 0 where
   pub added : l.added ≡ targets_in bytes count
   pub sealed : IsSealed number count bytes
   pub valid : list_all is_target (targets_in bytes count) ≡ true
@@ -28,7 +28,7 @@ pub record Parts (l : LogView) (on : List ℕ) (number : ℕ) (opened closed byt
   pub targets : (d s : ℕ) (v : List ℕ) → look l.added d s ≡ Some v → IsHad a d s × (IsLogPart d s → ⊥)
 
 -- the four parts in a row: the record, the open gates, the payloads, the closed gates
-pub record Story (l : LogView) (on : List ℕ) (number : ℕ) (opened closed bytes : List ℕ) (count : ℕ) (a r g t b : Seen) (w0 w1 w2 w3 w4 : ℕ → Bool) : Type 0 where
+pub record Story (l : LogView) (on : List ℕ) (number : ℕ) (opened closed bytes : List ℕ) (count : ℕ) (a r g t b : RackView) (w0 w1 w2 w3 w4 : ℕ → Bool) : Type 0 where
   pub writes_record :
       Settles a r (IsLogOf on (length on)) (IsOfRecord on (half_of number) bytes (96 + count)) (IsOfRecord on (half_of number) bytes (96 + count)) w0 w1
   pub opens : Settles r g (IsLogOf on (length on)) (IsOnEach on (length on) gate_sector opened) (IsOnEach on (length on) gate_sector opened) w1 w2
@@ -103,7 +103,7 @@ record_no_other on number bytes many d s v other is =
 pub each_no_other : (on : List ℕ) (block : List ℕ) (d s : ℕ) (v : List ℕ) → (IsLogPart d s → ⊥) → IsOnEach on (length on) gate_sector block d s v → ⊥
 each_no_other on block d s v other is = other (log_is_slice on (length on) d is.disk, omega (arith, is.there))
 
-pub target_no_log : (l : LogView) (on : List ℕ) (number : ℕ) (opened closed bytes : List ℕ) (count : ℕ) (a : Seen) (p s : ℕ) (v : List ℕ)
+pub target_no_log : (l : LogView) (on : List ℕ) (number : ℕ) (opened closed bytes : List ℕ) (count : ℕ) (a : RackView) (p s : ℕ) (v : List ℕ)
     → Parts l on number opened closed bytes count a → 0 < s → IsPayload l.added (log_slice p) s v → ⊥
 target_no_log l on number opened closed bytes count a p s v parts some is =
     let has = payload_look l.added (log_slice p) s v is in

@@ -2,7 +2,7 @@
 use Rattle.std.proofs.Common.{◌≡◌, ◌⊎◌, ℕ, ◌+◌, ◌<◌, not, Bool, true, false, List, [], length, refl, sym, ap, subst, ◌∙◌, inl, inr, arith}
 use Rattle.std.proofs.lemmas.Bool.{both_ways, and_parts}
 use Rattle.rack.specs.Values.{MayLeave}
-use Rattle.rack.specs.Seen.{Image, Seen, IsLive, Stays}
+use Rattle.rack.specs.Seen.{Image, RackView, IsLive, SameRack}
 use Rattle.rack.specs.Joins.{stays_then}
 use Rattle.rack.specs.Sequences.{IsPayload, IsMix}
 use Rattle.array_image.specs.Places.{place_of, log_slice}
@@ -16,7 +16,7 @@ use Rattle.commit_log.proofs.Story.{named_log, record_no_gate, record_no_other, 
 use Rattle.commit_log.proofs.Since.{live_to, live_between, Since, from_record, from_opening, from_target, from_closing, HasSince, Begun, since_around, since_others, since_new, since_gates, record_part}
 
 -- all that a commit's theorem stands on
-pub record Told (l : LogView) (on lost : List ℕ) (number : ℕ) (opened closed bytes : List ℕ) (count : ℕ) (a r g t b : Seen) (w0 w1 w2 w3 w4 : ℕ → Bool) : Type 0 where
+pub record Told (l : LogView) (on lost : List ℕ) (number : ℕ) (opened closed bytes : List ℕ) (count : ℕ) (a r g t b : RackView) (w0 w1 w2 w3 w4 : ℕ → Bool) : Type 0 where
   pub begun : Begun l on number opened closed bytes count a r w0 w1
   pub opens : Settles r g (IsLogOf on (length on)) (IsOnEach on (length on) gate_sector opened) (IsOnEach on (length on) gate_sector opened) w1 w2
   pub writes : Settles g t (IsTargeted l.added) (IsPayload l.added) (IsWanted g l.added) w2 w3
@@ -35,7 +35,7 @@ left_last on lost w4 p are left =
 
 -- ---- while the record is written
 
-pub early_at_first : (l : LogView) (on : List ℕ) (number : ℕ) (opened closed bytes : List ℕ) (count : ℕ) (a r : Seen) (w0 w1 : ℕ → Bool) (c : Image)
+pub early_at_first : (l : LogView) (on : List ℕ) (number : ℕ) (opened closed bytes : List ℕ) (count : ℕ) (a r : RackView) (w0 w1 : ℕ → Bool) (c : Image)
     → Begun l on number opened closed bytes count a r w0 w1
     → IsInside a.sectors c → IsMix a r (λ d s v. (w0 (place_of d) ≡ false) × IsOfRecord on (half_of number) bytes (96 + count) d s v) c
     → IsEarly l on number opened a c
@@ -64,8 +64,8 @@ early_at_first l on number opened closed bytes count a r w0 w1 c begun inside mi
 
 -- ---- while the gates are opened
 
-open_since : (l : LogView) (on : List ℕ) (number : ℕ) (opened closed bytes : List ℕ) (count : ℕ) (a r g : Seen) (w0 w1 : ℕ → Bool) (c : Image)
-    → Begun l on number opened closed bytes count a r w0 w1 → Stays r g
+open_since : (l : LogView) (on : List ℕ) (number : ℕ) (opened closed bytes : List ℕ) (count : ℕ) (a r g : RackView) (w0 w1 : ℕ → Bool) (c : Image)
+    → Begun l on number opened closed bytes count a r w0 w1 → SameRack r g
     → IsInside a.sectors c → IsMix r g (λ d s v. (w1 (place_of d) ≡ false) × IsOnEach on (length on) gate_sector opened d s v) c
     → HasSince l on opened closed a r w1 ⊥ c
 open_since l on number opened closed bytes count a r g w0 w1 c begun stays inside mix = record {
@@ -77,8 +77,8 @@ open_since l on number opened closed bytes count a r g w0 w1 c begun stays insid
       ];
 }
 
-pub early_at_opening : (l : LogView) (on : List ℕ) (number : ℕ) (opened closed bytes : List ℕ) (count : ℕ) (a r g : Seen) (w0 w1 : ℕ → Bool) (c : Image)
-    → Begun l on number opened closed bytes count a r w0 w1 → Stays r g
+pub early_at_opening : (l : LogView) (on : List ℕ) (number : ℕ) (opened closed bytes : List ℕ) (count : ℕ) (a r g : RackView) (w0 w1 : ℕ → Bool) (c : Image)
+    → Begun l on number opened closed bytes count a r w0 w1 → SameRack r g
     → IsInside a.sectors c → IsMix r g (λ d s v. (w1 (place_of d) ≡ false) × IsOnEach on (length on) gate_sector opened d s v) c
     → IsEarly l on number opened a c
 early_at_opening l on number opened closed bytes count a r g w0 w1 c begun stays inside mix =
@@ -104,7 +104,7 @@ early_at_opening l on number opened closed bytes count a r g w0 w1 c begun stays
 -- ---- while the targets are written
 
 -- what the opening of the gates left
-opened_since : (l : LogView) (on : List ℕ) (opened closed : List ℕ) (r g : Seen) (w1 w2 : ℕ → Bool) (shutting : Type 0) (d s : ℕ) (v : List ℕ)
+opened_since : (l : LogView) (on : List ℕ) (opened closed : List ℕ) (r g : RackView) (w1 w2 : ℕ → Bool) (shutting : Type 0) (d s : ℕ) (v : List ℕ)
     → Settles r g (IsLogOf on (length on)) (IsOnEach on (length on) gate_sector opened) (IsOnEach on (length on) gate_sector opened) w1 w2
     → IsLive r g d s → MayLeave (g.held d s) v → Since l on opened closed r w1 shutting d s v
 opened_since l on opened closed r g w1 w2 shutting d s v opens live left =
@@ -113,14 +113,14 @@ opened_since l on opened closed r g w1 w2 shutting d s v opens live left =
       | inr new ↦ from_opening new.0 new.1
     ]
 
-pub late_at_targets : (l : LogView) (on lost : List ℕ) (number : ℕ) (opened closed bytes : List ℕ) (count : ℕ) (a r g t b : Seen) (w0 w1 w2 w3 w4 : ℕ → Bool) (c : Image)
+pub late_at_targets : (l : LogView) (on lost : List ℕ) (number : ℕ) (opened closed bytes : List ℕ) (count : ℕ) (a r g t b : RackView) (w0 w1 w2 w3 w4 : ℕ → Bool) (c : Image)
     → Told l on lost number opened closed bytes count a r g t b w0 w1 w2 w3 w4
     → IsInside a.sectors c → IsMix g t (λ d s v. (w2 (place_of d) ≡ false) × IsPayload l.added d s v) c
     → IsLate l on lost number opened closed a c
 late_at_targets l on lost number opened closed bytes count a r g t b w0 w1 w2 w3 w4 c told inside mix =
     let begun : Begun l on number opened closed bytes count a r w0 w1 = told.begun in
-    let to_r : Stays a r = begun.writes.calls.only.stays in
-    let to_g : Stays a g = stays_then to_r told.opens.calls.only.stays in
+    let to_r : SameRack a r = begun.writes.calls.only.stays in
+    let to_g : SameRack a g = stays_then to_r told.opens.calls.only.stays in
     let since : HasSince l on opened closed a r w1 ⊥ c =
     record {
       inside = inside;
@@ -159,17 +159,17 @@ late_at_targets l on lost number opened closed bytes count a r g t b w0 w1 w2 w3
 -- ---- while the gates are closed, and afterwards
 
 -- contents that the writing of the targets left, but for gates that were closed
-abbrev pub IsEnding : LogView → List ℕ → List ℕ → Seen → Seen → (ℕ → Bool) → Image → Type 0
+abbrev pub IsEnding : LogView → List ℕ → List ℕ → RackView → RackView → (ℕ → Bool) → Image → Type 0
 IsEnding l on closed a t w3 c =
     (d s : ℕ) → IsLive a a d s → MayLeave (t.held d s) (c d s) ⊎ ((w3 (place_of d) ≡ false) × IsClosing w3 on closed d s (c d s))
 
 -- where gates are closed all targets were written
-ending_written : (l : LogView) (on lost : List ℕ) (number : ℕ) (opened closed bytes : List ℕ) (count : ℕ) (a r g t b : Seen) (w0 w1 w2 w3 w4 : ℕ → Bool) (c : Image)
+ending_written : (l : LogView) (on lost : List ℕ) (number : ℕ) (opened closed bytes : List ℕ) (count : ℕ) (a r g t b : RackView) (w0 w1 w2 w3 w4 : ℕ → Bool) (c : Image)
     → Told l on lost number opened closed bytes count a r g t b w0 w1 w2 w3 w4
     → IsEnding l on closed a t w3 c → AllLeft w3 → IsWritten l.added c
 ending_written l on lost number opened closed bytes count a r g t b w0 w1 w2 w3 w4 c told ending all d s w is =
     let begun : Begun l on number opened closed bytes count a r w0 w1 = told.begun in
-    let to_g : Stays a g = stays_then begun.writes.calls.only.stays told.opens.calls.only.stays in
+    let to_g : SameRack a g = stays_then begun.writes.calls.only.stays told.opens.calls.only.stays in
     let live : IsLive a a d s = begun.ready.targets d s w is in
     let live_t : IsLive g t d s = live_between d s to_g told.writes.calls.only.stays begun.ready.lasting live in
     let had = begun.parts.targets d s w is in
@@ -180,13 +180,13 @@ ending_written l on lost number opened closed bytes count a r g t b w0 w1 w2 w3 
       | inr closing ↦ absurd (each_no_other on closed d s (c d s) had.1 closing.1.1)
     ]
 
-ending_since : (l : LogView) (on lost : List ℕ) (number : ℕ) (opened closed bytes : List ℕ) (count : ℕ) (a r g t b : Seen) (w0 w1 w2 w3 w4 : ℕ → Bool) (c : Image)
+ending_since : (l : LogView) (on lost : List ℕ) (number : ℕ) (opened closed bytes : List ℕ) (count : ℕ) (a r g t b : RackView) (w0 w1 w2 w3 w4 : ℕ → Bool) (c : Image)
     → Told l on lost number opened closed bytes count a r g t b w0 w1 w2 w3 w4
     → IsInside a.sectors c → IsEnding l on closed a t w3 c → HasSince l on opened closed a r w1 (IsWritten l.added c) c
 ending_since l on lost number opened closed bytes count a r g t b w0 w1 w2 w3 w4 c told inside ending =
     let begun : Begun l on number opened closed bytes count a r w0 w1 = told.begun in
-    let to_r : Stays a r = begun.writes.calls.only.stays in
-    let to_g : Stays a g = stays_then to_r told.opens.calls.only.stays in
+    let to_r : SameRack a r = begun.writes.calls.only.stays in
+    let to_g : SameRack a g = stays_then to_r told.opens.calls.only.stays in
     record {
       inside = inside;
       each = λ d s is.
@@ -202,13 +202,13 @@ ending_since l on lost number opened closed bytes count a r g t b w0 w1 w2 w3 w4
           ];
     }
 
-pub late_at_end : (l : LogView) (on lost : List ℕ) (number : ℕ) (opened closed bytes : List ℕ) (count : ℕ) (a r g t b : Seen) (w0 w1 w2 w3 w4 : ℕ → Bool) (c : Image)
+pub late_at_end : (l : LogView) (on lost : List ℕ) (number : ℕ) (opened closed bytes : List ℕ) (count : ℕ) (a r g t b : RackView) (w0 w1 w2 w3 w4 : ℕ → Bool) (c : Image)
     → Told l on lost number opened closed bytes count a r g t b w0 w1 w2 w3 w4
     → IsInside a.sectors c → IsEnding l on closed a t w3 c → IsLate l on lost number opened closed a c
 late_at_end l on lost number opened closed bytes count a r g t b w0 w1 w2 w3 w4 c told inside ending =
     let begun : Begun l on number opened closed bytes count a r w0 w1 = told.begun in
-    let to_r : Stays a r = begun.writes.calls.only.stays in
-    let to_g : Stays a g = stays_then to_r told.opens.calls.only.stays in
+    let to_r : SameRack a r = begun.writes.calls.only.stays in
+    let to_g : SameRack a g = stays_then to_r told.opens.calls.only.stays in
     let since : HasSince l on opened closed a r w1 (IsWritten l.added c) c =
     ending_since l on lost number opened closed bytes count a r g t b w0 w1 w2 w3 w4 c told inside ending in
     record {
@@ -251,21 +251,21 @@ late_at_end l on lost number opened closed bytes count a r g t b w0 w1 w2 w3 w4 
     }
 
 -- what a stop after the commit leaves
-pub ending_after : (l : LogView) (on lost : List ℕ) (number : ℕ) (opened closed bytes : List ℕ) (count : ℕ) (a r g t b : Seen) (w0 w1 w2 w3 w4 : ℕ → Bool) (c : Image)
+pub ending_after : (l : LogView) (on lost : List ℕ) (number : ℕ) (opened closed bytes : List ℕ) (count : ℕ) (a r g t b : RackView) (w0 w1 w2 w3 w4 : ℕ → Bool) (c : Image)
     → Told l on lost number opened closed bytes count a r g t b w0 w1 w2 w3 w4
     → ((d s : ℕ) → IsLive a a d s → MayLeave (b.held d s) (c d s)) → IsEnding l on closed a t w3 c
 ending_after l on lost number opened closed bytes count a r g t b w0 w1 w2 w3 w4 c told picks d s live =
     let begun : Begun l on number opened closed bytes count a r w0 w1 = told.begun in
-    let to_t : Stays a t = stays_then (stays_then begun.writes.calls.only.stays told.opens.calls.only.stays) told.writes.calls.only.stays in
+    let to_t : SameRack a t = stays_then (stays_then begun.writes.calls.only.stays told.opens.calls.only.stays) told.writes.calls.only.stays in
     told.closes.calls.only.within d s (c d s) (live_between d s to_t told.closes.calls.only.stays begun.ready.lasting live) (picks d s live)
 
 -- where nobody went all gates are closed
-pub shut_after : (l : LogView) (on lost : List ℕ) (number : ℕ) (opened closed bytes : List ℕ) (count : ℕ) (a r g t b : Seen) (w0 w1 w2 w3 w4 : ℕ → Bool) (c : Image)
+pub shut_after : (l : LogView) (on lost : List ℕ) (number : ℕ) (opened closed bytes : List ℕ) (count : ℕ) (a r g t b : RackView) (w0 w1 w2 w3 w4 : ℕ → Bool) (c : Image)
     → Told l on lost number opened closed bytes count a r g t b w0 w1 w2 w3 w4
     → ((d s : ℕ) → IsLive a a d s → MayLeave (b.held d s) (c d s)) → lost ≡ [] → (p : ℕ) → names on p ≡ true → IsShut l.added closed c p
 shut_after l on lost number opened closed bytes count a r g t b w0 w1 w2 w3 w4 c told picks none p here =
     let begun : Begun l on number opened closed bytes count a r w0 w1 = told.begun in
-    let to_t : Stays a t = stays_then (stays_then begun.writes.calls.only.stays told.opens.calls.only.stays) told.writes.calls.only.stays in
+    let to_t : SameRack a t = stays_then (stays_then begun.writes.calls.only.stays told.opens.calls.only.stays) told.writes.calls.only.stays in
     let all4 : AllLeft w4 = λ q. sym (told.lost_are q) ∙ ap (λ ps. names ps q) none in
     let all3 : AllLeft w3 = λ q. told.closes.calls.still q (all4 q) in
     let log = begun.terms.logs p here in

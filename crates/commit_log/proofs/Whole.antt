@@ -3,13 +3,13 @@ use Rattle.std.proofs.Common.{◌≡◌, ◌≢◌, ◌⊎◌, ℕ, ◌<◌, ◌
 use Rattle.std.proofs.lemmas.Bool.{cases_Bool, cases_eq, cases_lt, both_ways, or_parts, ne_eqb}
 use Rattle.std.proofs.lemmas.Option.{none-some}
 use Rattle.rack.specs.Values.{MayLeave}
-use Rattle.rack.specs.Seen.{Image, Seen, IsLive}
+use Rattle.rack.specs.Seen.{Image, RackView, IsLive}
 use Rattle.rack.specs.Targets.{Target, look, put}
 use Rattle.array_image.specs.Places.{slice_of, place_of, log_slice, log_sectors}
 use Rattle.array_image.specs.Record.{gate_sector, pending}
 use Rattle.log_laws.specs.View.{LogView, names}
 use Rattle.log_laws.specs.Standing.{IsLogPart, deciding, IsWhole}
-use Rattle.log_laws.specs.Commits.{Committed, IsWritten}
+use Rattle.log_laws.specs.Commits.{ImageAfterCommit, IsWritten}
 use Rattle.commit_log.proofs.Restored.{restored, restored_there, restored_picks, restored_inside, put_there, put_same}
 use Rattle.commit_log.proofs.Amid.{in_half, Terms, IsAround, slice_of_log, place_of_log, log_of_place, half_least, half_most, not_in_half, replayed_as}
 
@@ -64,7 +64,7 @@ others_free number on xs d t other none =
     (ap (λ (o : Option (List ℕ)). is_some o) none)
 
 -- past the end of a log slice nothing was written
-past_free : (l : LogView) (on : List ℕ) (number : ℕ) (opened closed : List ℕ) (a : Seen) (p t : ℕ) → Terms l on number opened closed a
+past_free : (l : LogView) (on : List ℕ) (number : ℕ) (opened closed : List ℕ) (a : RackView) (p t : ℕ) → Terms l on number opened closed a
     → a.sectors (log_slice p) ≤ t → of_commit number on l.added (log_slice p) t ≡ false
 past_free l on number opened closed a p t terms past =
     or_off ((slice_of (log_slice p) == 0) && (names on (place_of (log_slice p)) && (in_half number t || (t == 1)))) (is_some (look l.added (log_slice p) t))
@@ -83,14 +83,14 @@ past_free l on number opened closed a p t terms past =
     of_look (Some v) is = absurd (omega (arith, (terms.targets (log_slice p) t v is).0, past))
 
 -- all targets are there, once the record is replayed
-pub all_committed : (l : LogView) (on : List ℕ) (number : ℕ) (opened closed : List ℕ) (a : Seen) (c : Image)
+pub all_committed : (l : LogView) (on : List ℕ) (number : ℕ) (opened closed : List ℕ) (a : RackView) (c : Image)
     → Terms l on number opened closed a
     → IsAround on number a c
     → ((p : ℕ) → IsLive a a (log_slice p) gate_sector → MayLeave (a.held (log_slice p) gate_sector) (c (log_slice p) gate_sector) ⊎ (names on p ≡ true))
     → ((d t : ℕ) → IsLive a a d t → (IsLogPart d t → ⊥) → MayLeave (a.held d t) (c d t) ⊎ (look l.added d t ≡ Some (c d t)))
     → (pending (deciding c) c ≡ l.added) ⊎ ((pending (deciding c) c ≡ []) × IsWritten l.added c)
     → IsWhole c
-    → Committed l.added a c
+    → ImageAfterCommit l.added a c
 unfolding look
 all_committed l on number opened closed a c terms around gates others pends whole =
     let chosen : ℕ → ℕ → Bool = of_commit number on l.added in

@@ -2,7 +2,7 @@
 use Rattle.std.proofs.Common.{◌≡◌, Bool, true, false, not, ◌==◌, refl, sym, ap, subst, ◌∙◌}
 use Rattle.std.proofs.lemmas.Bool.{both_ways, eqb-true}
 use Rattle.rack.specs.Values.{MayLeave}
-use Rattle.rack.specs.Seen.{Image, Seen, IsLive}
+use Rattle.rack.specs.Seen.{Image, RackView, IsLive}
 use Rattle.array_image.specs.Places.{log_slice, place_of, slice_of}
 use Rattle.array_image.proofs.Replays.{SameLogs, whole_same}
 use Rattle.log_laws.specs.Standing.{IsWhole, LogsStand}
@@ -12,7 +12,7 @@ use Rattle.commit_log.proofs.Committing.{off_log, on_log}
 use Rattle.commit_log.proofs.Restored.{restored, restored_inside, restored_picks, restored_there}
 
 -- contents of which the log slices are as a stop may leave them, whatever stands elsewhere
-pub whole_logs : (x : Seen) → ((c : Image) → Stands x c → IsWhole c) → (c : Image) → LogsStand x c → IsWhole c
+pub whole_logs : (x : RackView) → ((c : Image) → Stands x c → IsWhole c) → (c : Image) → LogsStand x c → IsWhole c
 whole_logs x whole c stand =
     let e : Image = restored off_log x c in
     whole_same c e (λ p t. sym (restored_there off_log x c (log_slice p) t (on_log p t)))

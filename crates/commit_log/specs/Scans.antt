@@ -2,7 +2,7 @@
 use Rattle.std.specs.Prelude.{◌≡◌, ◌≢◌, ◌⊎◌, ℕ, zero, suc, ◌+◌, ◌<◌, ◌≤◌, Bool, true, false, ◌==◌, ◌||◌, if◌then◌else◌, List, [], map, slice_get, Option, Some, None, option_map, is_none}
 use Rattle.std.specs.Option.{option_and_then, option_map_or}
 use Rattle.std.specs.List.{list_all, range_with_len}
-use Rattle.rack.specs.Seen.{Seen, Rose}
+use Rattle.rack.specs.Seen.{RackView, Rose}
 use Rattle.rack.specs.Sequences.{OnlyReads}
 use Rattle.rack.specs.Targets.{Target}
 use Rattle.array_image.specs.Foremost.{foremost}
@@ -62,11 +62,11 @@ count_seen h (suc n) = one_if (h n) + count_seen h n
 -- ---- what was read
 
 -- the sectors of a slice that can be read
-abbrev pub Agrees : Seen → ℕ → (ℕ → List ℕ) → Type 0
+abbrev pub Agrees : RackView → ℕ → (ℕ → List ℕ) → Type 0
 Agrees x d slice = (t : ℕ) → t < x.sectors d → x.spent d t ≡ false → slice t ≡ (x.held d t).current
 
 -- the gate of a place was read: it is well formed, or not, or the place went
-pub record IsFound (place : ℕ) (a b : Seen) (s t : Scan) : Type 0 where
+pub record IsFound (place : ℕ) (a b : RackView) (s t : Scan) : Type 0 where
   pub gates : (p : ℕ) → p ≢ place → gate_seen t.gates p ≡ gate_seen s.gates p
   pub damaged : (p : ℕ) → p ≢ place → went t.damaged.places p ≡ went s.damaged.places p
   pub lost : (p : ℕ) → p ≢ place → went t.lost.places p ≡ went s.lost.places p
@@ -81,7 +81,7 @@ pub record IsFound (place : ℕ) (a b : Seen) (s t : Scan) : Type 0 where
       × (went t.damaged.places place ≡ is_bad_gate (current_in a.held) place)
 
 -- the gates of those of `on` below a number were read
-pub record IsScan (on : List ℕ) (many : ℕ) (a b : Seen) (s : Scan) : Type 0 where
+pub record IsScan (on : List ℕ) (many : ℕ) (a b : RackView) (s : Scan) : Type 0 where
   pub reads : OnlyReads a b
   pub cause : (p : ℕ) → went s.lost.places p ≡ true → (names on p ≡ true) × Rose (a.faults (log_slice p)) (b.faults (log_slice p))
   pub later : (p : ℕ) → many ≤ p → went s.lost.places p ≡ false
@@ -98,7 +98,7 @@ pub record IsScan (on : List ℕ) (many : ℕ) (a b : Seen) (s : Scan) : Type 0 
 -- ---- what was loaded
 
 -- a place went whose gate had been read
-pub record IsDropped (a b : Seen) (s t : Scan) (p : ℕ) : Type 0 where
+pub record IsDropped (a b : RackView) (s t : Scan) (p : ℕ) : Type 0 where
   pub gate : Gate
   pub had : gate_seen s.gates p ≡ Some gate
   pub none : gate_seen t.gates p ≡ None
@@ -106,7 +106,7 @@ pub record IsDropped (a b : Seen) (s t : Scan) (p : ℕ) : Type 0 where
   pub rose : Rose (a.faults (log_slice p)) (b.faults (log_slice p))
 
 -- some places went, nothing else changed
-pub record Drops (a b : Seen) (s t : Scan) : Type 0 where
+pub record Drops (a b : RackView) (s t : Scan) : Type 0 where
   pub reads : OnlyReads a b
   pub damaged : t.damaged ≡ s.damaged
   pub each :
@@ -114,7 +114,7 @@ pub record Drops (a b : Seen) (s t : Scan) : Type 0 where
       → ((went t.lost.places p ≡ went s.lost.places p) × (gate_seen t.gates p ≡ gate_seen s.gates p)) ⊎ IsDropped a b s t p
 
 -- the targets of the record that is pending by the gates; none where none is, or where it isn't well formed on its place
-pub record Loads (x : Seen) (gates : List (Option read.Gate)) (broken : Option ℕ) (xs : List Target) : Type 0 where
+pub record Loads (x : RackView) (gates : List (Option read.Gate)) (broken : Option ℕ) (xs : List Target) : Type 0 where
   pub none : pending_seen gates ≡ None → (xs ≡ []) × (broken ≡ None)
   pub some : (a : GateAt) → pending_seen gates ≡ Some a → (broken ≡ None) ⊎ ((broken ≡ Some a.place) × (xs ≡ []))
   pub loaded :

@@ -16,7 +16,7 @@
 //! that are replayed as before at each moment, with nothing pending at its end where nobody went. Once it is
 //! made, a log takes no memory.
 //!
-//! **The state that log slices say** (`SaysState`, specs/Saying.antt of log_laws): no log is damaged, once the pending record is replayed each place
+//! **The state that log slices say** (`RecoversTo`, specs/Saying.antt of log_laws): no log is damaged, once the pending record is replayed each place
 //! has its copy of the state, and as they stand they say this state or one of which the record makes it. At each moment of a commit they
 //! say the state from before it or the new one (`commit_says`, proofs/Saying.antt), where places had all copies before (`HoldsCopies`).
 #![tactic(auto)]

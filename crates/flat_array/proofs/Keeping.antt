@@ -9,7 +9,7 @@ use Rattle.flat_array.specs.declared.disk.FlatDisk.{FlatDisk}
 use Rattle.std.proofs.lemmas.Bool.{cases_eq, eq-eqb, ne_eqb}
 use Rattle.rack.specs.Values.{Values, all_of, append}
 use Rattle.flat_array.specs.Array.{FlatArray, written, flushed}
-use Rattle.flat_array.specs.Disk.{size_of, kept_at, last_alone, Holds}
+use Rattle.flat_array.specs.Disk.{size_of, kept_at, last_alone, DiskIs}
 
 -- the values of one sector
 abbrev pub items_at : List (Vec (List ℕ) Global) → ℕ → List (List ℕ)
@@ -51,8 +51,8 @@ pub Holds-flushed :
     (old : FlatDisk) (sectors : List (Vec (List ℕ) Global)) (a : FlatArray)
     → length sectors ≡ size_of old
     → ((s : ℕ) → s < size_of old → items_at sectors s ≡ last_alone (kept_at old s))
-    → Holds old a
-    → Holds record { sectors = with_items old.sectors sectors } (flushed a)
+    → DiskIs old a
+    → DiskIs record { sectors = with_items old.sectors sectors } (flushed a)
 Holds-flushed old sectors a size last holds =
     let same = with_items_is old.sectors sectors (size ∙ sym old.sectors.ok.0) in
     record {
@@ -76,8 +76,8 @@ pub Holds-unwritten :
     → new.sectors.items ≡ set old.sectors.items sector kept
     → kept.items ≡ take (length (kept_at old sector) - 1) (kept_at old sector)
     → sector < size_of old
-    → Holds old (written a sector v)
-    → Holds new a
+    → DiskIs old (written a sector v)
+    → DiskIs new a
 Holds-unwritten old new sector kept a v is all_but_last inside holds =
     record {
       size = ap length is ∙ (grind (arith, common_steps) ∙ holds.size);

@@ -18,7 +18,7 @@ abbrev pub kept_at : FlatDisk → ℕ → List (List ℕ)
 kept_at disk sector = option_map_or (λ kept. kept.items) (slice_get disk.sectors.items sector) []
 
 -- a disk holds an array: its sectors, and all values of each
-pub record Holds (disk : FlatDisk) (a : FlatArray) : Type 0 where
+pub record DiskIs (disk : FlatDisk) (a : FlatArray) : Type 0 where
   pub size : size_of disk ≡ a.size
   pub values : (s : ℕ) → s < a.size → kept_at disk s ≡ all_of (a.values s)
 

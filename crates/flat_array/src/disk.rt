@@ -5,7 +5,7 @@ ghost use Rattle.rack.specs.Values.{all_of};
 ghost use Rattle.flat_array.specs.Array.{FlatArray, fresh, written, filled, flushed};
 ghost use Rattle.shr_script.specs.Reply.{without_zeros as trimmed, digits_or_dash, data_line, as_line, refused_line};
 ghost use Rattle.flat_array.specs.Reply.{reply, after, standing_text};
-ghost use Rattle.flat_array.specs.Disk.{zero_sector as zeros, size_of, kept_at, last_alone, Holds};
+ghost use Rattle.flat_array.specs.Disk.{zero_sector as zeros, size_of, kept_at, last_alone, DiskIs};
 
 use shr_script::{Command, LineFault};
 use std::alloc::{AllocError, Global};
@@ -20,7 +20,7 @@ pub struct FlatDisk {
 impl FlatDisk {
     /// A disk of so many sectors, all zeros.
     pub fn zeros(alloc: Global, sectors: u64) -> Result<FlatDisk, AllocError>
-        ensures { IfOk result (λ disk. Holds disk (fresh sectors (λ _. zeros))) }
+        ensures { IfOk result (λ disk. DiskIs disk (fresh sectors (λ _. zeros))) }
     {
         let mut kept = Vec::new(alloc);
         for _ in 0..sectors {
@@ -55,9 +55,9 @@ impl FlatDisk {
         line: &Result<Command, LineFault>,
         out: &mut Vec<u8>,
     ) -> Result<(), AllocError>
-        ensures replied { OnOk result ((a : FlatArray) → Holds self.old a → out.new.items ≡ out.old.items ++ reply a line.now) }
-        ensures becomes { OnOk result ((a : FlatArray) → Holds self.old a → Holds self.new (after a line.now)) }
-        ensures stays { OnErr result ((a : FlatArray) → Holds self.old a → Holds self.new a) }
+        ensures replied { OnOk result ((a : FlatArray) → DiskIs self.old a → out.new.items ≡ out.old.items ++ reply a line.now) }
+        ensures becomes { OnOk result ((a : FlatArray) → DiskIs self.old a → DiskIs self.new (after a line.now)) }
+        ensures stays { OnErr result ((a : FlatArray) → DiskIs self.old a → DiskIs self.new a) }
     {
         self.put_reply(alloc, line, out)?;
         match line {
@@ -68,8 +68,8 @@ impl FlatDisk {
 
     // Makes the array that of after a command.
     fn apply(&mut self, command: &Command) -> Result<(), AllocError>
-        ensures becomes { OnOk result ((a : FlatArray) → Holds self.old a → Holds self.new (after a (Ok command.now))) }
-        ensures stays { OnErr result ((a : FlatArray) → Holds self.old a → Holds self.new a) }
+        ensures becomes { OnOk result ((a : FlatArray) → DiskIs self.old a → DiskIs self.new (after a (Ok command.now))) }
+        ensures stays { OnErr result ((a : FlatArray) → DiskIs self.old a → DiskIs self.new a) }
     {
         match command {
             Command::Write { sector, bytes } => self.write(*sector, bytes),
@@ -93,7 +93,7 @@ impl FlatDisk {
         line: &Result<Command, LineFault>,
         out: &mut Vec<u8>,
     ) -> Result<(), AllocError>
-        ensures { OnOk result ((a : FlatArray) → Holds self.now a → out.new.items ≡ out.old.items ++ reply a line.now) }
+        ensures { OnOk result ((a : FlatArray) → DiskIs self.now a → out.new.items ≡ out.old.items ++ reply a line.now) }
     {
         match line {
             Ok(Command::Read { sector }) => match self.current(*sector) {
@@ -131,7 +131,7 @@ impl FlatDisk {
 
     // The current value of a sector.
     fn current(&self, sector: u64) -> Option<[u8; 512]>
-        ensures { (a : FlatArray) → Holds self.now a → result ≡ (if nat_lt sector a.size then Some (a.values sector).current else None) }
+        ensures { (a : FlatArray) → DiskIs self.now a → result ≡ (if nat_lt sector a.size then Some (a.values sector).current else None) }
     {
         self.values(sector).last().copied()
     }
@@ -146,8 +146,8 @@ impl FlatDisk {
 
     // Appends a value to those of each of so many sectors; past the end it does nothing.
     fn fill(&mut self, sector: u64, count: u64, value: &[u8; 512]) -> Result<(), AllocError>
-        ensures done { OnOk result ((a : FlatArray) → Holds self.old a → Holds self.new (if nat_le (sector + count) a.size then filled a sector count value.now else a)) }
-        ensures stays { OnErr result ((a : FlatArray) → Holds self.old a → Holds self.new a) }
+        ensures done { OnOk result ((a : FlatArray) → DiskIs self.old a → DiskIs self.new (if nat_le (sector + count) a.size then filled a sector count value.now else a)) }
+        ensures stays { OnErr result ((a : FlatArray) → DiskIs self.old a → DiskIs self.new a) }
     {
         if self.has(sector, count) {
             self.fill_inside(sector, count, value)?;
@@ -158,8 +158,8 @@ impl FlatDisk {
     // Appends a value to those of each of so many sectors that are on the disk.
     fn fill_inside(&mut self, sector: u64, count: u64, value: &[u8; 512]) -> Result<(), AllocError>
         requires { sector + count ≤ size_of self.old }
-        ensures done { OnOk result ((a : FlatArray) → Holds self.old a → Holds self.new (filled a sector count value.now)) }
-        ensures stays { OnErr result ((a : FlatArray) → Holds self.old a → Holds self.new a) }
+        ensures done { OnOk result ((a : FlatArray) → DiskIs self.old a → DiskIs self.new (filled a sector count value.now)) }
+        ensures stays { OnErr result ((a : FlatArray) → DiskIs self.old a → DiskIs self.new a) }
     {
         for at in sector..sector + count {
             match self.write(at, value) {
@@ -176,7 +176,7 @@ impl FlatDisk {
     // Takes the last value of each sector from one on and before another away again.
     fn unfill(&mut self, sector: u64, end: u64)
         requires { sector ≤ end }
-        ensures { (a : FlatArray) (v : List ℕ) → Holds self.old (filled a sector (end - sector) v) → Holds self.new a }
+        ensures { (a : FlatArray) (v : List ℕ) → DiskIs self.old (filled a sector (end - sector) v) → DiskIs self.new a }
     {
         let mut at = end;
         while at > sector {
@@ -187,7 +187,7 @@ impl FlatDisk {
 
     // Takes the last value of a sector away again.
     fn unwrite(&mut self, sector: u64)
-        ensures { (a : FlatArray) (v : List ℕ) → Holds self.old (written a sector v) → Holds self.new a }
+        ensures { (a : FlatArray) (v : List ℕ) → DiskIs self.old (written a sector v) → DiskIs self.new a }
     {
         if sector < self.size() {
             let kept = &mut self.sectors[sector as usize];
@@ -197,8 +197,8 @@ impl FlatDisk {
 
     // Appends a value to those of a sector; past the end it does nothing.
     fn write(&mut self, sector: u64, value: &[u8; 512]) -> Result<(), AllocError>
-        ensures done { OnOk result ((a : FlatArray) → Holds self.old a → Holds self.new (if nat_lt sector a.size then written a sector value.now else a)) }
-        ensures stays { OnErr result ((a : FlatArray) → Holds self.old a → Holds self.new a) }
+        ensures done { OnOk result ((a : FlatArray) → DiskIs self.old a → DiskIs self.new (if nat_lt sector a.size then written a sector value.now else a)) }
+        ensures stays { OnErr result ((a : FlatArray) → DiskIs self.old a → DiskIs self.new a) }
     {
         if sector < self.size() {
             let kept = &mut self.sectors[sector as usize];
@@ -209,7 +209,7 @@ impl FlatDisk {
 
     // Keeps the current value of each sector alone.
     fn flush(&mut self)
-        ensures { (a : FlatArray) → Holds self.old a → Holds self.new (flushed a) }
+        ensures { (a : FlatArray) → DiskIs self.old a → DiskIs self.new (flushed a) }
     {
         for kept in self.sectors.iter_mut() {
             keep_last(kept);

@@ -1,7 +1,7 @@
 -- Calls that write to some sectors of a disk alone.
 use Rattle.std.proofs.Common.{◌≡◌, ◌≢◌, ℕ, ◌<◌, List, Some, subst, inl, inr, ⊎_elim}
 use Rattle.rack.specs.Values.{MayLeave}
-use Rattle.rack.specs.Seen.{Seen, IsLive, IsPick, Stays}
+use Rattle.rack.specs.Seen.{RackView, IsLive, IsPick, SameRack}
 use Rattle.rack.specs.Joins.{keeps_then, leaves_weaker, leaves_then, stays_then, live_first, live_second}
 use Rattle.rack.specs.Sequences.{OnlyReads}
 use Rattle.rack.specs.Sequences.{MayBecome}
@@ -10,7 +10,7 @@ use Rattle.gpt_table.specs.Disk.{Contents}
 use Rattle.gpt_table.specs.Changes.{IsElsewhere, IsLeftover, Changes}
 
 -- a sector that is live in a later call was live before it
-pub live_back : {a b c : Seen} {d s : ℕ} → Stays a b → Stays b c → a.told d → IsLive b c d s → IsLive a b d s
+pub live_back : {a b c : RackView} {d s : ℕ} → SameRack a b → SameRack b c → a.told d → IsLive b c d s → IsLive a b d s
 live_back {a} {b} {c} {d} {s} first second told live = record {
   disk = subst (λ n. d < n) second.disks live.disk;
   sector = subst (λ n. s < n) (second.sectors d) live.sector;
@@ -19,11 +19,11 @@ live_back {a} {b} {c} {d} {s} first second told live = record {
 }
 
 -- and is live over both
-pub live_both : {a b c : Seen} {d s : ℕ} → a.told d → IsLive b c d s → IsLive a c d s
+pub live_both : {a b c : RackView} {d s : ℕ} → a.told d → IsLive b c d s → IsLive a c d s
 live_both told live = record { disk = live.disk; sector = live.sector; is_told = told; unspent = live.unspent }
 
 -- what follows a plan for some sectors changes these alone
-pub changes_from : (a b : Seen) (disk : ℕ) (of : ℕ → Type 0) (plan : Plan) (P : Contents → Type 0) → Follows a b disk plan →
+pub changes_from : (a b : RackView) (disk : ℕ) (of : ℕ → Type 0) (plan : Plan) (P : Contents → Type 0) → Follows a b disk plan →
     ((s : ℕ) (v : List ℕ) → plan s ≡ Some v → of s) →
     (((s : ℕ) → of s → IsLive a b disk s) → (contents : Contents) → ((s : ℕ) → of s → MayBecome a (IsPlanned disk plan) disk s (contents s)) → P contents) →
     Changes a b disk of P
@@ -50,7 +50,7 @@ changes_from a b disk of plan P follows within says = record {
       may
 
 -- reads change nothing
-pub changes_read : (a b : Seen) (disk : ℕ) (of : ℕ → Type 0) (P : Contents → Type 0) → OnlyReads a b →
+pub changes_read : (a b : RackView) (disk : ℕ) (of : ℕ → Type 0) (P : Contents → Type 0) → OnlyReads a b →
     (((s : ℕ) → of s → IsLive a b disk s) → (contents : Contents) → ((s : ℕ) → of s → MayLeave (a.held disk s) (contents s)) → P contents) →
     Changes a b disk of P
 changes_read a b disk of P reads says = record {
@@ -64,7 +64,7 @@ changes_read a b disk of P reads says = record {
 }
 
 -- changes in a row
-pub changes_join : (a b c : Seen) (disk : ℕ) (of : ℕ → Type 0) (P : Contents → Type 0) → Changes a b disk of P → Changes b c disk of P →
+pub changes_join : (a b c : RackView) (disk : ℕ) (of : ℕ → Type 0) (P : Contents → Type 0) → Changes a b disk of P → Changes b c disk of P →
     Changes a c disk of P
 changes_join a b c disk of P first second = record {
   stays = stays_then first.stays second.stays;
@@ -89,7 +89,7 @@ changes_join a b c disk of P first second = record {
 }
 
 -- changes of some sectors are changes of more, and say what follows
-pub changes_wider : (a b : Seen) (disk : ℕ) (of wide : ℕ → Type 0) (P Q : Contents → Type 0) → Changes a b disk of P → ((s : ℕ) → of s → wide s) →
+pub changes_wider : (a b : RackView) (disk : ℕ) (of wide : ℕ → Type 0) (P Q : Contents → Type 0) → Changes a b disk of P → ((s : ℕ) → of s → wide s) →
     (((s : ℕ) → wide s → IsLive a b disk s) → (contents : Contents) →
     ((s : ℕ) → wide s → (of s → ⊥) → MayLeave (a.held disk s) (contents s)) → P contents → Q contents) →
     Changes a b disk wide Q

@@ -1,6 +1,6 @@
 -- What reading a copy says, from what its reads say.
 use Rattle.std.proofs.Common.{◌≡◌, ℕ, ◌+◌, ◌-◌, ◌<◌, ◌≤◌, List, Option, Some, None, Ok, false, refl, ap, ◌∙◌, sym, subst, inl, inr, ⊎_elim, arith}
-use Rattle.rack.specs.Seen.{Seen}
+use Rattle.rack.specs.Seen.{RackView}
 use Rattle.rack.specs.Calls.{Reads}
 use Rattle.gpt_table.specs.declared.Table.{Table}
 use Rattle.gpt_table.specs.declared.settling.Copies.{Copies}
@@ -28,7 +28,7 @@ copy_is_on_disk Backup sectors sector room of =
     ⊎_elim (λ (e : sector ≡ sectors - 1). omega arith) (λ (h : IsAmong (sectors - 33) 32 sector). omega (arith, h.0, h.1)) of
 
 -- a header, then entries
-pub copy_read : {a b c : Seen} (disk sectors : ℕ) (copy : TableCopy) (header entries : List ℕ) (table : Option Table) →
+pub copy_read : {a b c : RackView} (disk sectors : ℕ) (copy : TableCopy) (header entries : List ℕ) (table : Option Table) →
     a.fit → disk < a.disks → sectors ≡ a.sectors disk → 67 ≤ sectors →
     Reads a b disk (header_sector copy sectors) header {X = Unit {0}} (Ok tt) →
     Looks b c disk (IsAmong (entries_sector copy sectors) 32) {X = List ℕ} (λ (bytes : List ℕ). bytes ≡ entries_bytes (now_on b disk) (entries_sector copy sectors)) (Ok entries) →
@@ -58,7 +58,7 @@ copy_read {a} {b} {c} disk sectors copy header entries table fit has size room f
     }
 
 -- the primary is valid
-pub primary_read : {a b : Seen} (disk sectors : ℕ) (table : Table) →
+pub primary_read : {a b : RackView} (disk sectors : ℕ) (table : Table) →
     Looks a b disk (IsOfCopy Primary sectors) {X = Option Table} (λ t. t ≡ table_at Primary sectors (now_on a disk)) (Ok (Some table)) →
     Looks a b disk (λ sector. ⊥) {X = Option SeenTable} (λ found. found ≡ first_table sectors (now_on a disk)) (Ok (Some (record { table = table; copy = Primary })))
 primary_read {a} disk sectors table looks = record {
@@ -69,7 +69,7 @@ primary_read {a} disk sectors table looks = record {
 }
 
 -- it isn't, and the backup was read
-pub backup_read : {a b c : Seen} (disk sectors : ℕ) (table : Option Table) → disk < a.disks → sectors ≡ a.sectors disk → 67 ≤ sectors →
+pub backup_read : {a b c : RackView} (disk sectors : ℕ) (table : Option Table) → disk < a.disks → sectors ≡ a.sectors disk → 67 ≤ sectors →
     Looks a b disk (IsOfCopy Primary sectors) {X = Option Table} (λ t. t ≡ table_at Primary sectors (now_on a disk)) (Ok None) →
     Looks b c disk (IsOfCopy Backup sectors) {X = Option Table} (λ t. t ≡ table_at Backup sectors (now_on b disk)) (Ok table) →
     Looks a c disk (λ sector. ⊥) {X = Option SeenTable} (λ found. found ≡ first_table sectors (now_on a disk)) (Ok (first_of None table))
@@ -91,7 +91,7 @@ entries_on_disk Primary sectors room = omega arith
 entries_on_disk Backup sectors room = omega arith
 
 -- both copies were read
-pub copies_read : {a b c : Seen} (disk sectors : ℕ) (primary backup : Option Table) → disk < a.disks → sectors ≡ a.sectors disk → 67 ≤ sectors →
+pub copies_read : {a b c : RackView} (disk sectors : ℕ) (primary backup : Option Table) → disk < a.disks → sectors ≡ a.sectors disk → 67 ≤ sectors →
     Looks a b disk (IsOfCopy Primary sectors) {X = Option Table} (λ t. t ≡ table_at Primary sectors (now_on a disk)) (Ok primary) →
     Looks b c disk (IsOfCopy Backup sectors) {X = Option Table} (λ t. t ≡ table_at Backup sectors (now_on b disk)) (Ok backup) →
     Looks a c disk (IsOfCopies sectors) {X = Copies}

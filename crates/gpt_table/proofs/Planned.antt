@@ -11,7 +11,7 @@ use Rattle.std.proofs.lemmas.List.{length-take-le}
 use Rattle.std.proofs.lemmas.Option.{cond_some, same_Some}
 use Rattle.rack.specs.declared.Gone.{Gone}
 use Rattle.rack.specs.Values.{IsSector, Values, append}
-use Rattle.rack.specs.Seen.{Seen, IsLive, Stays}
+use Rattle.rack.specs.Seen.{RackView, IsLive, SameRack}
 use Rattle.rack.specs.Calls.{Writes, Syncs}
 use Rattle.rack.specs.Joins.{live_first, live_second, rose_later}
 use Rattle.shr_base.specs.Blocks.{bytes_at}
@@ -75,7 +75,7 @@ plan_cases own header first bytes s v planned =
     (cases_Bool (s == own))
 
 -- writes of entries follow the plan of their copy
-pub entries_wider : (a b : Seen) (disk own first : ℕ) (header bytes : List ℕ) → (own < first) ⊎ (first + 32 ≤ own) →
+pub entries_wider : (a b : RackView) (disk own first : ℕ) (header bytes : List ℕ) → (own < first) ⊎ (first + 32 ≤ own) →
     Follows a b disk (entries_plan first bytes) → Follows a b disk (copy_plan own header first bytes)
 entries_wider a b disk own first header bytes apart follows =
     only_weaker (IsPlanned disk (entries_plan first bytes)) (IsPlanned disk (copy_plan own header first bytes))
@@ -85,27 +85,27 @@ entries_wider a b disk own first header bytes apart follows =
     follows
 
 -- a write that was served changes no other sector
-pub write_keeps : (b c : Seen) (disk t : ℕ) (value : List ℕ) (s : ℕ) → Writes b c disk t value {X = Unit {0}} (Ok tt) → (s ≡ t → ⊥) → IsLive b c disk s →
+pub write_keeps : (b c : RackView) (disk t : ℕ) (value : List ℕ) (s : ℕ) → Writes b c disk t value {X = Unit {0}} (Ok tt) → (s ≡ t → ⊥) → IsLive b c disk s →
     (c.held disk s).current ≡ (b.held disk s).current
 write_keeps b c disk t value s wrote other live =
     let apart : ((disk == disk) && (s == t)) ≡ false = and_right (disk == disk) (s == t) (ne_eqb s t other) in
     (wrote.done disk s live).current ∙ ap (λ (h : Values). h.current) (cond-false _ (append (b.held disk s) value) (b.held disk s) apart)
 
 -- and leaves its value
-pub write_sets : (b c : Seen) (disk t : ℕ) (value : List ℕ) → Writes b c disk t value {X = Unit {0}} (Ok tt) → IsLive b c disk t →
+pub write_sets : (b c : RackView) (disk t : ℕ) (value : List ℕ) → Writes b c disk t value {X = Unit {0}} (Ok tt) → IsLive b c disk t →
     (c.held disk t).current ≡ value
 write_sets b c disk t value wrote live =
     let here : ((disk == disk) && (t == t)) ≡ true = and_from _ _ (eq-eqb disk disk refl) (eq-eqb t t refl) in
     (wrote.done disk t live).current ∙ ap (λ (h : Values). h.current) (cond-true _ (append (b.held disk t) value) (b.held disk t) here)
 
 -- a served write follows the plan
-pub follows_served : (a b c : Seen) (disk t : ℕ) (value : List ℕ) (plan : Plan) → Follows a b disk plan → Writes b c disk t value {X = Unit {0}} (Ok tt) →
+pub follows_served : (a b c : RackView) (disk t : ℕ) (value : List ℕ) (plan : Plan) → Follows a b disk plan → Writes b c disk t value {X = Unit {0}} (Ok tt) →
     plan t ≡ Some value → Follows a c disk plan
 follows_served a b c disk t value plan first wrote planned =
     only_then (IsPlanned disk plan) first (only_written (IsPlanned disk plan) disk t value (refl, planned) wrote)
 
 -- and so does a refused one
-pub follows_refused : (a b c : Seen) (disk t : ℕ) (value : List ℕ) (plan : Plan) (gone : Gone) → Follows a b disk plan →
+pub follows_refused : (a b c : RackView) (disk t : ℕ) (value : List ℕ) (plan : Plan) (gone : Gone) → Follows a b disk plan →
     Writes b c disk t value {X = Unit {0}} (Err gone) → plan t ≡ Some value → WritesSectors a c disk plan {X = Unit {0}} (Err gone)
 follows_refused a b c disk t value plan gone first wrote planned = record {
   follows = only_then (IsPlanned disk plan) first (only_refused (IsPlanned disk plan) disk t value gone (refl, planned) wrote);
@@ -118,7 +118,7 @@ below_other : (k n : ℕ) → k < n + 1 → (k ≡ n → ⊥) → k < n
 below_other k n inside other = ⊎_elim (λ (l : k < n). l) (λ (l : n ≤ k). absurd (other (omega arith))) (cases_lt k n)
 
 -- the entries up to one, one further
-pub one_more : (a b c : Seen) (disk first place : ℕ) (bytes value : List ℕ) → Stays a b →
+pub one_more : (a b c : RackView) (disk first place : ℕ) (bytes value : List ℕ) → SameRack a b →
     Writes b c disk (first + place) value {X = Unit {0}} (Ok tt) → value ≡ bytes_at (512 * place) 512 bytes →
     ((k : ℕ) → k < place → IsLive a b disk (first + k) → (b.held disk (first + k)).current ≡ bytes_at (512 * k) 512 bytes) →
     (k : ℕ) → k < place + 1 → IsLive a c disk (first + k) → (c.held disk (first + k)).current ≡ bytes_at (512 * k) 512 bytes
@@ -133,14 +133,14 @@ one_more a b c disk first place bytes value stays wrote is before k inside live 
     (cases_eq k place)
 
 -- a refused write of a plan
-pub plan_refused : (a b c : Seen) (disk t : ℕ) (value : List ℕ) (plan : Plan) (gone : Gone) → Follows a b disk plan →
+pub plan_refused : (a b c : RackView) (disk t : ℕ) (value : List ℕ) (plan : Plan) (gone : Gone) → Follows a b disk plan →
     Writes b c disk t value {X = Unit {0}} (Err gone) → plan t ≡ Some value → WritesPlan a c disk plan {X = Unit {0}} (Err gone)
 plan_refused a b c disk t value plan gone first wrote planned =
     let refused = follows_refused a b c disk t value plan gone first wrote planned in
     record { follows = refused.follows; written = tt; gone = refused.gone }
 
 -- entries that were refused
-pub entries_refused : (a b : Seen) (disk own first : ℕ) (header bytes : List ℕ) (gone : Gone) → (own < first) ⊎ (first + 32 ≤ own) →
+pub entries_refused : (a b : RackView) (disk own first : ℕ) (header bytes : List ℕ) (gone : Gone) → (own < first) ⊎ (first + 32 ≤ own) →
     WritesPlan a b disk (entries_plan first bytes) {X = Unit {0}} (Err gone) →
     WritesSectors a b disk (copy_plan own header first bytes) {X = Unit {0}} (Err gone)
 entries_refused a b disk own first header bytes gone apart wrote = record {
@@ -151,7 +151,7 @@ entries_refused a b disk own first header bytes gone apart wrote = record {
 }
 
 -- all entries were written
-pub entries_written : (a b : Seen) (disk first : ℕ) (bytes : List ℕ) → Follows a b disk (entries_plan first bytes) →
+pub entries_written : (a b : RackView) (disk first : ℕ) (bytes : List ℕ) → Follows a b disk (entries_plan first bytes) →
     ((k : ℕ) → k < 32 → IsLive a b disk (first + k) → (b.held disk (first + k)).current ≡ bytes_at (512 * k) 512 bytes) →
     WritesPlan a b disk (entries_plan first bytes) {X = Unit {0}} (Ok tt)
 entries_written a b disk first bytes follows each = record {
@@ -165,7 +165,7 @@ entries_written a b disk first bytes follows each = record {
   gone = tt;
 }
 
-written_there : (a b : Seen) (disk t : ℕ) (value : List ℕ) (r : Result (Unit {0}) Gone) → WritesDurably a b disk t value r →
+written_there : (a b : RackView) (disk t : ℕ) (value : List ℕ) (r : Result (Unit {0}) Gone) → WritesDurably a b disk t value r →
     OnOk r ((s : ℕ) (v : List ℕ) → sector_plan t value s ≡ Some v → IsLive a b disk s → (b.held disk s).current ≡ v)
 written_there a b disk t value (Err e) wrote = tt
 written_there a b disk t value (Ok done) wrote = λ s v planned live.
@@ -175,7 +175,7 @@ written_there a b disk t value (Ok done) wrote = λ s v planned live.
     ∙ at.1
 
 -- one sector was written and made durable, or refused
-pub sector_durable : (a b : Seen) (disk t : ℕ) (value : List ℕ) (r : Result (Unit {0}) Gone) → WritesDurably a b disk t value r →
+pub sector_durable : (a b : RackView) (disk t : ℕ) (value : List ℕ) (r : Result (Unit {0}) Gone) → WritesDurably a b disk t value r →
     WritesSectors a b disk (sector_plan t value) r
 sector_durable a b disk t value r wrote = record {
   follows = only_weaker (λ d s v. (d ≡ disk) × (s ≡ t) × (v ≡ value)) (IsPlanned disk (sector_plan t value))
@@ -186,12 +186,12 @@ sector_durable a b disk t value r wrote = record {
 }
 
 -- a plan that was refused
-pub refused_plan : (a b : Seen) (disk : ℕ) (plan : Plan) (gone : Gone) → WritesPlan a b disk plan {X = Unit {0}} (Err gone) →
+pub refused_plan : (a b : RackView) (disk : ℕ) (plan : Plan) (gone : Gone) → WritesPlan a b disk plan {X = Unit {0}} (Err gone) →
     WritesSectors a b disk plan {X = Unit {0}} (Err gone)
 refused_plan a b disk plan gone wrote = record { follows = wrote.follows; written = tt; durable = tt; gone = wrote.gone }
 
 -- a plan that was written and synced is durable
-pub then_synced : (a b c : Seen) (disk : ℕ) (plan : Plan) → WritesPlan a b disk plan {X = Unit {0}} (Ok tt) →
+pub then_synced : (a b c : RackView) (disk : ℕ) (plan : Plan) → WritesPlan a b disk plan {X = Unit {0}} (Ok tt) →
     Syncs b c disk {X = Unit {0}} (Ok tt) → WritesSectors a c disk plan {X = Unit {0}} (Ok tt)
 then_synced a b c disk plan wrote synced = record {
   follows = only_then (IsPlanned disk plan) wrote.follows (only_quiet (IsPlanned disk plan) synced.stays synced.keeps);
@@ -202,7 +202,7 @@ then_synced a b c disk plan wrote synced = record {
 }
 
 -- the sync was refused
-pub then_refused : (a b c : Seen) (disk : ℕ) (plan : Plan) (gone : Gone) → WritesPlan a b disk plan {X = Unit {0}} (Ok tt) →
+pub then_refused : (a b c : RackView) (disk : ℕ) (plan : Plan) (gone : Gone) → WritesPlan a b disk plan {X = Unit {0}} (Ok tt) →
     Syncs b c disk {X = Unit {0}} (Err gone) → WritesSectors a c disk plan {X = Unit {0}} (Err gone)
 then_refused a b c disk plan gone wrote synced = record {
   follows = only_then (IsPlanned disk plan) wrote.follows (only_quiet (IsPlanned disk plan) synced.stays synced.keeps);
@@ -212,7 +212,7 @@ then_refused a b c disk plan gone wrote synced = record {
 }
 
 -- all sectors and a sync
-pub all_written : (a b c d : Seen) (disk own first : ℕ) (header bytes : List ℕ) → (own < first) ⊎ (first + 32 ≤ own) →
+pub all_written : (a b c d : RackView) (disk own first : ℕ) (header bytes : List ℕ) → (own < first) ⊎ (first + 32 ≤ own) →
     Follows a b disk (copy_plan own header first bytes) →
     ((k : ℕ) → k < 32 → IsLive a b disk (first + k) → (b.held disk (first + k)).current ≡ bytes_at (512 * k) 512 bytes) →
     Writes b c disk own header {X = Unit {0}} (Ok tt) → Syncs c d disk {X = Unit {0}} (Ok tt) →
@@ -246,7 +246,7 @@ all_written a b c d disk own first header bytes apart follows entries wrote sync
     }
 
 -- a refused sync
-pub sync_refused : (a b c d : Seen) (disk own first : ℕ) (header bytes : List ℕ) (gone : Gone) →
+pub sync_refused : (a b c d : RackView) (disk own first : ℕ) (header bytes : List ℕ) (gone : Gone) →
     Follows a b disk (copy_plan own header first bytes) →
     Writes b c disk own header {X = Unit {0}} (Ok tt) → Syncs c d disk {X = Unit {0}} (Err gone) →
     WritesSectors a d disk (copy_plan own header first bytes) {X = Unit {0}} (Err gone)

@@ -3,7 +3,7 @@ use Rattle.std.proofs.Common.{◌≡◌, ℕ, ◌+◌, ◌-◌, ◌*◌, ◌<◌
 use Rattle.std.proofs.lemmas.Bool.{and_left, cond-false, ne_eqb}
 use Rattle.rack.specs.declared.Gone.{Gone}
 use Rattle.rack.specs.Values.{MayLeave}
-use Rattle.rack.specs.Seen.{Seen, IsLive, Stays}
+use Rattle.rack.specs.Seen.{RackView, IsLive, SameRack}
 use Rattle.rack.specs.Joins.{stays_then, live_first, live_second, rose_later}
 use Rattle.shr_base.specs.Blocks.{bytes_at}
 use Rattle.shr_base.proofs.Blocks.{bytes_at-zeros}
@@ -66,12 +66,12 @@ holds_table copy header bytes table contents written start rest =
     (plan_cases own header first bytes s v planned))
 
 -- what was written and synced is all that a stop leaves
-settled : (a b : Seen) (disk : ℕ) (plan : Plan) (s : ℕ) (v w : List ℕ) → WritesSectors a b disk plan {X = Unit {0}} (Ok tt) → plan s ≡ Some v →
+settled : (a b : RackView) (disk : ℕ) (plan : Plan) (s : ℕ) (v w : List ℕ) → WritesSectors a b disk plan {X = Unit {0}} (Ok tt) → plan s ≡ Some v →
     IsLive a b disk s → MayLeave (b.held disk s) w → w ≡ v
 settled a b disk plan s v w wrote planned live may = wrote.durable s live w may ∙ wrote.written s v planned live
 
 -- while the header is cleared, the copy is as it was or has none
-clearing : (a : Seen) (disk : ℕ) (copy : TableCopy) (table : Table) (contents : Contents) →
+clearing : (a : RackView) (disk : ℕ) (copy : TableCopy) (table : Table) (contents : Contents) →
     ((s : ℕ) → IsOfCopy copy table.sectors s → MayBecome a (IsPlanned disk (sector_plan (header_sector copy table.sectors) (replicate 512 0))) disk s (contents s)) →
     Passes a disk copy table contents
 clearing a disk copy table contents may =
@@ -108,17 +108,17 @@ own_within : (copy : TableCopy) (sectors : ℕ) (value : List ℕ) (s : ℕ) (v 
 own_within copy sectors value s v planned = inl (sector_cases (header_sector copy sectors) value s v planned).0
 
 -- what is shown of each step, of a disk that was told at the first one
-abbrev pub Passing : Seen → ℕ → TableCopy → Table → Contents → Type 0
+abbrev pub Passing : RackView → ℕ → TableCopy → Table → Contents → Type 0
 Passing a disk copy table contents = a.told disk → Passes a disk copy table contents
 
-first_step : (a m : Seen) (disk : ℕ) (copy : TableCopy) (table : Table) (result : Result (Unit {0}) Gone) →
+first_step : (a m : RackView) (disk : ℕ) (copy : TableCopy) (table : Table) (result : Result (Unit {0}) Gone) →
     WritesSectors a m disk (sector_plan (header_sector copy table.sectors) (replicate 512 0)) result →
     Changes a m disk (IsOfCopy copy table.sectors) (Passing a disk copy table)
 first_step a m disk copy table result first =
     changes_from a m disk (IsOfCopy copy table.sectors) (sector_plan (header_sector copy table.sectors) (replicate 512 0)) (Passing a disk copy table)
     first.follows (own_within copy table.sectors (replicate 512 0)) (λ live contents may told. clearing a disk copy table contents may)
 
-second_step : (a m n : Seen) (disk : ℕ) (copy : TableCopy) (table : Table) (bytes : List ℕ) (result : Result (Unit {0}) Gone) → 67 ≤ table.sectors →
+second_step : (a m n : RackView) (disk : ℕ) (copy : TableCopy) (table : Table) (bytes : List ℕ) (result : Result (Unit {0}) Gone) → 67 ≤ table.sectors →
     WritesSectors a m disk (sector_plan (header_sector copy table.sectors) (replicate 512 0)) {X = Unit {0}} (Ok tt) →
     WritesSectors m n disk (entries_plan (entries_sector copy table.sectors) bytes) result →
     Changes m n disk (IsOfCopy copy table.sectors) (Passing a disk copy table)
@@ -138,7 +138,7 @@ second_step a m n disk copy table bytes result room first second =
     (may own (inl refl))))))
 
 -- after the entries, the header is still clear and the entries are all that a stop leaves
-cleared_still : (a m n : Seen) (disk : ℕ) (copy : TableCopy) (table : Table) (bytes w : List ℕ) → 67 ≤ table.sectors →
+cleared_still : (a m n : RackView) (disk : ℕ) (copy : TableCopy) (table : Table) (bytes w : List ℕ) → 67 ≤ table.sectors →
     WritesSectors a m disk (sector_plan (header_sector copy table.sectors) (replicate 512 0)) {X = Unit {0}} (Ok tt) →
     WritesSectors m n disk (entries_plan (entries_sector copy table.sectors) bytes) {X = Unit {0}} (Ok tt) →
     IsLive a n disk (header_sector copy table.sectors) → MayLeave (n.held disk (header_sector copy table.sectors)) w → w ≡ replicate 512 0
@@ -154,7 +154,7 @@ not_own : (copy : TableCopy) (sectors : ℕ) (bytes : List ℕ) (s : ℕ) (v : L
 not_own copy sectors bytes s v room planned here =
     own_unplanned copy sectors bytes v room (subst (λ (t : ℕ). entries_plan (entries_sector copy sectors) bytes t ≡ Some v) here planned)
 
-third_step : (a m n b : Seen) (disk : ℕ) (copy : TableCopy) (table : Table) (header bytes : List ℕ) (result : Result (Unit {0}) Gone) →
+third_step : (a m n b : RackView) (disk : ℕ) (copy : TableCopy) (table : Table) (header bytes : List ℕ) (result : Result (Unit {0}) Gone) →
     Written copy header bytes table →
     WritesSectors a m disk (sector_plan (header_sector copy table.sectors) (replicate 512 0)) {X = Unit {0}} (Ok tt) →
     WritesSectors m n disk (entries_plan (entries_sector copy table.sectors) bytes) {X = Unit {0}} (Ok tt) →
@@ -163,7 +163,7 @@ third_step : (a m n b : Seen) (disk : ℕ) (copy : TableCopy) (table : Table) (h
 third_step a m n b disk copy table header bytes result written first second third =
     let own = header_sector copy table.sectors in
     let plan : Plan = sector_plan own header in
-    let early : Stays a n = stays_then first.follows.stays second.follows.stays in
+    let early : SameRack a n = stays_then first.follows.stays second.follows.stays in
     changes_from n b disk (IsOfCopy copy table.sectors) plan (Passing a disk copy table) third.follows
     (own_within copy table.sectors header)
     (λ live contents may told.
@@ -187,15 +187,15 @@ third_step a m n b disk copy table header bytes result written first second thir
     (may own (inl refl)))
 
 -- all three
-finished : (a m n b : Seen) (disk : ℕ) (copy : TableCopy) (table : Table) (header bytes : List ℕ) → Written copy header bytes table →
-    Stays a m → WritesSectors m n disk (entries_plan (entries_sector copy table.sectors) bytes) {X = Unit {0}} (Ok tt) →
+finished : (a m n b : RackView) (disk : ℕ) (copy : TableCopy) (table : Table) (header bytes : List ℕ) → Written copy header bytes table →
+    SameRack a m → WritesSectors m n disk (entries_plan (entries_sector copy table.sectors) bytes) {X = Unit {0}} (Ok tt) →
     WritesSectors n b disk (sector_plan (header_sector copy table.sectors) header) {X = Unit {0}} (Ok tt) →
     AreLive a b disk copy table.sectors → (contents : Contents) → IsPickOf b disk copy table.sectors contents →
     HoldsCopy copy table contents
 finished a m n b disk copy table header bytes written start second third live contents pick =
     let own = header_sector copy table.sectors in
     let plan : Plan = sector_plan own header in
-    let early : Stays a n = stays_then start second.follows.stays in
+    let early : SameRack a n = stays_then start second.follows.stays in
     holds_table copy header bytes table contents written
     (settled n b disk plan own header (contents own) third (sector_planned own header) (live_second early (live own (inl refl))) (pick own (inl refl)))
     (λ s v planned.
@@ -206,7 +206,7 @@ finished a m n b disk copy table header bytes written start second third live co
     (λ w here. not_own copy table.sectors bytes s v written.room planned (sector_cases own header s w here.1).0)).within (contents s) (pick s among)))
 
 -- what each step may write is zeros in the header's place, or what the copy has there
-first_only : (a m : Seen) (disk : ℕ) (copy : TableCopy) (table : Table) (result : Result (Unit {0}) Gone) →
+first_only : (a m : RackView) (disk : ℕ) (copy : TableCopy) (table : Table) (result : Result (Unit {0}) Gone) →
     WritesSectors a m disk (sector_plan (header_sector copy table.sectors) (replicate 512 0)) result → WritesOnly a m (IsReplacing disk copy table)
 first_only a m disk copy table result first =
     only_weaker (IsPlanned disk (sector_plan (header_sector copy table.sectors) (replicate 512 0))) (IsReplacing disk copy table)
@@ -215,7 +215,7 @@ first_only a m disk copy table result first =
     (planned.0, inl (is.0, sym is.1)))
     first.follows
 
-second_only : (m n : Seen) (disk : ℕ) (copy : TableCopy) (table : Table) (header bytes : List ℕ) (result : Result (Unit {0}) Gone) → Written copy header bytes table →
+second_only : (m n : RackView) (disk : ℕ) (copy : TableCopy) (table : Table) (header bytes : List ℕ) (result : Result (Unit {0}) Gone) → Written copy header bytes table →
     WritesSectors m n disk (entries_plan (entries_sector copy table.sectors) bytes) result → WritesOnly m n (IsReplacing disk copy table)
 second_only m n disk copy table header bytes result written second =
     let own = header_sector copy table.sectors in
@@ -228,7 +228,7 @@ second_only m n disk copy table header bytes result written second =
     ))
     second.follows
 
-third_only : (n b : Seen) (disk : ℕ) (copy : TableCopy) (table : Table) (header bytes : List ℕ) (result : Result (Unit {0}) Gone) → Written copy header bytes table →
+third_only : (n b : RackView) (disk : ℕ) (copy : TableCopy) (table : Table) (header bytes : List ℕ) (result : Result (Unit {0}) Gone) → Written copy header bytes table →
     WritesSectors n b disk (sector_plan (header_sector copy table.sectors) header) result → WritesOnly n b (IsReplacing disk copy table)
 third_only n b disk copy table header bytes result written third =
     let own = header_sector copy table.sectors in
@@ -242,14 +242,14 @@ third_only n b disk copy table header bytes result written third =
     third.follows
 
 -- what was shown of each step holds, as the copy's sectors are told
-passes : (a b : Seen) (disk : ℕ) (copy : TableCopy) (table : Table) → Changes a b disk (IsOfCopy copy table.sectors) (Passing a disk copy table) →
+passes : (a b : RackView) (disk : ℕ) (copy : TableCopy) (table : Table) → Changes a b disk (IsOfCopy copy table.sectors) (Passing a disk copy table) →
     Changes a b disk (IsOfCopy copy table.sectors) (Passes a disk copy table)
 passes a b disk copy table changes =
     changes_wider a b disk (IsOfCopy copy table.sectors) (IsOfCopy copy table.sectors) (Passing a disk copy table) (Passes a disk copy table) changes
     (λ s among. among) (λ live contents elsewhere passing. passing (live (header_sector copy table.sectors) (inl refl)).is_told)
 
 -- the header couldn't be cleared
-pub replaced_gone_first : (a m : Seen) (disk : ℕ) (copy : TableCopy) (table : Table) (gone : Gone) →
+pub replaced_gone_first : (a m : RackView) (disk : ℕ) (copy : TableCopy) (table : Table) (gone : Gone) →
     WritesSectors a m disk (sector_plan (header_sector copy table.sectors) (replicate 512 0)) {X = Unit {0}} (Err gone) →
     ReplacesCopy a m disk copy table {X = Unit {0}} {E = Gone} (Err gone)
 replaced_gone_first a m disk copy table gone first = record {
@@ -260,7 +260,7 @@ replaced_gone_first a m disk copy table gone first = record {
 }
 
 -- the entries couldn't be written
-pub replaced_gone_second : (a m n : Seen) (disk : ℕ) (copy : TableCopy) (table : Table) (header bytes : List ℕ) (gone : Gone) → Written copy header bytes table →
+pub replaced_gone_second : (a m n : RackView) (disk : ℕ) (copy : TableCopy) (table : Table) (header bytes : List ℕ) (gone : Gone) → Written copy header bytes table →
     WritesSectors a m disk (sector_plan (header_sector copy table.sectors) (replicate 512 0)) {X = Unit {0}} (Ok tt) →
     WritesSectors m n disk (entries_plan (entries_sector copy table.sectors) bytes) {X = Unit {0}} (Err gone) →
     ReplacesCopy a n disk copy table {X = Unit {0}} {E = Gone} (Err gone)
@@ -274,7 +274,7 @@ replaced_gone_second a m n disk copy table header bytes gone written first secon
 }
 
 -- all three steps, as far as they came
-all_steps : (a m n b : Seen) (disk : ℕ) (copy : TableCopy) (table : Table) (header bytes : List ℕ) (result : Result (Unit {0}) Gone) →
+all_steps : (a m n b : RackView) (disk : ℕ) (copy : TableCopy) (table : Table) (header bytes : List ℕ) (result : Result (Unit {0}) Gone) →
     Written copy header bytes table →
     WritesSectors a m disk (sector_plan (header_sector copy table.sectors) (replicate 512 0)) {X = Unit {0}} (Ok tt) →
     WritesSectors m n disk (entries_plan (entries_sector copy table.sectors) bytes) {X = Unit {0}} (Ok tt) →
@@ -288,7 +288,7 @@ all_steps a m n b disk copy table header bytes result written first second third
     (changes_join a m n disk of P (first_step a m disk copy table (Ok tt) first) (second_step a m n disk copy table bytes (Ok tt) written.room first second))
     (third_step a m n b disk copy table header bytes result written first second third))
 
-all_only : (a m n b : Seen) (disk : ℕ) (copy : TableCopy) (table : Table) (header bytes : List ℕ) (result : Result (Unit {0}) Gone) →
+all_only : (a m n b : RackView) (disk : ℕ) (copy : TableCopy) (table : Table) (header bytes : List ℕ) (result : Result (Unit {0}) Gone) →
     Written copy header bytes table →
     WritesSectors a m disk (sector_plan (header_sector copy table.sectors) (replicate 512 0)) {X = Unit {0}} (Ok tt) →
     WritesSectors m n disk (entries_plan (entries_sector copy table.sectors) bytes) {X = Unit {0}} (Ok tt) →
@@ -299,7 +299,7 @@ all_only a m n b disk copy table header bytes result written first second third 
     (third_only n b disk copy table header bytes result written third)
 
 -- the copy was replaced, or the last step refused
-pub replaced_by : (a m n b : Seen) (disk : ℕ) (copy : TableCopy) (table : Table) (header bytes : List ℕ) (result : Result (Unit {0}) Gone) →
+pub replaced_by : (a m n b : RackView) (disk : ℕ) (copy : TableCopy) (table : Table) (header bytes : List ℕ) (result : Result (Unit {0}) Gone) →
     Written copy header bytes table →
     WritesSectors a m disk (sector_plan (header_sector copy table.sectors) (replicate 512 0)) {X = Unit {0}} (Ok tt) →
     WritesSectors m n disk (entries_plan (entries_sector copy table.sectors) bytes) {X = Unit {0}} (Ok tt) →

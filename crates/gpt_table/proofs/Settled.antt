@@ -1,7 +1,7 @@
 -- The copy that isn't the first valid one is replaced by it.
 use Rattle.std.proofs.Common.{◌≡◌, ◌≢◌, ℕ, List, ◌≤◌, ◌⊎◌, Option, Some, None, option_map, Result, Ok, Err, IfSome, OnErr, Bool, true, false, refl, sym, ap, subst, ◌∙◌, inl, inr, ⊎_elim}
 use Rattle.rack.specs.Values.{MayLeave, Keeps}
-use Rattle.rack.specs.Seen.{Seen, Rose, Stays}
+use Rattle.rack.specs.Seen.{RackView, Rose, SameRack}
 use Rattle.rack.specs.Joins.{keeps_then, live_first, live_second, rose_later}
 use Rattle.gpt_table.specs.declared.Table.{Table}
 use Rattle.gpt_table.specs.declared.TableCopy.{TableCopy}
@@ -29,17 +29,17 @@ tables_agree sectors d e same =
     (table_at_agrees Backup sectors d e (λ s among. same s (inr among)))
 
 -- what is shown of each step, of a disk that was told at the first one
-abbrev pub Settling : Seen → ℕ → ℕ → Contents → Type 0
+abbrev pub Settling : RackView → ℕ → ℕ → Contents → Type 0
 Settling a disk sectors contents = a.told disk → AreSingle a disk sectors → the_table sectors contents ≡ the_table sectors (now_on a disk)
 
 -- what was read
-pub record Read (a m : Seen) (disk sectors : ℕ) (primary backup : Option Table) : Type 0 where
+pub record Read (a m : RackView) (disk sectors : ℕ) (primary backup : Option Table) : Type 0 where
   pub only : OnlyReads a m
   pub first : a.told disk → primary ≡ table_at Primary sectors (now_on a disk)
   pub second : a.told disk → backup ≡ table_at Backup sectors (now_on a disk)
 
 -- reads change nothing
-reads_settle : (a b : Seen) (disk sectors : ℕ) → OnlyReads a b → Changes a b disk (IsOfCopies sectors) (Settling a disk sectors)
+reads_settle : (a b : RackView) (disk sectors : ℕ) → OnlyReads a b → Changes a b disk (IsOfCopies sectors) (Settling a disk sectors)
 reads_settle a b disk sectors reads =
     changes_read a b disk (IsOfCopies sectors) (Settling a disk sectors) reads
     (λ live contents pick told single.
@@ -49,7 +49,7 @@ reads_settle a b disk sectors reads =
     (λ (of : IsOfCopy Backup sectors s). single Backup s of (contents s) (pick s among)) among))
 
 -- a copy that wasn't written is as it was
-unwritten : (a m b : Seen) (disk sectors : ℕ) (source target : TableCopy) (P : Contents → Type 0) → OnlyReads a m →
+unwritten : (a m b : RackView) (disk sectors : ℕ) (source target : TableCopy) (P : Contents → Type 0) → OnlyReads a m →
     Changes m b disk (IsOfCopy target sectors) P → ((s : ℕ) → IsOfCopy source sectors s → IsOfCopy target sectors s → ⊥) →
     AreLive a b disk source sectors → (s : ℕ) → IsOfCopy source sectors s → Keeps (a.held disk s) (b.held disk s)
 unwritten a m b disk sectors source target P reads changes apart live s among =
@@ -57,7 +57,7 @@ unwritten a m b disk sectors source target P reads changes apart live s among =
     (changes.others disk s (live_second reads.stays (live s among)) (inr (λ both. apart s among both)))
 
 -- during the call it is what it was, where it had one value
-source_says : (a m b : Seen) (disk sectors : ℕ) (source : TableCopy) (contents : Contents) → OnlyReads a m → Stays m b → a.told disk →
+source_says : (a m b : RackView) (disk sectors : ℕ) (source : TableCopy) (contents : Contents) → OnlyReads a m → SameRack m b → a.told disk →
     AreSingle a disk sectors → AreLive m b disk source sectors → ((s : ℕ) → IsOfCopy source sectors s → MayLeave (m.held disk s) (contents s)) →
     table_at source sectors contents ≡ table_at source sectors (now_on a disk)
 source_says a m b disk sectors source contents reads stays told single live pick =
@@ -67,7 +67,7 @@ source_says a m b disk sectors source contents reads stays told single live pick
     ((reads.keeps.held disk s (live_back reads.stays stays told (live s among))).within (contents s) (pick s among)))
 
 -- the backup is replaced
-backup_settles : (a m b : Seen) (disk : ℕ) (table : Table) (backup : Option Table) (result : Result (Unit {0}) TableFault) → 67 ≤ table.sectors →
+backup_settles : (a m b : RackView) (disk : ℕ) (table : Table) (backup : Option Table) (result : Result (Unit {0}) TableFault) → 67 ≤ table.sectors →
     Read a m disk table.sectors (Some table) backup → ReplacesCopy m b disk Backup table result →
     Changes a b disk (IsOfCopies table.sectors) (Settling a disk table.sectors)
 backup_settles a m b disk table backup result room read replaced =
@@ -83,7 +83,7 @@ backup_settles a m b disk table backup result room read replaced =
     first_says sectors contents table is ∙ sym (first_says sectors (now_on a disk) table (sym (read.first told)))))
 
 -- the primary is replaced
-primary_settles : (a m b : Seen) (disk : ℕ) (table : Table) (result : Result (Unit {0}) TableFault) → 67 ≤ table.sectors →
+primary_settles : (a m b : RackView) (disk : ℕ) (table : Table) (result : Result (Unit {0}) TableFault) → 67 ≤ table.sectors →
     Read a m disk table.sectors None (Some table) → ReplacesCopy m b disk Primary table result →
     Changes a b disk (IsOfCopies table.sectors) (Settling a disk table.sectors)
 primary_settles a m b disk table result room read replaced =
@@ -111,7 +111,7 @@ primary_settles a m b disk table result room read replaced =
     passing))
 
 -- what was shown holds, as the copies' sectors are told
-settling_told : (a b : Seen) (disk sectors : ℕ) → Changes a b disk (IsOfCopies sectors) (Settling a disk sectors) →
+settling_told : (a b : RackView) (disk sectors : ℕ) → Changes a b disk (IsOfCopies sectors) (Settling a disk sectors) →
     Changes a b disk (IsOfCopies sectors) (λ contents. AreSingle a disk sectors → the_table sectors contents ≡ the_table sectors (now_on a disk))
 settling_told a b disk sectors changes =
     changes_wider a b disk (IsOfCopies sectors) (IsOfCopies sectors) (Settling a disk sectors)
@@ -135,13 +135,13 @@ apart_from Primary sectors s room other own = copies_apart sectors s room own ot
 apart_from Backup sectors s room other own = copies_apart sectors s room other own
 
 -- the disk has this table, and the copy beside the one that is to be replaced says it
-record Source (a m : Seen) (disk : ℕ) (table : Table) (target : TableCopy) : Type 0 where
+record Source (a m : RackView) (disk : ℕ) (table : Table) (target : TableCopy) : Type 0 where
   only : OnlyReads a m
   first : a.told disk → the_table table.sectors (now_on a disk) ≡ Some table
   says : a.told disk → table_at (other_copy target) table.sectors (now_on a disk) ≡ Some table
 
 -- both copies say the table, once the other one was replaced
-both_say : (a m b : Seen) (disk : ℕ) (table : Table) (target : TableCopy) (contents : Contents) → Source a m disk table target →
+both_say : (a m b : RackView) (disk : ℕ) (table : Table) (target : TableCopy) (contents : Contents) → Source a m disk table target →
     ReplacesCopy m b disk target table {X = Unit {0}} {E = TableFault} (Ok tt) → BothLive a b disk table.sectors →
     ((s : ℕ) → IsOfCopy (other_copy target) table.sectors s → contents s ≡ now_on a disk s) → IsPickOf b disk target table.sectors contents →
     BothSay a disk table.sectors contents
@@ -155,7 +155,7 @@ both_say a m b disk table target contents source replaced live same pick =
     )
 
 -- what is written while a copy is replaced by what the other one says
-settled_only : (a m b : Seen) (disk : ℕ) (table : Table) (target : TableCopy) (result : Result (Unit {0}) TableFault) → Source a m disk table target →
+settled_only : (a m b : RackView) (disk : ℕ) (table : Table) (target : TableCopy) (result : Result (Unit {0}) TableFault) → Source a m disk table target →
     ReplacesCopy m b disk target table result → WritesOnly a b (λ d s v. (d ≡ disk) × IsInSettled a disk table.sectors s v)
 settled_only a m b disk table target result source replaced =
     let may = λ (d s : ℕ) (v : List ℕ). (d ≡ disk) × IsInSettled a disk table.sectors s v in
@@ -164,7 +164,7 @@ settled_only a m b disk table target result source replaced =
     (λ d s v is. (is.0, record { copy = target; table = table; size = refl; first = source.first; within = is.1 })) replaced.only)
 
 -- a copy was replaced by what the other one says
-settled_copy : (a m b : Seen) (disk : ℕ) (table : Table) (target : TableCopy) (result : Result (Unit {0}) TableFault) → 67 ≤ table.sectors →
+settled_copy : (a m b : RackView) (disk : ℕ) (table : Table) (target : TableCopy) (result : Result (Unit {0}) TableFault) → 67 ≤ table.sectors →
     Source a m disk table target → Changes a b disk (IsOfCopies table.sectors) (Settling a disk table.sectors) →
     ReplacesCopy m b disk target table result → SettlesTable a b disk table.sectors result
 settled_copy a m b disk table target (Err e) room source settles replaced = record {
@@ -195,7 +195,7 @@ settled_copy a m b disk table target (Ok tt) room source settles replaced = reco
       (λ s other own. apart_from target table.sectors s room other own) (live (other_copy target))
 
 -- nothing had to be written
-settled_same : (a m b : Seen) (disk sectors : ℕ) (table : Table) → Read a m disk sectors (Some table) (Some table) → OnlyReads m b →
+settled_same : (a m b : RackView) (disk sectors : ℕ) (table : Table) → Read a m disk sectors (Some table) (Some table) → OnlyReads m b →
     SettlesTable a b disk sectors {X = Unit {0}} {E = TableFault} (Ok tt)
 settled_same a m b disk sectors table read later = record {
   changes = settling_told a b disk sectors (reads_settle a b disk sectors only);
@@ -221,7 +221,7 @@ settled_same a m b disk sectors table read later = record {
     each Backup = table_at_agrees Backup sectors contents (now_on a disk) (same Backup) ∙ sym (read.second told)
 
 -- nothing could be written
-pub settled_none : (a b : Seen) (disk sectors : ℕ) (fault : TableFault) → OnlyReads a b →
+pub settled_none : (a b : RackView) (disk sectors : ℕ) (fault : TableFault) → OnlyReads a b →
     SettlesTable a b disk sectors {X = Unit {0}} {E = TableFault} (Err fault)
 settled_none a b disk sectors fault only = record {
   changes = settling_told a b disk sectors (reads_settle a b disk sectors only);
@@ -232,7 +232,7 @@ settled_none a b disk sectors fault only = record {
 }
 
 -- what was read was settled
-pub settled_by : (a m b : Seen) (disk sectors : ℕ) (primary backup : Option Table) (result : Result (Unit {0}) TableFault) → 67 ≤ sectors →
+pub settled_by : (a m b : RackView) (disk sectors : ℕ) (primary backup : Option Table) (result : Result (Unit {0}) TableFault) → 67 ≤ sectors →
     Read a m disk sectors primary backup → IfSome primary (λ t. IsWritableOn sectors t) → IfSome backup (λ t. IsWritableOn sectors t) →
     Settles m b disk primary backup result → SettlesTable a b disk sectors result
 settled_by a m b disk sectors (Some table) backup result room read fits rest settles =
@@ -279,7 +279,7 @@ found_none (Err NoTable) = true
 found_none (Err Gone) = false
 
 -- no table was found exactly where there is none
-pub none_found : (a m b : Seen) (disk sectors : ℕ) (primary backup : Option Table) (result : Result (Unit {0}) TableFault) →
+pub none_found : (a m b : RackView) (disk sectors : ℕ) (primary backup : Option Table) (result : Result (Unit {0}) TableFault) →
     Read a m disk sectors primary backup → Settles m b disk primary backup result → result ≡ Err NoTable → a.told disk →
     first_table sectors (now_on a disk) ≡ None
 none_found a m b disk sectors (Some table) backup result read settles none told =
@@ -293,7 +293,7 @@ none_found a m b disk sectors None None result read settles none told =
     ∙ ap (first_of None) (sym (read.second told))
 
 -- a refusal comes only where the faults rose
-pub rose_settling : (a m b : Seen) (disk sectors : ℕ) (primary backup : Option Table) (result : Result (Unit {0}) TableFault) →
+pub rose_settling : (a m b : RackView) (disk sectors : ℕ) (primary backup : Option Table) (result : Result (Unit {0}) TableFault) →
     Read a m disk sectors primary backup → Settles m b disk primary backup result → result ≡ Err Gone → Rose (a.faults disk) (b.faults disk)
 rose_settling a m b disk sectors (Some table) backup result read settles gone =
     ⊎_elim

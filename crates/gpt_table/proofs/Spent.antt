@@ -1,6 +1,6 @@
 -- The table of a disk, whatever its spent sectors hold.
 use Rattle.std.proofs.Common.{◌≡◌, ◌↔◌, ℕ, ◌<◌, ◌≤◌, Bool, Option, Some, option_map, Ok, true, false, ap, ◌∙◌, sym, subst, inl, inr}
-use Rattle.rack.specs.Seen.{Seen}
+use Rattle.rack.specs.Seen.{RackView}
 use Rattle.gpt_table.specs.declared.settling.Copies.{Copies}
 use Rattle.gpt_table.specs.declared.Table.{Table}
 use Rattle.gpt_table.specs.declared.TableCopy.{TableCopy}
@@ -12,7 +12,7 @@ use Rattle.gpt_table.proofs.Joined.{table_at_agrees}
 use Rattle.gpt_table.proofs.Copies.{copy_is_on_disk}
 
 -- a copy whose sectors aren't spent
-copy_agrees : (a : Seen) (disk sectors : ℕ) (copy : TableCopy) (contents : Contents) → sectors ≡ a.sectors disk → 67 ≤ sectors →
+copy_agrees : (a : RackView) (disk sectors : ℕ) (copy : TableCopy) (contents : Contents) → sectors ≡ a.sectors disk → 67 ≤ sectors →
     AgreesUnspent a disk contents → ((s : ℕ) → IsOfCopy copy sectors s → a.spent disk s ≡ false) →
     table_at copy sectors contents ≡ table_at copy sectors (now_on a disk)
 copy_agrees a disk sectors copy contents size room agrees served =
@@ -20,7 +20,7 @@ copy_agrees a disk sectors copy contents size room agrees served =
     (λ s of. agrees s (subst (λ n. s < n) size (copy_is_on_disk copy sectors s room of)) (served s of))
 
 -- the primary is valid: the backup doesn't count
-pub primary_agrees : {a b : Seen} (disk sectors : ℕ) (table : Table) → sectors ≡ a.sectors disk → 67 ≤ sectors →
+pub primary_agrees : {a b : RackView} (disk sectors : ℕ) (table : Table) → sectors ≡ a.sectors disk → 67 ≤ sectors →
     Looks a b disk (IsOfCopy Primary sectors) {X = Option Table} (λ t. t ≡ table_at Primary sectors (now_on a disk)) (Ok (Some table)) →
     a.told disk → (contents : Contents) → AgreesUnspent a disk contents →
     first_table sectors contents ≡ first_table sectors (now_on a disk)
@@ -33,7 +33,7 @@ primary_agrees {a} disk sectors table size room looks told contents agrees =
     ∙ ap (λ (p : Option Table). first_of p (table_at Backup sectors now)) value
 
 -- both copies were read
-pub copies_agree : {a b c : Seen} (disk sectors : ℕ) (primary backup : Option Table) → sectors ≡ a.sectors disk → 67 ≤ sectors →
+pub copies_agree : {a b c : RackView} (disk sectors : ℕ) (primary backup : Option Table) → sectors ≡ a.sectors disk → 67 ≤ sectors →
     Looks a b disk (IsOfCopy Primary sectors) {X = Option Table} (λ t. t ≡ table_at Primary sectors (now_on a disk)) (Ok primary) →
     Looks b c disk (IsOfCopy Backup sectors) {X = Option Table} (λ t. t ≡ table_at Backup sectors (now_on b disk)) (Ok backup) →
     (contents : Contents) → AgreesUnspent a disk contents →
@@ -48,7 +48,7 @@ copies_agree {a} {b} disk sectors primary backup size room first second contents
     ∙ ap (first_of (table_at Primary sectors now)) two
 
 -- what both copies say
-pub both_say : {a b : Seen} (disk sectors : ℕ) (found : Copies) → sectors ≡ a.sectors disk → 67 ≤ sectors →
+pub both_say : {a b : RackView} (disk sectors : ℕ) (found : Copies) → sectors ≡ a.sectors disk → 67 ≤ sectors →
     Looks a b disk (IsOfCopies sectors) {X = Copies}
     (λ copies. (copies.primary ≡ table_at Primary sectors (now_on a disk)) × (copies.backup ≡ table_at Backup sectors (now_on a disk))) (Ok found) →
     a.told disk → (contents : Contents) → AgreesUnspent a disk contents →

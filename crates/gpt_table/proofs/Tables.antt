@@ -1,7 +1,7 @@
 -- Both copies replaced, the backup before the primary.
 use Rattle.std.proofs.Common.{◌≡◌, ℕ, ◌≤◌, ◌⊎◌, Option, Some, None, option_map, Result, Ok, Err, IfErr, refl, ap, ◌∙◌, inl, inr, ⊎_elim}
 use Rattle.rack.specs.declared.Gone.{Gone}
-use Rattle.rack.specs.Seen.{Seen, IsLive}
+use Rattle.rack.specs.Seen.{RackView, IsLive}
 use Rattle.rack.specs.Joins.{live_first, live_second, rose_later}
 use Rattle.gpt_table.specs.declared.Table.{Table}
 use Rattle.gpt_table.specs.declared.TableCopy.{TableCopy}
@@ -28,10 +28,10 @@ else_says sectors contents (Some table) none is =
     ∙ ap (λ (b : Option Table). option_map (λ found. found.table) (first_of None b)) is
 
 -- what is shown of each copy's change, of a disk that was told at the first one
-abbrev Changing : Seen → ℕ → Table → Table → Contents → Type 0
+abbrev Changing : RackView → ℕ → Table → Table → Contents → Type 0
 Changing a disk old new contents = a.told disk → PrimarySays a disk new.sectors old → IsOneOf old new (the_table new.sectors contents)
 
-backup_changes : (a m : Seen) (disk : ℕ) (old new : Table) (result : Result (Unit {0}) Gone) → 67 ≤ new.sectors → ReplacesCopy a m disk Backup new result →
+backup_changes : (a m : RackView) (disk : ℕ) (old new : Table) (result : Result (Unit {0}) Gone) → 67 ≤ new.sectors → ReplacesCopy a m disk Backup new result →
     Changes a m disk (IsOfCopies new.sectors) (Changing a disk old new)
 backup_changes a m disk old new result room first =
     changes_wider a m disk (IsOfCopy Backup new.sectors) (IsOfCopies new.sectors) (Passes a disk Backup new) (Changing a disk old new) first.changes
@@ -39,7 +39,7 @@ backup_changes a m disk old new result room first =
     (λ live contents elsewhere passing told says.
     inl (first_says new.sectors contents old (says contents (λ s among. elsewhere s (inl among) (λ both. copies_apart new.sectors s room among both)))))
 
-primary_changes : (a m b : Seen) (disk : ℕ) (old new : Table) (result : Result (Unit {0}) Gone) → 67 ≤ new.sectors →
+primary_changes : (a m b : RackView) (disk : ℕ) (old new : Table) (result : Result (Unit {0}) Gone) → 67 ≤ new.sectors →
     ReplacesCopy a m disk Backup new {X = Unit {0}} {E = Gone} (Ok tt) → ReplacesCopy m b disk Primary new result →
     Changes m b disk (IsOfCopies new.sectors) (Changing a disk old new)
 primary_changes a m b disk old new result room first second =
@@ -63,7 +63,7 @@ primary_changes a m b disk old new result room first second =
     passing)
 
 -- what was shown holds, as the copies' sectors are told
-changing_told : (a b : Seen) (disk : ℕ) (old new : Table) → Changes a b disk (IsOfCopies new.sectors) (Changing a disk old new) →
+changing_told : (a b : RackView) (disk : ℕ) (old new : Table) → Changes a b disk (IsOfCopies new.sectors) (Changing a disk old new) →
     Changes a b disk (IsOfCopies new.sectors) (λ contents. PrimarySays a disk new.sectors old → IsOneOf old new (the_table new.sectors contents))
 changing_told a b disk old new changes =
     changes_wider a b disk (IsOfCopies new.sectors) (IsOfCopies new.sectors) (Changing a disk old new)
@@ -71,7 +71,7 @@ changing_told a b disk old new changes =
     (λ s among. among) (λ live contents elsewhere changing says. changing (live 1 (inl (inl refl))).is_told says)
 
 -- the backup was refused
-pub change_refused : (a m : Seen) (disk : ℕ) (old new : Table) (gone : Gone) → 67 ≤ new.sectors → gone.disk ≡ disk →
+pub change_refused : (a m : RackView) (disk : ℕ) (old new : Table) (gone : Gone) → 67 ≤ new.sectors → gone.disk ≡ disk →
     ReplacesCopy a m disk Backup new {X = Unit {0}} {E = Gone} (Err gone) → ChangesTable a m disk old new {X = Unit {0}} (Err gone)
 change_refused a m disk old new gone room named first = record {
   changes = changing_told a m disk old new (backup_changes a m disk old new (Err gone) room first);
@@ -80,7 +80,7 @@ change_refused a m disk old new gone room named first = record {
 }
 
 -- the backup was replaced, then the primary or not
-pub change_made : (a m b : Seen) (disk : ℕ) (old new : Table) (result : Result (Unit {0}) Gone) → 67 ≤ new.sectors → IfErr result (λ gone. gone.disk ≡ disk) →
+pub change_made : (a m b : RackView) (disk : ℕ) (old new : Table) (result : Result (Unit {0}) Gone) → 67 ≤ new.sectors → IfErr result (λ gone. gone.disk ≡ disk) →
     ReplacesCopy a m disk Backup new {X = Unit {0}} {E = Gone} (Ok tt) → ReplacesCopy m b disk Primary new result → ChangesTable a b disk old new result
 change_made a m b disk old new (Err gone) room named first second = record {
   changes = changing_told a b disk old new

@@ -3,7 +3,7 @@ use Rattle.std.proofs.Common.{◌≡◌, ℕ, ◌-◌, ◌<◌, ◌≤◌, ◌�
 use Rattle.std.proofs.lemmas.Bool.{cases_Bool, cond-false, ne_eqb}
 use Rattle.std.proofs.lemmas.Option.{none-some}
 use Rattle.rack.specs.declared.Gone.{Gone}
-use Rattle.rack.specs.Seen.{Seen, IsLive, Stays}
+use Rattle.rack.specs.Seen.{RackView, IsLive, SameRack}
 use Rattle.rack.specs.Calls.{Writes}
 use Rattle.rack.specs.Joins.{live_first, live_second, stays_then, rose_later}
 use Rattle.gpt_table.specs.declared.Table.{Table}
@@ -80,7 +80,7 @@ primary_is_part sectors mbr backup primary parts s v is =
     (λ w both. copies_apart sectors s parts.room (parts.primary_within s v is) (parts.backup_within s w both)) is
 
 -- a value that is planned of a copy is what its sector holds on a disk with all of them
-planned_in : (a b : Seen) (disk : ℕ) (copy : TableCopy) (table : Table) (r : Result (Unit {0}) Gone) (writes : WritesCopy a b disk copy table r) (s : ℕ) (v : List ℕ)
+planned_in : (a b : RackView) (disk : ℕ) (copy : TableCopy) (table : Table) (r : Result (Unit {0}) Gone) (writes : WritesCopy a b disk copy table r) (s : ℕ) (v : List ℕ)
     → writes.plan s ≡ Some v → IsInCopy copy table s v
 planned_in a b disk copy table r writes s v is = in_copy copy table writes.plan writes.within writes.sized writes.says s v is
 
@@ -96,7 +96,7 @@ whole_within table mbr backup primary first second third s v is = elim (cases_Bo
 ]
 
 -- the backup was refused
-pub whole_gone_first : (a b : Seen) (disk : ℕ) (table : Table) (gone : Gone) → WritesCopy a b disk Backup table {X = Unit {0}} (Err gone) →
+pub whole_gone_first : (a b : RackView) (disk : ℕ) (table : Table) (gone : Gone) → WritesCopy a b disk Backup table {X = Unit {0}} (Err gone) →
     WritesTable a b disk table {X = Unit {0}} (Err gone)
 whole_gone_first a b disk table gone first = record {
   plan = first.plan;
@@ -109,7 +109,7 @@ whole_gone_first a b disk table gone first = record {
 }
 
 -- the backup and the MBR
-begun : (a m n : Seen) (disk : ℕ) (table : Table) (mbr : List ℕ) (primary : Plan) →
+begun : (a m n : RackView) (disk : ℕ) (table : Table) (mbr : List ℕ) (primary : Plan) →
     (first : WritesCopy a m disk Backup table {X = Unit {0}} (Ok tt)) → Parts table.sectors first.plan primary →
     Follows a m disk (whole_plan mbr first.plan primary)
 begun a m n disk table mbr primary first parts =
@@ -117,7 +117,7 @@ begun a m n disk table mbr primary first parts =
     (λ d s v planned. (planned.0, backup_is_part table.sectors mbr first.plan primary parts s v planned.1)) first.writes.follows
 
 -- the MBR was refused
-pub whole_gone_second : (a m n : Seen) (disk : ℕ) (table : Table) (mbr : List ℕ) (gone : Gone) → 67 ≤ table.sectors → mbr ≡ mbr_of table.sectors →
+pub whole_gone_second : (a m n : RackView) (disk : ℕ) (table : Table) (mbr : List ℕ) (gone : Gone) → 67 ≤ table.sectors → mbr ≡ mbr_of table.sectors →
     WritesCopy a m disk Backup table {X = Unit {0}} (Ok tt) → Writes m n disk 0 mbr {X = Unit {0}} (Err gone) →
     WritesTable a n disk table {X = Unit {0}} (Err gone)
 whole_gone_second a m n disk table mbr gone room is first second =
@@ -139,7 +139,7 @@ whole_gone_second a m n disk table mbr gone room is first second =
     }
 
 -- all three, as far as they follow the plan
-all_follow : (a m n b : Seen) (disk : ℕ) (table : Table) (mbr : List ℕ) (primary : Plan) →
+all_follow : (a m n b : RackView) (disk : ℕ) (table : Table) (mbr : List ℕ) (primary : Plan) →
     (first : WritesCopy a m disk Backup table {X = Unit {0}} (Ok tt)) → Parts table.sectors first.plan primary →
     Writes m n disk 0 mbr {X = Unit {0}} (Ok tt) → Follows n b disk primary → Follows a b disk (whole_plan mbr first.plan primary)
 all_follow a m n b disk table mbr primary first parts second third =
@@ -150,7 +150,7 @@ all_follow a m n b disk table mbr primary first parts second third =
     (λ d s v planned. (planned.0, primary_is_part table.sectors mbr first.plan primary parts s v planned.1)) third)
 
 -- the primary was refused
-pub whole_gone_third : (a m n b : Seen) (disk : ℕ) (table : Table) (mbr : List ℕ) (gone : Gone) → 67 ≤ table.sectors → mbr ≡ mbr_of table.sectors →
+pub whole_gone_third : (a m n b : RackView) (disk : ℕ) (table : Table) (mbr : List ℕ) (gone : Gone) → 67 ≤ table.sectors → mbr ≡ mbr_of table.sectors →
     WritesCopy a m disk Backup table {X = Unit {0}} (Ok tt) → Writes m n disk 0 mbr {X = Unit {0}} (Ok tt) →
     WritesCopy n b disk Primary table {X = Unit {0}} (Err gone) → WritesTable a b disk table {X = Unit {0}} (Err gone)
 whole_gone_third a m n b disk table mbr gone room is first second third =
@@ -166,12 +166,12 @@ whole_gone_third a m n b disk table mbr gone room is first second third =
     }
 
 -- all three were served
-pub whole_written : (a m n b : Seen) (disk : ℕ) (table : Table) (mbr : List ℕ) → 67 ≤ table.sectors → disk < a.disks → table.sectors ≡ a.sectors disk → mbr ≡ mbr_of table.sectors →
+pub whole_written : (a m n b : RackView) (disk : ℕ) (table : Table) (mbr : List ℕ) → 67 ≤ table.sectors → disk < a.disks → table.sectors ≡ a.sectors disk → mbr ≡ mbr_of table.sectors →
     WritesCopy a m disk Backup table {X = Unit {0}} (Ok tt) → Writes m n disk 0 mbr {X = Unit {0}} (Ok tt) →
     WritesCopy n b disk Primary table {X = Unit {0}} (Ok tt) → WritesTable a b disk table {X = Unit {0}} (Ok tt)
 whole_written a m n b disk table mbr room has size is first second third =
     let parts : Parts table.sectors first.plan third.plan = record { room = room; backup_within = first.within; primary_within = third.within } in
-    let early : Stays a n = stays_then first.writes.follows.stays second.stays in
+    let early : SameRack a n = stays_then first.writes.follows.stays second.stays in
     record {
       plan = whole_plan mbr first.plan third.plan;
       within = whole_within table mbr first.plan third.plan is (planned_in a m disk Backup table (Ok tt) first) (planned_in n b disk Primary table (Ok tt) third);
@@ -184,7 +184,7 @@ whole_written a m n b disk table mbr room has size is first second third =
       durable = λ s live. third.writes.durable s (live_second early live);
       gone = tt;
     } where
-      all : Stays a b
+      all : SameRack a b
       all = stays_then (stays_then first.writes.follows.stays second.stays) third.writes.follows.stays
 
       live_at : (copy : TableCopy) → a.told disk → ((s : ℕ) → IsOfTable table.sectors s → b.spent disk s ≡ false) → (s : ℕ) → IsOfCopy copy table.sectors s → IsLive a b disk s

@@ -1,7 +1,7 @@
 -- The table of a disk: that of its first valid copy.
 use Rattle.std.specs.Prelude.{◌≡◌, ℕ, ◌+◌, ◌<◌, ◌≤◌, ◌⊎◌, List, flat_map, Option, Some, None, option_map, false}
 use Rattle.std.specs.List.{range_with_len}
-use Rattle.rack.specs.Seen.{Seen}
+use Rattle.rack.specs.Seen.{RackView}
 use Rattle.gpt_table.specs.declared.Table.{Table}
 use Rattle.gpt_table.specs.declared.Seen.{Seen as SeenTable}
 use Rattle.gpt_table.specs.declared.TableCopy.{TableCopy}
@@ -13,7 +13,7 @@ abbrev pub Contents : Type 0
 Contents = ℕ → List ℕ
 
 -- what the sectors of a rack's disk hold now
-abbrev pub now_on : Seen → ℕ → Contents
+abbrev pub now_on : RackView → ℕ → Contents
 now_on rack disk = λ sector. (rack.held disk sector).current
 
 -- some sectors in a row
@@ -61,6 +61,6 @@ abbrev pub CopiesAgree : ℕ → Contents → Type 0
 CopiesAgree sectors disk = SaySame (table_at Primary sectors disk) (table_at Backup sectors disk)
 
 -- contents that agree with a disk's in each sector that isn't spent, as those before reads do
-abbrev pub AgreesUnspent : Seen → ℕ → Contents → Type 0
+abbrev pub AgreesUnspent : RackView → ℕ → Contents → Type 0
 AgreesUnspent rack disk contents =
     (sector : ℕ) → sector < rack.sectors disk → rack.spent disk sector ≡ false → contents sector ≡ now_on rack disk sector

@@ -3,7 +3,7 @@ use Rattle.std.specs.Prelude.{◌≡◌, ℕ, ◌+◌, ◌-◌, ◌*◌, ◌==�
 use Rattle.std.proofs.Common.{inl, inr}
 use Rattle.rack.specs.declared.Gone.{Gone}
 use Rattle.rack.specs.Values.{IsSector, IsSingle}
-use Rattle.rack.specs.Seen.{Seen, Rose, IsLive}
+use Rattle.rack.specs.Seen.{RackView, Rose, IsLive}
 use Rattle.shr_base.specs.Blocks.{bytes_at}
 use Rattle.gpt_table.specs.Calls.{Plan, Follows}
 use Rattle.gpt_table.specs.Format.{mbr_of}
@@ -26,20 +26,20 @@ abbrev pub copy_plan : ℕ → List ℕ → ℕ → List ℕ → Plan
 copy_plan own header first entries sector = if sector == own then Some header else entries_plan first entries sector
 
 -- planned values were written, or the disk's faults rose
-pub record WritesPlan (a b : Seen) (disk : ℕ) (plan : Plan) {X : Type 0} (result : Result X Gone) : Type 0 where
+pub record WritesPlan (a b : RackView) (disk : ℕ) (plan : Plan) {X : Type 0} (result : Result X Gone) : Type 0 where
   pub follows : Follows a b disk plan
   pub written : OnOk result ((s : ℕ) (v : List ℕ) → plan s ≡ Some v → IsLive a b disk s → (b.held disk s).current ≡ v)
   pub gone : IfErr result (λ e. (e.disk ≡ disk) × Rose (a.faults disk) (b.faults disk))
 
 -- planned values were written and are durable, or the disk's faults rose
-pub record WritesSectors (a b : Seen) (disk : ℕ) (plan : Plan) {X : Type 0} (result : Result X Gone) : Type 0 where
+pub record WritesSectors (a b : RackView) (disk : ℕ) (plan : Plan) {X : Type 0} (result : Result X Gone) : Type 0 where
   pub follows : Follows a b disk plan
   pub written : OnOk result ((s : ℕ) (v : List ℕ) → plan s ≡ Some v → IsLive a b disk s → (b.held disk s).current ≡ v)
   pub durable : OnOk result ((s : ℕ) → IsLive a b disk s → IsSingle (b.held disk s))
   pub gone : IfErr result (λ e. (e.disk ≡ disk) × Rose (a.faults disk) (b.faults disk))
 
 -- the values are those of a copy of this table: wherever they stand, the copy is the one that is written of it
-pub record WritesCopy (a b : Seen) (disk : ℕ) (copy : TableCopy) (table : Table) {X : Type 0} (result : Result X Gone) : Type 0 where
+pub record WritesCopy (a b : RackView) (disk : ℕ) (copy : TableCopy) (table : Table) {X : Type 0} (result : Result X Gone) : Type 0 where
   pub plan : Plan
   pub within : (s : ℕ) (v : List ℕ) → plan s ≡ Some v → IsOfCopy copy table.sectors s
   pub sized : (s : ℕ) (v : List ℕ) → plan s ≡ Some v → IsSector v
@@ -70,7 +70,7 @@ pub in_table : (table : Table) (sector : ℕ) (value : List ℕ) → IsInTable t
 in_table table sector value is = elim is [ inl first ↦ inl first.0 | inr (inl primary) ↦ inr (inl primary.within) | inr (inr backup) ↦ inr (inr backup.within) ]
 
 -- a whole table was written, or the disk's faults rose; nothing else was
-pub record WritesTable (a b : Seen) (disk : ℕ) (table : Table) {X : Type 0} (result : Result X Gone) : Type 0 where
+pub record WritesTable (a b : RackView) (disk : ℕ) (table : Table) {X : Type 0} (result : Result X Gone) : Type 0 where
   pub plan : Plan
   pub within : (s : ℕ) (v : List ℕ) → plan s ≡ Some v → IsInTable table s v
   pub follows : Follows a b disk plan

@@ -3,7 +3,7 @@ use Rattle.std.proofs.Math.Nat.{mul-le-mul_right}
 use Rattle.std.proofs.Common.{◌≡◌, ℕ, length, ◌+◌, ◌-◌, ◌*◌, ◌%◌, ◌/◌, ◌<◌, ◌≤◌, ◌^◌, Bool, true, false, ◌==◌, ◌&&◌, ◌||◌, not, nat_lt, refl, sym, ap, ap₂, subst, ◌∙◌, inl, inr, lt-ltb, eq-eqb, eqb-true, ltb-true, if◌then◌else◌, arith}
 use Rattle.std.proofs.lemmas.Bool.{and_from, and_parts, both_ways, cases_Bool}
 use Rattle.std.specs.List.{list_all}
-use Rattle.rack.specs.Seen.{Seen}
+use Rattle.rack.specs.Seen.{RackView}
 use Rattle.md_super.specs.Profile.{is_height_of, is_mirror, is_raid5}
 use Rattle.pool_state.specs.declared.contents.State.{State}
 use Rattle.array_image.specs.Arrays.{final_layout}
@@ -54,7 +54,7 @@ synced_parts v n is =
     }
 
 -- one that is reshaped isn't whole, so it isn't marked
-pub reshaping_rests : (v : Raid) (x : Seen) (n : ℕ) → IsSet v x → IsHeeded v → IsSynced v n → is_reshaping (v.arrays n).truth ≡ true → IsAtRest v n
+pub reshaping_rests : (v : Raid) (x : RackView) (n : ℕ) → IsSet v x → IsHeeded v → IsSynced v n → is_reshaping (v.arrays n).truth ≡ true → IsAtRest v n
 reshaping_rests v x n set heeded is reshaping =
     let u = v.arrays n in
     let part : is_whole_array u ≡ false =
@@ -78,7 +78,7 @@ reshaping_rests v x n set heeded is reshaping =
     }
 
 -- and so it is of one that was cleaned
-pub clean_rests : (v : Raid) (x : Seen) (n : ℕ) → IsSet v x → IsSynced v n → is_clean (v.arrays n) ≡ true → IsAtRest v n
+pub clean_rests : (v : Raid) (x : RackView) (n : ℕ) → IsSet v x → IsSynced v n → is_clean (v.arrays n) ≡ true → IsAtRest v n
 clean_rests v x n set is clean =
     let u = v.arrays n in
     let both = and_parts (u.truth.resync_offset == 2 ^ 64 - 1) (not u.marked) clean in
@@ -98,7 +98,7 @@ clean_rests v x n set is clean =
 
 -- ---- the truth of an array of the pool is one that it can go by
 
-pub pool_truth : (s : State) (n : ℕ) (u : View) (x : Seen) → IsSeated s n u x → length s.drives.items ≤ 16 → is_truth u.truth ≡ true
+pub pool_truth : (s : State) (n : ℕ) (u : View) (x : RackView) → IsSeated s n u x → length s.drives.items ≤ 16 → is_truth u.truth ≡ true
 pool_truth s n u x seated few =
     let pool = seated.is_of_pool in
     let was = profile_rules u.truth s.extent pool.profile in
@@ -124,7 +124,7 @@ pool_truth s n u x seated few =
 
 -- ---- a takeover
 
-pub taken_seated : (s : State) (n : ℕ) (u : View) (x : Seen) → IsSeated s n u x → is_mirror u.truth ≡ true → first_unsynced u.truth ≡ u.resync → u.young ≡ false
+pub taken_seated : (s : State) (n : ℕ) (u : View) (x : RackView) → IsSeated s n u x → is_mirror u.truth ≡ true → first_unsynced u.truth ≡ u.resync → u.young ≡ false
     → IsSeated s n (taken_over u (raised u.truth.events)) x
 taken_seated s n u x seated is rows young =
     let a = seated.is_array in
@@ -164,7 +164,7 @@ taken_sectors u events a is =
 
 -- ---- rows
 
-pub ahead_seated : (s : State) (n many : ℕ) (u : View) (x : Seen) → IsSeated s n u x → is_reshaping u.truth ≡ true
+pub ahead_seated : (s : State) (n many : ℕ) (u : View) (x : RackView) → IsSeated s n u x → is_reshaping u.truth ≡ true
     → next_row u + many ≤ rows_of u → first_unsynced u.truth ≡ u.resync → u.young ≡ false
     → IsSeated s n (ahead_by u many (raised u.truth.events)) x
 ahead_seated s n many u x seated reshaping left rows young =
@@ -201,7 +201,7 @@ ahead_seated s n many u x seated reshaping left rows young =
 
 -- ---- the end of a reshape
 
-pub finished_seated : (s : State) (n : ℕ) (u : View) (x : Seen) → IsSeated s n u x → first_unsynced u.truth ≡ u.resync → u.young ≡ false
+pub finished_seated : (s : State) (n : ℕ) (u : View) (x : RackView) → IsSeated s n u x → first_unsynced u.truth ≡ u.resync → u.young ≡ false
     → IsSeated s n (finished u (raised u.truth.events)) x
 finished_seated s n u x seated rows young =
     let a = seated.is_array in
@@ -239,7 +239,7 @@ finished_sectors u events a reshaping =
 
 -- ---- each may become such
 
-pub taken_may : (v : Raid) (x : Seen) (n : ℕ) → IsSet v x → IsHeeded v → IsAtRest v n → is_mirror (v.arrays n).truth ≡ true
+pub taken_may : (v : Raid) (x : RackView) (n : ℕ) → IsSet v x → IsHeeded v → IsAtRest v n → is_mirror (v.arrays n).truth ≡ true
     → MayBecome v n (taken_over (v.arrays n) (raised (v.arrays n).truth.events)) x
 taken_may v x n set heeded rest is = record {
   low = rest.low;
@@ -248,7 +248,7 @@ taken_may v x n set heeded rest is = record {
   whole = λ marked. absurd (both_ways (v.arrays n).marked rest.unmarked marked);
 }
 
-pub ahead_may : (v : Raid) (x : Seen) (n many : ℕ) → IsSet v x → IsHeeded v → IsAtRest v n → is_reshaping (v.arrays n).truth ≡ true
+pub ahead_may : (v : Raid) (x : RackView) (n many : ℕ) → IsSet v x → IsHeeded v → IsAtRest v n → is_reshaping (v.arrays n).truth ≡ true
     → next_row (v.arrays n) + many ≤ rows_of (v.arrays n)
     → MayBecome v n (ahead_by (v.arrays n) many (raised (v.arrays n).truth.events)) x
 ahead_may v x n many set heeded rest reshaping left = record {
@@ -258,7 +258,7 @@ ahead_may v x n many set heeded rest reshaping left = record {
   whole = λ marked. absurd (both_ways (v.arrays n).marked rest.unmarked marked);
 }
 
-pub finished_may : (v : Raid) (x : Seen) (n : ℕ) → IsSet v x → IsHeeded v → IsAtRest v n
+pub finished_may : (v : Raid) (x : RackView) (n : ℕ) → IsSet v x → IsHeeded v → IsAtRest v n
     → MayBecome v n (finished (v.arrays n) (raised (v.arrays n).truth.events)) x
 finished_may v x n set heeded rest = record {
   low = rest.low;

@@ -3,7 +3,7 @@ use Rattle.std.proofs.Common.{◌≡◌, ◌≢◌, ℕ, ◌+◌, ◌-◌, ◌*�
 use Rattle.std.proofs.lemmas.Bool.{and_from, both_ways, cases_eq, cases_lt}
 use Rattle.std.proofs.lemmas.Option.{slice_get_past}
 use Rattle.std.proofs.lemmas.List.{length-append}
-use Rattle.rack.specs.Seen.{Seen}
+use Rattle.rack.specs.Seen.{RackView}
 use Rattle.shr_base.specs.declared.Id.{Id}
 use Rattle.md_super.specs.Profile.{is_mirror, is_raid5}
 use Rattle.pool_state.specs.declared.contents.State.{State}
@@ -39,7 +39,7 @@ last_got [] x = refl
 last_got (y ∷ xs) x = last_got xs x
 
 -- What joins: the place is one of the list and no member, and its slice is there unless it is missing.
-pub record IsJoining (s : State) (n : ℕ) (u : View) (place : ℕ) (x : Seen) : Type 0 where
+pub record IsJoining (s : State) (n : ℕ) (u : View) (place : ℕ) (x : RackView) : Type 0 where
   pub seated : IsSeated s n u x
   pub few : length s.drives.items ≤ 16
   pub raid5 : is_raid5 u.truth ≡ true
@@ -52,7 +52,7 @@ pub record IsJoining (s : State) (n : ℕ) (u : View) (place : ℕ) (x : Seen) :
   pub disk : is_current s place ≡ true → member_slice place n < x.disks
   pub sectors : is_current s place ≡ true → u.truth.size + data_sector ≤ x.sectors (member_slice place n)
 
-module _ (s : State) (n : ℕ) (u : View) (place : ℕ) (drive : Id) (x : Seen) (is : IsJoining s n u place x) where
+module _ (s : State) (n : ℕ) (u : View) (place : ℕ) (drive : Id) (x : RackView) (is : IsJoining s n u place x) where
   abbrev seat : Seat
   seat = joining_seat (current_places s) place
 
@@ -209,7 +209,7 @@ module _ (s : State) (n : ℕ) (u : View) (place : ℕ) (drive : Id) (x : Seen) 
       ∙ sym (ap₂ (λ (b c : Bool). capacity (if b then parity (u.truth.raid_disks - 1) else if c then mirror u.truth.raid_disks else parity u.truth.raid_disks) u.truth.size) is.still plain)
 
 -- the array that a place joins, by the book
-pub is_joining : (v : Raid) (n place : ℕ) (x : Seen) → IsSet v x → IsHeeded v → IsAtRest v n → is_raid5 (v.arrays n).truth ≡ true → is_reshaping (v.arrays n).truth ≡ false
+pub is_joining : (v : Raid) (n place : ℕ) (x : RackView) → IsSet v x → IsHeeded v → IsAtRest v n → is_raid5 (v.arrays n).truth ≡ true → is_reshaping (v.arrays n).truth ≡ false
     → place < length v.state.drives.items → seat_of (v.arrays n) place ≡ None → HasJoiningSlice v n place x → IsJoining v.state n (v.arrays n) place x
 is_joining v n place x set heeded rest raid5 still listed joins slice = record {
   seated = set.arrays n rest.low;
@@ -225,7 +225,7 @@ is_joining v n place x set heeded rest raid5 still listed joins slice = record {
   sectors = slice.sectors;
 }
 
-pub joined_may : (v : Raid) (x : Seen) (n place : ℕ) (drive : Id) → IsJoining v.state n (v.arrays n) place x → IsAtRest v n
+pub joined_may : (v : Raid) (x : RackView) (n place : ℕ) (drive : Id) → IsJoining v.state n (v.arrays n) place x → IsAtRest v n
     → MayBecome v n (joined (v.arrays n) (current_places v.state) place drive) x
 joined_may v x n place drive is rest = record {
   low = rest.low;

@@ -2,10 +2,10 @@
 use Rattle.std.proofs.Common.{◌≡◌, ◌⊎◌, ℕ, ◌<◌, true, false, ◌||◌, [], ◌∷◌, refl, sym, ap, subst, ◌∙◌, inl, inr, arith}
 use Rattle.std.proofs.lemmas.Bool.{both_ways, cases_eq}
 use Rattle.rack.specs.Values.{Values}
-use Rattle.rack.specs.Seen.{Seen}
-use Rattle.log_laws.specs.Kept.{LogKept}
+use Rattle.rack.specs.Seen.{RackView}
+use Rattle.log_laws.specs.Kept.{LogInvariant}
 use Rattle.log_laws.proofs.KeptAfter.{kept_more}
-use Rattle.array_model.specs.ArrayCalls.{Covers}
+use Rattle.array_model.specs.ArrayCalls.{IncludesSpent}
 use Rattle.array_model.specs.Members.{IsSameButSeats, Notes}
 use Rattle.array_model.specs.View.{View}
 use Rattle.array_model.proofs.Views.{either_of, loses_then, same_view_then}
@@ -36,7 +36,7 @@ use Rattle.growth_laws.specs.Growing.{AnyValues, MakesClean}
 use Rattle.growth_laws.proofs.Steps.{notes_views, stepped_other, stepped_own}
 use Rattle.growth_laws.proofs.Turning.{turn_then}
 
-module _ (v : Raid) (f : ℕ → View) (m : ℕ) (a b : Seen) (set : IsSet v a) (call : CleanCall v f m a b) (one : NotesOne v f m a b) where
+module _ (v : Raid) (f : ℕ → View) (m : ℕ) (a b : RackView) (set : IsSet v a) (call : CleanCall v f m a b) (one : NotesOne v f m a b) where
   low : m < v.state.made
   low = call.low
 
@@ -102,13 +102,13 @@ module _ (v : Raid) (f : ℕ → View) (m : ℕ) (a b : Seen) (set : IsSet v a) 
             is_one = promised.is_one;
             goes = λ n live there. over_still v (called v f v.number) still n there (promised.goes n live there);
             covers = λ n live there. elim (cases_eq n m) [
-              | inl same ↦ subst (λ k. Covers (v.arrays k) (spent_at p k (v.arrays k))) (sym same) (λ y alive.
+              | inl same ↦ subst (λ k. IncludesSpent (v.arrays k) (spent_at p k (v.arrays k))) (sym same) (λ y alive.
                   one.views.spent y
                   (promised.covers m (subst (λ k. p.live k ≡ true) same live) low y
                   (spent_other p m (f m) (v.arrays m)
                   (λ z. (keeps_noted (settled (v.arrays m)) (f m) noted).sectors z ∙ settled_sectors (v.arrays m) (let small = (set.arrays m low).is_array.small in small) z) y
                   ∙ alive)))
-              | inr other ↦ subst (λ (u : View). Covers u (spent_at p n u)) (call.others n other) (promised.covers n live there)
+              | inr other ↦ subst (λ (u : View). IncludesSpent u (spent_at p n u)) (call.others n other) (promised.covers n live there)
             ];
           };
           someone = λ n goes. someone_left (called v f v.number) n goes;
@@ -116,7 +116,7 @@ module _ (v : Raid) (f : ℕ → View) (m : ℕ) (a b : Seen) (set : IsSet v a) 
           truths = λ p promised stands spent covers. call.truths (vals m) spent covers (may p promised vals stands);
           kept = λ p promised stands.
               kept_more v.state v.number (λ q. false) (gone_in (called v f v.number)) b (λ q none. absurd (both_ways false refl none))
-              (call.kept (subst (λ g. LogKept v.state v.number g a) (λ i q. heeded_gone v call.heeded q i) stands.log));
+              (call.kept (subst (λ g. LogInvariant v.state v.number g a) (λ i q. heeded_gone v call.heeded q i) stands.log));
           number = (set.arrays m low).number;
           renewed = settled_renewed (v.arrays m) (set.arrays m low).is_array;
           noted = noted;
@@ -163,7 +163,7 @@ module _ (v : Raid) (f : ℕ → View) (m : ℕ) (a b : Seen) (set : IsSet v a) 
     }
 
 -- what was noted in both parts
-both_notes : (u z w : View) (a b : Seen) → Notes u z a b → Notes z w a b → Notes u w a b
+both_notes : (u z w : View) (a b : RackView) → Notes u z a b → Notes z w a b → Notes u w a b
 both_notes u z w a b first last = record {
   same = same_view_then u z w first.same last.same;
   lost = λ p. last.lost p || first.lost p;
@@ -171,7 +171,7 @@ both_notes u z w a b first last = record {
   cause = λ p is. elim (either_of (last.lost p) (first.lost p) is) [ inl late ↦ last.cause p late | inr early ↦ first.cause p early ];
 }
 
-module _ (v : Raid) (f : ℕ → View) (m : ℕ) (a b : Seen) (set : IsSet v a) (call : CleanCall v f m a b) where
+module _ (v : Raid) (f : ℕ → View) (m : ℕ) (a b : RackView) (set : IsSet v a) (call : CleanCall v f m a b) where
   one_read : IsSynced call.view.synced (f m) a b → NotesOne v f m a b
   one_read done = notes_views v f m a b set call.low call.goes.stays call.others (subst (λ (k : View). Notes (v.arrays m) k a b) (sym done.same) call.view.notes)
 
@@ -182,7 +182,7 @@ module _ (v : Raid) (f : ℕ → View) (m : ℕ) (a b : Seen) (set : IsSet v a) 
       (may_settle v.state (v.arrays m) seated.is_array seated.is_of_pool) (λ marked. absurd (both_ways false refl marked))
       (both_notes (settled (v.arrays m)) (settled call.view.synced) (f m) a b (settled_notes (v.arrays m) call.view.synced a b call.view.notes) now.notes)
 
-  pub clean_turn : (w : Raid) (c : Seen) → ((d : Raid) → IsRunOf d (called v f v.number) → MakesLosses d (called v f v.number) w b c) → MakesClean m v w a c
+  pub clean_turn : (w : Raid) (c : RackView) → ((d : Raid) → IsRunOf d (called v f v.number) → MakesLosses d (called v f v.number) w b c) → MakesClean m v w a c
   clean_turn w c losses = of call.view.either
     where
       of : IsSynced call.view.synced (f m) a b ⊎ IsCleaned call.view.synced (f m) a b → MakesClean m v w a c

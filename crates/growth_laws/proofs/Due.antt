@@ -1,7 +1,7 @@
 -- What a work that is due makes of its array is an array of the pool, and short enough.
 use Rattle.std.proofs.Common.{◌≡◌, ℕ, ◌+◌, ◌<◌, ◌≤◌, true, false, ◌==◌, ◌&&◌, not, nat_lt, is_none, length, Option, Some, None, refl, ltb-true}
 use Rattle.std.proofs.lemmas.Bool.{and_parts, both_ways}
-use Rattle.rack.specs.Seen.{Seen}
+use Rattle.rack.specs.Seen.{RackView}
 use Rattle.shr_base.specs.declared.Id.{Id}
 use Rattle.md_super.specs.Profile.{is_mirror, is_raid5}
 use Rattle.pool_state.specs.declared.contents.Work.TheVariants.{Begin, Finish, Reshape, TakeOver}
@@ -23,7 +23,7 @@ use Rattle.growth_laws.proofs.Room.{finished_longer}
 use Rattle.growth_laws.proofs.Steps.{MayBecome, step_as_long}
 
 -- A work's array may become what the work makes of it, and stays short enough.
-pub record MayDo (v : Raid) (n : ℕ) (next : Raid → ℕ → View) (x : Seen) : Type 0 where
+pub record MayDo (v : Raid) (n : ℕ) (next : Raid → ℕ → View) (x : RackView) : Type 0 where
   pub becomes : MayBecome v n (next v n) x
   pub longer : GetsLonger v (changed (steps n (next v n)) v)
 
@@ -31,7 +31,7 @@ pub record MayDo (v : Raid) (n : ℕ) (next : Raid → ℕ → View) (x : Seen) 
 abbrev pub taken : Raid → ℕ → View
 taken v n = taken_over (v.arrays n) (raised (v.arrays n).truth.events)
 
-pub may_take_over : (v : Raid) (x : Seen) (n : ℕ) → IsSet v x → IsHeeded v → is_due v (TakeOver n) ≡ true → is_clean (v.arrays n) ≡ true → MayDo v n taken x
+pub may_take_over : (v : Raid) (x : RackView) (n : ℕ) → IsSet v x → IsHeeded v → is_due v (TakeOver n) ≡ true → is_clean (v.arrays n) ≡ true → MayDo v n taken x
 may_take_over v x n set heeded due clean =
     let both = and_parts (is_synced v n) (is_mirror (v.arrays n).truth) due in
     let rest = clean_rests v x n set (synced_parts v n both.0) clean in
@@ -69,7 +69,7 @@ begin_parts v n place due =
     none_of (Some s) is = absurd (both_ways false refl is)
 
 -- the begin of an array that was cleaned
-pub may_begin : (v : Raid) (x : Seen) (n place : ℕ) (drive : Id) → IsSet v x → IsHeeded v → is_due v (Begin n place) ≡ true → is_clean (v.arrays n) ≡ true
+pub may_begin : (v : Raid) (x : RackView) (n place : ℕ) (drive : Id) → IsSet v x → IsHeeded v → is_due v (Begin n place) ≡ true → is_clean (v.arrays n) ≡ true
     → HasJoiningSlice v n place x → MayDo v n (λ v n. joined (v.arrays n) (current_places v.state) place drive) x
 may_begin v x n place drive set heeded due clean slice =
     let u = v.arrays n in
@@ -88,7 +88,7 @@ moved rows v n = ahead_by (v.arrays n) rows (raised (v.arrays n).truth.events)
 pub move_low : (v : Raid) (n : ℕ) → is_due v (Reshape n) ≡ true → n < v.state.made
 move_low v n due = (synced_parts v n (and_parts (is_synced v n) _ due).0).low
 
-pub may_move : (v : Raid) (x : Seen) (n rows : ℕ) → IsSet v x → IsHeeded v → is_due v (Reshape n) ≡ true → next_row (v.arrays n) + rows ≤ rows_of (v.arrays n)
+pub may_move : (v : Raid) (x : RackView) (n rows : ℕ) → IsSet v x → IsHeeded v → is_due v (Reshape n) ≡ true → next_row (v.arrays n) + rows ≤ rows_of (v.arrays n)
     → MayDo v n (moved rows) x
 may_move v x n rows set heeded due left =
     let u = v.arrays n in
@@ -104,7 +104,7 @@ may_move v x n rows set heeded due left =
 abbrev pub ended : Raid → ℕ → View
 ended v n = finished (v.arrays n) (raised (v.arrays n).truth.events)
 
-pub may_finish : (v : Raid) (x : Seen) (n : ℕ) → IsSet v x → IsHeeded v → is_due v (Finish n) ≡ true → MayDo v n ended x
+pub may_finish : (v : Raid) (x : RackView) (n : ℕ) → IsSet v x → IsHeeded v → is_due v (Finish n) ≡ true → MayDo v n ended x
 may_finish v x n set heeded due =
     let u = v.arrays n in
     let both = and_parts (is_synced v n) _ due in

@@ -8,12 +8,12 @@ use Rattle.std.proofs.lemmas.List.Elements.{All-filter, filter_agree}
 use Rattle.std.proofs.lemmas.List.FromFn.{get_or-range_with_len, length-range_with_len, take-map-range_with_len}
 use Rattle.std.proofs.lemmas.List.Sums.{count_by-le-length, length-filter}
 use Rattle.std.proofs.lemmas.Option.{slice_get-map}
-use Rattle.rack.specs.Seen.{Seen}
+use Rattle.rack.specs.Seen.{RackView}
 use Rattle.pool_state.specs.Valid.{is_extent}
 use Rattle.pool_state.specs.declared.contents.Drive.{Drive}
 use Rattle.pool_state.specs.declared.contents.State.{State}
 use Rattle.array_model.specs.View.{View}
-use Rattle.raid_laws.specs.Book.{IsAfter, drive_of}
+use Rattle.raid_laws.specs.Book.{OnlyMarksSince, drive_of}
 use Rattle.raid_laws.specs.Moves.{IsSet}
 use Rattle.raid_laws.specs.NewDrive.{first_in, slice_length}
 use Rattle.raid_laws.specs.Raid.{Raid}
@@ -68,7 +68,7 @@ some_drive v height two =
     let reached = reaches v.state (top_of v + height) in
     omega (arith, two, length-filter reached places, count_by-le-length reached places, length-range_with_len 0 (length v.state.drives.items))
 
-pub set_extent : (v : Raid) (x : Seen) → IsSet v x → 0 < length v.state.drives.items → is_extent v.state.extent ≡ true
+pub set_extent : (v : Raid) (x : RackView) → IsSet v x → 0 < length v.state.drives.items → is_extent v.state.extent ≡ true
 set_extent v x set some = (and_parts (is_extent v.state.extent) _ (set.valid 0 some)).0
 
 -- ---- drives
@@ -79,14 +79,14 @@ reaches_by : (extents : ℕ) (o : Option Drive) → option_map_or (λ (d : Drive
 reaches_by extents None = refl
 reaches_by extents (Some d) = refl
 
-pub reaches_still : (s t : State) (extents place : ℕ) → IsAfter s t → reaches t extents place ≡ reaches s extents place
+pub reaches_still : (s t : State) (extents place : ℕ) → OnlyMarksSince s t → reaches t extents place ≡ reaches s extents place
 reaches_still s t extents place after =
     let large : Option (List ℕ × ℕ) → Bool = λ o. option_map_or (λ (d : List ℕ × ℕ). nat_le extents d.1) o false in
     reaches_by extents (slice_get t.drives.items place)
     ∙ ap large (sym (slice_get-map drive_of t.drives.items place) ∙ ap (λ ds. slice_get ds place) after.same.drives ∙ slice_get-map drive_of s.drives.items place)
     ∙ sym (reaches_by extents (slice_get s.drives.items place))
 
-pub as_many : (s t : State) → IsAfter s t → length t.drives.items ≡ length s.drives.items
+pub as_many : (s t : State) → OnlyMarksSince s t → length t.drives.items ≡ length s.drives.items
 as_many s t after = sym (length-map t.drives.items drive_of) ∙ ap length after.same.drives ∙ length-map s.drives.items drive_of
 
 -- ---- arrays

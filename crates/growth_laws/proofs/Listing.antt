@@ -4,7 +4,7 @@ use Rattle.std.specs.List.{list_all}
 use Rattle.std.specs.Option.{option_map_or}
 use Rattle.std.proofs.lemmas.Bool.{and_from, and_parts, both_ways, cases_eq, cases_lt, le-leb as le_leb, leb-true, ne_eqb}
 use Rattle.std.proofs.lemmas.Option.{slice_get_past}
-use Rattle.rack.specs.Seen.{Seen}
+use Rattle.rack.specs.Seen.{RackView}
 use Rattle.md_super.specs.declared.superblock.Super.{Super}
 use Rattle.md_super.specs.Profile.{is_mirror}
 use Rattle.pool_state.specs.Valid.{is_valid, is_drive, is_extent, has_places, has_arrays, has_epoch, place_of as planned_place}
@@ -138,7 +138,7 @@ roles_longer k m t more roles =
     (λ p low. lt-ltb p m (let below = ltb-true p k low in omega (arith, below, more))) two.0) two.1)
 
 -- no member is on the next place
-pub apart_next : (place : ℕ) (s : State) (n : ℕ) (u : View) (x : Seen) (k : ℕ) → place ≡ length s.drives.items → IsSeated s n u x → k < u.truth.raid_disks
+pub apart_next : (place : ℕ) (s : State) (n : ℕ) (u : View) (x : RackView) (k : ℕ) → place ≡ length s.drives.items → IsSeated s n u x → k < u.truth.raid_disks
     → place_at u k ≢ place
 apart_next place s n u x k next seated low here =
     let at = seated.is_array.placed k low in
@@ -152,7 +152,7 @@ apart_next place s n u x k next seated low here =
     few false most = most
 
 -- an array of the pool is one by the state with the drive
-pub seated_next : (place units : ℕ) (plan : Plan) (s : State) (n : ℕ) (u : View) (x : Seen) → place ≡ length s.drives.items → IsSeated s n u x
+pub seated_next : (place units : ℕ) (plan : Plan) (s : State) (n : ℕ) (u : View) (x : RackView) → place ≡ length s.drives.items → IsSeated s n u x
     → IsSeated (enlisted place units plan s) n u x
 seated_next place units plan s n u x next seated =
     let pool = seated.is_of_pool in
@@ -189,7 +189,7 @@ seated_next place units plan s n u x next seated =
     or_true false = refl
 
 -- The arrays of a pool over slices that the new place's disk has already: its log slice.
-pub record MayBeNext (place units : ℕ) (v : Raid) (x : Seen) : Type 0 where
+pub record MayBeNext (place units : ℕ) (v : Raid) (x : RackView) : Type 0 where
   pub set : IsSet v x
   pub heeded : IsHeeded v
   pub next : place ≡ length v.state.drives.items
@@ -203,7 +203,7 @@ pub record MayBeNext (place units : ℕ) (v : Raid) (x : Seen) : Type 0 where
 abbrev pub next_raid : (place units : ℕ) → Raid → Raid
 next_raid place units v = record v { state = enlisted place units (Add place) v.state }
 
-module _ (place units : ℕ) (v : Raid) (x : Seen) (may : MayBeNext place units v x) where
+module _ (place units : ℕ) (v : Raid) (x : RackView) (may : MayBeNext place units v x) where
   pub next_left : (p : ℕ) → is_left (next_raid place units v) p ≡ true → (p ≡ place) ⊎ (is_left v p ≡ true)
   next_left p left =
       let current = (and_parts (is_current (next_raid place units v).state p) (not (gone_in (next_raid place units v) p)) left).0 in
@@ -281,7 +281,7 @@ changed_listed place units plan joining v low =
       state = record (with_drive place units plan joining v).state { drives = record { items = if b then ds ++ d ∷ [] else slice_set ds place d } };
     }) (ne_eqb place (length ds) apart))
 
-pub enlisted_takes : (place units : ℕ) (plan : Plan) (joining : ℕ → Bool) (v w : Raid) (a b : Seen) → place < length v.state.drives.items
+pub enlisted_takes : (place units : ℕ) (plan : Plan) (joining : ℕ → Bool) (v w : Raid) (a b : RackView) → place < length v.state.drives.items
     → IsEnlisted place units plan joining v w a b → TakesIn place units plan joining v w a b
 enlisted_takes place units plan joining v w a b low is =
     let u = with_drive place units plan joining v in

@@ -2,13 +2,13 @@
 use Rattle.std.proofs.Common.{◌≡◌, ℕ, zero, suc, ◌+◌, ◌<◌, ◌^◌, refl, sym, ap₂, subst, ◌∙◌, arith}
 use Rattle.std.specs.List.{range_with_len, sum_by}
 use Rattle.std.proofs.lemmas.List.Sums.{sum_by-cons}
-use Rattle.rack.specs.Seen.{Seen}
+use Rattle.rack.specs.Seen.{RackView}
 use Rattle.array_image.specs.Arrays.{first_layout}
 use Rattle.array_image.specs.Stripes.{capacity}
 use Rattle.array_model.specs.View.{View, sectors_of}
 use Rattle.raid_laws.specs.Book.{after_same, after_then}
 use Rattle.raid_laws.specs.Losing.{arrays_same, arrays_then}
-use Rattle.raid_laws.specs.Moves.{AreCaused, LosesOnly, Mends, Moves}
+use Rattle.raid_laws.specs.Moves.{AreCaused, OnlyFailures, Mends, ChangesNoData}
 use Rattle.raid_laws.specs.Raid.{Raid}
 use Rattle.growth_laws.specs.Losses.{LosesBook}
 use Rattle.growth_laws.specs.Growing.{GetsLonger, total}
@@ -31,18 +31,18 @@ loses_book_then v w z one two = record {
 }
 
 -- a part of a call that moves no value
-pub moves_lose : (v w : Raid) (a b : Seen) → Moves v w a b → LosesBook v w
+pub moves_lose : (v w : Raid) (a b : RackView) → ChangesNoData v w a b → LosesBook v w
 moves_lose v w a b moves = record { marks = moves.book; plan = moves.plan; arrays = moves.arrays; number = moves.number; events = moves.events }
 
-pub moves_caused : (v w : Raid) (a b : Seen) → Moves v w a b → AreCaused v w a b
+pub moves_caused : (v w : Raid) (a b : RackView) → ChangesNoData v w a b → AreCaused v w a b
 moves_caused v w a b moves = record { left = moves.left; cause = moves.cause }
 
-pub mends_lose : (v w : Raid) (a b : Seen) → Mends v w a b → LosesBook v w
+pub mends_lose : (v w : Raid) (a b : RackView) → Mends v w a b → LosesBook v w
 mends_lose v w a b mends = moves_lose v w a b mends.moves
 
 -- ---- how long the arrays are
 
-pub only_sectors : (u w : View) → LosesOnly u w → sectors_of w ≡ sectors_of u
+pub only_sectors : (u w : View) → OnlyFailures u w → sectors_of w ≡ sectors_of u
 only_sectors u w only =
     let g = only.same.geometry in
     let features = g.features in

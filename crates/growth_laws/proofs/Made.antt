@@ -2,7 +2,7 @@
 use Rattle.std.proofs.Common.{◌≡◌, ℕ, ◌+◌, ◌*◌, ◌^◌, ◌<◌, ◌≤◌, Bool, true, false, ◌&&◌, not, nat_lt, nat_le, if◌then◌else◌, [], refl, sym, ap, subst, inl, inr, eq-eqb, ne_eqb, lt-ltb, ltb-true, arith}
 use Rattle.std.proofs.lemmas.Bool.{cases_eq, both_ways, and_parts, and_from, le-leb, leb-true}
 use Rattle.std.specs.List.{list_all}
-use Rattle.rack.specs.Seen.{Seen}
+use Rattle.rack.specs.Seen.{RackView}
 use Rattle.pool_state.specs.Valid.{is_valid, is_drive, is_extent, has_arrays, has_epoch, has_places}
 use Rattle.pool_state.specs.declared.contents.State.{State}
 use Rattle.array_image.specs.States.{is_current}
@@ -45,7 +45,7 @@ valid_made s own all few is =
     (le-leb 1 (raised s.epoch) (let first = leb-true 1 s.epoch five.0 in let up = low.0 in omega (arith, first, up)))
     (lt-ltb (raised s.epoch) (2 ^ 63) (low.1 (ltb-true s.epoch (2 ^ 63) five.1)))))))
 
-seated_still : (s : State) (n : ℕ) (u : View) (x : Seen) → IsSeated s n u x → IsSeated (made_state s) n u x
+seated_still : (s : State) (n : ℕ) (u : View) (x : RackView) → IsSeated s n u x → IsSeated (made_state s) n u x
 seated_still s n u x seated =
     let pool = seated.is_of_pool in
     record {
@@ -70,7 +70,7 @@ seated_still s n u x seated =
 -- ---- the book
 
 -- There is room for one array more, and this one is of the pool once there is; nobody went in it, and no mark stands on it.
-pub record MayCome (v : Raid) (next : View) (x : Seen) : Type 0 where
+pub record MayCome (v : Raid) (next : View) (x : RackView) : Type 0 where
   pub joined : v.state.joined ≡ v.state.made
   pub few : v.state.made < 16
   pub seated : IsSeated (made_state v.state) v.state.made next x
@@ -90,7 +90,7 @@ by_made X v next n low own other = elim (cases_eq n v.state.made) [
 pub made_heeded : (v : Raid) (next : View) → IsHeeded v → next.went ≡ [] → IsHeeded (changed (makes next) v)
 made_heeded v next heeded went n low = by_made (λ k u. u.went ≡ []) v next n low went (λ below. heeded n below)
 
-pub made_set : (v : Raid) (next : View) (x : Seen) → MayCome v next x → IsHeeded v → IsSet v x → IsSet (changed (makes next) v) x
+pub made_set : (v : Raid) (next : View) (x : RackView) → MayCome v next x → IsHeeded v → IsSet v x → IsSet (changed (makes next) v) x
 made_set v next x may heeded set =
     let z : Raid = changed (makes next) v in
     record {
@@ -108,7 +108,7 @@ made_set v next x may heeded set =
     }
 
 -- the arrays stay as long as they are, and all together are short enough
-pub made_longer : (v : Raid) (next : View) (x : Seen) → MayCome v next x → IsSet v x → has_room (changed (makes next) v) ≡ true → GetsLonger v (changed (makes next) v)
+pub made_longer : (v : Raid) (next : View) (x : RackView) → MayCome v next x → IsSet v x → has_room (changed (makes next) v) ≡ true → GetsLonger v (changed (makes next) v)
 made_longer v next x may set room =
     let z : Raid = changed (makes next) v in
     record {

@@ -4,7 +4,7 @@ use Rattle.std.specs.Option.{option_and_then}
 use Rattle.std.specs.List.{range_with_len}
 use Rattle.std.proofs.lemmas.Bool.{both_ways}
 use Rattle.std.proofs.lemmas.Option.{slice_get_within}
-use Rattle.rack.specs.Seen.{Seen}
+use Rattle.rack.specs.Seen.{RackView}
 use Rattle.md_super.specs.declared.superblock.Super.{Super}
 use Rattle.pool_state.specs.declared.contents.State.{State}
 use Rattle.array_image.specs.States.{is_current}
@@ -108,7 +108,7 @@ module _ (s : State) (members : List ℕ) (size seconds : ℕ) (most : length s.
     marked false = refl
 
     -- IT IS ONE OF THE POOL, IN THE STATE WITH ONE ARRAY MORE
-    pub new_seated : (x : Seen) → IsArray v → HasSlices v x → IsSeated (made_state s) s.made v x
+    pub new_seated : (x : RackView) → IsArray v → HasSlices v x → IsSeated (made_state s) s.made v x
     new_seated x is_array slices = record {
       is_array = is_array;
       number = refl;

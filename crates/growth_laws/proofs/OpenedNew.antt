@@ -5,7 +5,7 @@ use Rattle.std.proofs.lemmas.List.FromFn.{get_or-map-range_with_len, length-map-
 use Rattle.std.proofs.lemmas.List.Sums.{sum_by_more}
 use Rattle.std.proofs.lemmas.Option.{slice_get_within}
 use Rattle.std.specs.Int.{is_power_of_two}
-use Rattle.rack.specs.Seen.{Seen}
+use Rattle.rack.specs.Seen.{RackView}
 use Rattle.md_super.specs.declared.superblock.Super.{Super}
 use Rattle.pool_state.specs.declared.contents.State.{State}
 use Rattle.pool_state.specs.Valid.{is_extent}
@@ -43,7 +43,7 @@ pub record CanMake (v : Raid) (height : ℕ) : Type 0 where
   pub drives : length v.state.drives.items ≤ 16
   pub some : lacks_places v (reaching v height) ≡ false
 
-pub can_make : (v : Raid) (x : Seen) (height : ℕ) → IsSet v x → may_make v v.state.made height ≡ true → lacks_places v (reaching v height) ≡ false → CanMake v height
+pub can_make : (v : Raid) (x : RackView) (height : ℕ) → IsSet v x → may_make v v.state.made height ≡ true → lacks_places v (reaching v height) ≡ false → CanMake v height
 can_make v x height set due some =
     let parts = make_parts v v.state.made height due in
     record { due = parts; extent = set_extent v x set (some_drive v height parts.members); drives = set.few; some = some }
@@ -119,7 +119,7 @@ module _ (v : Raid) (height seconds : ℕ) (may : CanMake v height) where
   -- ---- it may come to the book
 
   -- the slices of its members are there, unless their places are missing
-  abbrev pub HasMemberSlices : Seen → Type 0
+  abbrev pub HasMemberSlices : RackView → Type 0
   HasMemberSlices x =
       (p : ℕ) → names (reaching v height) p ≡ true → is_current v.state p ≡ true → 2048 + new_size v height ≤ x.sectors (member_slice p v.state.made)
 
@@ -145,7 +145,7 @@ module _ (v : Raid) (height seconds : ℕ) (may : CanMake v height) where
       | inr not_so ↦ absurd (there (seat_is k low ∙ ap (λ (b : Bool). Some (if b then Whole else Missing)) not_so))
     ]
 
-    new_slices : (x : Seen) → IsSet v x → HasMemberSlices x → HasSlices u x
+    new_slices : (x : RackView) → IsSet v x → HasMemberSlices x → HasSlices u x
     new_slices x set slices = record {
       fit = set.fit;
       lasting = set.lasting;
@@ -182,7 +182,7 @@ module _ (v : Raid) (height seconds : ℕ) (may : CanMake v height) where
             let count = whole.seats_count v.state.pool (drive_id v.state) members v.state.made size 0 seconds v.state.extent drives may.drives layer (is_current v.state) true p in
             not_so (is_current v.state (place_by t k)) to (sym rebuilds ∙ seat_is k (omega (arith, within, count)))
 
-    seated : (x : Seen) → IsSet v x → HasMemberSlices x → IsArray u → IsSeated (made_state v.state) v.state.made u x
+    seated : (x : RackView) → IsSet v x → HasMemberSlices x → IsArray u → IsSeated (made_state v.state) v.state.made u x
     seated x set slices is_array = record {
       is_array = is_array;
       number = refl;
@@ -196,7 +196,7 @@ module _ (v : Raid) (height seconds : ℕ) (may : CanMake v height) where
         of false = refl
 
   -- THE ARRAY THAT THEY MAKE MAY COME
-  pub new_may_come : (x : Seen) → IsSet v x → HasMemberSlices x → IsArray (new_view seconds v height) → MayCome v (new_view seconds v height) x
+  pub new_may_come : (x : RackView) → IsSet v x → HasMemberSlices x → IsArray (new_view seconds v height) → MayCome v (new_view seconds v height) x
   new_may_come x set slices is_array = record {
     joined = due.joined;
     few = due.few;

@@ -8,7 +8,7 @@ use Rattle.std.proofs.lemmas.List.Elements.{All-nil, All-cons, filter-append}
 use Rattle.std.proofs.lemmas.Option.{slice_get-get_or}
 use Rattle.rack.specs.declared.Gone.{Gone}
 use Rattle.rack.specs.Values.{MayLeave}
-use Rattle.rack.specs.Seen.{Seen, IsLive}
+use Rattle.rack.specs.Seen.{RackView, IsLive}
 use Rattle.rack.specs.Joins.{live_first, live_second, rose_since}
 use Rattle.rack.specs.Sequences.{WritesDurably, WritesOnly}
 use Rattle.rack.proofs.Durably.{durable_only}
@@ -157,20 +157,20 @@ off_table n s low high (inr (inr (inr among))) = let first = among.0 in omega (a
 -- ---- zeros where superblocks would be
 
 module _ (disk : ℕ) (arrays : List View) (joined : ℕ → Bool) where
-  only_zeros : (a b : Seen) (n : ℕ) (r : Result (Unit {0}) Gone) → joined n ≡ true → WritesDurably a b disk (first_in arrays n + super_sector) no_state r
+  only_zeros : (a b : RackView) (n : ℕ) (r : Result (Unit {0}) Gone) → joined n ≡ true → WritesDurably a b disk (first_in arrays n + super_sector) no_state r
       → WritesOnly a b (IsCleared arrays joined disk)
   only_zeros a b n r is writes =
       only_weaker (λ d s v. (d ≡ disk) × (s ≡ first_in arrays n + super_sector) × (v ≡ no_state)) (IsCleared arrays joined disk)
       (λ d s v at. (at.0, (n, is, at.1), at.2)) (durable_only r writes)
 
-  pub clears_none : (a : Seen) → a.fit → ClearsSupers a a disk arrays joined 0 {X = Unit {0}} (Ok tt)
+  pub clears_none : (a : RackView) → a.fit → ClearsSupers a a disk arrays joined 0 {X = Unit {0}} (Ok tt)
   clears_none a fit = record {
     only = only_none a (IsCleared arrays joined disk) fit;
     gone = tt;
     zeros = λ n low. absurd (omega (arith, low));
   }
 
-  pub clears_over : (a b : Seen) (n : ℕ) → joined n ≡ false → ClearsSupers a b disk arrays joined n {X = Unit {0}} (Ok tt)
+  pub clears_over : (a b : RackView) (n : ℕ) → joined n ≡ false → ClearsSupers a b disk arrays joined n {X = Unit {0}} (Ok tt)
       → ClearsSupers a b disk arrays joined (n + 1) {X = Unit {0}} (Ok tt)
   clears_over a b n not clears = record {
     only = clears.only;
@@ -185,7 +185,7 @@ module _ (disk : ℕ) (arrays : List View) (joined : ℕ → Bool) where
       false_true : false ≡ true → ⊥
       false_true e = cc
 
-  pub clears_next : (a m b : Seen) (n : ℕ) → joined n ≡ true → ClearsSupers a m disk arrays joined n {X = Unit {0}} (Ok tt)
+  pub clears_next : (a m b : RackView) (n : ℕ) → joined n ≡ true → ClearsSupers a m disk arrays joined n {X = Unit {0}} (Ok tt)
       → WritesDurably m b disk (first_in arrays n + super_sector) no_state {X = Unit {0}} (Ok tt)
       → ClearsSupers a b disk arrays joined (n + 1) {X = Unit {0}} (Ok tt)
   clears_next a m b n is clears writes = record {
@@ -207,7 +207,7 @@ module _ (disk : ℕ) (arrays : List View) (joined : ℕ → Bool) where
         ];
   }
 
-  pub clears_gone : (a m b : Seen) (n many : ℕ) (e : Gone) → joined n ≡ true → ClearsSupers a m disk arrays joined n {X = Unit {0}} (Ok tt)
+  pub clears_gone : (a m b : RackView) (n many : ℕ) (e : Gone) → joined n ≡ true → ClearsSupers a m disk arrays joined n {X = Unit {0}} (Ok tt)
       → WritesDurably m b disk (first_in arrays n + super_sector) no_state {X = Unit {0}} (Err e)
       → ClearsSupers a b disk arrays joined many {X = Unit {0}} (Err e)
   clears_gone a m b n many e is clears writes = record {
@@ -219,14 +219,14 @@ module _ (disk : ℕ) (arrays : List View) (joined : ℕ → Bool) where
 -- ---- all of it
 
 module _ (disk : ℕ) (arrays : List View) (joined : ℕ → Bool) (table : Table) where
-  only_cleared : (a b : Seen) → WritesOnly a b (IsCleared arrays joined disk) → WritesOnly a b (IsLaid arrays joined disk table)
+  only_cleared : (a b : RackView) → WritesOnly a b (IsCleared arrays joined disk) → WritesOnly a b (IsLaid arrays joined disk table)
   only_cleared a b only = only_weaker (IsCleared arrays joined disk) (IsLaid arrays joined disk table) (λ d s v at. inl at) only
 
-  only_drive : (a b : Seen) → WritesOnly a b (IsOfDrive disk table) → WritesOnly a b (IsLaid arrays joined disk table)
+  only_drive : (a b : RackView) → WritesOnly a b (IsOfDrive disk table) → WritesOnly a b (IsLaid arrays joined disk table)
   only_drive a b only = only_weaker (IsOfDrive disk table) (IsLaid arrays joined disk table) (λ d s v at. inr at) only
 
   -- the zeros couldn't be written
-  pub declined_early : (a b : Seen) (e : Gone) → ClearsSupers a b disk arrays joined (length arrays) {X = Unit {0}} (Err e)
+  pub declined_early : (a b : RackView) (e : Gone) → ClearsSupers a b disk arrays joined (length arrays) {X = Unit {0}} (Err e)
       → LaysReached a b disk arrays joined table {X = Unit {0}} (Err e)
   declined_early a b e clears = record {
     only = only_cleared a b clears.only;
@@ -248,7 +248,7 @@ module _ (disk : ℕ) (arrays : List View) (joined : ℕ → Bool) (table : Tabl
       off_table table.sectors (first_in arrays n + super_sector) (omega arith) (omega (arith, ends, some)) (in_table table (first_in arrays n + super_sector) v at)
 
   -- or the rest couldn't, or all of it is laid
-  pub laid_reached : (a m b : Seen) (r : Result (Unit {0}) Gone)
+  pub laid_reached : (a m b : RackView) (r : Result (Unit {0}) Gone)
       → ((n : ℕ) → joined n ≡ true → (n < length arrays) × (first_in arrays n + length_in arrays n + 33 ≤ table.sectors))
       → ClearsSupers a m disk arrays joined (length arrays) {X = Unit {0}} (Ok tt) → LaysDrive m b disk table r → LaysReached a b disk arrays joined table r
   laid_reached a m b (Err e) fits clears lays = record {
@@ -276,7 +276,7 @@ module _ (disk : ℕ) (arrays : List View) (joined : ℕ → Bool) (table : Tabl
   }
 
   -- laid, and then slices written
-  pub laid_sliced : (t : Slices) (a m b : Seen) → WritesOnly a m (IsLaid arrays joined disk table) → WritesOnly m b (IsSliced t)
+  pub laid_sliced : (t : Slices) (a m b : RackView) → WritesOnly a m (IsLaid arrays joined disk table) → WritesOnly m b (IsSliced t)
       → WritesOnly a b (IsLaidOrSliced t arrays joined disk table)
   laid_sliced t a m b one two =
       let all = IsLaidOrSliced t arrays joined disk table in

@@ -2,7 +2,7 @@
 use Rattle.std.proofs.Common.{◌≡◌, ℕ, ◌+◌, ◌^◌, ◌<◌, ◌≤◌, Bool, true, false, ◌==◌, ◌&&◌, ◌⊎◌, not, nat_lt, nat_le, if◌then◌else◌, [], refl, sym, ap, subst, inl, inr, eqb-true, lt-ltb, ltb-true, arith}
 use Rattle.std.proofs.lemmas.Bool.{cases_lt, both_ways, and_parts, and_from, le-leb, leb-true}
 use Rattle.std.specs.List.{list_all}
-use Rattle.rack.specs.Seen.{Seen}
+use Rattle.rack.specs.Seen.{RackView}
 use Rattle.pool_state.specs.Valid.{is_valid, is_drive, is_extent, has_arrays, has_epoch, has_places}
 use Rattle.pool_state.specs.declared.contents.State.{State}
 use Rattle.pool_state.specs.declared.contents.Work.TheVariants.{Ready}
@@ -53,7 +53,7 @@ pub record IsZeroed (u : View) : Type 0 where
   pub young : u.young ≡ true
   pub rows : rows_of u ≤ first_unsynced u.truth
 
-seated_other : (s : State) (n : ℕ) (u : View) (x : Seen) → IsSeated s n u x → IsSeated (readied_state s) n u x
+seated_other : (s : State) (n : ℕ) (u : View) (x : RackView) → IsSeated s n u x → IsSeated (readied_state s) n u x
 seated_other s n u x seated =
     let pool = seated.is_of_pool in
     record {
@@ -75,7 +75,7 @@ seated_other s n u x seated =
       };
     }
 
-seated_ready : (s : State) (n : ℕ) (u : View) (x : Seen) → IsZeroed u → IsSeated s n u x → IsSeated (readied_state s) n (ready u) x
+seated_ready : (s : State) (n : ℕ) (u : View) (x : RackView) → IsZeroed u → IsSeated s n u x → IsSeated (readied_state s) n (ready u) x
 seated_ready s n u x zeroed seated =
     let a = seated.is_array in
     let pool = seated.is_of_pool in
@@ -159,7 +159,7 @@ readied_events v k = by_case (λ u. u.truth.events ≡ (v.arrays k).truth.events
 pub readied_heeded : (v : Raid) → IsHeeded v → IsHeeded (changed readied v)
 readied_heeded v heeded n low = by_case (λ u. u.went ≡ []) v n (λ is. heeded n low) (heeded n low)
 
-pub readied_set : (v : Raid) (number : ℕ) (x : Seen) → MayReady v number → IsHeeded v → IsSet v x → IsSet (changed readied v) x
+pub readied_set : (v : Raid) (number : ℕ) (x : RackView) → MayReady v number → IsHeeded v → IsSet v x → IsSet (changed readied v) x
 readied_set v number x may heeded set = record {
   fit = set.fit;
   lasting = set.lasting;

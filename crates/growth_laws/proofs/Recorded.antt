@@ -1,7 +1,7 @@
 -- A change of the book by a commit, with the losses of that commit and the mending after it.
 use Rattle.std.proofs.Common.{◌≡◌, ℕ, Bool, true, false, not, refl, sym, ◌∙◌}
 use Rattle.std.proofs.lemmas.Bool.{and_parts}
-use Rattle.rack.specs.Seen.{Seen, Stays}
+use Rattle.rack.specs.Seen.{RackView, SameRack}
 use Rattle.array_image.specs.States.{is_current}
 use Rattle.raid_laws.specs.Raid.{Raid, gone_in, is_left}
 use Rattle.raid_laws.specs.Moves.{AreCaused, IsHeeded, Mends}
@@ -13,9 +13,9 @@ use Rattle.growth_laws.specs.Losses.{LosesBook}
 use Rattle.growth_laws.proofs.Losing.{loses_as_long, loses_book_then, loses_nothing, longer_then, mends_lose}
 
 -- No place comes by it.
-pub recorded_grows : (change : Raid → Change) (Lacks : Raid → Raid → Type 0) (v u w : Raid) (a b c : Seen) (answered : Bool) → IsHeeded v → IsHeeded (changed (change v) v)
+pub recorded_grows : (change : Raid → Change) (Lacks : Raid → Raid → Type 0) (v u w : Raid) (a b c : RackView) (answered : Bool) → IsHeeded v → IsHeeded (changed (change v) v)
     → ((p : ℕ) → is_current (changed (change v) v).state p ≡ is_current v.state p)
-    → Stays a b → LosesBook (changed (change v) v) u → AreCaused (changed (change v) v) u a b → Mends u w b c → GetsLonger v (changed (change v) v)
+    → SameRack a b → LosesBook (changed (change v) v) u → AreCaused (changed (change v) v) u a b → Mends u w b c → GetsLonger v (changed (change v) v)
     → (answered ≡ false → Lacks v w) → GrowsBy change Lacks v w a c answered
 recorded_grows change Lacks v u w a b c answered heeded next_heeded same stays loses caused mends longer refused =
     let z : Raid = changed (change v) v in

@@ -1,7 +1,7 @@
 -- A row that is due, and the end of a reshape: what they leave of the array, and what it holds then.
 use Rattle.std.proofs.Common.{◌+◌, ◌≡◌, ℕ, ◌<◌, ◌≤◌, Bool, true, false, ◌==◌, ◌||◌, nat_lt, List, refl, sym, ap, ◌∙◌, le-ltb, ltb-true, eqb-true, if◌then◌else◌}
 use Rattle.std.proofs.lemmas.Bool.{and_parts}
-use Rattle.rack.specs.Seen.{Seen}
+use Rattle.rack.specs.Seen.{RackView}
 use Rattle.pool_state.specs.declared.contents.Work.TheVariants.{Finish, Reshape}
 use Rattle.array_image.specs.Supers.{is_reshaping}
 use Rattle.array_model.specs.View.{sectors_of, shape_of, View, rows_of}
@@ -40,7 +40,7 @@ pub record IsMoving (v : Raid) (n : ℕ) : Type 0 where
   pub reshaping : is_reshaping (v.arrays n).truth ≡ true
   pub left : (v.arrays n).truth.reshape_position < whole_position (v.arrays n)
 
-pub is_moving : (v : Raid) (x : Seen) (n : ℕ) → IsSet v x → IsHeeded v → is_due v (Reshape n) ≡ true → IsMoving v n
+pub is_moving : (v : Raid) (x : RackView) (n : ℕ) → IsSet v x → IsHeeded v → is_due v (Reshape n) ≡ true → IsMoving v n
 is_moving v x n set heeded due =
     let u = v.arrays n in
     let both = and_parts (is_synced v n) _ due in
@@ -51,7 +51,7 @@ is_moving v x n set heeded due =
       left = ltb-true u.truth.reshape_position (whole_position u) row.1;
     }
 
-pub moved_keeps : (v : Raid) (x : Seen) (n rows : ℕ) → IsSet v x → IsMoving v n → 0 < rows → next_row (v.arrays n) + rows ≤ rows_of (v.arrays n)
+pub moved_keeps : (v : Raid) (x : RackView) (n rows : ℕ) → IsSet v x → IsMoving v n → 0 < rows → next_row (v.arrays n) + rows ≤ rows_of (v.arrays n)
     → KeepsMembers (v.arrays n) (moved rows v n)
 unfolding shape_of
 moved_keeps v x n rows set is some left =
@@ -72,8 +72,8 @@ moved_keeps v x n rows set is some left =
       new = λ s. ahead_new s u rows events seated.is_array some;
     }
 
-pub moved_turn : (v : Raid) (f : ℕ → View) (number n rows : ℕ) (a b : Seen) (on : List ℕ) (answered : Bool) (call : ReshapeCall v f (moved rows v n) number n a b on answered) → IsMoving v n
-    → (w : Raid) (c : Seen) → ((d : Raid) → IsRunOf d (called v f number) → MakesLosses d (called v f number) w b c)
+pub moved_turn : (v : Raid) (f : ℕ → View) (number n rows : ℕ) (a b : RackView) (on : List ℕ) (answered : Bool) (call : ReshapeCall v f (moved rows v n) number n a b on answered) → IsMoving v n
+    → (w : Raid) (c : RackView) → ((d : Raid) → IsRunOf d (called v f number) → MakesLosses d (called v f number) w b c)
     → MakesTurn (steps n (moved rows v n)) call.reshapes.steps.is_done (FitsReshape v n) v w a c
 moved_turn v f number n rows a b on answered call is w c losses =
     reshape_then v f (moved rows v n) number n a b on answered call w c (FitsReshape v n) (λ vals fits. fits.written)
@@ -90,7 +90,7 @@ pub record IsMoved (v : Raid) (n : ℕ) : Type 0 where
   pub reshaping : is_reshaping (v.arrays n).truth ≡ true
   pub whole : (v.arrays n).truth.reshape_position ≡ whole_position (v.arrays n)
 
-pub is_moved : (v : Raid) (x : Seen) (n : ℕ) → IsSet v x → IsHeeded v → is_due v (Finish n) ≡ true → IsMoved v n
+pub is_moved : (v : Raid) (x : RackView) (n : ℕ) → IsSet v x → IsHeeded v → is_due v (Finish n) ≡ true → IsMoved v n
 is_moved v x n set heeded due =
     let u = v.arrays n in
     let both = and_parts (is_synced v n) _ due in
@@ -102,7 +102,7 @@ is_moved v x n set heeded due =
       whole = eqb-true u.truth.reshape_position (whole_position u) room.0;
     }
 
-pub ended_keeps : (v : Raid) (x : Seen) (n : ℕ) → IsSet v x → IsMoved v n → KeepsMembers (v.arrays n) (ended v n)
+pub ended_keeps : (v : Raid) (x : RackView) (n : ℕ) → IsSet v x → IsMoved v n → KeepsMembers (v.arrays n) (ended v n)
 unfolding shape_of
 ended_keeps v x n set is =
     let u = v.arrays n in
@@ -122,8 +122,8 @@ ended_keeps v x n set is =
       new = λ s. finished_new s u events is.reshaping;
     }
 
-pub ended_turn : (v : Raid) (f : ℕ → View) (number n : ℕ) (a b : Seen) (on : List ℕ) (answered : Bool) (call : ReshapeCall v f (ended v n) number n a b on answered) → IsMoved v n
-    → (w : Raid) (c : Seen) → ((d : Raid) → IsRunOf d (called v f number) → MakesLosses d (called v f number) w b c)
+pub ended_turn : (v : Raid) (f : ℕ → View) (number n : ℕ) (a b : RackView) (on : List ℕ) (answered : Bool) (call : ReshapeCall v f (ended v n) number n a b on answered) → IsMoved v n
+    → (w : Raid) (c : RackView) → ((d : Raid) → IsRunOf d (called v f number) → MakesLosses d (called v f number) w b c)
     → MakesTurn (steps n (ended v n)) call.reshapes.steps.is_done (FitsReshape v n) v w a c
 ended_turn v f number n a b on answered call is w c losses =
     reshape_then v f (ended v n) number n a b on answered call w c (FitsReshape v n) (λ vals fits. fits.written)

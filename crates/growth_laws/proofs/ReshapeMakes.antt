@@ -2,19 +2,19 @@
 use Rattle.std.proofs.Common.{◌≡◌, ℕ, ◌<◌, ◌≤◌, Bool, true, false, ◌&&◌, not, List, [], refl, sym, ap, subst, ◌∙◌, inl, inr, arith}
 use Rattle.std.proofs.lemmas.Bool.{and_parts, both_ways, cases_eq, cases_lt}
 use Rattle.rack.specs.Values.{Values}
-use Rattle.rack.specs.Seen.{Seen}
+use Rattle.rack.specs.Seen.{RackView}
 use Rattle.pool_state.specs.declared.contents.State.{State}
 use Rattle.array_image.specs.Arrays.{Member}
 use Rattle.array_image.specs.Held.{Among}
 use Rattle.array_image.specs.SoundArray.{array_fields, first_unsynced}
 use Rattle.array_image.specs.States.{current_places, is_current}
-use Rattle.log_laws.specs.Kept.{LogKept}
+use Rattle.log_laws.specs.Kept.{LogInvariant}
 use Rattle.log_laws.specs.View.{names}
 use Rattle.log_laws.proofs.KeptAfter.{kept_more}
-use Rattle.array_model.specs.ArrayCalls.{Covers}
+use Rattle.array_model.specs.ArrayCalls.{IncludesSpent}
 use Rattle.array_model.specs.Members.{Notes}
 use Rattle.array_core.specs.Superblocks.{left_offset}
-use Rattle.array_model.specs.Says.{Holds, IsOpen}
+use Rattle.array_model.specs.Says.{ArrayInvariant, IsOpen}
 use Rattle.array_model.specs.Stages.{IsStateOf}
 use Rattle.array_model.specs.View.{has_gone, present, sectors_of, shape_of, spent_in, View}
 use Rattle.array_core.specs.Pool.{Goes}
@@ -60,7 +60,7 @@ pub record KeepsMembers (u next : View) : Type 0 where
   pub new : (s : State) → Maintains s u next → ⊥
 
 -- Such a step of array m in a call of all.
-pub record ReshapeCall (v : Raid) (f : ℕ → View) (next : View) (number m : ℕ) (a b : Seen) (on : List ℕ) (answered : Bool) : Type 0 where
+pub record ReshapeCall (v : Raid) (f : ℕ → View) (next : View) (number m : ℕ) (a b : RackView) (on : List ℕ) (answered : Bool) : Type 0 where
   pub set : IsSet v a
   pub heeded : IsHeeded v
   pub rest : IsAtRest v m
@@ -73,15 +73,15 @@ pub record ReshapeCall (v : Raid) (f : ℕ → View) (next : View) (number m : �
   pub few : (p : ℕ) → has_gone (f m) p ≡ true → p < 16
   pub reshapes : Reshapes (v.arrays m) next (f m) v.number number on a b answered
 
-same_if : (d : Bool) (u next z : View) (a b : Seen) → Stepped u next z a b d → d ≡ false → Notes u z a b
+same_if : (d : Bool) (u next z : View) (a b : RackView) → Stepped u next z a b d → d ≡ false → Notes u z a b
 same_if false u next z a b (as_it_was notes) is = notes
 same_if true u next z a b (done notes) is = absurd (both_ways true is refl)
 
-noted_if : (d : Bool) (u next z : View) (a b : Seen) → Stepped u next z a b d → d ≡ true → Notes next z a b
+noted_if : (d : Bool) (u next z : View) (a b : RackView) → Stepped u next z a b d → d ≡ true → Notes next z a b
 noted_if false u next z a b (as_it_was notes) is = absurd (both_ways false refl is)
 noted_if true u next z a b (done notes) is = notes
 
-module _ (v : Raid) (f : ℕ → View) (next : View) (number m : ℕ) (a b : Seen) (on : List ℕ) (answered : Bool) (call : ReshapeCall v f next number m a b on answered) where
+module _ (v : Raid) (f : ℕ → View) (next : View) (number m : ℕ) (a b : RackView) (on : List ℕ) (answered : Bool) (call : ReshapeCall v f next number m a b on answered) where
   low : m < v.state.made
   low = call.may.low
 
@@ -97,7 +97,7 @@ module _ (v : Raid) (f : ℕ → View) (next : View) (number m : ℕ) (a b : See
           renew = may_renew v a m p.one call.set call.heeded low stands.slices before;
           opened = opened v.state v.state.made m (v.arrays m) a (call.set.arrays m low) stands.slices low;
           steady = heeded_whole v m call.heeded (call.set.marked m low);
-          log = subst (λ g. LogKept v.state v.number g a) (λ i q. heeded_gone v call.heeded q i) stands.log;
+          log = subst (λ g. LogInvariant v.state v.number g a) (λ i q. heeded_gone v call.heeded q i) stands.log;
           room = let room = (number_room v p.one before).0 in omega (arith, room);
           places = λ q. ap (λ ps. names ps q) call.on_is ∙ names_current v.state q ∙ sym (and_true (is_current v.state q));
           someone = (some.0, some.1, gone_not (called v f number) some.0 m (current_few v.state some.0 call.set.few some.1) low some.2);
@@ -153,7 +153,7 @@ module _ (v : Raid) (f : ℕ → View) (next : View) (number m : ℕ) (a b : See
     unspent y alive = subst (λ (u : View). spent_in u y ≡ false) (stepped_own v m next) (views.views.spent y alive)
 
     pub reshape_once : (vals : ℕ → ℕ → Values) → IsWritten (v.arrays m) → ((p : Promise) → IsPromised p (called v f number) → Stands v v p vals a → p.live m ≡ true
-        → Holds v.state (shape_of (v.arrays m)) (v.arrays m) (vals m) (spent_at p m next) a)
+        → ArrayInvariant v.state (shape_of (v.arrays m)) (v.arrays m) (vals m) (spent_at p m next) a)
         → StepsOnce m next v (called v f number) vals a b
     reshape_once vals written holds = record {
       few = let there = low in let most = call.set.most in omega (arith, there, most);
@@ -234,18 +234,18 @@ module _ (v : Raid) (f : ℕ → View) (next : View) (number m : ℕ) (a b : See
         is_one = promised.is_one;
         goes = λ n live there. over_still v (called v f number) further_before n there (promised.goes n live there);
         covers = λ n live there. elim (cases_eq n m) [
-          | inl same ↦ subst (λ k. Covers (v.arrays k) (spent_at p k (v.arrays k))) (sym same) (λ y alive.
+          | inl same ↦ subst (λ k. IncludesSpent (v.arrays k) (spent_at p k (v.arrays k))) (sym same) (λ y alive.
               views_before.views.spent y
               (promised.covers m (subst (λ k. p.live k ≡ true) same live) low y
               (spent_other p m (f m) (v.arrays m) (λ z. (keeps_noted (v.arrays m) (f m) as_before.same).sectors z) y ∙ alive)))
-          | inr other ↦ subst (λ (u : View). Covers u (spent_at p n u)) (call.others n other) (promised.covers n live there)
+          | inr other ↦ subst (λ (u : View). IncludesSpent u (spent_at p n u)) (call.others n other) (promised.covers n live there)
         ];
       };
       someone = λ n goes. someone_left (called v f number) n goes;
       acts = λ p promised stands spent covers. call.reshapes.undone is v.state (vals m) spent covers (allowed written further_before p promised vals stands);
       truths = λ p promised stands spent covers.
           supers_truths v.state (v.arrays m).number (λ t. array_fields t ≡ array_fields (v.arrays m).truth)
-          (Holds v.state (shape_of (v.arrays m)) (v.arrays m) (vals m) spent a) a b (call.reshapes.kept_supers is);
+          (ArrayInvariant v.state (shape_of (v.arrays m)) (v.arrays m) (vals m) spent a) a b (call.reshapes.kept_supers is);
       renewed = same_renewed (v.arrays m) call.rest.unmarked (let rows = call.rest.rows in omega (arith, rows));
       kept = λ p promised stands.
           kept_more v.state number (has_gone (f m)) (gone_in (called v f number)) b (λ q went. gone_from (called v f number) q m (call.few q went) low went)
@@ -272,8 +272,8 @@ module _ (v : Raid) (f : ℕ → View) (next : View) (number m : ℕ) (a b : See
 
   -- ---- and the mending after it
 
-  pub reshape_then : (w : Raid) (c : Seen) (Fits : (ℕ → ℕ → Values) → Type 0) → ((vals : ℕ → ℕ → Values) → Fits vals → IsWritten (v.arrays m))
-      → ((vals : ℕ → ℕ → Values) → Fits vals → (p : Promise) → Stands v v p vals a → p.live m ≡ true → Holds v.state (shape_of (v.arrays m)) (v.arrays m) (vals m) (spent_at p m next) a)
+  pub reshape_then : (w : Raid) (c : RackView) (Fits : (ℕ → ℕ → Values) → Type 0) → ((vals : ℕ → ℕ → Values) → Fits vals → IsWritten (v.arrays m))
+      → ((vals : ℕ → ℕ → Values) → Fits vals → (p : Promise) → Stands v v p vals a → p.live m ≡ true → ArrayInvariant v.state (shape_of (v.arrays m)) (v.arrays m) (vals m) (spent_at p m next) a)
       → ((d : Raid) → IsRunOf d (called v f number) → MakesLosses d (called v f number) w b c)
       → MakesTurn (steps m next) call.reshapes.steps.is_done Fits v w a c
   reshape_then w c Fits written holds losses = of call.reshapes.steps.is_done refl

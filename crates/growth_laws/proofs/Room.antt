@@ -5,7 +5,7 @@ use Rattle.std.specs.List.{range_with_len, sum_by}
 use Rattle.std.proofs.lemmas.Bool.{leb-true}
 use Rattle.std.proofs.lemmas.List.FromFn.{take-map-range_with_len}
 use Rattle.std.proofs.lemmas.List.Sums.{sum_by-cons}
-use Rattle.rack.specs.Seen.{Seen}
+use Rattle.rack.specs.Seen.{RackView}
 use Rattle.md_super.specs.Profile.{is_mirror}
 use Rattle.array_image.specs.Stripes.{capacity, mirror, parity}
 use Rattle.array_image.specs.Supers.{is_reshaping}
@@ -69,7 +69,7 @@ short_enough v w room few =
     omega (arith, all, fits)
 
 -- THE END OF A RESHAPE
-pub finished_longer : (v : Raid) (x : Seen) (m : ℕ) → IsSet v x → m < v.state.made → is_reshaping (v.arrays m).truth ≡ true → has_room v ≡ true
+pub finished_longer : (v : Raid) (x : RackView) (m : ℕ) → IsSet v x → m < v.state.made → is_reshaping (v.arrays m).truth ≡ true → has_room v ≡ true
     → IsArray (finished (v.arrays m) (raised (v.arrays m).truth.events))
     → GetsLonger v (changed (steps m (finished (v.arrays m) (raised (v.arrays m).truth.events))) v)
 finished_longer v x m set low reshaping room array =

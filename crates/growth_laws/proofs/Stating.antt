@@ -4,7 +4,7 @@ use Rattle.std.proofs.lemmas.Bool.{cases_Bool, cases_lt, both_ways, and_parts, a
 use Rattle.std.proofs.lemmas.Option.{slice_get_past}
 use Rattle.std.specs.List.{list_all, list_any}
 use Rattle.std.specs.Option.{option_map_or}
-use Rattle.rack.specs.Seen.{Seen}
+use Rattle.rack.specs.Seen.{RackView}
 use Rattle.rack.specs.Joins.{stays_same}
 use Rattle.rack.specs.Targets.{Target, look}
 use Rattle.pool_state.specs.Valid.{is_valid}
@@ -59,7 +59,7 @@ loses_then v w z one two = record {
 }
 
 -- those that are mended
-pub loses_mended : (v w : Raid) (a b : Seen) → Mends v w a b → LosesBook v w
+pub loses_mended : (v w : Raid) (a b : RackView) → Mends v w a b → LosesBook v w
 loses_mended v w a b mends = record {
   marks = mends.moves.book;
   plan = mends.moves.plan;
@@ -81,7 +81,7 @@ raised_up n = elim (cases_lt n (2 ^ 63 - 1)) [
 
 -- What is to be committed: superblocks of members that aren't missing, each sector once, and copies of the state on all places that it has as
 -- current.
-pub record AreStated (v : Raid) (takes : List ℕ) (supers added : List Target) (x : Seen) : Type 0 where
+pub record AreStated (v : Raid) (takes : List ℕ) (supers added : List Target) (x : RackView) : Type 0 where
   pub set : IsSet v x
   pub heeded : IsHeeded v
   pub takes_are : takes ≡ current_places v.state
@@ -90,7 +90,7 @@ pub record AreStated (v : Raid) (takes : List ℕ) (supers added : List Target) 
   pub copies : AddsCopies v.state takes supers added
 
 -- a current place is one of the list, and the state is valid for it; its log slice is there
-pub current_place : (v : Raid) (x : Seen) (p : ℕ) → IsSet v x → IsHeeded v → is_current v.state p ≡ true
+pub current_place : (v : Raid) (x : RackView) (p : ℕ) → IsSet v x → IsHeeded v → is_current v.state p ≡ true
     → (is_valid v.state p ≡ true) × (p < 16) × (x.sectors (log_slice p) ≡ log_sectors)
 current_place v x p set heeded current = (set.valid p low, current_few v.state p set.few current, set.logs p (heeded_left v p heeded current))
   where
@@ -148,7 +148,7 @@ supers_of v m supers low is_array adds =
     )
 
 -- where a target is that is to be committed: on a current place, in a slice that is there
-record IsPlaced (v : Raid) (x : Seen) (y : Target) : Type 0 where
+record IsPlaced (v : Raid) (x : RackView) (y : Target) : Type 0 where
   place : ℕ
   few : place < 16
   current : is_current v.state place ≡ true
@@ -161,7 +161,7 @@ or_second true c is = refl
 or_second false c is = is
 
 -- a superblock is
-super_placed : (v : Raid) (x : Seen) (y : Target) → IsSet v x → IsHeeded v → IsSuperOf v v.state.made y → IsPlaced v x y
+super_placed : (v : Raid) (x : RackView) (y : Target) → IsSet v x → IsHeeded v → IsSuperOf v v.state.made y → IsPlaced v x y
 super_placed v x y set heeded super =
     let u = v.arrays super.array in
     let p = place_at u super.position in
@@ -193,7 +193,7 @@ super_placed v x y set heeded super =
     seat_there (Some seat) false there is = absurd (there (missing_of (Some seat) false false refl is))
 
 -- and a copy
-copy_placed : (v : Raid) (x : Seen) (takes : List ℕ) (y : Target) → IsSet v x → IsHeeded v → takes ≡ current_places v.state → IsCopyFor v.state takes y → IsPlaced v x y
+copy_placed : (v : Raid) (x : RackView) (takes : List ℕ) (y : Target) → IsSet v x → IsHeeded v → takes ≡ current_places v.state → IsCopyFor v.state takes y → IsPlaced v x y
 copy_placed v x takes y set heeded takes_are copy =
     let p = copy.place in
     let current : is_current v.state p ≡ true = sym (names_current v.state p) ∙ ap (λ ps. names ps p) (sym takes_are) ∙ copy.named in
@@ -212,7 +212,7 @@ copy_placed v x takes y set heeded takes_are copy =
       had = (omega (arith, disk, few, disks), subst (λ e. y.sector < x.sectors e) (sym disk) (omega (arith, sectors, sector)));
     }
 
-module _ (v : Raid) (takes : List ℕ) (supers added : List Target) (x : Seen) (stated : AreStated v takes supers added x) where
+module _ (v : Raid) (takes : List ℕ) (supers added : List Target) (x : RackView) (stated : AreStated v takes supers added x) where
   -- so each target is
   stated_placed : (y : Target) → AmongTargets y added → IsPlaced v x y
   stated_placed y among =
@@ -253,7 +253,7 @@ module _ (v : Raid) (takes : List ℕ) (supers added : List Target) (x : Seen) (
 
 -- A commit of a state, of which the book has made already what it is to be, by the logs of some of its current places; and who went in it is
 -- noted in all arrays.
-pub record IsStating (v : Raid) (on takes gone : List ℕ) (supers : List Target) (l : LogView) (f : ℕ → View) (b c : Seen) : Type 0 where
+pub record IsStating (v : Raid) (on takes gone : List ℕ) (supers : List Target) (l : LogView) (f : ℕ → View) (b c : RackView) : Type 0 where
   pub stated : AreStated v takes supers l.added b
   pub number : l.number ≡ v.number
   pub fewer : (p : ℕ) → names on p ≡ true → is_current v.state p ≡ true
@@ -265,7 +265,7 @@ abbrev pub after_stating : Raid → ℕ → (ℕ → View) → Raid
 after_stating v number f = record v { number = number; arrays = f }
 
 -- a whole array is so once places are noted as gone, or one of them is current
-whole_without : (s : State) (n : ℕ) (u : View) (gone : List ℕ) (x : Seen) → IsSeated s n u x → is_whole_array u ≡ true
+whole_without : (s : State) (n : ℕ) (u : View) (gone : List ℕ) (x : RackView) → IsSeated s n u x → is_whole_array u ≡ true
     → (is_whole_array (without gone u) ≡ true) ⊎ ((p : ℕ) × (is_current s p ≡ true) × (names gone p ≡ true))
 unfolding listed
 whole_without s n u gone x seated all =
@@ -273,7 +273,7 @@ whole_without s n u gone x seated all =
     (record { number = refl; truth = refl; devices = refl; resync = refl; young = refl; marked = refl })
     (listed_loses u gone seated.is_array).seats all
 
-module _ (v : Raid) (on takes gone : List ℕ) (supers : List Target) (l : LogView) (f : ℕ → View) (b c : Seen) (commit : IsStating v on takes gone supers l f b c) where
+module _ (v : Raid) (on takes gone : List ℕ) (supers : List Target) (l : LogView) (f : ℕ → View) (b c : RackView) (commit : IsStating v on takes gone supers l f b c) where
   -- who goes in it is one of those it writes to
   stating_current : (p : ℕ) → names gone p ≡ true → is_current v.state p ≡ true
   stating_current p is =

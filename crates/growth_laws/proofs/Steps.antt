@@ -1,7 +1,7 @@
 -- A step of one array as a change of the book, with the losses of its call and the mending after it.
 use Rattle.std.proofs.Common.{◌≡◌, ℕ, ◌<◌, ◌≤◌, Bool, true, false, not, if◌then◌else◌, [], refl, sym, ap, subst, ◌∙◌, inl, inr, eq-eqb, ne_eqb, arith}
 use Rattle.std.proofs.lemmas.Bool.{and_parts, both_ways, cases_Bool, cases_eq}
-use Rattle.rack.specs.Seen.{Rose, Seen, Stays}
+use Rattle.rack.specs.Seen.{Rose, RackView, SameRack}
 use Rattle.array_image.specs.States.{is_current}
 use Rattle.array_model.specs.View.{View, is_whole_array, sectors_of}
 use Rattle.array_model.specs.Members.{Notes}
@@ -35,7 +35,7 @@ by_array X v m next n own other = elim (cases_eq n m) [
 ]
 
 -- Array m may become this one: it is one of the pool as well, nobody went in it who isn't heeded, and it isn't marked or it is whole.
-pub record MayBecome (v : Raid) (m : ℕ) (next : View) (a : Seen) : Type 0 where
+pub record MayBecome (v : Raid) (m : ℕ) (next : View) (a : RackView) : Type 0 where
   pub low : m < v.state.made
   pub seated : IsSeated v.state m next a
   pub went : next.went ≡ []
@@ -44,7 +44,7 @@ pub record MayBecome (v : Raid) (m : ℕ) (next : View) (a : Seen) : Type 0 wher
 pub stepped_heeded : (v : Raid) (m : ℕ) (next : View) → IsHeeded v → next.went ≡ [] → IsHeeded (changed (steps m next) v)
 stepped_heeded v m next heeded went n low = by_array (λ k u. u.went ≡ []) v m next n went (λ other. heeded n low)
 
-pub stepped_set : (v : Raid) (m : ℕ) (next : View) (a : Seen) → IsSet v a → IsHeeded v → MayBecome v m next a → IsSet (changed (steps m next) v) a
+pub stepped_set : (v : Raid) (m : ℕ) (next : View) (a : RackView) → IsSet v a → IsHeeded v → MayBecome v m next a → IsSet (changed (steps m next) v) a
 stepped_set v m next a set heeded may =
     let w : Raid = changed (steps m next) v in
     record {
@@ -63,13 +63,13 @@ stepped_set v m next a set heeded may =
 -- ---- a call of one array
 
 -- What a call makes of the book that loses whom it met, and nothing else.
-pub record LosesIn (v w : Raid) (a b : Seen) : Type 0 where
+pub record LosesIn (v w : Raid) (a b : RackView) : Type 0 where
   pub set : IsSet w b
   pub book : LosesBook v w
   pub caused : AreCaused v w a b
 
 -- whoever went in a call of array m is noted in it
-pub notes_views : (v : Raid) (f : ℕ → View) (m : ℕ) (a b : Seen) → IsSet v a → m < v.state.made → Stays a b
+pub notes_views : (v : Raid) (f : ℕ → View) (m : ℕ) (a b : RackView) → IsSet v a → m < v.state.made → SameRack a b
     → ((n : ℕ) → (n ≡ m → ⊥) → f n ≡ v.arrays n) → Notes (v.arrays m) (f m) a b → NotesOne v f m a b
 notes_views v f m a b set low stays others notes =
     let u = v.arrays m in
@@ -84,7 +84,7 @@ notes_views v f m a b set low stays others notes =
     } in
     views_notes v f m a b u.truth.events u.truth.resync_offset u.marked set low stays others may (λ marked. inl marked) notes
 
-pub notes_lose : (v : Raid) (f : ℕ → View) (m number : ℕ) (a b : Seen) → IsSet v a → m < v.state.made → Stays a b → v.number ≤ number
+pub notes_lose : (v : Raid) (f : ℕ → View) (m number : ℕ) (a b : RackView) → IsSet v a → m < v.state.made → SameRack a b → v.number ≤ number
     → ((n : ℕ) → (n ≡ m → ⊥) → f n ≡ v.arrays n) → Notes (v.arrays m) (f m) a b → LosesIn v (called v f number) a b
 notes_lose v f m number a b set low stays later others notes =
     let one = notes_views v f m a b set low stays others notes in
@@ -101,17 +101,17 @@ notes_lose v f m number a b set low stays later others notes =
     }
 
 -- A call of array m, which makes `next` of it or leaves it as it was; places that went are noted.
-pub record CallsOne (v : Raid) (f : ℕ → View) (m number : ℕ) (next : View) (a b : Seen) (is_done : Bool) : Type 0 where
+pub record CallsOne (v : Raid) (f : ℕ → View) (m number : ℕ) (next : View) (a b : RackView) (is_done : Bool) : Type 0 where
   pub set : IsSet v a
   pub heeded : IsHeeded v
   pub may : MayBecome v m next a
   pub others : (n : ℕ) → (n ≡ m → ⊥) → f n ≡ v.arrays n
-  pub stays : Stays a b
+  pub stays : SameRack a b
   pub later : v.number ≤ number
   pub view : Stepped (v.arrays m) next (f m) a b is_done
 
 -- losses are caused by the calls where nobody had gone before them who wasn't heeded, whatever step was done
-pub caused_stepped : (v w : Raid) (m : ℕ) (next : View) (a b : Seen) → IsHeeded v → next.went ≡ [] → AreCaused (changed (steps m next) v) w a b → AreCaused v w a b
+pub caused_stepped : (v w : Raid) (m : ℕ) (next : View) (a b : RackView) → IsHeeded v → next.went ≡ [] → AreCaused (changed (steps m next) v) w a b → AreCaused v w a b
 caused_stepped v w m next a b heeded went are =
     let u : Raid = changed (steps m next) v in
     let current_of : (z : Raid) (p : ℕ) → is_left z p ≡ true → is_current z.state p ≡ true =
@@ -122,12 +122,12 @@ caused_stepped v w m next a b heeded went are =
     }
 
 -- A STEP OF AN ARRAY CHANGES THE BOOK, AND THE CALL LOSES WHOM IT MET
-pub record CallsTo (v w : Raid) (m : ℕ) (next : View) (a b : Seen) (is_done : Bool) : Type 0 where
+pub record CallsTo (v w : Raid) (m : ℕ) (next : View) (a b : RackView) (is_done : Bool) : Type 0 where
   pub set : IsSet w b
   pub book : LosesBook (if_done is_done v (changed (steps m next) v)) w
   pub caused : AreCaused v w a b
 
-pub calls_to : (v : Raid) (f : ℕ → View) (m number : ℕ) (next : View) (a b : Seen) (is_done : Bool) → CallsOne v f m number next a b is_done
+pub calls_to : (v : Raid) (f : ℕ → View) (m number : ℕ) (next : View) (a b : RackView) (is_done : Bool) → CallsOne v f m number next a b is_done
     → CallsTo v (called v f number) m next a b is_done
 calls_to v f m number next a b is_done call = by is_done call.view
   where
@@ -155,11 +155,11 @@ if_longer v w false longer = as_long v v refl (λ n low. refl)
 if_longer v w true longer = longer
 
 -- no disk's faults fall
-abbrev pub FaultsRise : Seen → Seen → Type 0
+abbrev pub FaultsRise : RackView → RackView → Type 0
 FaultsRise a b = (d : ℕ) → a.faults d ≤ b.faults d
 
 -- losses in a row are caused, whatever slices the disks have meanwhile
-pub caused_rising : (v w z : Raid) (a b c : Seen) → FaultsRise a b → FaultsRise b c → AreCaused v w a b → AreCaused w z b c → AreCaused v z a c
+pub caused_rising : (v w z : Raid) (a b c : RackView) → FaultsRise a b → FaultsRise b c → AreCaused v w a b → AreCaused w z b c → AreCaused v z a c
 caused_rising v w z a b c first second one two = record {
   left = λ place is. one.left place (two.left place is);
   cause = λ place was gone. elim (cases_Bool (is_left w place)) [
@@ -177,8 +177,8 @@ caused_rising v w z a b c first second one two = record {
     rose_before x y n up (inr most) = inr (omega (arith, up, most))
 
 -- the call, and the mending after it
-pub grows_one : (change : Raid → Change) (Lacks : Raid → Raid → Type 0) (v u w : Raid) (m : ℕ) (next : View) (a b c : Seen) (is_done answered : Bool)
-    → change v ≡ steps m next → Stays a b → CallsTo v u m next a b is_done → (answered ≡ true → is_done ≡ true) → Mends u w b c
+pub grows_one : (change : Raid → Change) (Lacks : Raid → Raid → Type 0) (v u w : Raid) (m : ℕ) (next : View) (a b c : RackView) (is_done answered : Bool)
+    → change v ≡ steps m next → SameRack a b → CallsTo v u m next a b is_done → (answered ≡ true → is_done ≡ true) → Mends u w b c
     → GetsLonger v (changed (steps m next) v) → (answered ≡ false → Lacks v w) → GrowsBy change Lacks v w a c answered
 grows_one change Lacks v u w m next a b c is_done answered change_is stays call answer mends longer refused =
     let after = loses_book_then (if_done is_done v (changed (steps m next) v)) u w call.book (mends_lose u w b c mends) in
@@ -198,8 +198,8 @@ grows_one change Lacks v u w m next a b c is_done answered change_is stays call 
     }
 
 -- so it is with what contents hold in it
-pub reshapes_one : (change : Raid → Change) (Lacks : Raid → Raid → Type 0) (v u w : Raid) (m : ℕ) (next : View) (a b c : Seen) (is_done answered : Bool)
-    → change v ≡ steps m next → Stays a b → CallsTo v u m next a b is_done → (answered ≡ true → is_done ≡ true) → Mends u w b c
+pub reshapes_one : (change : Raid → Change) (Lacks : Raid → Raid → Type 0) (v u w : Raid) (m : ℕ) (next : View) (a b c : RackView) (is_done answered : Bool)
+    → change v ≡ steps m next → SameRack a b → CallsTo v u m next a b is_done → (answered ≡ true → is_done ≡ true) → Mends u w b c
     → GetsLonger v (changed (steps m next) v) → (answered ≡ false → Lacks v w) → MakesTurn (steps m next) is_done (FitsReshape v m) v w a c
     → MakesReshape change Lacks m v w a c answered
 unfolding grows_one
@@ -209,7 +209,7 @@ reshapes_one change Lacks v u w m next a b c is_done answered change_is stays ca
 }
 
 -- losses before it, with whatever it is refused for by the book after them
-pub grows_behind : (change : Raid → Change) (Lacks More : Raid → Raid → Type 0) (v u w : Raid) (a b c : Seen) (answered : Bool) → FaultsRise a b → FaultsRise b c → LosesBook v u
+pub grows_behind : (change : Raid → Change) (Lacks More : Raid → Raid → Type 0) (v u w : Raid) (a b c : RackView) (answered : Bool) → FaultsRise a b → FaultsRise b c → LosesBook v u
     → AreCaused v u a b → ((mid z : Raid) → Lacks mid z → More mid z) → GrowsBy change Lacks u w b c answered → GrowsBy change More v w a c answered
 grows_behind change Lacks More v u w a b c answered first second loses caused more grows = record {
   turns = record {
@@ -226,7 +226,7 @@ grows_behind change Lacks More v u w a b c answered first second loses caused mo
 }
 
 -- it isn't begun
-pub grows_nothing : (change : Raid → Change) (Lacks : Raid → Raid → Type 0) (v w : Raid) (a b : Seen) → LosesBook v w → AreCaused v w a b → IsHeeded w → Lacks w w
+pub grows_nothing : (change : Raid → Change) (Lacks : Raid → Raid → Type 0) (v w : Raid) (a b : RackView) → LosesBook v w → AreCaused v w a b → IsHeeded w → Lacks w w
     → GrowsBy change Lacks v w a b false
 grows_nothing change Lacks v w a b loses caused heeded refused = record {
   turns = record {
@@ -243,11 +243,11 @@ grows_nothing change Lacks v w a b loses caused heeded refused = record {
 }
 
 -- nothing is lost where nothing is called
-pub caused_nothing : (v : Raid) (a b : Seen) → AreCaused v v a b
+pub caused_nothing : (v : Raid) (a b : RackView) → AreCaused v v a b
 caused_nothing v a b = record { left = λ p is. is; cause = λ p was now. absurd (both_ways (is_left v p) now was) }
 
 -- what is said of it goes by the faults of disks alone, whatever slices they have
-pub grows_over : (change : Raid → Change) (Lacks More : Raid → Raid → Type 0) (v w : Raid) (a b x y : Seen) (answered : Bool) → ((d : ℕ) → x.faults d ≡ a.faults d)
+pub grows_over : (change : Raid → Change) (Lacks More : Raid → Raid → Type 0) (v w : Raid) (a b x y : RackView) (answered : Bool) → ((d : ℕ) → x.faults d ≡ a.faults d)
     → ((d : ℕ) → y.faults d ≡ b.faults d) → ((mid z : Raid) → Lacks mid z → More mid z) → GrowsBy change Lacks v w a b answered → GrowsBy change More v w x y answered
 grows_over change Lacks More v w a b x y answered before after more grows = record {
   turns = record {

@@ -1,7 +1,7 @@
 -- A row of a young array is zeroed, or refused where two members lack it.
 use Rattle.std.proofs.Common.{◌≡◌, ℕ, ◌+◌, ◌/◌, ◌<◌, ◌≤◌, true, false, ◌&&◌, nat_lt, if◌then◌else◌, refl, ltb-true, arith}
 use Rattle.std.proofs.lemmas.Bool.{both_ways, and_parts}
-use Rattle.rack.specs.Seen.{Seen}
+use Rattle.rack.specs.Seen.{RackView}
 use Rattle.pool_state.specs.declared.contents.State.{State}
 use Rattle.pool_state.specs.declared.contents.Work.TheVariants.{Zero}
 use Rattle.array_image.specs.SoundArray.{first_unsynced}
@@ -32,7 +32,7 @@ has_row_to_zero v number due =
 unsynced_low : (offset size : ℕ) → (if nat_lt offset size then offset / 128 else size / 128) ≤ size / 128
 unsynced_low offset size = unsynced_by offset size (size / 128) (λ below. omega (arith, below)) (λ above. omega arith)
 
-seated_zeroed : (s : State) (n rows : ℕ) (u : View) (x : Seen) → u.young ≡ true → IsSeated s n u x → IsSeated s n (zeroed u rows) x
+seated_zeroed : (s : State) (n rows : ℕ) (u : View) (x : RackView) → u.young ≡ true → IsSeated s n u x → IsSeated s n (zeroed u rows) x
 seated_zeroed s n rows u x young seated =
     let a = seated.is_array in
     let pool = seated.is_of_pool in
@@ -68,7 +68,7 @@ seated_zeroed s n rows u x young seated =
       };
     }
 
-pub may_zero : (v : Raid) (number rows : ℕ) (x : Seen) → IsSet v x → IsHeeded v → HasRowToZero v number → MayBecome v number (zeroed (v.arrays number) rows) x
+pub may_zero : (v : Raid) (number rows : ℕ) (x : RackView) → IsSet v x → IsHeeded v → HasRowToZero v number → MayBecome v number (zeroed (v.arrays number) rows) x
 may_zero v number rows x set heeded has = record {
   low = has.low;
   seated = seated_zeroed v.state number rows (v.arrays number) x has.young (set.arrays number has.low);

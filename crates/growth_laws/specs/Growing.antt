@@ -1,7 +1,7 @@
 -- The works of a growth: when each is due, what it changes, and what a call of it does to the book.
 use Rattle.std.specs.Prelude.{◌≡◌, ◌⊎◌, ℕ, ◌+◌, ◌-◌, ◌*◌, ◌<◌, ◌≤◌, ◌^◌, Bool, true, false, ◌==◌, ◌&&◌, ◌||◌, not, nat_le, nat_lt, List, ◌∷◌, ◌++◌, is_none, length, Result, count_by, sum_by}
 use Rattle.std.specs.List.{range_with_len}
-use Rattle.rack.specs.Seen.{Seen}
+use Rattle.rack.specs.Seen.{RackView}
 use Rattle.rack.specs.Values.{Values}
 use Rattle.md_super.specs.Profile.{is_mirror, is_raid5}
 use Rattle.pool_state.specs.declared.contents.Work.{Work}
@@ -101,7 +101,7 @@ Lacks Extend mid w = ⊥
 Lacks Close mid w = ⊥
 
 -- The slice of a place's member of array n is there, unless the place is missing. An array that the place joins has it before it begins.
-pub record HasJoiningSlice (v : Raid) (n place : ℕ) (x : Seen) : Type 0 where
+pub record HasJoiningSlice (v : Raid) (n place : ℕ) (x : RackView) : Type 0 where
   pub disk : is_current v.state place ≡ true → member_slice place n < x.disks
   pub sectors : is_current v.state place ≡ true → slice_length (v.arrays n) ≤ x.sectors (member_slice place n)
 
@@ -149,21 +149,21 @@ pub record GetsLonger (v w : Raid) : Type 0 where
 
 -- A change of the book by a growth, as far as it is known whatever disks tell: the change and losses, each loss with its cause. Of contents nothing is
 -- said here.
-pub record GrowsBy (change : Raid → Change) (Lacks : Raid → Raid → Type 0) (v w : Raid) (a b : Seen) (answered : Bool) : Type 0 where
+pub record GrowsBy (change : Raid → Change) (Lacks : Raid → Raid → Type 0) (v w : Raid) (a b : RackView) (answered : Bool) : Type 0 where
   pub turns : Turns change Lacks v w answered
   pub caused : AreCaused v w a b
   pub heeded : IsHeeded w
   pub longer : GetsLonger v w
 
 -- that of a work
-abbrev pub Grows : Work → (Raid → Raid → Type 0) → Raid → Raid → Seen → Seen → Bool → Type 0
+abbrev pub Grows : Work → (Raid → Raid → Type 0) → Raid → Raid → RackView → RackView → Bool → Type 0
 Grows work Lacks v w a b answered = GrowsBy (change_of work) Lacks v w a b answered
 
 -- ---- what contents hold in it
 
 -- A change of the book between losses, where it is done: this is all that calls make of the book, of values that fit. So at each moment a stop leaves
 -- contents that hold the book before the change or after it, but for losses, with these values, and then the run stands by the last book.
-pub record MakesTurn (change : Change) (is_done : Bool) (Fits : (ℕ → ℕ → Values) → Type 0) (v w : Raid) (a b : Seen) : Type 0 where
+pub record MakesTurn (change : Change) (is_done : Bool) (Fits : (ℕ → ℕ → Values) → Type 0) (v w : Raid) (a b : RackView) : Type 0 where
   pub before : List Change
   pub after : List Change
   pub losses_before : AreLosses before
@@ -175,14 +175,14 @@ abbrev pub AnyValues : (ℕ → ℕ → Values) → Type 0
 AnyValues vals = Unit {0}
 
 -- Array n's superblocks are written one after the other, with one more event and the rows that are left in it, or nothing is; and losses after it.
-abbrev pub MakesClean : ℕ → Raid → Raid → Seen → Seen → Type 0
+abbrev pub MakesClean : ℕ → Raid → Raid → RackView → RackView → Type 0
 MakesClean n v w a b = (is_done : Bool) × MakesTurn (steps n (settled (v.arrays n))) is_done AnyValues v w a b
 
 -- A step of array n's reshape, with what contents hold in its call: the change is made, by the book before its commit.
-pub record MakesReshape (change : Raid → Change) (Lacks : Raid → Raid → Type 0) (n : ℕ) (v w : Raid) (a b : Seen) (answered : Bool) : Type 0 where
+pub record MakesReshape (change : Raid → Change) (Lacks : Raid → Raid → Type 0) (n : ℕ) (v w : Raid) (a b : RackView) (answered : Bool) : Type 0 where
   pub grows : GrowsBy change Lacks v w a b answered
   pub contents : MakesTurn (change grows.turns.mid) grows.turns.is_done (FitsReshape v n) v w a b
 
 -- that of the next rows: some of them, at least one and at most so many
-abbrev pub MovesRows : (n most : ℕ) → Raid → Raid → Seen → Seen → {E : Type 0} → Result ℕ E → Type 0
+abbrev pub MovesRows : (n most : ℕ) → Raid → Raid → RackView → RackView → {E : Type 0} → Result ℕ E → Type 0
 MovesRows n most v w a b result = DoesRows (λ rows. MakesReshape (moves n rows) (Lacks (Reshape n)) n v w a b) (rows_of (v.arrays n) - next_row (v.arrays n)) most result

@@ -4,7 +4,7 @@ use Rattle.std.specs.Option.{option_map_or}
 use Rattle.std.specs.List.{range_with_len}
 use Rattle.rack.specs.declared.Gone.{Gone}
 use Rattle.rack.specs.Values.{IsSingle, MayLeave}
-use Rattle.rack.specs.Seen.{Seen, IsLive, Rose}
+use Rattle.rack.specs.Seen.{RackView, IsLive, Rose}
 use Rattle.rack.specs.Sequences.{WritesOnly}
 use Rattle.slice_rack.specs.Slices.{Slices}
 use Rattle.slice_rack.specs.Runs.{IsSliced}
@@ -85,7 +85,7 @@ abbrev pub IsLaid : List View → (ℕ → Bool) → (disk : ℕ) → Table → 
 IsLaid arrays joined disk table d s v = IsCleared arrays joined disk d s v ⊎ IsOfDrive disk table d s v
 
 -- Zeros were written where superblocks of the first arrays would be, durably, or the disk's faults rose.
-pub record ClearsSupers (a b : Seen) (disk : ℕ) (arrays : List View) (joined : ℕ → Bool) (many : ℕ) {X : Type 0} (result : Result X Gone) : Type 0 where
+pub record ClearsSupers (a b : RackView) (disk : ℕ) (arrays : List View) (joined : ℕ → Bool) (many : ℕ) {X : Type 0} (result : Result X Gone) : Type 0 where
   pub only : WritesOnly a b (IsCleared arrays joined disk)
   pub gone : IfErr result (λ e. (e.disk ≡ disk) × Rose (a.faults disk) (b.faults disk))
   pub zeros :
@@ -94,7 +94,7 @@ pub record ClearsSupers (a b : Seen) (disk : ℕ) (arrays : List View) (joined :
       → MayLeave (b.held disk (first_in arrays n + super_sector)) v → v ≡ no_state)
 
 -- All of it was written to a disk, durably, or the disk's faults rose.
-pub record LaysReached (a b : Seen) (disk : ℕ) (arrays : List View) (joined : ℕ → Bool) (table : Table) {X : Type 0} (result : Result X Gone) : Type 0 where
+pub record LaysReached (a b : RackView) (disk : ℕ) (arrays : List View) (joined : ℕ → Bool) (table : Table) {X : Type 0} (result : Result X Gone) : Type 0 where
   pub only : WritesOnly a b (IsLaid arrays joined disk table)
   pub gone : IfErr result (λ e. (e.disk ≡ disk) × Rose (a.faults disk) (b.faults disk))
   pub zeros :
@@ -136,18 +136,18 @@ MayBegin s arrays place units sectors (Replace p) = (p ≡ place) × MayReplace 
 -- ---- what its taking in does
 
 -- The book is changed by the drive, between losses, each loss with its cause. `a` and `b` are the slices by the tables that have its disk.
-pub record TakesIn (place units : ℕ) (plan : Plan) (joining : ℕ → Bool) (v w : Raid) (a b : Seen) : Type 0 where
+pub record TakesIn (place units : ℕ) (plan : Plan) (joining : ℕ → Bool) (v w : Raid) (a b : RackView) : Type 0 where
   pub turns : Turns (λ u. enlists place units plan joining) (λ u z. ⊥) v w true
   pub caused : AreCaused (changed (enlists place units plan joining) v) w a b
   pub heeded : IsHeeded w
 
 -- The disk refused a call before it was one of the pool's: nothing else may have been written than what is laid on it.
-pub record IsDeclined (arrays : List View) (joined : ℕ → Bool) (disk : ℕ) (table : Table) (a b : Seen) : Type 0 where
+pub record IsDeclined (arrays : List View) (joined : ℕ → Bool) (disk : ℕ) (table : Table) (a b : RackView) : Type 0 where
   pub only : WritesOnly a b (IsLaid arrays joined disk table)
   pub gone : Rose (a.faults disk) (b.faults disk)
 
 -- Somebody was found gone before it, and is marked: nothing but losses has come to the book, each with its cause.
-pub record IsLost (v w : Raid) (a b : Seen) : Type 0 where
+pub record IsLost (v w : Raid) (a b : RackView) : Type 0 where
   pub loses : LosesBook v w
   pub caused : AreCaused v w a b
   pub lost : HasLost v w a b

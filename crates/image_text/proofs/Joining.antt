@@ -4,7 +4,7 @@ use Rattle.std.proofs.lemmas.List.{take-append-le, append-nil}
 use Rattle.std.proofs.lemmas.List.Folds.{concat-append}
 use Rattle.std.proofs.Math.Seq.{take-append-add}
 use Rattle.std.specs.List.{concat}
-use Rattle.rack.specs.Seen.{Seen}
+use Rattle.rack.specs.Seen.{RackView}
 use Rattle.io_ends.specs.Sink.{AddsPrefix}
 use Rattle.gpt_table.specs.Disk.{Contents}
 use Rattle.image_text.specs.declared.Stop.{Stop}
@@ -101,7 +101,7 @@ says_failed {before = before} {after = after} first second stop one = record {
 }
 
 -- lines that don't hang on the image
-pub says_shows : {a : Seen} {f f' : ℕ} {T T' : Type 0} {before after : List ℕ} (disk : ℕ) (lines : List (List ℕ)) (result : Result (Unit {0}) Stop)
+pub says_shows : {a : RackView} {f f' : ℕ} {T T' : Type 0} {before after : List ℕ} (disk : ℕ) (lines : List (List ℕ)) (result : Result (Unit {0}) Stop)
     → a.fit → Says f f' T T' before after lines result → Shows a a disk f f' T T' before after (λ image. lines) result
 says_shows {a} disk lines result fit one = record {
   only = only_start a fit;
@@ -113,7 +113,7 @@ says_shows {a} disk lines result fit one = record {
 }
 
 -- lines of the image after lines of it
-pub shows_then : {a b c : Seen} {disk : ℕ} {f f' f'' : ℕ} {T T' T'' : Type 0} {before between after : List ℕ} {done : Unit {0}}
+pub shows_then : {a b c : RackView} {disk : ℕ} {f f' f'' : ℕ} {T T' T'' : Type 0} {before between after : List ℕ} {done : Unit {0}}
     (first second : Contents → List (List ℕ)) (result : Result (Unit {0}) Stop) → disk < a.disks → ((d s : ℕ) → b.spent d s ≡ false)
     → Shows a b disk f f' T T' before between first (Ok done) → Shows b c disk f' f'' T' T'' between after second result
     → Shows a c disk f f'' T T'' before after (λ image. first image ++ second image) result
@@ -128,7 +128,7 @@ shows_then {disk = disk} {before = before} {between = between} {after = after} f
 }
 
 -- lines of the image that ended early
-pub shows_failed : {a b : Seen} {disk : ℕ} {f f' : ℕ} {T T' : Type 0} {before after : List ℕ}
+pub shows_failed : {a b : RackView} {disk : ℕ} {f f' : ℕ} {T T' : Type 0} {before after : List ℕ}
     (first second : Contents → List (List ℕ)) (stop : Stop) → Shows a b disk f f' T T' before after first (Err stop)
     → Shows a b disk f f' T T' before after (λ image. first image ++ second image) (Err stop)
 shows_failed {before = before} {after = after} first second stop one = record {
@@ -141,7 +141,7 @@ shows_failed {before = before} {after = after} first second stop one = record {
 }
 
 -- lines by what was read before
-pub gives_shows : {a b c : Seen} {disk : ℕ} {f f' : ℕ} {T T' : Type 0} {before after : List ℕ} {X : Type 0} {x : X} (P : Contents → X → Type 0)
+pub gives_shows : {a b c : RackView} {disk : ℕ} {f f' : ℕ} {T T' : Type 0} {before after : List ℕ} {X : Type 0} {x : X} (P : Contents → X → Type 0)
     (lines lines' : Contents → List (List ℕ)) (result : Result (Unit {0}) Stop) → disk < a.disks → ((d s : ℕ) → b.spent d s ≡ false)
     → Gives a b disk P (Ok x) → Shows b c disk f f' T T' before after lines result
     → ((image : Contents) → P image x → lines image ≡ lines' image)
@@ -157,7 +157,7 @@ gives_shows {disk = disk} {before = before} {after = after} P lines lines' resul
 }
 
 -- nothing was put where nothing was read
-pub gives_gone : {a b : Seen} {disk : ℕ} {f : ℕ} {T : Type 0} {before : List ℕ} {X : Type 0} (P : Contents → X → Type 0)
+pub gives_gone : {a b : RackView} {disk : ℕ} {f : ℕ} {T : Type 0} {before : List ℕ} {X : Type 0} (P : Contents → X → Type 0)
     (lines : Contents → List (List ℕ)) → Gives a b disk P (Err unread.Gone) → Shows a b disk f f T T before before lines (Err Gone)
 gives_gone {before = before} P lines one = record {
   only = one.only;
@@ -168,7 +168,7 @@ gives_gone {before = before} P lines one = record {
   gone = λ e. one.gone refl;
 }
 
-pub gives_memory : {a b : Seen} {disk : ℕ} {f : ℕ} {T : Type 0} {before : List ℕ} {X : Type 0} (P : Contents → X → Type 0)
+pub gives_memory : {a b : RackView} {disk : ℕ} {f : ℕ} {T : Type 0} {before : List ℕ} {X : Type 0} (P : Contents → X → Type 0)
     (lines : Contents → List (List ℕ)) → Gives a b disk P (Err unread.Memory) → Shows a b disk f f T T before before lines (Err Memory)
 gives_memory {before = before} P lines one = record {
   only = one.only;
@@ -191,7 +191,7 @@ pub put_after : (before between after first second : List ℕ) → between ≡ b
 put_after before between after first second at put = put ∙ ap (λ t. t ++ second) at ∙ append_assoc before first second
 
 -- a fault that can't be want of memory
-pub gives_refused : {a b : Seen} {disk : ℕ} {f : ℕ} {T : Type 0} {before : List ℕ} {X : Type 0} (P : Contents → X → Type 0)
+pub gives_refused : {a b : RackView} {disk : ℕ} {f : ℕ} {T : Type 0} {before : List ℕ} {X : Type 0} (P : Contents → X → Type 0)
     (lines : Contents → List (List ℕ)) (why : Unread) → why ≢ unread.Memory → Gives a b disk P (Err why) → Shows a b disk f f T T before before lines (Err Gone)
 gives_refused P lines unread.Gone cause one = gives_gone P lines one
 gives_refused P lines unread.Memory cause one = absurd (cause refl)

@@ -1,10 +1,10 @@
 -- What an image holds: its sectors, and its bytes in a row.
 use Rattle.std.specs.Prelude.{◌≡◌, ℕ, ◌+◌, ◌<◌, ◌/◌, ◌%◌, List, take, drop}
-use Rattle.rack.specs.Seen.{Seen}
+use Rattle.rack.specs.Seen.{RackView}
 use Rattle.gpt_table.specs.Disk.{Contents, joined}
 
 -- a disk whose sectors are told has these contents
-pub record IsImage (rack : Seen) (disk : ℕ) (image : Contents) : Type 0 where
+pub record IsImage (rack : RackView) (disk : ℕ) (image : Contents) : Type 0 where
   pub told : rack.told disk
   pub same : (s : ℕ) → s < rack.sectors disk → (rack.held disk s).current ≡ image s
 

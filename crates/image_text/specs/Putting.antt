@@ -1,7 +1,7 @@
 -- What a call that puts lines does to the sink, and to the rack that it reads.
 use Rattle.std.specs.Prelude.{◌≡◌, ◌≢◌, ℕ, ◌≤◌, List, ◌++◌, length, take, Result, Ok, Err}
 use Rattle.std.specs.List.{concat}
-use Rattle.rack.specs.Seen.{Seen, Rose}
+use Rattle.rack.specs.Seen.{RackView, Rose}
 use Rattle.io_ends.specs.Sink.{AddsPrefix}
 use Rattle.rack.specs.Sequences.{OnlyReads}
 use Rattle.gpt_table.specs.Disk.{Contents}
@@ -32,7 +32,7 @@ pub record Says (faults faults' : ℕ) (Told Told' : Type 0) (before after : Lis
   pub here : result ≢ Err Gone
 
 -- the lines of the image that the disk holds were put, and nothing was written to any disk
-pub record Shows (a b : Seen) (disk : ℕ) (faults faults' : ℕ) (Told Told' : Type 0) (before after : List ℕ) (lines : Contents → List (List ℕ)) (result : Result (Unit {0}) Stop)
+pub record Shows (a b : RackView) (disk : ℕ) (faults faults' : ℕ) (Told Told' : Type 0) (before after : List ℕ) (lines : Contents → List (List ℕ)) (result : Result (Unit {0}) Stop)
     : Type 0 where
   pub only : OnlyReads a b
   pub grows : faults ≤ faults'

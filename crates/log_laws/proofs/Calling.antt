@@ -3,7 +3,7 @@ use Rattle.std.proofs.Common.{◌≡◌, ◌⊎◌, ℕ, ◌==◌, ◌||◌, Boo
 use Rattle.std.proofs.lemmas.Bool.{both_ways, cases_Bool, or_parts}
 use Rattle.rack.specs.declared.Gone.{Gone}
 use Rattle.rack.specs.Values.{MayLeave}
-use Rattle.rack.specs.Seen.{Seen, IsLive, appended}
+use Rattle.rack.specs.Seen.{RackView, IsLive, appended}
 use Rattle.rack.specs.Calls.{Writes as WritesOne, Syncs}
 use Rattle.rack.specs.Joins.{live_first, live_second, rose_later, rose_early}
 use Rattle.rack.proofs.Writing.{appended_here, only_none, only_quiet, only_written, only_refused, only_weaker, only_then}
@@ -30,14 +30,14 @@ is_marked went now place is = is place ∙ ap (λ b. b || went place) (eq-eqb pl
 -- ---- one call
 
 -- no call
-pub calls_none : (a : Seen) (called : ℕ → Type 0) (may : ℕ → ℕ → List ℕ → Type 0) (went : ℕ → Bool) → a.fit → Calls a a called may went went
+pub calls_none : (a : RackView) (called : ℕ → Type 0) (may : ℕ → ℕ → List ℕ → Type 0) (went : ℕ → Bool) → a.fit → Calls a a called may went went
 calls_none a called may went fit = record {
   only = only_none a _ fit;
   still = λ p here. here;
   cause = λ p here gone. absurd (both_ways (went p) here gone);
 }
 
-pub puts_none : (a : Seen) (called : ℕ → Type 0) (may must : ℕ → ℕ → List ℕ → Type 0) (went : ℕ → Bool) → a.fit
+pub puts_none : (a : RackView) (called : ℕ → Type 0) (may must : ℕ → ℕ → List ℕ → Type 0) (went : ℕ → Bool) → a.fit
     → ((d s : ℕ) (w : List ℕ) → must d s w → went (place_of d) ≡ true) → Puts a a called may must went went
 puts_none a called may must went fit none = record {
   calls = calls_none a called may went fit;
@@ -45,7 +45,7 @@ puts_none a called may must went fit none = record {
 }
 
 -- a write that was answered
-pub puts_one : {a b : Seen} (went : ℕ → Bool) (disk sector : ℕ) (v : List ℕ) → went (place_of disk) ≡ false
+pub puts_one : {a b : RackView} (went : ℕ → Bool) (disk sector : ℕ) (v : List ℕ) → went (place_of disk) ≡ false
     → WritesOne a b disk sector v {X = Unit {0}} (Ok tt)
     → Puts a b (λ d. d ≡ disk) (IsThere disk sector v) (IsThere disk sector v) went went
 puts_one {a} {b} went disk sector v left writes = record {
@@ -60,7 +60,7 @@ puts_one {a} {b} went disk sector v left writes = record {
 }
 
 -- one that was refused
-pub puts_lost : {a b : Seen} (went now : ℕ → Bool) (disk sector : ℕ) (v : List ℕ) (gone : Gone) → went (place_of disk) ≡ false
+pub puts_lost : {a b : RackView} (went now : ℕ → Bool) (disk sector : ℕ) (v : List ℕ) (gone : Gone) → went (place_of disk) ≡ false
     → ((p : ℕ) → now p ≡ ((p == place_of disk) || went p))
     → WritesOne a b disk sector v {X = Unit {0}} (Err gone)
     → Puts a b (λ d. d ≡ disk) (IsThere disk sector v) (IsThere disk sector v) went now
@@ -80,7 +80,7 @@ puts_lost {a} {b} went now disk sector v gone left is writes = record {
 }
 
 -- a sync that was answered
-pub syncs_one : {a b : Seen} (went : ℕ → Bool) (disk : ℕ) → Syncs a b disk {X = Unit {0}} (Ok tt)
+pub syncs_one : {a b : RackView} (went : ℕ → Bool) (disk : ℕ) → Syncs a b disk {X = Unit {0}} (Ok tt)
     → SyncsAll a b (λ d. d ≡ disk) (λ d. d ≡ disk) went went
 syncs_one {a} {b} went disk syncs = record {
   calls = record {
@@ -92,7 +92,7 @@ syncs_one {a} {b} went disk syncs = record {
       subst (λ k. IsLive a b k s → MayLeave (b.held k s) v → v ≡ (b.held k s).current) (sym on) (λ l m. syncs.done s v l m) live may;
 }
 
-pub syncs_lost : {a b : Seen} (went now : ℕ → Bool) (disk : ℕ) (gone : Gone)
+pub syncs_lost : {a b : RackView} (went now : ℕ → Bool) (disk : ℕ) (gone : Gone)
     → ((p : ℕ) → now p ≡ ((p == place_of disk) || went p))
     → Syncs a b disk {X = Unit {0}} (Err gone)
     → SyncsAll a b (λ d. d ≡ disk) (λ d. d ≡ disk) went now
@@ -113,7 +113,7 @@ syncs_lost {a} {b} went now disk gone is syncs = record {
 
 -- ---- calls in a row
 
-pub calls_weaker : {a b : Seen} (called more : ℕ → Type 0) (may wide : ℕ → ℕ → List ℕ → Type 0) (went now : ℕ → Bool)
+pub calls_weaker : {a b : RackView} (called more : ℕ → Type 0) (may wide : ℕ → ℕ → List ℕ → Type 0) (went now : ℕ → Bool)
     → ((d : ℕ) → called d → more d) → ((d s : ℕ) (v : List ℕ) → may d s v → wide d s v)
     → Calls a b called may went now → Calls a b more wide went now
 calls_weaker called more may wide went now weaker wider calls = record {
@@ -124,7 +124,7 @@ calls_weaker called more may wide went now weaker wider calls = record {
       record { disk = by.disk; of_place = by.of_place; was_called = weaker by.disk by.was_called; rose = by.rose };
 }
 
-pub calls_then : {a b c : Seen} (called : ℕ → Type 0) (may : ℕ → ℕ → List ℕ → Type 0) (went between now : ℕ → Bool)
+pub calls_then : {a b c : RackView} (called : ℕ → Type 0) (may : ℕ → ℕ → List ℕ → Type 0) (went between now : ℕ → Bool)
     → Calls a b called may went between → Calls b c called may between now → Calls a c called may went now
 calls_then {a} {b} {c} called may went between now one two = record {
   only = only_then _ one.only (only_weaker _ _ (λ d s v both. (one.still (place_of d) both.0, both.1)) two.only);
@@ -141,7 +141,7 @@ calls_then {a} {b} {c} called may went between now one two = record {
 }
 
 -- Writes and then writes: what has to stand at the end was written by the second, or by the first and not again.
-pub puts_then : {a b c : Seen} (called : ℕ → Type 0) (may must first second all : ℕ → ℕ → List ℕ → Type 0) (went between now : ℕ → Bool)
+pub puts_then : {a b c : RackView} (called : ℕ → Type 0) (may must first second all : ℕ → ℕ → List ℕ → Type 0) (went between now : ℕ → Bool)
     → Puts a b called may first went between → Calls b c called second between now
     → ((d s : ℕ) (w : List ℕ) → IsLive b c d s → now (place_of d) ≡ false → must d s w → (c.held d s).current ≡ w)
     → ((d s : ℕ) (v : List ℕ) → may d s v → all d s v) → ((d s : ℕ) (v : List ℕ) → second d s v → all d s v)
@@ -162,7 +162,7 @@ puts_then {a} {b} {c} called may must first second all went between now one two 
 }
 
 -- syncs and then syncs
-pub syncs_then : {a b c : Seen} (called on too both : ℕ → Type 0) (went between now : ℕ → Bool)
+pub syncs_then : {a b c : RackView} (called on too both : ℕ → Type 0) (went between now : ℕ → Bool)
     → SyncsAll a b called on went between → SyncsAll b c called too between now
     → ((d : ℕ) → both d → on d ⊎ too d)
     → SyncsAll a c called both went now
@@ -180,7 +180,7 @@ syncs_then {a} {b} {c} called on too both went between now one two which = recor
 }
 
 -- writes that were synced
-pub settles : {a b c : Seen} (called : ℕ → Type 0) (may must : ℕ → ℕ → List ℕ → Type 0) (on : ℕ → Type 0) (went between now : ℕ → Bool)
+pub settles : {a b c : RackView} (called : ℕ → Type 0) (may must : ℕ → ℕ → List ℕ → Type 0) (on : ℕ → Type 0) (went between now : ℕ → Bool)
     → Puts a b called may must went between → SyncsAll b c called on between now
     → ((d s : ℕ) (w : List ℕ) → must d s w → on d)
     → Settles a c called may must went now

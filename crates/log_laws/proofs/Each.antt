@@ -1,7 +1,7 @@
 -- One sector of the log slice of each place: loops over places.
 use Rattle.std.proofs.Common.{◌≡◌, ◌⊎◌, ℕ, ◌+◌, ◌<◌, Bool, List, slice_index, ap, ◌∙◌, inl, inr, arith}
 use Rattle.std.proofs.lemmas.Bool.{cases_eq, cases_lt}
-use Rattle.rack.specs.Seen.{Seen}
+use Rattle.rack.specs.Seen.{RackView}
 use Rattle.array_image.specs.Places.{log_slice}
 use Rattle.log_laws.specs.Phases.{Puts, SyncsAll, IsThere, IsLogOf, IsOnEach}
 use Rattle.log_laws.proofs.Calling.{calls_weaker, puts_then, syncs_then}
@@ -43,7 +43,7 @@ each_which on i sector block d s w is =
           ]
     ]
 
-pub each_then : {a b c : Seen} (on : List ℕ) (many i sector : ℕ) (block : List ℕ) (went between now : ℕ → Bool)
+pub each_then : {a b c : RackView} (on : List ℕ) (many i sector : ℕ) (block : List ℕ) (went between now : ℕ → Bool)
     → i < many
     → Puts a b (IsLogOf on many) (IsOnEach on i sector block) (IsOnEach on i sector block) went between
     → Puts b c (λ d. d ≡ log_slice (slice_index on i)) (IsThere (log_slice (slice_index on i)) sector block)
@@ -57,7 +57,7 @@ each_then {a} {b} {c} on many i sector block went between now below one two =
     (λ d s w live here is. two.last d s w live here is)
     (each_longer on i sector block) (each_there on i sector block) (IsOnEach on (i + 1) sector block) (each_which on i sector block)
 
-pub each_synced : {a b c : Seen} (on : List ℕ) (many i : ℕ) (went between now : ℕ → Bool)
+pub each_synced : {a b c : RackView} (on : List ℕ) (many i : ℕ) (went between now : ℕ → Bool)
     → i < many
     → SyncsAll a b (IsLogOf on many) (IsLogOf on i) went between
     → SyncsAll b c (λ d. d ≡ log_slice (slice_index on i)) (λ d. d ≡ log_slice (slice_index on i)) between now

@@ -4,7 +4,7 @@ use Rattle.std.proofs.lemmas.Bool.{both_ways, cases_Bool, cases_lt}
 use Rattle.std.proofs.lemmas.Option.{none-some}
 use Rattle.rack.specs.Values.{MayLeave}
 use Rattle.rack.specs.Calls.{KeepsAll}
-use Rattle.rack.specs.Seen.{Image, Seen, Stays}
+use Rattle.rack.specs.Seen.{Image, RackView, SameRack}
 use Rattle.rack.specs.Targets.{Target, look, put}
 use Rattle.pool_state.specs.declared.contents.Copied.{Copied}
 use Rattle.pool_state.specs.declared.contents.State.{State}
@@ -17,16 +17,16 @@ use Rattle.array_image.specs.Arrays.{replayed}
 use Rattle.log_laws.specs.View.{names}
 use Rattle.log_laws.specs.Standing.{LogsStand, StatesStand}
 use Rattle.log_laws.specs.Commits.{Stands}
-use Rattle.log_laws.specs.Kept.{IsCopyOf, IsNoLater, LogKept, BringsTo}
-use Rattle.log_laws.specs.Saying.{CopiesIn, HoldsCopies, SaysState}
+use Rattle.log_laws.specs.Kept.{IsCopyOf, IsNoLater, LogInvariant, BringsTo}
+use Rattle.log_laws.specs.Saying.{CopiesIn, HoldsCopies, RecoversTo}
 use Rattle.log_laws.proofs.Copies.{nothing_decodes, state_by_copies}
 use Rattle.log_laws.proofs.Kept.{NoneLater, brings_none, brings_to, copy_state, epoch_up, kept_idle, kept_state, later_yet, put_none, put_outside, put_some}
 use Rattle.log_laws.proofs.KeptAfter.{logs_before, stands_before}
 
-pub logs_of : {x : Seen} (c : Image) → Stands x c → LogsStand x c
+pub logs_of : {x : RackView} (c : Image) → Stands x c → LogsStand x c
 logs_of c stand = record { picks = λ p t live. stand.picks (log_slice p) t live; inside = stand.inside }
 
-pub states_of : {x : Seen} (xs : List Target) (c : Image) → LogsStand x c → StatesStand xs x c
+pub states_of : {x : RackView} (xs : List Target) (c : Image) → LogsStand x c → StatesStand xs x c
 states_of xs c stand = record { picks = λ p live. inl (stand.picks p 0 live); inside = λ p none. stand.inside p 0 (omega (arith, none)) }
 
 -- no target is for nothing
@@ -44,7 +44,7 @@ copies_same s sectors c e same copies = record {
 
 -- ---- targets that are written
 
-module _ (s t : State) (number : ℕ) (gone : ℕ → Bool) (on takes : List ℕ) (xs : List Target) (x : Seen) (kept : LogKept s number gone x)
+module _ (s t : State) (number : ℕ) (gone : ℕ → Bool) (on takes : List ℕ) (xs : List Target) (x : RackView) (kept : LogInvariant s number gone x)
     (brings : BringsTo s t number x xs on takes) (all : t ≡ s → (p : ℕ) → is_current s p ≡ true → gone p ≡ false) (c : Image) (stand : StatesStand xs x c) where
   abbrev e : Image
   e = put x.sectors xs c
@@ -131,7 +131,7 @@ module _ (s t : State) (number : ℕ) (gone : ℕ → Bool) (on takes : List ℕ
 -- ---- between commits
 
 -- Where each current place is left, contents whose copies are held have all of them.
-pub held_copies : (s : State) (number : ℕ) (gone : ℕ → Bool) (x : Seen) (c : Image) → LogKept s number gone x
+pub held_copies : (s : State) (number : ℕ) (gone : ℕ → Bool) (x : RackView) (c : Image) → LogInvariant s number gone x
     → ((p : ℕ) → is_current s p ≡ true → gone p ≡ false) → StatesStand [] x c → CopiesIn s x.sectors c
 unfolding look
 held_copies s number gone x c kept all stand =
@@ -139,7 +139,7 @@ held_copies s number gone x c kept all stand =
     (put_copies s s number gone [] [] [] x kept (brings_to s s number x [] [] (brings_none s)) (λ same. all) c stand)
 
 -- where nobody has gone all copies are there, and nothing is pending
-pub kept_holds : (s : State) (number : ℕ) (x : Seen) → LogKept s number (λ p. false) x → HoldsCopies s x
+pub kept_holds : (s : State) (number : ℕ) (x : RackView) → LogInvariant s number (λ p. false) x → HoldsCopies s x
 kept_holds s number x kept =
     let gone : ℕ → Bool = λ p. false in
     record {
@@ -153,7 +153,7 @@ kept_holds s number x kept =
     }
 
 -- no place has a later copy
-pub kept_latest : (s : State) (number : ℕ) (gone : ℕ → Bool) (x : Seen) (c : Image) → LogKept s number gone x → LogsStand x c → NoneLater s c
+pub kept_latest : (s : State) (number : ℕ) (gone : ℕ → Bool) (x : RackView) (c : Image) → LogInvariant s number gone x → LogsStand x c → NoneLater s c
 kept_latest s number gone x c kept logs q copy few is = elim (cases_lt 0 (x.sectors (log_slice q))) [
   | inl there ↦ kept.copies.others q (c (log_slice q) 0) copy few there (logs.picks q 0 (kept.logs q 0 few there)) is
   | inr none ↦ absurd (nothing_decodes copy (ap decoded (sym (logs.inside q 0 none)) ∙ is))
@@ -164,8 +164,8 @@ pub says_by : (s : State) (sectors : ℕ → ℕ) (r : Image) (p : ℕ) → Copi
 says_by s sectors r p copies few current there = state_by_copies s r p copies.others few (copies.own p current there)
 
 -- what a stop leaves then
-pub kept_says : (s : State) (number : ℕ) (gone : ℕ → Bool) (x : Seen) (c : Image) (p : ℕ) → LogKept s number gone x → HoldsCopies s x
-    → is_current s p ≡ true → gone p ≡ false → Stands x c → SaysState s x.sectors c
+pub kept_says : (s : State) (number : ℕ) (gone : ℕ → Bool) (x : RackView) (c : Image) (p : ℕ) → LogInvariant s number gone x → HoldsCopies s x
+    → is_current s p ≡ true → gone p ≡ false → Stands x c → RecoversTo s x.sectors c
 kept_says s number gone x c p kept holds current left stand =
     let logs = logs_of c stand in
     record {
@@ -181,7 +181,7 @@ kept_says s number gone x c p kept holds current left stand =
     }
 
 -- calls that bring no value keep the copies
-pub holds_keeps : (s : State) (a b : Seen) → a.lasting → Stays a b → KeepsAll a b → HoldsCopies s a → HoldsCopies s b
+pub holds_keeps : (s : State) (a b : RackView) → a.lasting → SameRack a b → KeepsAll a b → HoldsCopies s a → HoldsCopies s b
 holds_keeps s a b lasting stays keeps holds = record {
   copies = λ c stand.
       subst (λ (n : ℕ → ℕ). CopiesIn s n (replayed n c)) (sym (λ i d. stays.sectors d i)) (holds.copies c (stands_before lasting stays keeps c stand));

@@ -6,7 +6,7 @@ use Rattle.std.specs.Option.{option_map_or}
 use Rattle.std.specs.List.{list_any}
 use Rattle.std.specs.Result.{result_ok}
 use Rattle.rack.specs.Values.{MayLeave}
-use Rattle.rack.specs.Seen.{Image, Seen, IsLive, Stays}
+use Rattle.rack.specs.Seen.{Image, RackView, IsLive, SameRack}
 use Rattle.rack.specs.Targets.{Target, look, put}
 use Rattle.pool_state.specs.declared.contents.Copied.{Copied}
 use Rattle.pool_state.specs.declared.contents.State.{State}
@@ -19,12 +19,12 @@ use Rattle.array_image.specs.Left.{IsInside, Picks}
 use Rattle.log_laws.specs.View.{LogView, names, is_left}
 use Rattle.log_laws.specs.Standing.{LogsStand, StatesStand, deciding, IsReady, SomeoneDecides, IsLogPart, IsAlike}
 use Rattle.log_laws.specs.Commits.{Stands}
-use Rattle.log_laws.specs.Kept.{IsCopyOf, IsNoLater, CopiesStand, LogKept, AreLeft, Brings, BringsTo, MayJoin}
+use Rattle.log_laws.specs.Kept.{IsCopyOf, IsNoLater, CopiesStand, LogInvariant, AreLeft, CarriesState, BringsTo, MayJoin}
 use Rattle.log_laws.proofs.Copies.{state_by_copies, nothing_decodes}
 
 -- ---- sectors that can be called
 
-pub live_on : {a b : Seen} {d t : ℕ} → a.lasting → Stays a b → IsLive a a d t → IsLive a b d t
+pub live_on : {a b : RackView} {d t : ℕ} → a.lasting → SameRack a b → IsLive a a d t → IsLive a b d t
 live_on {a} {b} {d} {t} lasting stays live =
     record {
       disk = subst (λ n. d < n) (sym stays.disks) live.disk;
@@ -33,7 +33,7 @@ live_on {a} {b} {d} {t} lasting stays live =
       unspent = stays.lasts lasting d t live.unspent;
     }
 
-pub live_after : {a b : Seen} {d t : ℕ} → Stays a b → IsLive a b d t → IsLive b b d t
+pub live_after : {a b : RackView} {d t : ℕ} → SameRack a b → IsLive a b d t → IsLive b b d t
 live_after {a} {b} {d} {t} stays live =
     record { disk = live.disk; sector = live.sector; is_told = stays.told d live.is_told; unspent = live.unspent }
 
@@ -69,10 +69,10 @@ put_none sectors xs c d t none =
 IsOld : State → Image → ℕ → Type 0
 IsOld s c q = (copy : Copied) → decoded (c (log_slice q) 0) ≡ Ok copy → IsNoLater s copy
 
-abbrev pub LogsLive : Seen → Type 0
+abbrev pub LogsLive : RackView → Type 0
 LogsLive x = (p t : ℕ) → p < 16 → t < x.sectors (log_slice p) → IsLive x x (log_slice p) t
 
-old_or_new : (s t : State) (number : ℕ) (gone : ℕ → Bool) (on takes : List ℕ) (xs : List Target) (x : Seen) (c : Image) (q : ℕ)
+old_or_new : (s t : State) (number : ℕ) (gone : ℕ → Bool) (on takes : List ℕ) (xs : List Target) (x : RackView) (c : Image) (q : ℕ)
     → LogsLive x → CopiesStand s gone x → BringsTo s t number x xs on takes → StatesStand xs x c → q < 16
     → IsOld s c q ⊎ IsCopyOf t q (c (log_slice q) 0)
 unfolding IsOld
@@ -115,7 +115,7 @@ pub later_yet : (s t : State) (copy : Copied) → s.epoch < t.epoch → IsNoLate
 later_yet s t copy later (inl lower) = inl (omega arith)
 later_yet s t copy later (inr same) = let e = ap (λ (u : State). u.epoch) same in inl (omega arith)
 
-pub epoch_up : (s t : State) (number : ℕ) (x : Seen) (xs : List Target) (on takes : List ℕ) → BringsTo s t number x xs on takes
+pub epoch_up : (s t : State) (number : ℕ) (x : RackView) (xs : List Target) (on takes : List ℕ) → BringsTo s t number x xs on takes
     → (t ≡ s) ⊎ (s.epoch < t.epoch)
 epoch_up s t number x xs on takes brings = elim brings.either [ inl same ↦ inl same.0 | inr later ↦ inr later.0 ]
 
@@ -142,7 +142,7 @@ abbrev pub NoneLater : State → Image → Type 0
 NoneLater s c = (q : ℕ) (copy : Copied) → q < 16 → decoded (c (log_slice q) 0) ≡ Ok copy → IsNoLater s copy
 
 -- A stop in a commit leaves the state from before or the new one, where a place that is left has both, and no later copy.
-pub stands_latest : (s t : State) (number : ℕ) (gone : ℕ → Bool) (on takes : List ℕ) (xs : List Target) (x : Seen) (c : Image) (p : ℕ)
+pub stands_latest : (s t : State) (number : ℕ) (gone : ℕ → Bool) (on takes : List ℕ) (xs : List Target) (x : RackView) (c : Image) (p : ℕ)
     → LogsLive x → CopiesStand s gone x → BringsTo s t number x xs on takes → StatesStand xs x c
     → p < 16 → 0 < x.sectors (log_slice p) → is_current s p ≡ true → gone p ≡ false
     → ((state_in c ≡ Some s) × NoneLater s c) ⊎ ((state_in c ≡ Some t) × NoneLater t c)
@@ -170,7 +170,7 @@ stands_latest s t number gone on takes xs x c p logs copies brings stand few the
           ]
     ]
 
-stands_as : (s t : State) (number : ℕ) (gone : ℕ → Bool) (on takes : List ℕ) (xs : List Target) (x : Seen) (c : Image) (p : ℕ)
+stands_as : (s t : State) (number : ℕ) (gone : ℕ → Bool) (on takes : List ℕ) (xs : List Target) (x : RackView) (c : Image) (p : ℕ)
     → LogsLive x → CopiesStand s gone x → BringsTo s t number x xs on takes → StatesStand xs x c
     → p < 16 → 0 < x.sectors (log_slice p) → is_current s p ≡ true → gone p ≡ false
     → (state_in c ≡ Some s) ⊎ (state_in c ≡ Some t)
@@ -180,7 +180,7 @@ stands_as s t number gone on takes xs x c p logs copies brings stand few there c
 -- nothing to bring
 pub brings_nothing : (s : State) (gone : ℕ → Bool) (xs : List Target) (on : List ℕ)
     → AreLeft s gone on → ((p : ℕ) → list_any (λ x. place_of x.disk == p) xs ≡ true → names on p ≡ true)
-    → ((p : ℕ) → look xs (log_slice p) 0 ≡ None) → Brings s s xs on
+    → ((p : ℕ) → look xs (log_slice p) 0 ≡ None) → CarriesState s s xs on
 brings_nothing s gone xs on are_left inside none =
     record {
       current = λ p is. is;
@@ -190,7 +190,7 @@ brings_nothing s gone xs on are_left inside none =
     }
 
 -- no target, on no place
-pub brings_none : (s : State) → Brings s s [] []
+pub brings_none : (s : State) → CarriesState s s [] []
 unfolding look
 brings_none s =
     record {
@@ -201,7 +201,7 @@ brings_none s =
     }
 
 -- no place joins
-pub brings_to : (s t : State) (number : ℕ) (x : Seen) (xs : List Target) (on : List ℕ) → Brings s t xs on → BringsTo s t number x xs on on
+pub brings_to : (s t : State) (number : ℕ) (x : RackView) (xs : List Target) (on : List ℕ) → CarriesState s t xs on → BringsTo s t number x xs on on
 brings_to s t number x xs on brings =
     record {
       current = λ p is. inl (brings.current p is);
@@ -216,8 +216,8 @@ brings_to s t number x xs on brings =
     }
 
 -- what a stop leaves of the log slices has the state
-pub kept_state : (s : State) (number : ℕ) (gone : ℕ → Bool) (x : Seen) (c : Image) (p : ℕ)
-    → LogKept s number gone x → LogsStand x c → is_current s p ≡ true → gone p ≡ false → state_in c ≡ Some s
+pub kept_state : (s : State) (number : ℕ) (gone : ℕ → Bool) (x : RackView) (c : Image) (p : ℕ)
+    → LogInvariant s number gone x → LogsStand x c → is_current s p ≡ true → gone p ≡ false → state_in c ≡ Some s
 unfolding look
 kept_state s number gone x c p kept stand current left =
     elim (stands_as s s number gone [] [] [] x c p kept.logs kept.copies (brings_to s s number x [] [] (brings_none s))
@@ -225,8 +225,8 @@ kept_state s number gone x c p kept stand current left =
     (kept.few p current) (kept.there p current left) current left) [ inl is ↦ is | inr is ↦ is ]
 
 -- and so do its contents once they are replayed
-pub kept_replayed : (s : State) (number : ℕ) (gone : ℕ → Bool) (x : Seen) (c : Image) (p : ℕ)
-    → LogKept s number gone x → Stands x c → is_current s p ≡ true → gone p ≡ false → state_in (replayed x.sectors c) ≡ Some s
+pub kept_replayed : (s : State) (number : ℕ) (gone : ℕ → Bool) (x : RackView) (c : Image) (p : ℕ)
+    → LogInvariant s number gone x → Stands x c → is_current s p ≡ true → gone p ≡ false → state_in (replayed x.sectors c) ≡ Some s
 kept_replayed s number gone x c p kept stand current left =
     let few = kept.few p current in
     let quiet : replayed x.sectors c (log_slice p) 0 ≡ c (log_slice p) 0 = kept.quiet c stand (log_slice p) 0 (ap gone (place_of_log p) ∙ left) in
@@ -243,7 +243,7 @@ kept_replayed s number gone x c p kept stand current left =
     (kept.copies.own p (c (log_slice p) 0) current left (stand.picks (log_slice p) 0 (kept.logs p 0 few (kept.there p current left)))))
 
 -- with all targets written, contents have the state that these bring
-pub joined_state : (s t : State) (number : ℕ) (gone : ℕ → Bool) (on takes : List ℕ) (xs : List Target) (x : Seen) (c : Image) (p : ℕ)
+pub joined_state : (s t : State) (number : ℕ) (gone : ℕ → Bool) (on takes : List ℕ) (xs : List Target) (x : RackView) (c : Image) (p : ℕ)
     → LogsLive x → CopiesStand s gone x → BringsTo s t number x xs on takes → Stands x c
     → p < 16 → 0 < x.sectors (log_slice p) → is_current s p ≡ true → gone p ≡ false → is_current t p ≡ true
     → state_in (put x.sectors xs c) ≡ Some t
@@ -274,8 +274,8 @@ joined_state s t number gone on takes xs x c p logs copies brings stand few ther
     put_picks q live None is true = inl (stand.picks (log_slice q) 0 live)
     put_picks q live (Some w) is true = inr is
 
-pub brought_state : (s t : State) (gone : ℕ → Bool) (on : List ℕ) (xs : List Target) (x : Seen) (c : Image) (p : ℕ)
-    → LogsLive x → CopiesStand s gone x → Brings s t xs on → Stands x c
+pub brought_state : (s t : State) (gone : ℕ → Bool) (on : List ℕ) (xs : List Target) (x : RackView) (c : Image) (p : ℕ)
+    → LogsLive x → CopiesStand s gone x → CarriesState s t xs on → Stands x c
     → p < 16 → 0 < x.sectors (log_slice p) → is_current s p ≡ true → gone p ≡ false → is_current t p ≡ true
     → state_in (put x.sectors xs c) ≡ Some t
 brought_state s t gone on xs x c p logs copies brings =
@@ -284,7 +284,7 @@ brought_state s t gone on xs x c p logs copies brings =
 -- ---- before a commit
 
 -- a current place of either state was one of the old state, or joins
-current_before : (s t : State) (number : ℕ) (x : Seen) (xs : List Target) (on takes : List ℕ) (c : Image) (p : ℕ) (u : State)
+current_before : (s t : State) (number : ℕ) (x : RackView) (xs : List Target) (on takes : List ℕ) (c : Image) (p : ℕ) (u : State)
     → BringsTo s t number x xs on takes → (state_in c ≡ Some s) ⊎ (state_in c ≡ Some t) → state_in c ≡ Some u → is_current u p ≡ true
     → (is_current s p ≡ true) ⊎ MayJoin number x p
 current_before s t number x xs on takes c p u brings (inl is) state current =
@@ -293,8 +293,8 @@ current_before s t number x xs on takes c p u brings (inr is) state current =
     brings.current p (subst (λ (v : State). is_current v p ≡ true) (ap (λ o. unwrap_or o s) (sym state ∙ is)) current)
 
 -- the log has what a commit needs, where a place is left
-pub joined_ready : (s t : State) (gone : ℕ → Bool) (l : LogView) (on takes : List ℕ) (x : Seen) (p : ℕ)
-    → LogKept s l.number gone x → BringsTo s t l.number x l.added on takes
+pub joined_ready : (s t : State) (gone : ℕ → Bool) (l : LogView) (on takes : List ℕ) (x : RackView) (p : ℕ)
+    → LogInvariant s l.number gone x → BringsTo s t l.number x l.added on takes
     → l.number < 2 ^ 63 - 1 → x.lasting
     → ((d u : ℕ) (v : List ℕ) → look l.added d u ≡ Some v → IsLive x x d u)
     → is_current s p ≡ true → gone p ≡ false
@@ -314,8 +314,8 @@ joined_ready s t gone l on takes x p kept brings room lasting targets current le
       halves = λ c stand a is named. kept.halves c stand a is;
     }
 
-pub kept_ready : (s t : State) (gone : ℕ → Bool) (l : LogView) (on : List ℕ) (x : Seen) (p : ℕ)
-    → LogKept s l.number gone x → Brings s t l.added on
+pub kept_ready : (s t : State) (gone : ℕ → Bool) (l : LogView) (on : List ℕ) (x : RackView) (p : ℕ)
+    → LogInvariant s l.number gone x → CarriesState s t l.added on
     → l.number < 2 ^ 63 - 1 → x.lasting
     → ((d u : ℕ) (v : List ℕ) → look l.added d u ≡ Some v → IsLive x x d u)
     → is_current s p ≡ true → gone p ≡ false
@@ -323,8 +323,8 @@ pub kept_ready : (s t : State) (gone : ℕ → Bool) (l : LogView) (on : List �
 kept_ready s t gone l on x p kept brings = joined_ready s t gone l on on x p kept (brings_to s t l.number x l.added on brings)
 
 -- and a place of the commit that is left and current by the new state decides at each stop
-pub joined_decides : (s t : State) (number : ℕ) (gone : ℕ → Bool) (xs : List Target) (on takes lost : List ℕ) (x : Seen) (p : ℕ)
-    → LogKept s number gone x → BringsTo s t number x xs on takes → AreLeft s gone on
+pub joined_decides : (s t : State) (number : ℕ) (gone : ℕ → Bool) (xs : List Target) (on takes lost : List ℕ) (x : RackView) (p : ℕ)
+    → LogInvariant s number gone x → BringsTo s t number x xs on takes → AreLeft s gone on
     → is_left on lost p ≡ true → is_current t p ≡ true
     → SomeoneDecides xs on lost x
 joined_decides s t number gone xs on takes lost x p kept brings are_left is current c stand =
@@ -340,16 +340,16 @@ joined_decides s t number gone xs on takes lost x p kept brings are_left is curr
     not_true false is = refl
     not_true true is = absurd (both_ways false refl is)
 
-pub kept_decides : (s t : State) (number : ℕ) (gone : ℕ → Bool) (xs : List Target) (on lost : List ℕ) (x : Seen) (p : ℕ)
-    → LogKept s number gone x → Brings s t xs on → AreLeft s gone on
+pub kept_decides : (s t : State) (number : ℕ) (gone : ℕ → Bool) (xs : List Target) (on lost : List ℕ) (x : RackView) (p : ℕ)
+    → LogInvariant s number gone x → CarriesState s t xs on → AreLeft s gone on
     → is_left on lost p ≡ true → is_current t p ≡ true
     → SomeoneDecides xs on lost x
 kept_decides s t number gone xs on lost x p kept brings =
     joined_decides s t number gone xs on on lost x p kept (brings_to s t number x xs on brings)
 
 -- nothing is pending where each current place is left
-pub kept_idle : (s : State) (number : ℕ) (gone : ℕ → Bool) (x : Seen) (c : Image)
-    → LogKept s number gone x → LogsStand x c → ((p : ℕ) → is_current s p ≡ true → gone p ≡ false)
+pub kept_idle : (s : State) (number : ℕ) (gone : ℕ → Bool) (x : RackView) (c : Image)
+    → LogInvariant s number gone x → LogsStand x c → ((p : ℕ) → is_current s p ≡ true → gone p ≡ false)
     → pending (deciding c) c ≡ []
 kept_idle s number gone x c kept stand all =
     elim (kept.idle c stand) [
@@ -360,14 +360,14 @@ kept_idle s number gone x c kept stand all =
 -- ---- contents outside the log slices
 
 -- contents that a stop may leave
-pub stands_of : {x : Seen} (c : Image) → Picks x c → Stands x c
+pub stands_of : {x : RackView} (c : Image) → Picks x c → Stands x c
 stands_of c picks = record { picks = picks.picks; inside = λ p t out. picks.inside (log_slice p) t out }
 
 log_of_place : (d : ℕ) → slice_of d ≡ 0 → d ≡ log_slice (place_of d)
 log_of_place d is = omega arith
 
 -- where a commit comes to in contents with nothing outside the slices, its contents from before have nothing there either
-pub before_inside : (xs : List Target) (a : Seen) (c before : Image)
+pub before_inside : (xs : List Target) (a : RackView) (c before : Image)
     → IsInside a.sectors c → Stands a before
     → (IsAlike (replayed a.sectors c) (replayed a.sectors before) ⊎ IsAlike (replayed a.sectors c) (put a.sectors xs before))
     → Picks a before

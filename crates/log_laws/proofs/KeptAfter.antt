@@ -4,7 +4,7 @@ use Rattle.std.proofs.lemmas.Bool.{and_parts, both_ways, cases_Bool}
 use Rattle.std.proofs.lemmas.Option.{none-some}
 use Rattle.std.specs.Option.{option_map_or}
 use Rattle.rack.specs.Values.{MayLeave}
-use Rattle.rack.specs.Seen.{Image, Seen, IsLive, Stays}
+use Rattle.rack.specs.Seen.{Image, RackView, IsLive, SameRack}
 use Rattle.rack.specs.Calls.{KeepsAll}
 use Rattle.rack.specs.Targets.{Target, look}
 use Rattle.pool_state.specs.declared.contents.Copied.{Copied}
@@ -17,11 +17,11 @@ use Rattle.array_image.specs.Arrays.{replayed}
 use Rattle.log_laws.specs.View.{LogView, names, next_number}
 use Rattle.log_laws.specs.Standing.{LogsStand, deciding, IsNumbered, IsReady, SomeoneDecides, IsLogPart}
 use Rattle.log_laws.specs.Commits.{Stands, CommitCall}
-use Rattle.log_laws.specs.Kept.{IsCopyOf, IsNoLater, CopiesStand, HasClosedGate, LogKept, AreLeft, gone_but, gone_with, Brings, BringsTo}
+use Rattle.log_laws.specs.Kept.{IsCopyOf, IsNoLater, CopiesStand, HasClosedGate, LogInvariant, AreLeft, gone_but, gone_with, CarriesState, BringsTo}
 use Rattle.log_laws.proofs.Kept.{live_on, live_after, LogsLive, place_of_log, epoch_up, later_yet, copy_state, brings_to}
 
 -- what stood before a call of the log may be called after it
-pub logs_after : {a b : Seen} → a.lasting → Stays a b → LogsLive a → (p t : ℕ) → p < 16 → t < b.sectors (log_slice p) → IsLive b b (log_slice p) t
+pub logs_after : {a b : RackView} → a.lasting → SameRack a b → LogsLive a → (p t : ℕ) → p < 16 → t < b.sectors (log_slice p) → IsLive b b (log_slice p) t
 logs_after {a} {b} lasting stays logs p t few inside =
     live_after stays (live_on lasting stays (logs p t few (subst (λ n. t < n) (stays.sectors (log_slice p)) inside)))
 
@@ -40,7 +40,7 @@ on_left s gone on p are_left named = not_true (gone p) (and_parts (is_current s 
     not_true true is = absurd (both_ways false refl is)
 
 -- the copies that a commit leaves on a place
-copies_after : (s t : State) (gone : ℕ → Bool) (l : LogView) (on takes lost : List ℕ) (a b : Seen) (p : ℕ) (u : List ℕ)
+copies_after : (s t : State) (gone : ℕ → Bool) (l : LogView) (on takes lost : List ℕ) (a b : RackView) (p : ℕ) (u : List ℕ)
     → CommitCall l on lost a b → LogsLive a → a.lasting → CopiesStand s gone a → BringsTo s t l.number a l.added on takes
     → p < 16 → 0 < a.sectors (log_slice p) → MayLeave (b.held (log_slice p) 0) u
     → MayLeave (a.held (log_slice p) 0) u ⊎ IsCopyOf t p u
@@ -61,7 +61,7 @@ copies_after s t gone l on takes lost a b p u commit logs lasting copies brings 
     ]
 
 -- a current place that hadn't gone, or takes a copy, has its log slice
-log_of : (s t : State) (gone : ℕ → Bool) (l : LogView) (on takes : List ℕ) (a : Seen) (p : ℕ) → LogKept s l.number gone a → BringsTo s t l.number a l.added on takes
+log_of : (s t : State) (gone : ℕ → Bool) (l : LogView) (on takes : List ℕ) (a : RackView) (p : ℕ) → LogInvariant s l.number gone a → BringsTo s t l.number a l.added on takes
     → AreLeft s gone on → is_current t p ≡ true → (gone p ≡ false) ⊎ (names takes p ≡ true) → (p < 16) × (0 < a.sectors (log_slice p))
 log_of s t gone l on takes a p kept brings are_left current left =
     elim (brings.current p current) [
@@ -76,19 +76,19 @@ log_of s t gone l on takes a p kept brings are_left current left =
     ]
 
 -- it is one of the 16
-few_of : (s t : State) (gone : ℕ → Bool) (l : LogView) (on takes : List ℕ) (a : Seen) (p : ℕ) → LogKept s l.number gone a → BringsTo s t l.number a l.added on takes
+few_of : (s t : State) (gone : ℕ → Bool) (l : LogView) (on takes : List ℕ) (a : RackView) (p : ℕ) → LogInvariant s l.number gone a → BringsTo s t l.number a l.added on takes
     → is_current t p ≡ true → p < 16
 few_of s t gone l on takes a p kept brings current = elim (brings.current p current) [ inl was ↦ kept.few p was | inr joins ↦ joins.few ]
 
 -- and its gate has no greater number than the log's
-numbered_of : (s t : State) (gone : ℕ → Bool) (l : LogView) (on takes : List ℕ) (a : Seen) (p : ℕ) → LogKept s l.number gone a → BringsTo s t l.number a l.added on takes
+numbered_of : (s t : State) (gone : ℕ → Bool) (l : LogView) (on takes : List ℕ) (a : RackView) (p : ℕ) → LogInvariant s l.number gone a → BringsTo s t l.number a l.added on takes
     → is_current t p ≡ true → gate_sector < a.sectors (log_slice p) → IsNumbered l.number a p
 numbered_of s t gone l on takes a p kept brings current there =
     elim (brings.current p current) [ inl was ↦ kept.numbers p was there | inr joins ↦ joins.numbered ]
 
 -- those of a place that is left
-own_after : (s t : State) (gone : ℕ → Bool) (l : LogView) (on takes lost : List ℕ) (a b : Seen) (p : ℕ) (u : List ℕ)
-    → CommitCall l on lost a b → LogKept s l.number gone a → a.lasting → BringsTo s t l.number a l.added on takes
+own_after : (s t : State) (gone : ℕ → Bool) (l : LogView) (on takes lost : List ℕ) (a b : RackView) (p : ℕ) (u : List ℕ)
+    → CommitCall l on lost a b → LogInvariant s l.number gone a → a.lasting → BringsTo s t l.number a l.added on takes
     → AreLeft s gone on → is_current t p ≡ true → (gone p ≡ false) ⊎ (names takes p ≡ true) → names lost p ≡ false → MayLeave (b.held (log_slice p) 0) u
     → IsCopyOf t p u
 own_after s t gone l on takes lost a b p u commit kept lasting brings are_left current left stays left_now =
@@ -108,7 +108,7 @@ own_after s t gone l on takes lost a b p u commit kept lasting brings are_left c
     ]
 
 -- replaying changes nothing on a place that is left
-quiet_after : (s t : State) (gone : ℕ → Bool) (l : LogView) (on lost : List ℕ) (a b : Seen) (c : Image) (d u : ℕ)
+quiet_after : (s t : State) (gone : ℕ → Bool) (l : LogView) (on lost : List ℕ) (a b : RackView) (c : Image) (d u : ℕ)
     → CommitCall l on lost a b → IsReady l on a → SomeoneDecides l.added on lost a
     → Stands b c → names lost (place_of d) ≡ false → replayed b.sectors c d u ≡ c d u
 unfolding replayed look
@@ -133,8 +133,8 @@ quiet_after s t gone l on lost a b c d u commit ready someone stand stays =
         sym (commit.written d u w (c d u) over stays is (stand.picks d u (live_after commit.stays over)))
 
 -- no copy that a commit leaves is later than the state that it brings
-others_after : (s t : State) (gone : ℕ → Bool) (l : LogView) (on takes lost : List ℕ) (a b : Seen) (p : ℕ) (u : List ℕ) (copy : Copied)
-    → CommitCall l on lost a b → LogKept s l.number gone a → BringsTo s t l.number a l.added on takes → a.lasting
+others_after : (s t : State) (gone : ℕ → Bool) (l : LogView) (on takes lost : List ℕ) (a b : RackView) (p : ℕ) (u : List ℕ) (copy : Copied)
+    → CommitCall l on lost a b → LogInvariant s l.number gone a → BringsTo s t l.number a l.added on takes → a.lasting
     → p < 16 → 0 < b.sectors (log_slice p) → MayLeave (b.held (log_slice p) 0) u → decoded u ≡ Ok copy → IsNoLater t copy
 others_after s t gone l on takes lost a b p u copy commit kept brings lasting few there left is =
     let before : 0 < a.sectors (log_slice p) = subst (λ n. 0 < n) (commit.stays.sectors (log_slice p)) there in
@@ -149,8 +149,8 @@ others_after s t gone l on takes lost a b p u copy commit kept brings lasting fe
     ]
 
 -- and those of a place that isn't current by it are earlier
-earlier_after : (s t : State) (gone : ℕ → Bool) (l : LogView) (on takes lost : List ℕ) (a b : Seen) (p : ℕ) (u : List ℕ) (copy : Copied)
-    → CommitCall l on lost a b → LogKept s l.number gone a → BringsTo s t l.number a l.added on takes → a.lasting
+earlier_after : (s t : State) (gone : ℕ → Bool) (l : LogView) (on takes lost : List ℕ) (a b : RackView) (p : ℕ) (u : List ℕ) (copy : Copied)
+    → CommitCall l on lost a b → LogInvariant s l.number gone a → BringsTo s t l.number a l.added on takes → a.lasting
     → p < 16 → is_current t p ≡ false → 0 < b.sectors (log_slice p) → MayLeave (b.held (log_slice p) 0) u → decoded u ≡ Ok copy → copy.state.epoch < t.epoch
 earlier_after s t gone l on takes lost a b p u copy commit kept brings lasting few former there left is =
     let before : 0 < a.sectors (log_slice p) = subst (λ n. 0 < n) (commit.stays.sectors (log_slice p)) there in
@@ -172,8 +172,8 @@ earlier_after s t gone l on takes lost a b p u copy commit kept brings lasting f
     lower s t copy later (inr same) = let e = ap (λ (v : State). v.epoch) same in omega (arith, later, e)
 
 -- nor is one that its replay brings
-brought_after : (s t : State) (gone : ℕ → Bool) (l : LogView) (on takes lost : List ℕ) (a b : Seen) (c : Image) (p : ℕ) (copy : Copied)
-    → CommitCall l on lost a b → LogKept s l.number gone a → BringsTo s t l.number a l.added on takes
+brought_after : (s t : State) (gone : ℕ → Bool) (l : LogView) (on takes lost : List ℕ) (a b : RackView) (c : Image) (p : ℕ) (copy : Copied)
+    → CommitCall l on lost a b → LogInvariant s l.number gone a → BringsTo s t l.number a l.added on takes
     → IsReady l on a → SomeoneDecides l.added on lost a
     → Stands b c → p < 16 → 0 < b.sectors (log_slice p) → decoded (replayed b.sectors c (log_slice p) 0) ≡ Ok copy → IsNoLater t copy
 unfolding replayed look
@@ -213,7 +213,7 @@ brought_after s t gone l on takes lost a b c p copy commit kept brings ready som
         ]
 
 -- where somebody went, a current place has gone
-one_gone : (s t : State) (gone : ℕ → Bool) (l : LogView) (on takes lost : List ℕ) (a b : Seen) → CommitCall l on lost a b → BringsTo s t l.number a l.added on takes
+one_gone : (s t : State) (gone : ℕ → Bool) (l : LogView) (on takes lost : List ℕ) (a b : RackView) → CommitCall l on lost a b → BringsTo s t l.number a l.added on takes
     → (places : List ℕ) → places ≡ lost → (places ≡ [] → ⊥) → (p : ℕ) × (is_current t p ≡ true) × (gone_but gone takes lost p ≡ true)
 one_gone s t gone l on takes lost a b commit brings [] is some = absurd (some refl)
 one_gone s t gone l on takes lost a b commit brings (p ∷ others) is some =
@@ -228,8 +228,8 @@ one_gone s t gone l on takes lost a b commit brings (p ∷ others) is some =
     or_true false c is = is
 
 -- where each place is left the gates of current ones are closed: those of the commit by it, and those of places that join before it
-closed_after : (s t : State) (gone : ℕ → Bool) (l : LogView) (on takes lost : List ℕ) (a b : Seen) (p : ℕ)
-    → CommitCall l on lost a b → LogKept s l.number gone a → BringsTo s t l.number a l.added on takes → AreLeft s gone on → a.lasting
+closed_after : (s t : State) (gone : ℕ → Bool) (l : LogView) (on takes lost : List ℕ) (a b : RackView) (p : ℕ)
+    → CommitCall l on lost a b → LogInvariant s l.number gone a → BringsTo s t l.number a l.added on takes → AreLeft s gone on → a.lasting
     → ((q : ℕ) → is_current t q ≡ true → gone_but gone takes lost q ≡ false) → is_current t p ≡ true → gate_sector < a.sectors (log_slice p)
     → HasClosedGate b p
 closed_after s t gone l on takes lost a b p commit kept brings are_left lasting all current there v g left is =
@@ -254,10 +254,10 @@ closed_after s t gone l on takes lost a b p commit kept brings are_left lasting 
         absurd (both_ways (gone_but gone takes lost one.0) (all one.0 one.1) one.2)
 
 -- A commit leaves what the next one needs, for the state that it brings and without the places that went in it.
-pub joined_after : (s t : State) (gone : ℕ → Bool) (l : LogView) (on takes lost : List ℕ) (a b : Seen)
-    → CommitCall l on lost a b → LogKept s l.number gone a → BringsTo s t l.number a l.added on takes → AreLeft s gone on
+pub joined_after : (s t : State) (gone : ℕ → Bool) (l : LogView) (on takes lost : List ℕ) (a b : RackView)
+    → CommitCall l on lost a b → LogInvariant s l.number gone a → BringsTo s t l.number a l.added on takes → AreLeft s gone on
     → IsReady l on a → SomeoneDecides l.added on lost a
-    → LogKept t (next_number l.number) (gone_but gone takes lost) b
+    → LogInvariant t (next_number l.number) (gone_but gone takes lost) b
 joined_after s t gone l on takes lost a b commit kept brings are_left ready someone =
     record {
       logs = logs_after ready.lasting commit.stays kept.logs;
@@ -302,18 +302,18 @@ gone_none gone takes lost none = λ i p. same (gone p) (names takes p) (names lo
     same true true went none = absurd (both_ways true (none refl) refl)
 
 -- so it is where no place joins
-pub kept_after : (s t : State) (gone : ℕ → Bool) (l : LogView) (on lost : List ℕ) (a b : Seen)
-    → CommitCall l on lost a b → LogKept s l.number gone a → Brings s t l.added on → AreLeft s gone on
+pub kept_after : (s t : State) (gone : ℕ → Bool) (l : LogView) (on lost : List ℕ) (a b : RackView)
+    → CommitCall l on lost a b → LogInvariant s l.number gone a → CarriesState s t l.added on → AreLeft s gone on
     → IsReady l on a → SomeoneDecides l.added on lost a
-    → LogKept t (next_number l.number) (gone_with gone lost) b
+    → LogInvariant t (next_number l.number) (gone_with gone lost) b
 kept_after s t gone l on lost a b commit kept brings are_left ready someone =
-    subst (λ g. LogKept t (next_number l.number) g b) (gone_none gone on lost (λ p named. on_left s gone on p are_left named))
+    subst (λ g. LogInvariant t (next_number l.number) g b) (gone_none gone on lost (λ p named. on_left s gone on p are_left named))
     (joined_after s t gone l on on lost a b commit kept (brings_to s t l.number a l.added on brings) are_left ready someone)
 
 -- ---- calls that write nothing, and losses
 
 -- contents that a stop may leave after calls that bring no value, one before them might
-pub stands_before : {a b : Seen} → a.lasting → Stays a b → KeepsAll a b → (c : Image) → Stands b c → Stands a c
+pub stands_before : {a b : RackView} → a.lasting → SameRack a b → KeepsAll a b → (c : Image) → Stands b c → Stands a c
 stands_before {a} {b} lasting stays keeps c stand =
     record {
       picks = λ d t live.
@@ -322,7 +322,7 @@ stands_before {a} {b} lasting stays keeps c stand =
       inside = λ p t out. stand.inside p t (subst (λ n. n ≤ t) (sym (stays.sectors (log_slice p))) out);
     }
 
-pub logs_before : {a b : Seen} → a.lasting → Stays a b → KeepsAll a b → (c : Image) → LogsStand b c → LogsStand a c
+pub logs_before : {a b : RackView} → a.lasting → SameRack a b → KeepsAll a b → (c : Image) → LogsStand b c → LogsStand a c
 logs_before {a} {b} lasting stays keeps c stand =
     record {
       picks = λ p t live.
@@ -332,14 +332,14 @@ logs_before {a} {b} lasting stays keeps c stand =
     }
 
 -- a value that is held after such calls was held before them
-held_before : {a b : Seen} → a.lasting → Stays a b → KeepsAll a b → LogsLive a → (p t : ℕ) (u : List ℕ) → p < 16 → t < a.sectors (log_slice p)
+held_before : {a b : RackView} → a.lasting → SameRack a b → KeepsAll a b → LogsLive a → (p t : ℕ) (u : List ℕ) → p < 16 → t < a.sectors (log_slice p)
     → MayLeave (b.held (log_slice p) t) u → MayLeave (a.held (log_slice p) t) u
 held_before lasting stays keeps logs p t u few inside left =
     (keeps.held (log_slice p) t (live_on lasting stays (logs p t few inside))).within u left
 
 -- such calls keep the log
-pub kept_keeps : (s : State) (number : ℕ) (gone : ℕ → Bool) (a b : Seen) → a.lasting → Stays a b → KeepsAll a b
-    → LogKept s number gone a → LogKept s number gone b
+pub kept_keeps : (s : State) (number : ℕ) (gone : ℕ → Bool) (a b : RackView) → a.lasting → SameRack a b → KeepsAll a b
+    → LogInvariant s number gone a → LogInvariant s number gone b
 kept_keeps s number gone a b lasting stays keeps kept =
     let sectors : b.sectors ≡ a.sectors = λ i d. stays.sectors d i in
     record {
@@ -373,8 +373,8 @@ kept_keeps s number gone a b lasting stays keeps kept =
     }
 
 -- and so does a loss that is noted
-pub kept_more : (s : State) (number : ℕ) (gone now : ℕ → Bool) (x : Seen) → ((p : ℕ) → gone p ≡ true → now p ≡ true)
-    → LogKept s number gone x → LogKept s number now x
+pub kept_more : (s : State) (number : ℕ) (gone now : ℕ → Bool) (x : RackView) → ((p : ℕ) → gone p ≡ true → now p ≡ true)
+    → LogInvariant s number gone x → LogInvariant s number now x
 kept_more s number gone now x more kept =
     record {
       logs = kept.logs;

@@ -3,7 +3,7 @@ use Rattle.std.proofs.Common.{◌≡◌, ◌⊎◌, ℕ, ◌+◌, ◌*◌, ◌<�
 use Rattle.std.proofs.lemmas.Bool.{cases_lt, cases_Bool, both_ways, le-leb, leb-true}
 use Rattle.std.proofs.lemmas.Bool.Decides.{nat_tests}
 use Rattle.std.specs.List.{list_all}
-use Rattle.rack.specs.Seen.{Seen}
+use Rattle.rack.specs.Seen.{RackView}
 use Rattle.rack.specs.Calls.{Reads}
 use Rattle.rack.specs.Sequences.{OnlyReads}
 use Rattle.rack.proofs.Reading.{unspent_before, value_then}
@@ -42,7 +42,7 @@ pub length_put : (bytes block : List ℕ) (k : ℕ) → length bytes ≡ record_
 length_put bytes block k long wide below = length-put_all record_bytes (sector_field k block) bytes long (sector_fits k block below) (wide, tt)
 
 -- one sector more
-pub read_more : {a b c : Seen} (disk first from at : ℕ) (bytes block : List ℕ) → length bytes ≡ record_bytes → length block ≡ 512 → at < 4092
+pub read_more : {a b c : RackView} (disk first from at : ℕ) (bytes block : List ℕ) → length bytes ≡ record_bytes → length block ≡ 512 → at < 4092
     → first + 4092 ≤ a.sectors disk → disk < a.disks
     → OnlyReads a b → Reads b c disk (first + at) block {X = Unit {0}} (Ok tt)
     → (a.told disk → (k : ℕ) → from ≤ k → k < at → sector_in bytes k ≡ (a.held disk (first + k)).current)
@@ -57,7 +57,7 @@ read_more {a} {b} {c} disk first from at bytes block long wide below half has re
           ∙ ap (λ j. (a.held disk (first + j)).current) (sym last)
     ]
 
-pub unspent_more : {a b c : Seen} (disk first from at : ℕ) (block : List ℕ)
+pub unspent_more : {a b c : RackView} (disk first from at : ℕ) (block : List ℕ)
     → OnlyReads a b → Reads b c disk (first + at) block {X = Unit {0}} (Ok tt)
     → ((k : ℕ) → from ≤ k → k < at → a.spent disk (first + k) ≡ false)
     → (k : ℕ) → from ≤ k → k < at + 1 → a.spent disk (first + k) ≡ false

@@ -4,7 +4,7 @@ use Rattle.std.specs.Option.{option_or}
 use Rattle.std.proofs.lemmas.Bool.{cases_lt, both_ways, and_from, and_parts, cond-true}
 use Rattle.std.proofs.lemmas.Option.{none-some, cond_some}
 use Rattle.std.proofs.lemmas.List.Folds.{list_any-append}
-use Rattle.rack.specs.Seen.{Seen, Stays}
+use Rattle.rack.specs.Seen.{RackView, SameRack}
 use Rattle.rack.specs.Targets.{Target, is_at, look}
 use Rattle.rack.specs.Sequences.{IsPayload}
 use Rattle.rack.proofs.Phases.{look-append, payload_first, payload_second}
@@ -15,7 +15,7 @@ use Rattle.log_laws.proofs.Calling.{calls_weaker, calls_none, puts_then, syncs_t
 
 -- ---- the sectors of a record
 
-pub record_then : {a b c : Seen} (on : List ℕ) (first : ℕ) (bytes : List ℕ) (i : ℕ) (went between now : ℕ → Bool)
+pub record_then : {a b c : RackView} (on : List ℕ) (first : ℕ) (bytes : List ℕ) (i : ℕ) (went between now : ℕ → Bool)
     → Puts a b (IsLogOf on (length on)) (IsOfRecord on first bytes i) (IsOfRecord on first bytes i) went between
     → Puts b c (IsLogOf on (length on)) (IsOnEach on (length on) (first + i) (sector_in bytes i)) (IsOnEach on (length on) (first + i) (sector_in bytes i)) between now
     → Puts a c (IsLogOf on (length on)) (IsOfRecord on first bytes (i + 1)) (IsOfRecord on first bytes (i + 1)) went now
@@ -95,11 +95,11 @@ wanted_target (x ∷ xs) d s v is =
     or_true true c is = refl
     or_true false c is = is
 
-had_after : {a b : Seen} (d s : ℕ) → Stays a b → IsHad a d s → IsHad b d s
+had_after : {a b : RackView} (d s : ℕ) → SameRack a b → IsHad a d s → IsHad b d s
 had_after {a} {b} d s stays had = (subst (λ n. d < n) (sym stays.disks) had.0, subst (λ n. s < n) (sym (stays.sectors d)) had.1)
 
 -- a target more is wanted: it is the last, or one before and not the last
-last_wanted : (a b : Seen) (xs : List Target) (t : Target) (d s : ℕ) (w : List ℕ) → Stays a b → IsWanted a (xs ++ t ∷ []) d s w
+last_wanted : (a b : RackView) (xs : List Target) (t : Target) (d s : ℕ) (w : List ℕ) → SameRack a b → IsWanted a (xs ++ t ∷ []) d s w
     → (IsHad b d s × IsThere t.disk t.sector t.bytes d s w)
     ⊎ (IsWanted a xs d s w × ((v : List ℕ) → IsThere t.disk t.sector t.bytes d s v → ⊥))
 unfolding look
@@ -114,7 +114,7 @@ last_wanted a b xs t d s w stays wanted =
           )
     ]
 
-pub targets_then : {a b c : Seen} (bytes : List ℕ) (count i : ℕ) (went between now : ℕ → Bool)
+pub targets_then : {a b c : RackView} (bytes : List ℕ) (count i : ℕ) (went between now : ℕ → Bool)
     → i < count
     → Puts a b (IsTargeted (targets_in bytes count)) (IsPayload (targets_in bytes i)) (IsWanted a (targets_in bytes i)) went between
     → Puts b c (λ d. d ≡ (target_in bytes i).disk) (IsThere (target_in bytes i).disk (target_in bytes i).sector (target_in bytes i).bytes)
@@ -124,7 +124,7 @@ targets_then {a} {b} {c} bytes count i went between now below one two =
     let t : Target = target_in bytes i in
     let xs : List Target = targets_in bytes i in
     let there : ℕ → ℕ → List ℕ → Type 0 = IsThere t.disk t.sector t.bytes in
-    let stays : Stays a b = one.calls.only.stays in
+    let stays : SameRack a b = one.calls.only.stays in
     let longer : targets_in bytes (i + 1) ≡ xs ++ t ∷ [] = targets_more bytes i in
     puts_then (IsTargeted (targets_in bytes count)) (IsPayload xs) (λ d s v. IsHad b d s × there d s v) (IsWanted a xs) there (IsPayload (targets_in bytes (i + 1)))
     went between now one
@@ -139,14 +139,14 @@ targets_then {a} {b} {c} bytes count i went between now below one two =
 -- ---- syncs of the slices that have targets
 
 -- a slice without one needs no sync
-pub untargeted : (a : Seen) (xs : List Target) (disk : ℕ) (went : ℕ → Bool) → a.fit → has_target xs disk ≡ false
+pub untargeted : (a : RackView) (xs : List Target) (disk : ℕ) (went : ℕ → Bool) → a.fit → has_target xs disk ≡ false
     → SyncsAll a a (IsTargeted xs) (λ d. (d ≡ disk) × IsTargeted xs d) went went
 untargeted a xs disk went fit none = record {
   calls = calls_none a (IsTargeted xs) (λ d s v. ⊥) went fit;
   done = λ d s on here live. absurd (both_ways (has_target xs disk) none (ap (has_target xs) (sym on.0) ∙ on.1));
 }
 
-pub targeted : {a b : Seen} (xs : List Target) (disk : ℕ) (went now : ℕ → Bool) → has_target xs disk ≡ true
+pub targeted : {a b : RackView} (xs : List Target) (disk : ℕ) (went now : ℕ → Bool) → has_target xs disk ≡ true
     → SyncsAll a b (λ d. d ≡ disk) (λ d. d ≡ disk) went now
     → SyncsAll a b (IsTargeted xs) (λ d. (d ≡ disk) × IsTargeted xs d) went now
 targeted {a} {b} xs disk went now has syncs = record {
@@ -154,7 +154,7 @@ targeted {a} {b} xs disk went now has syncs = record {
   done = λ d s on here live. syncs.done d s on.0 here live;
 }
 
-pub targeted_then : {a b c : Seen} (xs : List Target) (i : ℕ) (went between now : ℕ → Bool)
+pub targeted_then : {a b c : RackView} (xs : List Target) (i : ℕ) (went between now : ℕ → Bool)
     → SyncsAll a b (IsTargeted xs) (IsTargetedBelow xs i) went between
     → SyncsAll b c (IsTargeted xs) (λ d. (d ≡ i) × IsTargeted xs d) between now
     → SyncsAll a c (IsTargeted xs) (IsTargetedBelow xs (i + 1)) went now
@@ -167,7 +167,7 @@ targeted_then {a} {b} {c} xs i went between now one two =
     ])
 
 -- the payloads of a record, written and synced
-pub targets_settled : {a b c : Seen} (xs : List Target) (went between now : ℕ → Bool) → a.disks ≡ 272
+pub targets_settled : {a b c : RackView} (xs : List Target) (went between now : ℕ → Bool) → a.disks ≡ 272
     → Puts a b (IsTargeted xs) (IsPayload xs) (IsWanted a xs) went between
     → SyncsAll b c (IsTargeted xs) (IsTargetedBelow xs 272) between now
     → Settles a c (IsTargeted xs) (IsPayload xs) (IsWanted a xs) went now
@@ -176,7 +176,7 @@ targets_settled {a} {b} {c} xs went between now many puts syncs =
     (λ d s w wanted. (subst (λ n. d < n) many wanted.0.0, wanted_target xs d s w wanted.1))
 
 -- a record, written and synced
-pub record_settled : {a b c : Seen} (on : List ℕ) (first : ℕ) (bytes : List ℕ) (many : ℕ) (went between now : ℕ → Bool)
+pub record_settled : {a b c : RackView} (on : List ℕ) (first : ℕ) (bytes : List ℕ) (many : ℕ) (went between now : ℕ → Bool)
     → Puts a b (IsLogOf on (length on)) (IsOfRecord on first bytes many) (IsOfRecord on first bytes many) went between
     → SyncsAll b c (IsLogOf on (length on)) (IsLogOf on (length on)) between now
     → Settles a c (IsLogOf on (length on)) (IsOfRecord on first bytes many) (IsOfRecord on first bytes many) went now
@@ -184,7 +184,7 @@ record_settled {a} {b} {c} on first bytes many went between now puts syncs =
     settles (IsLogOf on (length on)) (IsOfRecord on first bytes many) (IsOfRecord on first bytes many) (IsLogOf on (length on)) went between now puts syncs
     (λ d s w is. is.each.disk)
 
-pub each_settled : {a b c : Seen} (on : List ℕ) (sector : ℕ) (block : List ℕ) (went between now : ℕ → Bool)
+pub each_settled : {a b c : RackView} (on : List ℕ) (sector : ℕ) (block : List ℕ) (went between now : ℕ → Bool)
     → Puts a b (IsLogOf on (length on)) (IsOnEach on (length on) sector block) (IsOnEach on (length on) sector block) went between
     → SyncsAll b c (IsLogOf on (length on)) (IsLogOf on (length on)) between now
     → Settles a c (IsLogOf on (length on)) (IsOnEach on (length on) sector block) (IsOnEach on (length on) sector block) went now
@@ -192,7 +192,7 @@ each_settled {a} {b} {c} on sector block went between now puts syncs =
     settles (IsLogOf on (length on)) (IsOnEach on (length on) sector block) (IsOnEach on (length on) sector block) (IsLogOf on (length on)) went between now puts syncs
     (λ d s w is. is.disk)
 
-pub puts_no_targets : (a : Seen) (bytes : List ℕ) (called : ℕ → Type 0) (went : ℕ → Bool) → a.fit
+pub puts_no_targets : (a : RackView) (bytes : List ℕ) (called : ℕ → Type 0) (went : ℕ → Bool) → a.fit
     → Puts a a called (IsPayload (targets_in bytes 0)) (IsWanted a (targets_in bytes 0)) went went
 unfolding look
 puts_no_targets a bytes called went fit = record {

@@ -1,7 +1,7 @@
 -- Slices as an opening finds them, and what a record that is pending there may bring of a state.
 use Rattle.std.specs.Prelude.{◌≡◌, ◌⊎◌, ℕ, ◌<◌, nat_lt, Bool, true, false, ◌&&◌, List, [], Some, None}
 use Rattle.rack.specs.Values.{IsSingle}
-use Rattle.rack.specs.Seen.{Image, Seen, IsLive}
+use Rattle.rack.specs.Seen.{Image, RackView, IsLive}
 use Rattle.rack.specs.Targets.{Target, look}
 use Rattle.pool_state.specs.declared.contents.Copied.{Copied}
 use Rattle.pool_state.specs.declared.contents.State.{State}
@@ -16,7 +16,7 @@ use Rattle.log_laws.specs.Kept.{IsCopyOf}
 
 -- Slices at rest: each sector of a log slice has one value, `s` is the state that they say, and `on` are its current places that
 -- have a log slice, which is whole.
-pub record AtRest (s : State) (on : List ℕ) (x : Seen) : Type 0 where
+pub record AtRest (s : State) (on : List ℕ) (x : RackView) : Type 0 where
   pub lasting : x.lasting
   pub live : (d t : ℕ) → d < 272 → t < x.sectors d → IsLive x x d t
   pub single : (p t : ℕ) → p < 16 → t < x.sectors (log_slice p) → IsSingle (x.held (log_slice p) t)
@@ -36,7 +36,7 @@ pub record BringsCopies (s t : State) (xs : List Target) (c : Image) : Type 0 wh
   pub either : (t ≡ s) ⊎ IsNext s t c
 
 -- What an opening knows once it has looked for the pending record among these places: nobody went, and no log is damaged.
-pub record Opened (s t : State) (l : LogView) (on : List ℕ) (x : Seen) : Type 0 where
+pub record Opened (s t : State) (l : LogView) (on : List ℕ) (x : RackView) : Type 0 where
   pub rest : AtRest s on x
   pub is_pending : Bool
   pub finds : Finds l on (left_of on []) is_pending None (reading x)
@@ -44,7 +44,7 @@ pub record Opened (s t : State) (l : LogView) (on : List ℕ) (x : Seen) : Type 
 
 -- The copies of the state on slices at rest: on each current place that is there its copy of this state, no other one of its
 -- epoch, and on a place that isn't current an earlier one at most.
-pub record CopiesAgree (s : State) (gone : ℕ → Bool) (x : Seen) : Type 0 where
+pub record CopiesAgree (s : State) (gone : ℕ → Bool) (x : RackView) : Type 0 where
   pub own : (p : ℕ) → is_current s p ≡ true → gone p ≡ false → (k : ℕ) × (copy_in (reading x) p ≡ Some (record { state = s; own = k })) × (id_of s k ≡ id_of s p)
   pub same : (p : ℕ) (copy : Copied) → p < 16 → copy_in (reading x) p ≡ Some copy → copy.state.epoch ≡ s.epoch → copy.state ≡ s
   pub earlier : (p : ℕ) (copy : Copied) → p < 16 → is_current s p ≡ false → copy_in (reading x) p ≡ Some copy → copy.state.epoch < s.epoch

@@ -2,7 +2,7 @@
 use Rattle.std.specs.Prelude.{◌≡◌, ◌≢◌, ◌⊎◌, ℕ, ◌+◌, ◌<◌, ◌≤◌, true, false, ◌==◌, List, [], Some, None}
 use Rattle.std.specs.List.{list_any}
 use Rattle.rack.specs.Values.{MayLeave, Keeps}
-use Rattle.rack.specs.Seen.{Image, Seen, IsLive, Stays, Rose}
+use Rattle.rack.specs.Seen.{Image, RackView, IsLive, SameRack, Rose}
 use Rattle.rack.specs.Moments.{Leaves}
 use Rattle.rack.specs.Targets.{Target, look, put}
 use Rattle.array_image.specs.Places.{log_slice, place_of}
@@ -12,14 +12,14 @@ use Rattle.log_laws.specs.View.{LogView, next_number, names, in_order}
 use Rattle.log_laws.specs.Standing.{IsLogPart, IsAlike, IsInside, StatesStand, deciding, IsWhole, LogsStand, IsNumbered, IsReady, SomeoneDecides}
 
 -- contents that a stop now may leave
-pub record Stands (x : Seen) (c : Image) : Type 0 where
+pub record Stands (x : RackView) (c : Image) : Type 0 where
   pub picks : (d t : ℕ) → IsLive x x d t → MayLeave (x.held d t) (c d t)
   pub inside : IsInside x.sectors c
 
 -- All or nothing: replayed, contents are as some that a stop before the commit might leave, replayed too, or they are those
 -- contents with each target written. In the second case those are taken as they are, and not replayed: a record that was pending
 -- on a place that went earlier is dropped when the next gates open.
-pub record Commits (xs : List Target) (a : Seen) (c : Image) : Type 0 where
+pub record ImageInCommit (xs : List Target) (a : RackView) (c : Image) : Type 0 where
   pub before : Image
   pub stands : Stands a before
   pub either :
@@ -28,7 +28,7 @@ pub record Commits (xs : List Target) (a : Seen) (c : Image) : Type 0 where
   pub whole : IsWhole before → IsWhole c
 
 -- all
-pub record Committed (xs : List Target) (a : Seen) (c : Image) : Type 0 where
+pub record ImageAfterCommit (xs : List Target) (a : RackView) (c : Image) : Type 0 where
   pub before : Image
   pub stands : Stands a before
   pub all : IsAlike (replayed a.sectors c) (put a.sectors xs before)
@@ -39,7 +39,7 @@ abbrev pub IsWritten : List Target → Image → Type 0
 IsWritten xs c = (d t : ℕ) (w : List ℕ) → look xs d t ≡ Some w → c d t ≡ w
 
 -- as it was: the copies are those of contents that a stop before the commit might leave, and what is pending there is so
-pub record IsPendingYet (a : Seen) (c : Image) : Type 0 where
+pub record IsPendingYet (a : RackView) (c : Image) : Type 0 where
   pub before : Image
   pub stands : Stands a before
   pub copies : (p : ℕ) → c (log_slice p) 0 ≡ before (log_slice p) 0
@@ -52,7 +52,7 @@ pub record IsPendingNow (l : LogView) (on : List ℕ) (c : Image) : Type 0 where
 
 -- What a stop in a commit leaves of the log slices as they stand: copies of states as they were or as the targets have them, gates that
 -- aren't the commit's as they were. What was pending is so yet, or all targets are, or none is and all are written.
-pub record StandsMidway (l : LogView) (on : List ℕ) (a : Seen) (c : Image) : Type 0 where
+pub record StandsMidway (l : LogView) (on : List ℕ) (a : RackView) (c : Image) : Type 0 where
   pub states : StatesStand l.added a c
   pub gates :
       (p : ℕ) → names on p ≡ false → IsLive a a (log_slice p) gate_sector
@@ -70,7 +70,7 @@ abbrev pub IsOfPlace : ℕ → ℕ → Type 0
 IsOfPlace p d = place_of d ≡ p
 
 -- the places that went, each once: one has a disk whose faults rose, and is of `on` or has a target
-pub record HasGone (xs : List Target) (on lost : List ℕ) (a b : Seen) : Type 0 where
+pub record HasGone (xs : List Target) (on lost : List ℕ) (a b : RackView) : Type 0 where
   pub ordered : lost ≡ in_order lost
   pub cause : (p : ℕ) → names lost p ≡ true → (d : ℕ) × IsOfPlace p d × Rose (a.faults d) (b.faults d)
   pub called : (p : ℕ) → names lost p ≡ true → (names on p ≡ true) ⊎ (list_any (λ t. place_of t.disk == p) xs ≡ true)
@@ -81,21 +81,21 @@ IsOutside number t = (t < half_of number) ⊎ (half_of number + 4092 ≤ t)
 
 -- The whole of it, where `lost` are the places whose disk answered `Gone` in it. What is said of a place holds where it isn't
 -- among them.
-pub record CommitCall (l : LogView) (on lost : List ℕ) (a b : Seen) : Type 0 where
-  pub stays : Stays a b
+pub record CommitCall (l : LogView) (on lost : List ℕ) (a b : RackView) : Type 0 where
+  pub stays : SameRack a b
   pub gone : HasGone l.added on lost a b
   -- whatever holds, time goes on and the past stays
   pub leaves : a.traced → Leaves a b (λ c. Unit {0})
   -- all or nothing at each moment
   pub stops :
       a.traced → IsReady l on a → SomeoneDecides l.added on lost a
-      → Leaves a b (λ c. IsInside a.sectors c → Commits l.added a c)
+      → Leaves a b (λ c. IsInside a.sectors c → ImageInCommit l.added a c)
   -- what the log slices say meanwhile, as they stand
   pub midway :
       a.traced → IsReady l on a → SomeoneDecides l.added on lost a
       → Leaves a b (λ c. IsInside a.sectors c → StandsMidway l on a c)
   -- all at the return
-  pub after : IsReady l on a → SomeoneDecides l.added on lost a → (c : Image) → Stands b c → Committed l.added a c
+  pub after : IsReady l on a → SomeoneDecides l.added on lost a → (c : Image) → Stands b c → ImageAfterCommit l.added a c
   -- what the next commit needs
   pub rests :
       IsReady l on a → SomeoneDecides l.added on lost a

@@ -2,7 +2,7 @@
 use Rattle.std.specs.Prelude.{◌≡◌, ◌⊎◌, ℕ, ◌<◌, Bool, true, false, ◌==◌, ◌&&◌, ◌||◌, not, List, [], slice_get, Option, Ok, Some, None, option_map}
 use Rattle.std.specs.List.{list_any}
 use Rattle.rack.specs.Values.{MayLeave}
-use Rattle.rack.specs.Seen.{Image, Seen, IsLive}
+use Rattle.rack.specs.Seen.{Image, RackView, IsLive}
 use Rattle.rack.specs.Targets.{Target, look}
 use Rattle.pool_state.specs.declared.contents.Copied.{Copied}
 use Rattle.pool_state.specs.declared.contents.State.{State}
@@ -27,7 +27,7 @@ IsNoLater s copy = (copy.state.epoch < s.epoch) ⊎ (copy.state ≡ s)
 
 -- The copies on the places' log slices, where those that have gone aren't written any more: a current place that is left has
 -- its copy of this state, no place has a later one or another one of its epoch, and one that isn't current has an earlier one at most.
-pub record CopiesStand (s : State) (gone : ℕ → Bool) (x : Seen) : Type 0 where
+pub record CopiesStand (s : State) (gone : ℕ → Bool) (x : RackView) : Type 0 where
   pub own : (p : ℕ) (u : List ℕ) → is_current s p ≡ true → gone p ≡ false → MayLeave (x.held (log_slice p) 0) u → IsCopyOf s p u
   pub others :
       (p : ℕ) (u : List ℕ) (copy : Copied) → p < 16 → 0 < x.sectors (log_slice p) → MayLeave (x.held (log_slice p) 0) u
@@ -37,12 +37,12 @@ pub record CopiesStand (s : State) (gone : ℕ → Bool) (x : Seen) : Type 0 whe
       → MayLeave (x.held (log_slice p) 0) u → decoded u ≡ Ok copy → copy.state.epoch < s.epoch
 
 -- a stop now leaves no open gate on a place
-abbrev pub HasClosedGate : Seen → ℕ → Type 0
+abbrev pub HasClosedGate : RackView → ℕ → Type 0
 HasClosedGate x p = (v : List ℕ) (g : Gate) → MayLeave (x.held (log_slice p) gate_sector) v → gate_of v ≡ Some g → g.is_open ≡ false
 
 -- What a commit finds of the log slices and leaves of them to the next one: `number` is the log's, and `gone` are the places that
 -- answered `Gone`, marked or not.
-pub record LogKept (s : State) (number : ℕ) (gone : ℕ → Bool) (x : Seen) : Type 0 where
+pub record LogInvariant (s : State) (number : ℕ) (gone : ℕ → Bool) (x : RackView) : Type 0 where
   pub logs : (p t : ℕ) → p < 16 → t < x.sectors (log_slice p) → IsLive x x (log_slice p) t
   pub few : (p : ℕ) → is_current s p ≡ true → p < 16
   -- a place that is left has its log slice
@@ -79,7 +79,7 @@ gone_but gone takes lost p = (gone p && not (names takes p)) || names lost p
 
 -- The targets have no copy of a state, or on each place of the commit its copy of a later state, by which no place is current that
 -- wasn't.
-pub record Brings (s t : State) (xs : List Target) (on : List ℕ) : Type 0 where
+pub record CarriesState (s t : State) (xs : List Target) (on : List ℕ) : Type 0 where
   pub current : (p : ℕ) → is_current t p ≡ true → is_current s p ≡ true
   pub left : (p : ℕ) → names on p ≡ true → is_current t p ≡ true
   -- they are on the places of the commit
@@ -92,14 +92,14 @@ pub record Brings (s t : State) (xs : List Target) (on : List ℕ) : Type 0 wher
 
 -- A place that is to join: it has a log slice with a closed gate of no greater number than the log's. It may have been current, and have
 -- gone: then its log slice is that of another drive.
-pub record MayJoin (number : ℕ) (x : Seen) (p : ℕ) : Type 0 where
+pub record MayJoin (number : ℕ) (x : RackView) (p : ℕ) : Type 0 where
   pub few : p < 16
   pub there : gate_sector < x.sectors (log_slice p)
   pub numbered : IsNumbered number x p
   pub closed : HasClosedGate x p
 
 -- The same, where places may join: `takes` are the places of the commit and those that do. Each of them gets its copy.
-pub record BringsTo (s t : State) (number : ℕ) (x : Seen) (xs : List Target) (on takes : List ℕ) : Type 0 where
+pub record BringsTo (s t : State) (number : ℕ) (x : RackView) (xs : List Target) (on takes : List ℕ) : Type 0 where
   pub current : (p : ℕ) → is_current t p ≡ true → (is_current s p ≡ true) ⊎ MayJoin number x p
   -- whoever takes a copy and isn't of the commit joins
   pub joins : (p : ℕ) → names takes p ≡ true → names on p ≡ false → MayJoin number x p

@@ -1,7 +1,7 @@
 -- What looking for a pending record and replaying it do.
 use Rattle.std.specs.Prelude.{◌≡◌, ◌≢◌, ◌⊎◌, ℕ, ◌<◌, ◌≤◌, Bool, true, false, List, [], Option, Some, None, is_some, is_none}
 use Rattle.rack.specs.Values.{IsSector, IsSingle, MayLeave, Keeps}
-use Rattle.rack.specs.Seen.{Image, Seen, IsLive, Stays, Rose}
+use Rattle.rack.specs.Seen.{Image, RackView, IsLive, SameRack, Rose}
 use Rattle.rack.specs.Moments.{Leaves}
 use Rattle.rack.specs.Calls.{KeepsAll}
 use Rattle.rack.specs.Sequences.{OnlyReads, IsPayload}
@@ -31,7 +31,7 @@ pub record Finds (m : LogView) (on places : List ℕ) (is_pending : Bool) (damag
   pub opened : m.is_open ≡ true → (p : ℕ) × (g : Gate) × (names on p ≡ true) × (gate_in c p ≡ Some g) × (g.is_open ≡ true)
 
 -- Looking for the pending record: `gone` are the places whose disk answered `Gone` in it; they are passed over.
-pub record PendingCall (l m : LogView) (on gone : List ℕ) (is_pending : Bool) (damaged : Option ℕ) (a b : Seen) : Type 0 where
+pub record PendingCall (l m : LogView) (on gone : List ℕ) (is_pending : Bool) (damaged : Option ℕ) (a b : RackView) : Type 0 where
   pub reads : OnlyReads a b
   pub ordered : gone ≡ in_order gone
   pub cause : (p : ℕ) → names gone p ≡ true → (names on p ≡ true) × Rose (a.faults (log_slice p)) (b.faults (log_slice p))
@@ -42,25 +42,25 @@ pub record PendingCall (l m : LogView) (on gone : List ℕ) (is_pending : Bool) 
       → Finds m on (left_of on gone) is_pending damaged (reading a)
 
 -- slices as a stop in a replay may leave them: gates and halves as before, and each copy of the state too or as a target has it
-pub record StandsAmid (xs : List Target) (x : Seen) (c : Image) : Type 0 where
+pub record StandsAmid (xs : List Target) (x : RackView) (c : Image) : Type 0 where
   pub states : StatesStand xs x c
   pub parts : (p t : ℕ) → 0 < t → IsLive x x (log_slice p) t → MayLeave (x.held (log_slice p) t) (c (log_slice p) t)
   pub inside : IsInside x.sectors c
 
 -- all targets are written that the rack has, halves of logs are as before, and the record is pending yet, or nothing is
-pub record AreWritten (xs : List Target) (x : Seen) (c : Image) : Type 0 where
+pub record AreWritten (xs : List Target) (x : RackView) (c : Image) : Type 0 where
   pub all : (d t : ℕ) (w : List ℕ) → look xs d t ≡ Some w → t < x.sectors d → c d t ≡ w
   pub halves : (p t : ℕ) → gate_sector < t → IsLive x x (log_slice p) t → MayLeave (x.held (log_slice p) t) (c (log_slice p) t)
   pub pends : (pending (deciding c) c ≡ xs) ⊎ (pending (deciding c) c ≡ [])
 
 -- Contents as they stand when a stop comes in a replay: as a stop leaves them while targets are written, or with all of them written.
-abbrev pub StandsReplaying : List Target → Seen → Image → Type 0
+abbrev pub StandsReplaying : List Target → RackView → Image → Type 0
 StandsReplaying xs x c = StandsAmid xs x c ⊎ AreWritten xs x c
 
 -- What the clauses on stops need of the slices before a replay: whatever copies of the state a stop in it leaves, the log's
 -- pending record is the one that these contents have, none where it has none, it is well formed as all gates are that decide, and
 -- none of these has a greater number.
-pub record CanReplay (l : LogView) (x : Seen) : Type 0 where
+pub record CanReplay (l : LogView) (x : RackView) : Type 0 where
   pub lasting : x.lasting
   pub logs : (p t : ℕ) → p < 16 → t < x.sectors (log_slice p) → IsLive x x (log_slice p) t
   pub targets : (d t : ℕ) (v : List ℕ) → look l.pending d t ≡ Some v → t < x.sectors d → IsLive x x d t
@@ -71,7 +71,7 @@ pub record CanReplay (l : LogView) (x : Seen) : Type 0 where
   pub number : (c : Image) → StandsAmid l.pending x c → (g : GateAt) → pending_at (deciding c) c ≡ Some g → g.gate.number ≡ l.number
 
 -- replayed, contents are as some that a stop before the call might leave, replayed too, and no log is damaged
-pub record Replays (a : Seen) (c : Image) : Type 0 where
+pub record Replays (a : RackView) (c : Image) : Type 0 where
   pub before : Image
   pub stands : Stands a before
   pub same : IsAlike (replayed a.sectors c) (replayed a.sectors before)
@@ -93,8 +93,8 @@ pub record IsShutting (l : LogView) (on : List ℕ) (d t : ℕ) : Type 0 where
   pub gate : t ≡ gate_sector
 
 -- The whole of a replay, where `lost` are the places whose disk answered `Gone` in it.
-pub record ReplayCall (l : LogView) (on lost : List ℕ) (a b : Seen) : Type 0 where
-  pub stays : Stays a b
+pub record ReplayCall (l : LogView) (on lost : List ℕ) (a b : RackView) : Type 0 where
+  pub stays : SameRack a b
   pub gone : HasGone l.pending on lost a b
   -- whatever holds, time goes on and the past stays
   pub leaves : a.traced → Leaves a b (λ c. Unit {0})

@@ -4,7 +4,7 @@ use Rattle.std.specs.Prelude.{◌≡◌, ℕ, ◌<◌, Bool, true, false, ◌==�
 use Rattle.std.specs.List.{list_any}
 use Rattle.std.specs.Option.{option_map_or}
 use Rattle.rack.specs.Values.{MayLeave, IsSingle}
-use Rattle.rack.specs.Seen.{Seen, IsLive, Rose}
+use Rattle.rack.specs.Seen.{RackView, IsLive, Rose}
 use Rattle.rack.specs.Sequences.{WritesOnly}
 use Rattle.rack.specs.Targets.{Target, look}
 use Rattle.log_laws.specs.Bytes.{sector_in}
@@ -12,7 +12,7 @@ use Rattle.array_image.specs.Record.{gate_sector}
 use Rattle.array_image.specs.Places.{place_of, log_slice, log_sectors}
 
 -- one of a place's disks that was called has answered `Gone`
-pub record WentBy (a b : Seen) (called : ℕ → Type 0) (p : ℕ) : Type 0 where
+pub record WentBy (a b : RackView) (called : ℕ → Type 0) (p : ℕ) : Type 0 where
   pub disk : ℕ
   pub of_place : place_of disk ≡ p
   pub was_called : called disk
@@ -20,23 +20,23 @@ pub record WentBy (a b : Seen) (called : ℕ → Type 0) (p : ℕ) : Type 0 wher
 
 -- Calls of these disks that may have written these values, but to no place that had gone before. `went` are the places that had
 -- gone, `now` those that have.
-pub record Calls (a b : Seen) (called : ℕ → Type 0) (may : ℕ → ℕ → List ℕ → Type 0) (went now : ℕ → Bool) : Type 0 where
+pub record Calls (a b : RackView) (called : ℕ → Type 0) (may : ℕ → ℕ → List ℕ → Type 0) (went now : ℕ → Bool) : Type 0 where
   pub only : WritesOnly a b (λ d s v. (went (place_of d) ≡ false) × may d s v)
   pub still : (p : ℕ) → now p ≡ false → went p ≡ false
   pub cause : (p : ℕ) → went p ≡ false → now p ≡ true → WentBy a b called p
 
 -- they wrote these values to all places that are left
-pub record Puts (a b : Seen) (called : ℕ → Type 0) (may must : ℕ → ℕ → List ℕ → Type 0) (went now : ℕ → Bool) : Type 0 where
+pub record Puts (a b : RackView) (called : ℕ → Type 0) (may must : ℕ → ℕ → List ℕ → Type 0) (went now : ℕ → Bool) : Type 0 where
   pub calls : Calls a b called may went now
   pub last : (d s : ℕ) (w : List ℕ) → IsLive a b d s → now (place_of d) ≡ false → must d s w → (b.held d s).current ≡ w
 
 -- they wrote nothing, and synced these disks of all places that are left
-pub record SyncsAll (a b : Seen) (called on : ℕ → Type 0) (went now : ℕ → Bool) : Type 0 where
+pub record SyncsAll (a b : RackView) (called on : ℕ → Type 0) (went now : ℕ → Bool) : Type 0 where
   pub calls : Calls a b called (λ d s v. ⊥) went now
   pub done : (d s : ℕ) → on d → now (place_of d) ≡ false → IsLive a b d s → IsSingle (b.held d s)
 
 -- they wrote these values, and made them durable on all places that are left
-pub record Settles (a b : Seen) (called : ℕ → Type 0) (may must : ℕ → ℕ → List ℕ → Type 0) (went now : ℕ → Bool) : Type 0 where
+pub record Settles (a b : RackView) (called : ℕ → Type 0) (may must : ℕ → ℕ → List ℕ → Type 0) (went now : ℕ → Bool) : Type 0 where
   pub calls : Calls a b called may went now
   pub durable :
       (d s : ℕ) (w v : List ℕ) → IsLive a b d s → now (place_of d) ≡ false → must d s w → MayLeave (b.held d s) v → v ≡ w
@@ -80,11 +80,11 @@ pub record IsOfRecord (on : List ℕ) (first : ℕ) (bytes : List ℕ) (many d s
   pub each : IsOnEach on (length on) (first + at) (sector_in bytes at) d s v
 
 -- a sector that a rack has
-abbrev pub IsHad : Seen → ℕ → ℕ → Type 0
+abbrev pub IsHad : RackView → ℕ → ℕ → Type 0
 IsHad x d s = (d < x.disks) × (s < x.sectors d)
 
 -- the payload of a sector that it has
-abbrev pub IsWanted : Seen → List Target → ℕ → ℕ → List ℕ → Type 0
+abbrev pub IsWanted : RackView → List Target → ℕ → ℕ → List ℕ → Type 0
 IsWanted x xs d s v = IsHad x d s × (look xs d s ≡ Some v)
 
 -- a disk that has a target

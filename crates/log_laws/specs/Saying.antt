@@ -1,6 +1,6 @@
 -- What contents of log slices say, as they stand and once the pending record is replayed.
 use Rattle.std.specs.Prelude.{◌≡◌, ◌≢◌, ◌⊎◌, ℕ, ◌<◌, true, false, List, Ok, Some}
-use Rattle.rack.specs.Seen.{Image, Seen}
+use Rattle.rack.specs.Seen.{Image, RackView}
 use Rattle.rack.specs.Targets.{Target, look}
 use Rattle.pool_state.specs.declared.contents.Copied.{Copied}
 use Rattle.pool_state.specs.declared.contents.State.{State}
@@ -41,7 +41,7 @@ pub record KeepsDrives (s t : State) (on : List ℕ) : Type 0 where
 
 -- The record that is pending in contents of the state s brings a later state of the same pool: it is read from a place that stays and has a copy
 -- for it, and each place that joins has a gate of a lower number. One place that stays has its copy of s yet.
-pub record IsBrought (s t : State) (c : Image) : Type 0 where
+pub record PendingInstalls (s t : State) (c : Image) : Type 0 where
   pub later : s.epoch < t.epoch
   pub pool : t.pool ≡ s.pool
   pub source :
@@ -58,14 +58,14 @@ AreOwnCopies s xs = (p : ℕ) (u : List ℕ) → look xs (log_slice p) 0 ≡ Som
 
 -- Contents that say the state t once the pending record is replayed. No log is damaged. As they stand they say a state of which no place has
 -- a later copy: t, or one that the record brings t to. What is pending is for sectors that slices have.
-pub record SaysState (t : State) (sectors : ℕ → ℕ) (c : Image) : Type 0 where
+pub record RecoversTo (t : State) (sectors : ℕ → ℕ) (c : Image) : Type 0 where
   pub whole : IsWhole c
   pub is_state : state_in (replayed sectors c) ≡ Some t
   pub copies : CopiesIn t sectors (replayed sectors c)
   pub stood : State
   pub stood_is : state_in c ≡ Some stood
   pub latest : (p : ℕ) (copy : Copied) → p < 16 → decoded (c (log_slice p) 0) ≡ Ok copy → IsNoLater stood copy
-  pub next : (t ≡ stood) ⊎ IsBrought stood t c
+  pub next : (t ≡ stood) ⊎ PendingInstalls stood t c
   pub brings : AreOwnCopies t (pending (deciding c) c)
   pub inside : TargetsInside sectors c
 
@@ -98,7 +98,7 @@ pub record SaysReplaced (place : ℕ) (s t : State) (sectors : ℕ → ℕ) (c :
 
 -- Whatever a stop leaves has the copies of a state once it is replayed, and nothing but such copies is pending for their sectors, and nothing for a
 -- sector that no slice has.
-pub record HoldsCopies (s : State) (x : Seen) : Type 0 where
+pub record HoldsCopies (s : State) (x : RackView) : Type 0 where
   pub copies : (c : Image) → Stands x c → CopiesIn s x.sectors (replayed x.sectors c)
   pub brings : (c : Image) → LogsStand x c → AreOwnCopies s (pending (deciding c) c)
   pub inside : (c : Image) → LogsStand x c → TargetsInside x.sectors c

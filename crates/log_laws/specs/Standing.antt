@@ -1,7 +1,7 @@
 -- What may stand on the slices when a stop comes, and which places count there.
 use Rattle.std.specs.Prelude.{◌≡◌, ◌⊎◌, ℕ, ◌-◌, ◌<◌, ◌≤◌, ◌^◌, true, List, [], Some, None}
 use Rattle.rack.specs.Values.{MayLeave}
-use Rattle.rack.specs.Seen.{Image, Seen, IsLive}
+use Rattle.rack.specs.Seen.{Image, RackView, IsLive}
 use Rattle.rack.specs.Targets.{Target, look}
 use Rattle.pool_state.specs.declared.contents.State.{State}
 use Rattle.array_image.specs.Places.{slice_of, log_slice}
@@ -24,11 +24,11 @@ abbrev pub IsInside : (ℕ → ℕ) → Image → Type 0
 IsInside sectors c = LogsInside sectors c
 
 -- log slices as a stop now may leave them, whatever stands elsewhere
-abbrev pub LogsStand : Seen → Image → Type 0
+abbrev pub LogsStand : RackView → Image → Type 0
 LogsStand x c = PicksLogs x c
 
 -- the copies of the state as a stop in a commit may leave them: as before, or as the targets have them, each by itself
-pub record StatesStand (xs : List Target) (x : Seen) (c : Image) : Type 0 where
+pub record StatesStand (xs : List Target) (x : RackView) (c : Image) : Type 0 where
   pub picks :
       (p : ℕ) → IsLive x x (log_slice p) 0
       → MayLeave (x.held (log_slice p) 0) (c (log_slice p) 0) ⊎ (look xs (log_slice p) 0 ≡ Some (c (log_slice p) 0))
@@ -39,12 +39,12 @@ abbrev pub Decides : Image → ℕ → Type 0
 Decides c p = (s : State) × (state_in c ≡ Some s) × (is_current s p ≡ true)
 
 -- a stop now leaves a well-formed gate on a place, and none has a greater number
-abbrev pub IsNumbered : ℕ → Seen → ℕ → Type 0
+abbrev pub IsNumbered : ℕ → RackView → ℕ → Type 0
 IsNumbered number x p =
     (v : List ℕ) → MayLeave (x.held (log_slice p) gate_sector) v → (g : Gate) × (gate_of v ≡ Some g) × (g.number ≤ number)
 
 -- What the clauses on stops need of the slices before a commit on the places of `on`.
-pub record IsReady (l : LogView) (on : List ℕ) (x : Seen) : Type 0 where
+pub record IsReady (l : LogView) (on : List ℕ) (x : RackView) : Type 0 where
   pub room : l.number < 2 ^ 63 - 1
   -- the log slices and the targets are told
   pub lasting : x.lasting
@@ -58,5 +58,5 @@ pub record IsReady (l : LogView) (on : List ℕ) (x : Seen) : Type 0 where
       (c : Image) → LogsStand x c → (a : GateAt) → pending_at (deciding c) c ≡ Some a → names on a.place ≡ true → a.gate.number ≡ l.number
 
 -- whatever states stand when a stop comes, one of the places that are left decides
-abbrev pub SomeoneDecides : List Target → (on lost : List ℕ) → Seen → Type 0
+abbrev pub SomeoneDecides : List Target → (on lost : List ℕ) → RackView → Type 0
 SomeoneDecides xs on lost x = (c : Image) → StatesStand xs x c → (p : ℕ) × (is_left on lost p ≡ true) × Decides c p

@@ -2,7 +2,7 @@
 //!
 //! **What it defines.** What contracts see of a log (`LogView`, `specs/View.antt`), a record as the bytes of its sectors (`specs/Bytes.antt`),
 //! what a commit, a look and a replay do (`CommitCall`, `PendingCall`, `ReplayCall`: `specs/Commits.antt`, `specs/Opening.antt`), and what is
-//! kept of the slices from one commit to the next (`LogKept`, `specs/Kept.antt`). What may stand on the slices when a stop comes, and which
+//! kept of the slices from one commit to the next (`LogInvariant`, `specs/Kept.antt`). What may stand on the slices when a stop comes, and which
 //! places decide there, is in `specs/Standing.antt`; what contents of log slices say, as they stand and once the pending record is replayed,
 //! in `specs/Saying.antt`, and of slices as an opening finds them in `specs/AtRest.antt`.
 //!

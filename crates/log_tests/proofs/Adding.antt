@@ -3,7 +3,7 @@ use Rattle.std.proofs.Common.{◌≡◌, ℕ, ◌&&◌, true, List, [], ◌∷�
 use Rattle.std.specs.List.{list_all}
 use Rattle.std.specs.Option.{option_or}
 use Rattle.std.proofs.lemmas.List.Folds.{list_all-append}
-use Rattle.rack.specs.Seen.{Seen}
+use Rattle.rack.specs.Seen.{RackView}
 use Rattle.rack.specs.Sequences.{IsPayload}
 use Rattle.rack.specs.Targets.{Target, is_at, look}
 use Rattle.array_image.specs.Record.{is_target}
@@ -14,7 +14,7 @@ use Rattle.array_core.proofs.RowLists.{apart_if}
 use Rattle.log_tests.specs.Ready.{CanCommit}
 
 -- none may be committed
-pub none_added : (a : Seen) → CanCommit [] a
+pub none_added : (a : RackView) → CanCommit [] a
 none_added a = record { valid = refl; apart = refl; had = λ d s v is. absurd is }
 
 -- what is looked for in two lists and isn't there isn't in the first one
@@ -30,7 +30,7 @@ payload_more (x ∷ xs) t d s v P (inl is) old new = old (inl is)
 payload_more (x ∷ xs) t d s v P (inr is) old new = payload_more xs t d s v P is (λ was. old (inr was)) new
 
 -- one more may be, apart from the others
-pub one_more : (xs : List Target) (t : Target) (a : Seen) → CanCommit xs a → is_target t ≡ true → look xs t.disk t.sector ≡ None → IsHad a t.disk t.sector → CanCommit (xs ++ t ∷ []) a
+pub one_more : (xs : List Target) (t : Target) (a : RackView) → CanCommit xs a → is_target t ≡ true → look xs t.disk t.sector ≡ None → IsHad a t.disk t.sector → CanCommit (xs ++ t ∷ []) a
 one_more xs t a ready valid none had = record {
   valid = list_all-append is_target xs (t ∷ []) ∙ ap₂ (λ b c. b && (c && true)) ready.valid valid;
   apart = apart_if xs true t ready.apart (λ u is. payload_look xs t.disk t.sector u none is);

@@ -3,13 +3,13 @@ use Rattle.std.proofs.Common.{ℕ, ◌+◌, ◌<◌, inl, inr, Ok, Err, refl, sy
 use Rattle.std.proofs.lemmas.Bool.{cases_eq}
 use Rattle.rack.specs.declared.Gone.{Gone}
 use Rattle.rack.specs.Values.{MayLeave, Keeps}
-use Rattle.rack.specs.Seen.{Seen, IsLive, Stays}
+use Rattle.rack.specs.Seen.{RackView, IsLive, SameRack}
 use Rattle.rack.specs.Calls.{KeepsAll, Syncs}
 use Rattle.rack.specs.Joins.{stays_same, stays_then, keeps_all_then, keeps_same, leaves_same, live_first, live_second, rose_since}
 use Rattle.lvm_group.specs.Sequences.{AreSingle, SyncsAll}
 
 -- no disk yet
-pub none_synced : (a : Seen) → a.fit → SyncsAll a a 0 {X = Unit {0}} (Ok tt)
+pub none_synced : (a : RackView) → a.fit → SyncsAll a a 0 {X = Unit {0}} (Ok tt)
 none_synced a fit = record {
   stays = stays_same a fit;
   gone = tt;
@@ -19,13 +19,13 @@ none_synced a fit = record {
 }
 
 -- sectors with one value keep it
-single_kept : {a b c : Seen} (disks : ℕ) → Stays a b → Stays b c → KeepsAll b c → AreSingle a b disks → AreSingle a c disks
+single_kept : {a b c : RackView} (disks : ℕ) → SameRack a b → SameRack b c → KeepsAll b c → AreSingle a b disks → AreSingle a c disks
 single_kept {a} {b} {c} disks first second keeps single d s v below live leaves =
     let kept : Keeps (b.held d s) (c.held d s) = keeps.held d s (live_second first live) in
     single d s v below (live_first second live) (kept.within v leaves) ∙ sym kept.current
 
 -- one disk more
-pub next_synced : {a b c : Seen} (disk : ℕ) → SyncsAll a b disk {X = Unit {0}} (Ok tt) → Syncs b c disk {X = Unit {0}} (Ok tt)
+pub next_synced : {a b c : RackView} (disk : ℕ) → SyncsAll a b disk {X = Unit {0}} (Ok tt) → Syncs b c disk {X = Unit {0}} (Ok tt)
     → SyncsAll a c (disk + 1) {X = Unit {0}} (Ok tt)
 next_synced {a} {b} {c} disk all y = record {
   stays = stays_then all.stays y.stays;
@@ -40,7 +40,7 @@ next_synced {a} {b} {c} disk all y = record {
 }
 
 -- a disk refused
-pub not_synced : {a b c : Seen} (disk disks : ℕ) (gone : Gone) → disk < disks → SyncsAll a b disk {X = Unit {0}} (Ok tt)
+pub not_synced : {a b c : RackView} (disk disks : ℕ) (gone : Gone) → disk < disks → SyncsAll a b disk {X = Unit {0}} (Ok tt)
     → Syncs b c disk {X = Unit {0}} (Err gone) → SyncsAll a c disks {X = Unit {0}} (Err gone)
 not_synced {a} {b} {c} disk disks gone below all y = record {
   stays = stays_then all.stays y.stays;

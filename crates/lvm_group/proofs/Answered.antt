@@ -7,7 +7,7 @@ use Rattle.std.proofs.lemmas.List.FromFn.{get_or-map-range_with_len}
 use Rattle.std.proofs.lemmas.Nat.{mul-le}
 use Rattle.std.proofs.lemmas.Option.{slice_get-get_or}
 use Rattle.std.proofs.lemmas.Bool.{cases_lt, lt-ltb, le-ltb, ltb-true}
-use Rattle.rack.specs.Seen.{Image, Seen, Rose}
+use Rattle.rack.specs.Seen.{Image, RackView, Rose}
 use Rattle.lvm_text.specs.declared.group.Pv.{Pv}
 use Rattle.lvm_text.specs.declared.group.Group.{Group}
 use Rattle.lvm_group.specs.declared.parts.Part.{Part}
@@ -138,7 +138,7 @@ mapped_to f (y ∷ ys) (suc i) x at = mapped_to f ys i x at
 -- ---- where nothing was refused
 
 -- a sector that was read is the one that stands there
-served_sector : {a b : Seen} (array : ℕ) (now : Array) (s : ℕ) (bytes : List ℕ) → (Rose (a.faults array) (b.faults array) → ⊥) → IsRead a b array now s bytes → bytes ≡ held_on a array now s
+served_sector : {a b : RackView} (array : ℕ) (now : Array) (s : ℕ) (bytes : List ℕ) → (Rose (a.faults array) (b.faults array) → ⊥) → IsRead a b array now s bytes → bytes ≡ held_on a array now s
 served_sector {a} {b} array now s bytes served is = elim (cases_lt s (a.sectors array)) [
   | inl inside ↦ elim (is.within inside) [
     | inl same ↦ rw (lt-ltb s (a.sectors array) inside) same
@@ -147,7 +147,7 @@ served_sector {a} {b} array now s bytes served is = elim (cases_lt s (a.sectors 
   | inr past ↦ rw (le-ltb s (a.sectors array) past) (is.past past)
 ]
 
-served_part : {a b : Seen} (array : ℕ) (now : Array) (part : Part) → (Rose (a.faults array) (b.faults array) → ⊥) → IsPart a b array now part → part ≡ part_of (held_on a array now) (a.sectors array)
+served_part : {a b : RackView} (array : ℕ) (now : Array) (part : Part) → (Rose (a.faults array) (b.faults array) → ⊥) → IsPart a b array now part → part ≡ part_of (held_on a array now) (a.sectors array)
 served_part {a} {b} array now part served is =
     let labels : is.labels ≡ held_on a array now = λ i s. served_sector array now s (is.labels s) served (is.labels_read s) i in
     let headers : is.headers ≡ held_on a array now = λ i s. served_sector array now s (is.headers s) served (is.headers_read s) i in
@@ -168,7 +168,7 @@ range_place from zero i x at = cc
 range_place from (suc count) zero x at = let same : from ≡ x = cc in (omega arith, omega arith)
 range_place from (suc count) (suc i) x at = let rest = range_place (from + 1) count i x at in let one = rest.0 in let two = rest.1 in (omega arith, omega arith)
 
-pub parts_are : {a b : Seen} (joined : ℕ) (parts : List Part) (c : Image) → AreServed a b joined → AreNow a joined c → WereRead a b joined parts → parts ≡ parts_in (within_sectors a c) a.sectors joined
+pub parts_are : {a b : RackView} (joined : ℕ) (parts : List Part) (c : Image) → AreServed a b joined → AreNow a joined c → WereRead a b joined parts → parts ≡ parts_in (within_sectors a c) a.sectors joined
 parts_are {a} {b} joined parts c served now read =
     let arrays = range_with_len 0 joined in
     same_lists parts (parts_in (within_sectors a c) a.sectors joined) (read.count ∙ sym (length_map (λ array. part_of (held_on a array (c array)) (a.sectors array)) arrays ∙ range_long 0 joined))
@@ -199,12 +199,12 @@ bad_of_parts pool extent sectors joined c =
     let below : array < joined = omega arith in
     ap (λ (o : Option Part). option_map_or (is_bad_by pool extent sectors joined (group_in c sectors joined) array) o false) (part_at_place c sectors joined array below))
 
-pub bad_by_contents : {a b : Seen} (pool : List ℕ) (extent joined : ℕ) (parts : List Part) (c : Image) → AreServed a b joined → AreNow a joined c → WereRead a b joined parts
+pub bad_by_contents : {a b : RackView} (pool : List ℕ) (extent joined : ℕ) (parts : List Part) (c : Image) → AreServed a b joined → AreNow a joined c → WereRead a b joined parts
     → first_bad pool extent a.sectors joined (within_sectors a c) ≡ first_bad_among pool extent a.sectors parts
 bad_by_contents {a} {b} pool extent joined parts c served now read =
     sym (bad_of_parts pool extent a.sectors joined (within_sectors a c)) ∙ ap (first_bad_among pool extent a.sectors) (sym (parts_are joined parts c served now read))
 
-pub opens_by : {a b : Seen} (pool : List ℕ) (extent joined : ℕ) (sizes : List ℕ) (parts : List Part) (l : Linear) (seqno : ℕ) → sizes ≡ map a.sectors (range_with_len 0 joined) → WereRead a b joined parts
+pub opens_by : {a b : RackView} (pool : List ℕ) (extent joined : ℕ) (sizes : List ℕ) (parts : List Part) (l : Linear) (seqno : ℕ) → sizes ≡ map a.sectors (range_with_len 0 joined) → WereRead a b joined parts
     → HasRuns pool extent (slice_index sizes) parts l seqno → Opens pool extent joined a b l seqno
 opens_by {a} {b} pool extent joined sizes parts l seqno sizes_are read has =
     let count = read.count in
@@ -223,7 +223,7 @@ opens_by {a} {b} pool extent joined sizes parts l seqno sizes_are read has =
       };
     }
 
-pub refused_by : {a b : Seen} (pool : List ℕ) (extent joined : ℕ) (sizes : List ℕ) (parts : List Part) (why : VolumeFault) → sizes ≡ map a.sectors (range_with_len 0 joined) → WereRead a b joined parts
+pub refused_by : {a b : RackView} (pool : List ℕ) (extent joined : ℕ) (sizes : List ℕ) (parts : List Part) (why : VolumeFault) → sizes ≡ map a.sectors (range_with_len 0 joined) → WereRead a b joined parts
     → HasFault pool extent (slice_index sizes) parts why → IsUnopened pool extent joined a b why
 refused_by {a} {b} pool extent joined sizes parts fault.Memory sizes_are read has = tt
 refused_by {a} {b} pool extent joined sizes parts (fault.BadVolume array) sizes_are read has =
@@ -232,7 +232,7 @@ refused_by {a} {b} pool extent joined sizes parts (fault.BadVolume array) sizes_
     record { parts = parts; read = read; bad = bad; bad_in = λ c served now. bad_by_contents pool extent joined parts c served now read ∙ bad }
 
 -- with the text of its group
-pub finds_result : {a b : Seen} {V : Type 0} (pool : List ℕ) (extent joined : ℕ) (sizes : List ℕ) (parts : List Part) (items : V → List Run) (number : V → ℕ) (even : V → Bool) (text : List ℕ) (result : Result V VolumeFault)
+pub finds_result : {a b : RackView} {V : Type 0} (pool : List ℕ) (extent joined : ℕ) (sizes : List ℕ) (parts : List Part) (items : V → List Run) (number : V → ℕ) (even : V → Bool) (text : List ℕ) (result : Result V VolumeFault)
     → sizes ≡ map a.sectors (range_with_len 0 joined) → WereRead a b joined parts → IfSome (group_by parts) (IsTextOf text)
     → IfOk result (λ (v : V). HasRuns pool extent (slice_index sizes) parts (record { extent = extent; arrays = length parts; runs = items v }) (number v))
     → IfOk result (λ (v : V). even v ≡ list_all (says (number v)) parts)
@@ -244,27 +244,27 @@ finds_result {a} {b} pool extent joined sizes parts items number even text (Ok v
     record { opens = opens; kept = subst (λ (o : Option Group). IfSome o (IsTextOf text)) opens.runs.found said; all = all }
 finds_result pool extent joined sizes parts items number even text (Err why) sizes_are read said has all = tt
 
-pub refused_result : {a b : Seen} {V : Type 0} (pool : List ℕ) (extent joined : ℕ) (sizes : List ℕ) (parts : List Part) (result : Result V VolumeFault) → sizes ≡ map a.sectors (range_with_len 0 joined)
+pub refused_result : {a b : RackView} {V : Type 0} (pool : List ℕ) (extent joined : ℕ) (sizes : List ℕ) (parts : List Part) (result : Result V VolumeFault) → sizes ≡ map a.sectors (range_with_len 0 joined)
     → WereRead a b joined parts → IfErr result (HasFault pool extent (slice_index sizes) parts) → IfErr result (IsUnopened pool extent joined a b)
 refused_result pool extent joined sizes parts (Ok v) sizes_are read has = tt
 refused_result pool extent joined sizes parts (Err why) sizes_are read has = refused_by pool extent joined sizes parts why sizes_are read has
 
 -- ---- the volume
 
-pub opened_orderly : {a b : Seen} (pool : List ℕ) (extent joined : ℕ) (l : Linear) (seqno : ℕ) → 0 < extent → Opens pool extent joined a b l seqno → IsOrderly l
+pub opened_orderly : {a b : RackView} (pool : List ℕ) (extent joined : ℕ) (l : Linear) (seqno : ℕ) → 0 < extent → Opens pool extent joined a b l seqno → IsOrderly l
 opened_orderly {a} {b} pool extent joined l seqno some is =
     subst IsOrderly (sym is.runs.volume) (own_orderly pool extent (length is.parts) a.sectors is.runs.group some is.runs.own)
 
-pub opened_inside : {a b : Seen} (pool : List ℕ) (extent joined : ℕ) (l : Linear) (seqno : ℕ) → joined ≤ a.disks → total a.sectors a.disks < 2 ^ 52 → Opens pool extent joined a b l seqno → IsInside l a
+pub opened_inside : {a b : RackView} (pool : List ℕ) (extent joined : ℕ) (l : Linear) (seqno : ℕ) → joined ≤ a.disks → total a.sectors a.disks < 2 ^ 52 → Opens pool extent joined a b l seqno → IsInside l a
 opened_inside {a} {b} pool extent joined l seqno arrays small is =
     let count = is.read.count in
     subst (λ (l : Linear). IsInside l a) (sym is.runs.volume) (own_inside pool extent (length is.parts) is.runs.group a is.runs.own (omega arith) small)
 
-pub opened_few : {a b : Seen} (pool : List ℕ) (extent joined : ℕ) (l : Linear) (seqno : ℕ) → Opens pool extent joined a b l seqno → length l.runs ≤ 1024
+pub opened_few : {a b : RackView} (pool : List ℕ) (extent joined : ℕ) (l : Linear) (seqno : ℕ) → Opens pool extent joined a b l seqno → length l.runs ≤ 1024
 opened_few {a} {b} pool extent joined l seqno is =
     subst (λ (l : Linear). length l.runs ≤ 1024) (sym is.runs.volume) (own_few pool extent (length is.parts) a.sectors is.runs.group is.runs.own)
 
-pub opened_small : {a b : Seen} (pool : List ℕ) (extent joined : ℕ) (l : Linear) (seqno : ℕ) → 0 < extent → joined ≤ a.disks → total a.sectors a.disks < 2 ^ 52 → Opens pool extent joined a b l seqno → extents_of l.runs < 2 ^ 52
+pub opened_small : {a b : RackView} (pool : List ℕ) (extent joined : ℕ) (l : Linear) (seqno : ℕ) → 0 < extent → joined ≤ a.disks → total a.sectors a.disks < 2 ^ 52 → Opens pool extent joined a b l seqno → extents_of l.runs < 2 ^ 52
 opened_small {a} {b} pool extent joined l seqno some arrays small is =
     let orderly = opened_orderly pool extent joined l seqno some is in
     let most = no_more_sectors l a orderly (opened_inside pool extent joined l seqno arrays small is) in
@@ -272,11 +272,11 @@ opened_small {a} {b} pool extent joined l seqno some arrays small is =
     let grows = mul-le (extents_of l.runs) 1 (extents_of l.runs) l.extent (omega arith) (omega arith) in
     omega arith
 
-pub opened_row : {a b : Seen} (pool : List ℕ) (extent joined : ℕ) (l : Linear) (seqno : ℕ) → Opens pool extent joined a b l seqno → in_row 0 l.runs ≡ true
+pub opened_row : {a b : RackView} (pool : List ℕ) (extent joined : ℕ) (l : Linear) (seqno : ℕ) → Opens pool extent joined a b l seqno → in_row 0 l.runs ≡ true
 opened_row {a} {b} pool extent joined l seqno is = subst (λ (l : Linear). in_row 0 l.runs ≡ true) (sym is.runs.volume) (own_row pool extent (length is.parts) a.sectors is.runs.group is.runs.own)
 
-pub opened_apart : {a b : Seen} (pool : List ℕ) (extent joined : ℕ) (l : Linear) (seqno : ℕ) → Opens pool extent joined a b l seqno → all_apart l.runs ≡ true
+pub opened_apart : {a b : RackView} (pool : List ℕ) (extent joined : ℕ) (l : Linear) (seqno : ℕ) → Opens pool extent joined a b l seqno → all_apart l.runs ≡ true
 opened_apart {a} {b} pool extent joined l seqno is = subst (λ (l : Linear). all_apart l.runs ≡ true) (sym is.runs.volume) (own_apart pool extent (length is.parts) a.sectors is.runs.group is.runs.own)
 
-pub opened_numbered : {a b : Seen} (pool : List ℕ) (extent joined : ℕ) (l : Linear) (seqno : ℕ) → Opens pool extent joined a b l seqno → seqno < 2 ^ 63
+pub opened_numbered : {a b : RackView} (pool : List ℕ) (extent joined : ℕ) (l : Linear) (seqno : ℕ) → Opens pool extent joined a b l seqno → seqno < 2 ^ 63
 opened_numbered {a} {b} pool extent joined l seqno is = rw is.runs.numbered (own_numbered pool extent (length is.parts) a.sectors is.runs.group is.runs.own)

@@ -4,7 +4,7 @@ use Rattle.std.specs.Prelude.{if◌then◌else◌}
 use Rattle.std.specs.Option.{option_and_then}
 use Rattle.std.specs.Result.{result_ok}
 use Rattle.std.proofs.lemmas.Bool.{eq-eqb}
-use Rattle.rack.specs.Seen.{Seen}
+use Rattle.rack.specs.Seen.{RackView}
 use Rattle.lvm_label.specs.declared.label.Area.{Area}
 use Rattle.lvm_label.specs.declared.header.Header.{Header}
 use Rattle.lvm_label.specs.declared.header.Location.{Location}
@@ -17,11 +17,11 @@ use Rattle.lvm_group.specs.Found.{IsInArea}
 use Rattle.lvm_group.proofs.Looking.{looks_same, read_longer, held_read, differs}
 
 -- what was read over a part of the time
-pub all_longer : {a b c d : Seen} (array : ℕ) (now whole : Array) → OnlyReads a b → OnlyReads c d → AreRead b c array now whole → AreRead a d array now whole
+pub all_longer : {a b c d : RackView} (array : ℕ) (now whole : Array) → OnlyReads a b → OnlyReads c d → AreRead b c array now whole → AreRead a d array now whole
 all_longer array now whole before after all = λ sector. read_longer array now sector (whole sector) before after (all sector)
 
 -- without an area there is nothing
-pub no_area : (a b : Seen) (array : ℕ) (now : Array) (area : Option Area) → area ≡ None → IsInArea a b array now area None None
+pub no_area : (a b : RackView) (array : ℕ) (now : Array) (area : Option Area) → area ≡ None → IsInArea a b array now area None None
 no_area a b array now area is = record {
   headers = held_on a array now;
   texts = held_on a array now;
@@ -32,7 +32,7 @@ no_area a b array now area is = record {
 }
 
 -- nor in one that begins inside a sector
-pub odd_area : (a b : Seen) (array : ℕ) (now : Array) (area : Option Area) (r : Area) → area ≡ Some r → (r.offset % 512 ≡ 0 → ⊥) → IsInArea a b array now area None None
+pub odd_area : (a b : RackView) (array : ℕ) (now : Array) (area : Option Area) (r : Area) → area ≡ Some r → (r.offset % 512 ≡ 0 → ⊥) → IsInArea a b array now area None None
 odd_area a b array now area r is odd = record {
   headers = held_on a array now;
   texts = held_on a array now;
@@ -49,7 +49,7 @@ area_header : (c : Array) (area : Option Area) (r : Area) (header : Option Heade
 area_header c area r header is whole read =
     read ∙ sym (ap (option_and_then (header_at c)) is ∙ ap (λ test. if test then result_ok (header_of (c (r.offset / 512))) else None) (eq-eqb (r.offset % 512) 0 whole))
 
-pub no_header_there : {a b : Seen} (array : ℕ) (now c : Array) (area : Option Area) (r : Area) → area ≡ Some r → r.offset % 512 ≡ 0 → AreRead a b array now c
+pub no_header_there : {a b : RackView} (array : ℕ) (now c : Array) (area : Option Area) (r : Area) → area ≡ Some r → r.offset % 512 ≡ 0 → AreRead a b array now c
     → None ≡ result_ok (header_of (c (r.offset / 512))) → IsInArea a b array now area None None
 no_header_there {a} {b} array now c area r is whole all read = record {
   headers = c;
@@ -66,7 +66,7 @@ located : (texts : Array) (area : Option Area) (r : Area) (header : Header) (loc
 located texts area r header location is there =
     ap (option_and_then (λ p. option_and_then (λ l. group_at texts p l) (location_in header))) is ∙ ap (option_and_then (λ l. group_at texts r l)) there
 
-pub no_location : {a b : Seen} (array : ℕ) (now c : Array) (area : Option Area) (r : Area) (header : Header) → area ≡ Some r → r.offset % 512 ≡ 0 → AreRead a b array now c
+pub no_location : {a b : RackView} (array : ℕ) (now c : Array) (area : Option Area) (r : Area) (header : Header) → area ≡ Some r → r.offset % 512 ≡ 0 → AreRead a b array now c
     → Some header ≡ result_ok (header_of (c (r.offset / 512))) → location_in header ≡ None → IsInArea a b array now area (Some header) None
 no_location {a} {b} array now c area r header is whole all read none = record {
   headers = c;
@@ -78,7 +78,7 @@ no_location {a} {b} array now c area r header is whole all read none = record {
 }
 
 -- and one with a location has that of its text
-pub area_group : {a x b : Seen} (array : ℕ) (now c texts : Array) (area : Option Area) (r : Area) (header : Header) (location : Location) (group : Option Group)
+pub area_group : {a x b : RackView} (array : ℕ) (now c texts : Array) (area : Option Area) (r : Area) (header : Header) (location : Location) (group : Option Group)
     → area ≡ Some r → r.offset % 512 ≡ 0 → OnlyReads a x → OnlyReads x b → a.fit → AreRead a x array now c → AreRead x b array now texts
     → Some header ≡ result_ok (header_of (c (r.offset / 512))) → location_in header ≡ Some location → group ≡ group_at texts r location
     → IsInArea a b array now area (Some header) group

@@ -4,7 +4,7 @@ use Rattle.std.proofs.lemmas.Bool.{eq-eqb, eqb-true}
 use Rattle.std.proofs.lemmas.Nat.{same_from_place, mod_below, div-add-mod'}
 use Rattle.rack.specs.declared.Gone.{Gone}
 use Rattle.rack.specs.Values.{Values, MayLeave, Keeps, append}
-use Rattle.rack.specs.Seen.{Image, Held, Seen, Rose, IsPick, Stays, appended}
+use Rattle.rack.specs.Seen.{Image, Held, RackView, Rose, IsPick, SameRack, appended}
 use Rattle.rack.specs.Moments.{Leaves}
 use Rattle.rack.specs.Calls.{KeepsAll, Reads, Writes, Syncs}
 use Rattle.lvm_group.specs.Runs.{Linear, IsOrderly, place_of, data_start, sectors_in, array_of, sector_of}
@@ -14,7 +14,7 @@ use Rattle.lvm_group.specs.Laws.{extent_below, array_below, live_below, shows}
 use Rattle.lvm_group.proofs.Totals.{total_grows, total_rose, total_same}
 
 -- the extents still lie inside
-pub inside_still : {l : Linear} {a b : Seen} → Stays a b → IsInside l a → IsInside l b
+pub inside_still : {l : Linear} {a b : RackView} → SameRack a b → IsInside l a → IsInside l b
 inside_still {l} {a} {b} stays inside = record {
   small = rw (stays.disks, total_same a.sectors b.sectors a.disks stays.sectors) inside.small;
   arrays = subst (λ n. l.arrays ≤ n) (sym stays.disks) inside.arrays;
@@ -23,7 +23,7 @@ inside_still {l} {a} {b} stays inside = record {
 }
 
 -- what no call changes
-pub stays_volume : {l : Linear} {a b : Seen} → IsInside l a → Stays a b → Stays (volume_of l a) (volume_of l b)
+pub stays_volume : {l : Linear} {a b : RackView} → IsInside l a → SameRack a b → SameRack (volume_of l a) (volume_of l b)
 stays_volume {l} {a} {b} inside stays = record {
   fit = (stays.fit, inside_still stays inside);
   disks = refl;
@@ -38,7 +38,7 @@ stays_volume {l} {a} {b} inside stays = record {
 }
 
 -- stops leave in the volume what they leave in the arrays
-leaves_volume : {l : Linear} {a b : Seen} (P Q : Image → Type 0)
+leaves_volume : {l : Linear} {a b : RackView} (P Q : Image → Type 0)
     → ((below c : Image) → ((d s : ℕ) → c d s ≡ contents_of l below d s) → P below → Q c)
     → Leaves a b P → Leaves (volume_of l a) (volume_of l b) Q
 leaves_volume P Q shown leaves = record {
@@ -49,7 +49,7 @@ leaves_volume P Q shown leaves = record {
 }
 
 -- a pick of the arrays is a pick of the volume
-pick_volume : {l : Linear} {a b : Seen} (held own : Held) → IsOrderly l → IsInside l b
+pick_volume : {l : Linear} {a b : RackView} (held own : Held) → IsOrderly l → IsInside l b
     → ((d s : ℕ) → d < 1 → s < sectors_in l → held (array_of l s) (sector_of l s) ≡ own d s)
     → (below c : Image) → ((d s : ℕ) → c d s ≡ contents_of l below d s) → IsPick a b held below → IsPick (volume_of l a) (volume_of l b) own c
 pick_volume {l} held own orderly inside same below c shown pick d s live =
@@ -58,7 +58,7 @@ pick_volume {l} held own orderly inside same below c shown pick d s live =
     (pick (array_of l s) (sector_of l s) (live_below orderly inside live)))
 
 -- no value comes, and no current value changes
-pub keeps_volume : {l : Linear} {a b : Seen} → IsOrderly l → IsInside l b → KeepsAll a b → KeepsAll (volume_of l a) (volume_of l b)
+pub keeps_volume : {l : Linear} {a b : RackView} → IsOrderly l → IsInside l b → KeepsAll a b → KeepsAll (volume_of l a) (volume_of l b)
 keeps_volume {l} {a} {b} orderly inside keeps = record {
   held = λ d s live. keeps.held (array_of l s) (sector_of l s) (live_below orderly inside live);
   stops = λ traced. leaves_volume (IsPick a b a.held) (IsPick (volume_of l a) (volume_of l b) (volume_of l a).held)
@@ -66,13 +66,13 @@ keeps_volume {l} {a} {b} orderly inside keeps = record {
 }
 
 -- a refusal below raises the volume's count
-rose_volume : (l : Linear) {a b : Seen} (disk array : ℕ) → Stays a b → array < a.disks → Rose (a.faults array) (b.faults array)
+rose_volume : (l : Linear) {a b : RackView} (disk array : ℕ) → SameRack a b → array < a.disks → Rose (a.faults array) (b.faults array)
     → Rose ((volume_of l a).faults disk) ((volume_of l b).faults disk)
 rose_volume l {a} {b} disk array stays below rose = rw stays.disks (total_rose a.faults b.faults a.disks array stays.faults below rose)
 
 -- ---- reads
 
-pub read_volume : {l : Linear} {a b : Seen} (d s : ℕ) (into : List ℕ) → IsOrderly l → IsInside l a → s < sectors_in l
+pub read_volume : {l : Linear} {a b : RackView} (d s : ℕ) (into : List ℕ) → IsOrderly l → IsInside l a → s < sectors_in l
     → Reads a b (array_of l s) (sector_of l s) into {X = Unit {0}} (Ok tt)
     → Reads (volume_of l a) (volume_of l b) d s into {X = Unit {0}} (Ok tt)
 read_volume {l} {a} {b} d s into orderly inside within r = record {
@@ -82,7 +82,7 @@ read_volume {l} {a} {b} d s into orderly inside within r = record {
   value = λ told. r.value (told (array_of l s) (array_below l a s orderly inside within));
 }
 
-pub unread_volume : {l : Linear} {a b : Seen} (d s : ℕ) (into : List ℕ) (gone : Gone) → IsOrderly l → IsInside l a → s < sectors_in l
+pub unread_volume : {l : Linear} {a b : RackView} (d s : ℕ) (into : List ℕ) (gone : Gone) → IsOrderly l → IsInside l a → s < sectors_in l
     → Reads a b (array_of l s) (sector_of l s) into {X = Unit {0}} (Err gone)
     → Reads (volume_of l a) (volume_of l b) d s into {X = Unit {0}} (Err (record { disk = d }))
 unread_volume {l} {a} {b} d s into gone orderly inside within r =
@@ -121,7 +121,7 @@ and_both : (p q : Bool) → p ≡ true → q ≡ true → (p && q) ≡ true
 and_both p q e f = rw (e, f) refl
 
 -- a write to a sector of the volume is the write to its sector below, and to no other
-appended_volume : (l : Linear) (a : Seen) (d s : ℕ) (value : List ℕ) → IsOrderly l → d < 1 → s < sectors_in l → (e u : ℕ) → e < 1 → u < sectors_in l
+appended_volume : (l : Linear) (a : RackView) (d s : ℕ) (value : List ℕ) → IsOrderly l → d < 1 → s < sectors_in l → (e u : ℕ) → e < 1 → u < sectors_in l
     → appended a.held (array_of l s) (sector_of l s) value (array_of l u) (sector_of l u) ≡ appended (volume_of l a).held d s value e u
 appended_volume l a d s value orderly one within e u other_one other =
     let held : Values = a.held (array_of l u) (sector_of l u) in
@@ -136,7 +136,7 @@ appended_volume l a d s value orderly one within e u other_one other =
     and_both _ _ (eq-eqb (array_of l u) (array_of l s) (ap (array_of l) same)) (eq-eqb (sector_of l u) (sector_of l s) (ap (sector_of l) same))))
 
 -- the stops of a write
-write_stops : {l : Linear} {a b : Seen} (d s : ℕ) (value : List ℕ) → IsOrderly l → IsInside l b → d < 1 → s < sectors_in l
+write_stops : {l : Linear} {a b : RackView} (d s : ℕ) (value : List ℕ) → IsOrderly l → IsInside l b → d < 1 → s < sectors_in l
     → Leaves a b (IsPick a b (appended a.held (array_of l s) (sector_of l s) value))
     → Leaves (volume_of l a) (volume_of l b) (IsPick (volume_of l a) (volume_of l b) (appended (volume_of l a).held d s value))
 write_stops {l} {a} {b} d s value orderly inside one within =
@@ -144,7 +144,7 @@ write_stops {l} {a} {b} d s value orderly inside one within =
     (pick_volume (appended a.held (array_of l s) (sector_of l s) value) (appended (volume_of l a).held d s value) orderly inside
     (λ e u other_one other. appended_volume l a d s value orderly one within e u other_one other))
 
-pub write_volume : {l : Linear} {a b : Seen} (d s : ℕ) (value : List ℕ) → IsOrderly l → IsInside l a → d < 1 → s < sectors_in l
+pub write_volume : {l : Linear} {a b : RackView} (d s : ℕ) (value : List ℕ) → IsOrderly l → IsInside l a → d < 1 → s < sectors_in l
     → Writes a b (array_of l s) (sector_of l s) value {X = Unit {0}} (Ok tt)
     → Writes (volume_of l a) (volume_of l b) d s value {X = Unit {0}} (Ok tt)
 write_volume {l} {a} {b} d s value orderly inside one within w = record {
@@ -157,7 +157,7 @@ write_volume {l} {a} {b} d s value orderly inside one within w = record {
   failed = tt;
 }
 
-pub unwritten_volume : {l : Linear} {a b : Seen} (d s : ℕ) (value : List ℕ) (gone : Gone) → IsOrderly l → IsInside l a → d < 1 → s < sectors_in l
+pub unwritten_volume : {l : Linear} {a b : RackView} (d s : ℕ) (value : List ℕ) (gone : Gone) → IsOrderly l → IsInside l a → d < 1 → s < sectors_in l
     → Writes a b (array_of l s) (sector_of l s) value {X = Unit {0}} (Err gone)
     → Writes (volume_of l a) (volume_of l b) d s value {X = Unit {0}} (Err (record { disk = d }))
 unwritten_volume {l} {a} {b} d s value gone orderly inside one within w =
@@ -178,7 +178,7 @@ unwritten_volume {l} {a} {b} d s value gone orderly inside one within w =
 
 -- ---- syncs
 
-pub sync_volume : {l : Linear} {a b : Seen} (d : ℕ) → IsOrderly l → IsInside l a
+pub sync_volume : {l : Linear} {a b : RackView} (d : ℕ) → IsOrderly l → IsInside l a
     → SyncsAll a b l.arrays {X = Unit {0}} (Ok tt)
     → Syncs (volume_of l a) (volume_of l b) d {X = Unit {0}} (Ok tt)
 sync_volume {l} {a} {b} d orderly inside y = record {
@@ -190,7 +190,7 @@ sync_volume {l} {a} {b} d orderly inside y = record {
       y.done (array_of l s) (sector_of l s) v (array_below l a s orderly inside live.sector) (live_below orderly (inside_still y.stays inside) live) leaves;
 }
 
-pub unsynced_volume : {l : Linear} {a b : Seen} (d : ℕ) (gone : Gone) → IsOrderly l → IsInside l a
+pub unsynced_volume : {l : Linear} {a b : RackView} (d : ℕ) (gone : Gone) → IsOrderly l → IsInside l a
     → SyncsAll a b l.arrays {X = Unit {0}} (Err gone)
     → Syncs (volume_of l a) (volume_of l b) d {X = Unit {0}} (Err (record { disk = d }))
 unsynced_volume {l} {a} {b} d gone orderly inside y =

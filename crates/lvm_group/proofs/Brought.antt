@@ -8,7 +8,7 @@ use Rattle.lvm_label.specs.Label.{HaveLabelsDecoded}
 use Rattle.lvm_label.specs.Header.{HaveHeadersDecoded}
 use Rattle.lvm_text.specs.declared.group.Group.{Group}
 use Rattle.rack.specs.declared.Gone.{Gone}
-use Rattle.rack.specs.Seen.{Image, Seen, IsPick, Stays}
+use Rattle.rack.specs.Seen.{Image, RackView, IsPick, SameRack}
 use Rattle.rack.specs.Moments.{Leaves}
 use Rattle.rack.specs.Joins.{leaves_then, leaves_weaker, live_first, live_second, rose_early, rose_later, stays_then}
 use Rattle.rack.specs.Sequences.{IsMix, IsPayload, OnlyReads, WritesOnly}
@@ -53,11 +53,11 @@ payload_before pool sectors starts text n d s v are short is = elim (cases_lt d 
 ]
 
 -- what follows the reading: nothing, where all arrays are even or the text has no room, or a change
-abbrev pub Brings : List ℕ → List ℕ → ℕ → Bool → Group → Seen → Seen → Type 0
+abbrev pub Brings : List ℕ → List ℕ → ℕ → Bool → Group → RackView → RackView → Type 0
 Brings pool text n even group m b =
     (OnlyReads m b × (n ≤ 16 → HaveAreas m.sectors n → even ≡ true)) ⊎ ((result : Result (Unit {0}) Gone) × Changes pool text n m b result × IsReadBack pool text n m.sectors group)
 
-brings_writes : {m b : Seen} (pool text : List ℕ) (n : ℕ) (even : Bool) (group : Group) → Brings pool text n even group m b → WritesOnly m b (IsBefore n)
+brings_writes : {m b : RackView} (pool text : List ℕ) (n : ℕ) (even : Bool) (group : Group) → Brings pool text n even group m b → WritesOnly m b (IsBefore n)
 brings_writes pool text n even group (inl looks) = only_quiet (IsBefore n) looks.0.stays looks.0.keeps
 brings_writes {m} {b} pool text n even group (inr change) =
     only_weaker (IsPayload (new_targets pool m.sectors change.1.starts text n)) (IsBefore n)
@@ -65,7 +65,7 @@ brings_writes {m} {b} pool text n even group (inr change) =
 
 -- ---- what was read stays read
 
-later_read : {a m b : Seen} (array : ℕ) (now c : Array) → Stays m b → AreRead a m array now c → AreRead a b array now c
+later_read : {a m b : RackView} (array : ℕ) (now c : Array) → SameRack m b → AreRead a m array now c → AreRead a b array now c
 later_read {a} {m} {b} array now c later read = λ s. record {
   within = λ inside. elim ((read s).within inside) [
     | inl same ↦ inl same
@@ -74,7 +74,7 @@ later_read {a} {m} {b} array now c later read = λ s. record {
   past = (read s).past;
 }
 
-later_part : {a m b : Seen} (array : ℕ) (now : Array) (part : Part) → Stays m b → IsPart a m array now part → IsPart a b array now part
+later_part : {a m b : RackView} (array : ℕ) (now : Array) (part : Part) → SameRack m b → IsPart a m array now part → IsPart a b array now part
 later_part array now part later is = record {
   labels = is.labels;
   headers = is.headers;
@@ -85,7 +85,7 @@ later_part array now part later is = record {
   is = is.is;
 }
 
-opens_later : {a m b : Seen} (pool : List ℕ) (extent joined : ℕ) (l : Linear) (seqno : ℕ) → Stays m b → Opens pool extent joined a m l seqno → Opens pool extent joined a b l seqno
+opens_later : {a m b : RackView} (pool : List ℕ) (extent joined : ℕ) (l : Linear) (seqno : ℕ) → SameRack m b → Opens pool extent joined a m l seqno → Opens pool extent joined a b l seqno
 opens_later {a} {m} {b} pool extent joined l seqno later opens = record {
   parts = opens.parts;
   read = record {
@@ -102,7 +102,7 @@ opens_later {a} {m} {b} pool extent joined l seqno later opens = record {
 abbrev AreSame : ℕ → Image → Image → Type 0
 AreSame joined before c = (d s : ℕ) → d < joined → s < 2048 → c d s ≡ before d s
 
-same_writing : {a b : Seen} (pool : List ℕ) (joined : ℕ) (l : Linear) (seqno : ℕ) (before c : Image) → HaveLabelsDecoded → HaveHeadersDecoded → IsSettled pool joined l seqno a b before → AreSame joined before c
+same_writing : {a b : RackView} (pool : List ℕ) (joined : ℕ) (l : Linear) (seqno : ℕ) (before c : Image) → HaveLabelsDecoded → HaveHeadersDecoded → IsSettled pool joined l seqno a b before → AreSame joined before c
     → (d : ℕ) → d < joined → IsWriting pool d (a.sectors d) [] (before d) (c d)
 same_writing {a} pool joined l seqno before c labels headers settled same d below = record {
   labels = labels;
@@ -112,18 +112,18 @@ same_writing {a} pool joined l seqno before c labels headers settled same d belo
   kept = record { label = inl (same d 1 below (omega arith)); header = inl (same d 8 below (omega arith)); others = λ s less label header apart. same d s below less };
 }
 
-same_says : {a b : Seen} (pool : List ℕ) (joined : ℕ) (l : Linear) (seqno : ℕ) (before c : Image) → HaveLabelsDecoded → HaveHeadersDecoded → (settled : IsSettled pool joined l seqno a b before) → AreSame joined before c
+same_says : {a b : RackView} (pool : List ℕ) (joined : ℕ) (l : Linear) (seqno : ℕ) (before c : Image) → HaveLabelsDecoded → HaveHeadersDecoded → (settled : IsSettled pool joined l seqno a b before) → AreSame joined before c
     → AreOneOf pool a.sectors joined settled.means.group before c
 same_says {a} pool joined l seqno before c labels headers settled same = λ d below.
     kept_says pool d (a.sectors d) [] (before d) (c d) settled.means.group (same_writing pool joined l seqno before c labels headers settled same d below)
     (array_sound pool l.extent joined a.sectors before settled.means.group d settled.means.found settled.means.sound below).0
 
-same_means : {a b : Seen} (pool : List ℕ) (joined : ℕ) (l : Linear) (seqno : ℕ) (before c : Image) → HaveLabelsDecoded → HaveHeadersDecoded → IsSettled pool joined l seqno a b before → AreSame joined before c
+same_means : {a b : RackView} (pool : List ℕ) (joined : ℕ) (l : Linear) (seqno : ℕ) (before c : Image) → HaveLabelsDecoded → HaveHeadersDecoded → IsSettled pool joined l seqno a b before → AreSame joined before c
     → MeansVolume pool joined a.sectors l seqno c
 same_means {a} pool joined l seqno before c labels headers settled same =
     means_same pool l.extent joined a.sectors (over joined l) seqno before c settled.means (same_says pool joined l seqno before c labels headers settled same)
 
-same_volume : {a b : Seen} (pool : List ℕ) (joined : ℕ) (l : Linear) (seqno : ℕ) (before c : Image) → HaveLabelsDecoded → HaveHeadersDecoded → IsSettled pool joined l seqno a b before → AreSame joined before c
+same_volume : {a b : RackView} (pool : List ℕ) (joined : ℕ) (l : Linear) (seqno : ℕ) (before c : Image) → HaveLabelsDecoded → HaveHeadersDecoded → IsSettled pool joined l seqno a b before → AreSame joined before c
     → IsVolume pool joined l seqno a.sectors c
 same_volume {a} pool joined l seqno before c labels headers settled same = record {
   areas = λ d below. area_kept pool d (a.sectors d) [] (before d) (c d) (same_writing pool joined l seqno before c labels headers settled same d below);
@@ -131,24 +131,24 @@ same_volume {a} pool joined l seqno before c labels headers settled same = recor
 }
 
 -- as they read now, with nothing past the arrays' ends
-abbrev now_in : Seen → Image
+abbrev now_in : RackView → Image
 now_in a = within_sectors a (λ d s. (a.held d s).current)
 
-now_same : {a b : Seen} (pool : List ℕ) (joined : ℕ) (l : Linear) (seqno : ℕ) (before : Image) → Stays a b → IsSettled pool joined l seqno a b before → AreSame joined before (now_in a)
+now_same : {a b : RackView} (pool : List ℕ) (joined : ℕ) (l : Linear) (seqno : ℕ) (before : Image) → SameRack a b → IsSettled pool joined l seqno a b before → AreSame joined before (now_in a)
 now_same {a} {b} pool joined l seqno before stays settled = λ d s below less.
     let live = settled.told d s below less in
     let inside : s < a.sectors d = subst (λ n. s < n) (stays.sectors d) live.sector in
     ap (λ test. if test then (a.held d s).current else []) (lt-ltb s (a.sectors d) inside) ∙ settled.only d s (a.held d s).current below less (inl refl)
 
 -- what was read without a refusal is what stands
-read_is : {a b : Seen} (pool : List ℕ) (extent joined : ℕ) (l : Linear) (seqno : ℕ) (before : Image) → Stays a b → (opens : Opens pool extent joined a b l seqno) → IsSettled pool joined l seqno a b before
+read_is : {a b : RackView} (pool : List ℕ) (extent joined : ℕ) (l : Linear) (seqno : ℕ) (before : Image) → SameRack a b → (opens : Opens pool extent joined a b l seqno) → IsSettled pool joined l seqno a b before
     → AreServed a b a.disks → opens.parts ≡ parts_in (now_in a) a.sectors joined
 read_is {a} {b} pool extent joined l seqno before stays opens settled served =
     parts_are joined opens.parts (λ d s. (a.held d s).current)
     (λ array below. served array (subst (λ n. array < n) stays.disks (settled.told array 0 below (omega arith)).disk))
     (λ array below. record { told = (settled.told array 0 below (omega arith)).is_told; current = λ sector within unspent. refl }) opens.read
 
-read_right : {a b : Seen} (pool : List ℕ) (extent joined : ℕ) (l : Linear) (seqno : ℕ) (before : Image) → HaveLabelsDecoded → HaveHeadersDecoded → Stays a b → (opens : Opens pool extent joined a b l seqno)
+read_right : {a b : RackView} (pool : List ℕ) (extent joined : ℕ) (l : Linear) (seqno : ℕ) (before : Image) → HaveLabelsDecoded → HaveHeadersDecoded → SameRack a b → (opens : Opens pool extent joined a b l seqno)
     → IsSettled pool joined l seqno a b before → AreServed a b a.disks → group_in before a.sectors joined ≡ Some opens.runs.group
 read_right {a} {b} pool extent joined l seqno before labels headers stays opens settled served =
     let parts = read_is pool extent joined l seqno before stays opens settled served in
@@ -161,7 +161,7 @@ read_right {a} {b} pool extent joined l seqno before labels headers stays opens 
 -- ---- a change to the group that stands
 
 -- the arrays are as they were before reads
-settled_after : {a m b : Seen} (pool : List ℕ) (joined : ℕ) (l : Linear) (seqno : ℕ) (before : Image) → OnlyReads a m → Stays m b → IsSettled pool joined l seqno a b before → IsSettled pool joined l seqno m b before
+settled_after : {a m b : RackView} (pool : List ℕ) (joined : ℕ) (l : Linear) (seqno : ℕ) (before : Image) → OnlyReads a m → SameRack m b → IsSettled pool joined l seqno a b before → IsSettled pool joined l seqno m b before
 settled_after {a} {m} {b} pool joined l seqno before looks later settled = record {
   told = λ d s below less. live_second looks.stays (settled.told d s below less);
   only = λ d s v below less may. settled.only d s v below less ((looks.keeps.held d s (live_first later (settled.told d s below less))).within v may);
@@ -169,7 +169,7 @@ settled_after {a} {m} {b} pool joined l seqno before looks later settled = recor
   means = let sectors : a.sectors ≡ m.sectors = λ i d. sym (looks.stays.sectors d) i in subst (λ (f : ℕ → ℕ). MeansVolume pool joined f l seqno before) sectors settled.means;
 }
 
-to_change : {m b : Seen} (pool text : List ℕ) (joined : ℕ) (l : Linear) (seqno : ℕ) (group : Group) (before : Image) {X : Type 0} (result : Result X Gone) (changes : Changes pool text joined m b result)
+to_change : {m b : RackView} (pool text : List ℕ) (joined : ℕ) (l : Linear) (seqno : ℕ) (group : Group) (before : Image) {X : Type 0} (result : Result X Gone) (changes : Changes pool text joined m b result)
     → IsReadBack pool text joined m.sectors group → IsSettled pool joined l seqno m b before → IsChange pool text joined joined changes.starts group m b before
 to_change {m} pool text joined l seqno group before result changes back settled = record {
   back = back;
@@ -188,7 +188,7 @@ same_group pool sectors joined before c group other same each = subst (λ (g : G
 one_group : (group other : Group) (o : Option Group) → o ≡ Some group → o ≡ Some other → group ≡ other
 one_group group other o one two = let same : Some group ≡ Some other = sym one ∙ two in cc
 
-change_volume : {m b : Seen} (pool text : List ℕ) (joined : ℕ) (l : Linear) (seqno : ℕ) (group : Group) (before c : Image) {X : Type 0} (result : Result X Gone) (changes : Changes pool text joined m b result)
+change_volume : {m b : RackView} (pool text : List ℕ) (joined : ℕ) (l : Linear) (seqno : ℕ) (group : Group) (before c : Image) {X : Type 0} (result : Result X Gone) (changes : Changes pool text joined m b result)
     → IsReadBack pool text joined m.sectors group → IsSettled pool joined l seqno m b before → group_in before m.sectors joined ≡ Some group
     → IsMix m b (IsPayload (new_targets pool m.sectors changes.starts text joined)) c
     → IsInTurn m b (targets_to (first_targets pool m.sectors changes.starts text) joined) (targets_to (header_target changes.starts text) joined) joined c
@@ -214,30 +214,30 @@ change_volume {m} {b} pool text joined l seqno group before c result changes bac
 -- ---- an opening
 
 -- contents from which the volume of a group can be extended again
-abbrev pub AreVolumes : List ℕ → ℕ → Linear → ℕ → Group → Seen → Seen → Image → Type 0
+abbrev pub AreVolumes : List ℕ → ℕ → Linear → ℕ → Group → RackView → RackView → Image → Type 0
 AreVolumes pool joined l seqno group a b c =
     (before : Image) → IsSettled pool joined l seqno a b before → group_in before a.sectors joined ≡ Some group → IsVolume pool joined l seqno a.sectors c
 
 -- what is done once the arrays were read
-pub record IsOpening (pool text : List ℕ) (extent joined : ℕ) (l : Linear) (seqno : ℕ) (even : Bool) (a m b : Seen) : Type 0 where
+pub record IsOpening (pool text : List ℕ) (extent joined : ℕ) (l : Linear) (seqno : ℕ) (even : Bool) (a m b : RackView) : Type 0 where
   pub labels : HaveLabelsDecoded
   pub headers : HaveHeadersDecoded
   pub looks : OnlyReads a m
-  pub later : Stays m b
+  pub later : SameRack m b
   pub finds : Finds pool extent joined a m l seqno even text
   pub brings : Brings pool text joined even finds.opens.runs.group m b
 
-sectors_same : {a m : Seen} → OnlyReads a m → m.sectors ≡ a.sectors
+sectors_same : {a m : RackView} → OnlyReads a m → m.sectors ≡ a.sectors
 sectors_same looks = λ i d. looks.stays.sectors d i
 
-reading_images : {a m b : Seen} (pool : List ℕ) (joined : ℕ) (l : Linear) (seqno : ℕ) (group : Group) → HaveLabelsDecoded → HaveHeadersDecoded → OnlyReads a m → Stays m b → a.traced
+reading_images : {a m b : RackView} (pool : List ℕ) (joined : ℕ) (l : Linear) (seqno : ℕ) (group : Group) → HaveLabelsDecoded → HaveHeadersDecoded → OnlyReads a m → SameRack m b → a.traced
     → Leaves a m (AreVolumes pool joined l seqno group a b)
 reading_images {a} {m} {b} pool joined l seqno group labels headers looks later traced =
     leaves_weaker (IsPick a m a.held) (AreVolumes pool joined l seqno group a b)
     (λ c pick before settled right. same_volume pool joined l seqno before c labels headers settled
     (λ d s below less. settled.only d s (c d s) below less (pick d s (live_first later (settled.told d s below less))))) (looks.keeps.stops traced)
 
-brings_images : {a m b : Seen} (pool text : List ℕ) (joined : ℕ) (l : Linear) (seqno : ℕ) (even : Bool) (group : Group) → HaveLabelsDecoded → HaveHeadersDecoded → OnlyReads a m → Stays m b
+brings_images : {a m b : RackView} (pool text : List ℕ) (joined : ℕ) (l : Linear) (seqno : ℕ) (even : Bool) (group : Group) → HaveLabelsDecoded → HaveHeadersDecoded → OnlyReads a m → SameRack m b
     → Brings pool text joined even group m b → m.traced → Leaves m b (AreVolumes pool joined l seqno group a b)
 brings_images {a} {m} {b} pool text joined l seqno even group labels headers looks later (inl quiet) traced =
     leaves_weaker (IsPick m b m.held) (AreVolumes pool joined l seqno group a b)
@@ -260,10 +260,10 @@ brings_images {a} {m} {b} pool text joined l seqno even group labels headers loo
 says_group : (sectors : ℕ) (group : Group) (seqno : ℕ) (x : Array) → seqno ≡ group.seqno → (part_of x sectors).group ≡ Some group → says seqno (part_of x sectors) ≡ true
 says_group sectors group seqno x number is = ap (λ (o : Option Group). option_map_or (λ (g : Group). g.seqno == seqno) o false) is ∙ eq-eqb group.seqno seqno (sym number)
 
-abbrev IsEvenAfter : List ℕ → ℕ → Linear → ℕ → Seen → Seen → Type 0
+abbrev IsEvenAfter : List ℕ → ℕ → Linear → ℕ → RackView → RackView → Type 0
 IsEvenAfter pool joined l seqno a b = (after : Image) × HoldOnly b joined after × IsEven pool joined l seqno a.sectors after
 
-changed_even : {m b : Seen} (pool text : List ℕ) (joined : ℕ) (l : Linear) (seqno : ℕ) (group : Group) (before : Image) → (changes : Changes pool text joined m b {X = Unit {0}} (Ok tt)) → IsReadBack pool text joined m.sectors group
+changed_even : {m b : RackView} (pool text : List ℕ) (joined : ℕ) (l : Linear) (seqno : ℕ) (group : Group) (before : Image) → (changes : Changes pool text joined m b {X = Unit {0}} (Ok tt)) → IsReadBack pool text joined m.sectors group
     → IsSettled pool joined l seqno m b before → group_in before m.sectors joined ≡ Some group → seqno ≡ group.seqno → IsEvenAfter pool joined l seqno m b
 changed_even {m} {b} pool text joined l seqno group before changes back settled right number =
     let is = to_change pool text joined l seqno group before (Ok tt) changes back settled in (
@@ -278,8 +278,8 @@ changed_even {m} {b} pool text joined l seqno group before changes back settled 
       },
     )
 
-brought_even : {a m b : Seen} (pool text : List ℕ) (joined : ℕ) (l : Linear) (seqno : ℕ) (group : Group) (before : Image) (result : Result (Unit {0}) Gone) → (changes : Changes pool text joined m b result)
-    → IsReadBack pool text joined m.sectors group → OnlyReads a m → Stays m b → IsSettled pool joined l seqno a b before → group_in before a.sectors joined ≡ Some group → seqno ≡ group.seqno → AreServed a b a.disks
+brought_even : {a m b : RackView} (pool text : List ℕ) (joined : ℕ) (l : Linear) (seqno : ℕ) (group : Group) (before : Image) (result : Result (Unit {0}) Gone) → (changes : Changes pool text joined m b result)
+    → IsReadBack pool text joined m.sectors group → OnlyReads a m → SameRack m b → IsSettled pool joined l seqno a b before → group_in before a.sectors joined ≡ Some group → seqno ≡ group.seqno → AreServed a b a.disks
     → IsEvenAfter pool joined l seqno a b
 brought_even {a} {m} {b} pool text joined l seqno group before (Ok done) changes back looks later settled right number served =
     let sectors = sectors_same looks in
@@ -289,7 +289,7 @@ brought_even {a} {m} {b} pool text joined l seqno group before (Ok done) changes
 brought_even {a} {m} {b} pool text joined l seqno group before (Err gone) changes back looks later settled right number served =
     absurd (served gone.disk (subst (λ n. gone.disk < n) looks.stays.disks changes.puts.gone.0) (rose_later a m b gone.disk looks.stays changes.puts.gone.1))
 
-quiet_even : {a m b : Seen} (pool text : List ℕ) (extent joined : ℕ) (l : Linear) (seqno : ℕ) (even : Bool) (before : Image) (is : IsOpening pool text extent joined l seqno even a m b) → (opens : Opens pool extent joined a b l seqno)
+quiet_even : {a m b : RackView} (pool text : List ℕ) (extent joined : ℕ) (l : Linear) (seqno : ℕ) (even : Bool) (before : Image) (is : IsOpening pool text extent joined l seqno even a m b) → (opens : Opens pool extent joined a b l seqno)
     → opens.parts ≡ is.finds.opens.parts → OnlyReads m b → even ≡ true → IsSettled pool joined l seqno a b before → AreServed a b a.disks → IsEvenAfter pool joined l seqno a b
 quiet_even {a} {m} {b} pool text extent joined l seqno even before is opens same_parts quiet all settled served =
     let stays = stays_then is.looks.stays is.later in
@@ -307,7 +307,7 @@ quiet_even {a} {m} {b} pool text extent joined l seqno even before is opens same
       },
     )
 
-brings_even : {a m b : Seen} (pool text : List ℕ) (extent joined : ℕ) (l : Linear) (seqno : ℕ) (even : Bool) (before : Image) (is : IsOpening pool text extent joined l seqno even a m b) → (opens : Opens pool extent joined a b l seqno)
+brings_even : {a m b : RackView} (pool text : List ℕ) (extent joined : ℕ) (l : Linear) (seqno : ℕ) (even : Bool) (before : Image) (is : IsOpening pool text extent joined l seqno even a m b) → (opens : Opens pool extent joined a b l seqno)
     → opens.parts ≡ is.finds.opens.parts → Brings pool text joined even is.finds.opens.runs.group m b → IsSettled pool joined l seqno a b before → group_in before a.sectors joined ≡ Some is.finds.opens.runs.group
     → AreServed a b a.disks → joined ≤ 16 → IsEvenAfter pool joined l seqno a b
 brings_even {a} {m} {b} pool text extent joined l seqno even before is opens same_parts (inl quiet) settled right served few =
@@ -316,7 +316,7 @@ brings_even {a} {m} {b} pool text extent joined l seqno even before is opens sam
 brings_even {a} {m} {b} pool text extent joined l seqno even before is opens same_parts (inr change) settled right served few =
     brought_even pool text joined l seqno is.finds.opens.runs.group before change.0 change.1 change.2 is.looks is.later settled right is.finds.opens.runs.numbered served
 
-pub opened : {a m b : Seen} (pool text : List ℕ) (extent joined : ℕ) (l : Linear) (seqno : ℕ) (even : Bool) → IsOpening pool text extent joined l seqno even a m b
+pub opened : {a m b : RackView} (pool text : List ℕ) (extent joined : ℕ) (l : Linear) (seqno : ℕ) (even : Bool) → IsOpening pool text extent joined l seqno even a m b
     → (opens : Opens pool extent joined a b l seqno) × BringsUp pool joined l seqno opens.runs.group a b
 unfolding opens_later
 opened {a} {m} {b} pool text extent joined l seqno even is =
@@ -337,7 +337,7 @@ opened {a} {m} {b} pool text extent joined l seqno even is =
     )
 
 -- the text that was kept is the one that is written
-pub brought : {a m b : Seen} (pool text kept : List ℕ) (extent joined : ℕ) (l : Linear) (seqno : ℕ) (even : Bool) → HaveLabelsDecoded → HaveHeadersDecoded → OnlyReads a m → Stays m b → text ≡ kept
+pub brought : {a m b : RackView} (pool text kept : List ℕ) (extent joined : ℕ) (l : Linear) (seqno : ℕ) (even : Bool) → HaveLabelsDecoded → HaveHeadersDecoded → OnlyReads a m → SameRack m b → text ≡ kept
     → Finds pool extent joined a m l seqno even kept → Rewrites pool text joined even m b → (opens : Opens pool extent joined a b l seqno) × BringsUp pool joined l seqno opens.runs.group a b
 brought {a} {m} {b} pool text kept extent joined l seqno even labels headers looks later same finds rewrites =
     let finds : Finds pool extent joined a m l seqno even text = subst (λ (bytes : List ℕ). Finds pool extent joined a m l seqno even bytes) (sym same) finds in
@@ -351,6 +351,6 @@ brought {a} {m} {b} pool text kept extent joined l seqno even labels headers loo
       brings = elim rewrites [ inl quiet ↦ inl quiet | inr change ↦ inr (change.0, change.1, change.2 finds.opens.runs.group finds.kept.says) ];
     })
 
-pub rewrites_stays : {m b : Seen} (pool text : List ℕ) (n : ℕ) (even : Bool) → Rewrites pool text n even m b → Stays m b
+pub rewrites_stays : {m b : RackView} (pool text : List ℕ) (n : ℕ) (even : Bool) → Rewrites pool text n even m b → SameRack m b
 rewrites_stays pool text n even (inl quiet) = quiet.0.stays
 rewrites_stays pool text n even (inr change) = change.1.puts.only.stays

@@ -4,7 +4,7 @@ use Rattle.std.specs.List.{AllByRecursion, IsDistinct, list_any}
 use Rattle.std.proofs.Math.Dec.{eqb}
 use Rattle.std.proofs.lemmas.Bool.{cases_eq, cases_lt, eqb-true}
 use Rattle.std.proofs.lemmas.Map.Steps.{length-le_from_distinct_below}
-use Rattle.rack.specs.Seen.{Seen}
+use Rattle.rack.specs.Seen.{RackView}
 use Rattle.lvm_group.specs.Runs.{Linear, IsOrderly, sectors_in, array_of, sector_of}
 use Rattle.lvm_group.specs.Shown.{IsInside, total}
 use Rattle.lvm_group.specs.Laws.{array_below, sector_below}
@@ -82,7 +82,7 @@ one_array f i j s t s_below t_below same = elim (cases_eq i j) [
 ]
 
 -- a volume has no more sectors than its arrays
-pub no_more_sectors : (l : Linear) (a : Seen) → IsOrderly l → IsInside l a → sectors_in l ≤ total a.sectors a.disks
+pub no_more_sectors : (l : Linear) (a : RackView) → IsOrderly l → IsInside l a → sectors_in l ≤ total a.sectors a.disks
 no_more_sectors l a orderly inside =
     no_more (λ s. total a.sectors (array_of l s) + sector_of l s) (sectors_in l) (total a.sectors a.disks)
     (λ s within.

@@ -4,7 +4,7 @@ use Rattle.std.specs.Prelude.{nat_le}
 use Rattle.std.specs.List.{list_all}
 use Rattle.std.proofs.lemmas.Bool.{leb-true}
 use Rattle.std.proofs.lemmas.Nat.{mul-le}
-use Rattle.rack.specs.Seen.{Seen}
+use Rattle.rack.specs.Seen.{RackView}
 use Rattle.lvm_group.specs.declared.runs.Run.{Run}
 use Rattle.lvm_group.specs.Runs.{IsOrderly, Linear, extents_of}
 use Rattle.lvm_group.specs.Shown.{IsInside, total}
@@ -18,7 +18,7 @@ use Rattle.lvm_group.proofs.OwnText.{IsWritable, own_is_own, runs_back}
 use Rattle.lvm_group.proofs.Passed.{both}
 
 -- a volume has few extents
-pub small_extents : (l : Linear) (a : Seen) → IsOrderly l → IsInside l a → extents_of l.runs < 2 ^ 52
+pub small_extents : (l : Linear) (a : RackView) → IsOrderly l → IsInside l a → extents_of l.runs < 2 ^ 52
 small_extents l a orderly inside =
     let most = no_more_sectors l a orderly inside in
     let small = inside.small in
@@ -61,7 +61,7 @@ next_orderly pool extent joined sectors seqno numbers runs some few fitting is =
     (own_orderly pool extent joined sectors (own_group pool extent sectors seqno numbers (grown runs numbers)) some (own_is_own pool extent joined sectors seqno numbers (grown runs numbers) is))
 
 -- and lies inside its arrays
-pub next_inside : (pool : List ℕ) (extent joined : ℕ) (a : Seen) (seqno : ℕ) (numbers : List ℕ) (runs : List Run) → length numbers ≤ 16 → joined ≤ a.disks → total a.sectors a.disks < 2 ^ 52 → fits runs numbers ≡ true
+pub next_inside : (pool : List ℕ) (extent joined : ℕ) (a : RackView) (seqno : ℕ) (numbers : List ℕ) (runs : List Run) → length numbers ≤ 16 → joined ≤ a.disks → total a.sectors a.disks < 2 ^ 52 → fits runs numbers ≡ true
     → IsWritable extent joined a.sectors seqno numbers (grown runs numbers) → IsInside (record { extent = extent; arrays = joined; runs = grown runs numbers }) a
 next_inside pool extent joined a seqno numbers runs few arrays small fitting is =
     subst (λ (l : Linear). IsInside l a) (next_linear pool extent joined a.sectors seqno numbers runs few fitting)

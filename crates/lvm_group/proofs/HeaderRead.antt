@@ -3,7 +3,7 @@ use Rattle.std.proofs.Common.{◌≡◌, ℕ, List, [], None, refl, sym, ap}
 use Rattle.std.specs.Prelude.{if◌then◌else◌}
 use Rattle.std.specs.Result.{result_ok}
 use Rattle.std.proofs.lemmas.Bool.{eq-eqb}
-use Rattle.rack.specs.Seen.{Seen}
+use Rattle.rack.specs.Seen.{RackView}
 use Rattle.lvm_label.specs.Header.{header_of}
 use Rattle.lvm_group.specs.Parts.{Array}
 use Rattle.lvm_group.specs.Reading.{IsRead, AreRead, held_on}
@@ -13,7 +13,7 @@ use Rattle.lvm_group.proofs.Looking.{held_read, with_sector, sector_read}
 pub has_sector : (c : Array) (sector : ℕ) (bytes : List ℕ) → with_sector c sector bytes sector ≡ bytes
 has_sector c sector bytes = ap (λ test. if test then bytes else c sector) (eq-eqb sector sector refl)
 
-pub header_read : {a b : Seen} (array : ℕ) (now : Array) (sector : ℕ) (bytes : List ℕ) → IsRead a b array now sector bytes
+pub header_read : {a b : RackView} (array : ℕ) (now : Array) (sector : ℕ) (bytes : List ℕ) → IsRead a b array now sector bytes
     → (c : Array) × AreRead a b array now c × (result_ok (header_of bytes) ≡ result_ok (header_of (c sector)))
 header_read {a} {b} array now sector bytes is = (
   with_sector (held_on a array now) sector bytes,

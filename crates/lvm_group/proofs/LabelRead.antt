@@ -2,7 +2,7 @@
 use Rattle.std.proofs.Common.{◌≡◌, ℕ, ◌+◌, List, [], ◌∷◌, Option, Some, None, refl, ap, ◌∙◌}
 use Rattle.std.specs.Prelude.{unwrap_or, replicate}
 use Rattle.std.specs.Result.{result_ok}
-use Rattle.rack.specs.Seen.{Seen}
+use Rattle.rack.specs.Seen.{RackView}
 use Rattle.lvm_label.specs.Label.{label_in}
 use Rattle.lvm_group.specs.Parts.{Array, label_on}
 use Rattle.rack.specs.Sequences.{OnlyReads}
@@ -31,7 +31,7 @@ four_sectors o p q r =
     ∙ then_same (unwrap_or o []) 0 _ _ (no_label p 1 (unwrap_or q zeros ∷ unwrap_or r zeros ∷ [])
     ∙ then_same (unwrap_or p []) 1 _ _ (no_label q 2 (unwrap_or r zeros ∷ []) ∙ then_same (unwrap_or q []) 2 _ _ (no_label r 3 [])))
 
-pub label_read : {a b c d e : Seen} (array : ℕ) (now : Array) (o p q r : Option (List ℕ)) → a.fit → OnlyReads a b → OnlyReads b c → OnlyReads c d → OnlyReads d e
+pub label_read : {a b c d e : RackView} (array : ℕ) (now : Array) (o p q r : Option (List ℕ)) → a.fit → OnlyReads a b → OnlyReads b c → OnlyReads c d → OnlyReads d e
     → IsRead a b array now 0 (unwrap_or o []) → IsRead b c array now 1 (unwrap_or p []) → IsRead c d array now 2 (unwrap_or q []) → IsRead d e array now 3 (unwrap_or r [])
     → (whole : Array) × AreRead a e array now whole
     × (result_ok (label_in 0 (unwrap_or o zeros ∷ unwrap_or p zeros ∷ unwrap_or q zeros ∷ unwrap_or r zeros ∷ [])) ≡ label_on whole)

@@ -4,7 +4,7 @@ use Rattle.std.specs.Option.{option_or}
 use Rattle.std.proofs.lemmas.Bool.{cases_eq, cases_lt, eq-eqb, eqb-true, le-ltb, lt-ltb}
 use Rattle.lvm_label.specs.Label.{IsLabel, label_bytes}
 use Rattle.lvm_label.specs.Header.{IsLocation, header_bytes}
-use Rattle.rack.specs.Seen.{Image, Seen}
+use Rattle.rack.specs.Seen.{Image, RackView}
 use Rattle.rack.specs.Targets.{Target, look, target}
 use Rattle.rack.proofs.Phases.{look-append, payload_none}
 use Rattle.lvm_group.specs.Sequences.{AreSingle, AreTold}
@@ -185,7 +185,7 @@ new_header pool sectors starts text n d below =
 
 -- ---- what stands then
 
-pub new_written : (a b : Seen) (pool : List ℕ) (starts : List TextStart) (text : List ℕ) (n : ℕ) (c : Image) → AreStarts starts → length text ≤ 262144 → Puts a b (new_targets pool a.sectors starts text n) {X = Unit {0}} (Ok tt)
+pub new_written : (a b : RackView) (pool : List ℕ) (starts : List TextStart) (text : List ℕ) (n : ℕ) (c : Image) → AreStarts starts → length text ≤ 262144 → Puts a b (new_targets pool a.sectors starts text n) {X = Unit {0}} (Ok tt)
     → AreSingle a b n → ((array : ℕ) → array < n → IsLabel (own_label pool array (a.sectors array)))
     → ((array : ℕ) → array < n → IsLocation (own_location (512 * (start_at starts array).sector) text)) → AreTold a b n → ArePicks b n c
     → AreFree a n → AreWritten pool a.sectors starts n text c

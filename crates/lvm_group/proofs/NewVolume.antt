@@ -10,7 +10,7 @@ use Rattle.lvm_text.specs.declared.group.Pv.{Pv}
 use Rattle.lvm_text.specs.declared.group.Group.{Group}
 use Rattle.lvm_text.specs.Group.{group_of}
 use Rattle.rack.specs.declared.Gone.{Gone}
-use Rattle.rack.specs.Seen.{Image, Seen}
+use Rattle.rack.specs.Seen.{Image, RackView}
 use Rattle.lvm_group.specs.declared.runs.Run.{Run}
 use Rattle.lvm_group.specs.declared.growth.Piece.{Piece}
 use Rattle.lvm_group.specs.Runs.{IsOrderly, Linear, data_start, extents_of}
@@ -76,7 +76,7 @@ new_orderly pool extent sectors numbers some few holds =
     (own_orderly pool extent (length numbers) sectors (new_group pool extent sectors numbers) some (own_is_own pool extent (length numbers) sectors 1 numbers (grown [] numbers) (new_writable extent sectors numbers few holds)))
 
 -- and lies inside its arrays
-pub new_inside : (pool : List ℕ) (extent : ℕ) (a : Seen) (numbers : List ℕ) → length numbers ≤ 16 → HoldAll extent a.sectors 0 numbers → length numbers ≤ a.disks → total a.sectors a.disks < 2 ^ 52
+pub new_inside : (pool : List ℕ) (extent : ℕ) (a : RackView) (numbers : List ℕ) → length numbers ≤ 16 → HoldAll extent a.sectors 0 numbers → length numbers ≤ a.disks → total a.sectors a.disks < 2 ^ 52
     → IsInside (new_volume extent numbers) a
 new_inside pool extent a numbers few holds arrays small =
     subst (λ (l : Linear). IsInside l a) (new_runs pool extent a.sectors numbers few)
@@ -85,7 +85,7 @@ new_inside pool extent a numbers few holds arrays small =
 pub fresh_starts : AreStarts []
 fresh_starts array = (omega arith, omega arith)
 
-pub new_means : (pool : List ℕ) (extent : ℕ) (a b : Seen) (numbers text : List ℕ) (c : Image) → HaveLabelsDecoded → HaveHeadersDecoded → 0 < length numbers → length numbers ≤ 16 → HoldAll extent a.sectors 0 numbers
+pub new_means : (pool : List ℕ) (extent : ℕ) (a b : RackView) (numbers text : List ℕ) (c : Image) → HaveLabelsDecoded → HaveHeadersDecoded → 0 < length numbers → length numbers ≤ 16 → HoldAll extent a.sectors 0 numbers
     → length text ≤ 262144 → group_of text ≡ Ok (new_group pool extent a.sectors numbers) → Puts a b (new_targets pool a.sectors [] text (length numbers)) {X = Unit {0}} (Ok tt) → AreSingle a b (length numbers)
     → ((array : ℕ) → array < length numbers → IsLabel (own_label pool array (a.sectors array))) → ((array : ℕ) → array < length numbers → IsLocation (own_location (512 * (start_at [] array).sector) text)) → AreTold a b (length numbers) → AreFree a (length numbers) → ArePicks b (length numbers) c
     → Means pool extent a.sectors numbers c
@@ -100,7 +100,7 @@ new_means pool extent a b numbers text c labels headers some few holds short rea
     }
 
 -- it can be extended
-pub new_settled : (pool : List ℕ) (extent : ℕ) (a b : Seen) (numbers text : List ℕ) → HaveLabelsDecoded → HaveHeadersDecoded → 0 < length numbers → length numbers ≤ 16 → HoldAll extent a.sectors 0 numbers
+pub new_settled : (pool : List ℕ) (extent : ℕ) (a b : RackView) (numbers text : List ℕ) → HaveLabelsDecoded → HaveHeadersDecoded → 0 < length numbers → length numbers ≤ 16 → HoldAll extent a.sectors 0 numbers
     → length text ≤ 262144 → group_of text ≡ Ok (new_group pool extent a.sectors numbers) → Puts a b (new_targets pool a.sectors [] text (length numbers)) {X = Unit {0}} (Ok tt) → AreSingle a b (length numbers)
     → ((array : ℕ) → array < length numbers → IsLabel (own_label pool array (a.sectors array))) → ((array : ℕ) → array < length numbers → IsLocation (own_location (512 * (start_at [] array).sector) text)) → AreTold a b (length numbers) → AreFree a (length numbers)
     → LeavesVolume pool (length numbers) (new_volume extent numbers) 1 a.sectors b
@@ -160,7 +160,7 @@ holds_metadata extent sectors numbers holds array below =
     let whole = subst (λ n. data_start + there.0 * extent ≤ sectors n) same room in
     omega arith
 
-pub makes_by : (a b : Seen) (pool : List ℕ) (extent : ℕ) (numbers text : List ℕ) (result : Result (Unit {0}) Gone) → HaveLabelsDecoded → HaveHeadersDecoded → 0 < length numbers → length numbers ≤ 16
+pub makes_by : (a b : RackView) (pool : List ℕ) (extent : ℕ) (numbers text : List ℕ) (result : Result (Unit {0}) Gone) → HaveLabelsDecoded → HaveHeadersDecoded → 0 < length numbers → length numbers ≤ 16
     → HoldAll extent a.sectors 0 numbers → length text ≤ 262144 → group_of text ≡ Ok (new_group pool extent a.sectors numbers) → Puts a b (new_targets pool a.sectors [] text (length numbers)) result
     → OnOk result (AreSingle a b (length numbers)) → OnOk result ((array : ℕ) → array < length numbers → IsLabel (own_label pool array (a.sectors array))) → OnOk result (((array : ℕ) → array < length numbers → IsLocation (own_location (512 * (start_at [] array).sector) text)))
     → OnOk result (Makes pool extent numbers a b)

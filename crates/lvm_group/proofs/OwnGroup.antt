@@ -13,7 +13,7 @@ use Rattle.lvm_text.specs.declared.group.Lv.{Lv}
 use Rattle.lvm_text.specs.declared.group.Group.{Group}
 use Rattle.lvm_group.specs.declared.runs.Run.{Run}
 use Rattle.lvm_group.specs.Ids.{array_named, group_id, pv_id, text_id, group_name}
-use Rattle.rack.specs.Seen.{Seen}
+use Rattle.rack.specs.Seen.{RackView}
 use Rattle.lvm_group.specs.Shown.{IsInside, total}
 use Rattle.lvm_group.specs.Runs.{Place, AreInOrder, AreApart, IsOrderly, place_of, place_in, data_start, extents_of, run_of}
 use Rattle.lvm_group.specs.Own.{in_row}
@@ -229,7 +229,7 @@ own_orderly pool extent joined sectors g some own =
     record { sized = rw is.sized some; order = is.placed.order; apart = is.placed.apart }
 
 -- and lies inside its arrays
-pub own_inside : (pool : List ℕ) (extent joined : ℕ) (g : Group) (a : Seen) → is_own_group pool extent a.sectors joined g ≡ true → joined ≤ a.disks → total a.sectors a.disks < 2 ^ 52
+pub own_inside : (pool : List ℕ) (extent joined : ℕ) (g : Group) (a : RackView) → is_own_group pool extent a.sectors joined g ≡ true → joined ≤ a.disks → total a.sectors a.disks < 2 ^ 52
     → IsInside (linear_in joined g) a
 own_inside pool extent joined g a own arrays small =
     let is = own_placed pool extent joined a.sectors g own in

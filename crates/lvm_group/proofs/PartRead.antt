@@ -2,7 +2,7 @@
 use Rattle.std.proofs.Common.{◌≡◌, ℕ, Option, Some, None, ap, ◌∙◌}
 use Rattle.std.specs.Option.{option_and_then}
 use Rattle.std.specs.Result.{result_ok}
-use Rattle.rack.specs.Seen.{Seen}
+use Rattle.rack.specs.Seen.{RackView}
 use Rattle.lvm_label.specs.declared.label.Area.{Area}
 use Rattle.lvm_label.specs.declared.label.Label.{Label}
 use Rattle.lvm_label.specs.declared.header.Header.{Header}
@@ -16,7 +16,7 @@ use Rattle.lvm_group.proofs.Looking.{looks_same, held_read}
 use Rattle.lvm_group.proofs.AreaRead.{all_longer}
 
 -- without a label
-pub unlabelled : {a x b : Seen} (array : ℕ) (now labels headers : Array) (header : Option Header) → a.fit → OnlyReads a x → OnlyReads x b
+pub unlabelled : {a x b : RackView} (array : ℕ) (now labels headers : Array) (header : Option Header) → a.fit → OnlyReads a x → OnlyReads x b
     → AreRead a x array now labels → None ≡ label_on labels → AreRead x b array now headers → header ≡ result_ok (header_of (headers own_header_sector))
     → IsPart a b array now (record { label = None; header = header; group = None })
 unfolding part_by
@@ -31,7 +31,7 @@ unlabelled {a} {x} {b} array now labels headers header fit first second labels_a
 }
 
 -- with one
-pub labelled : {a x b : Seen} (array : ℕ) (now labels : Array) (label : Label) (area : Option Area) (header : Option Header) (group : Option Group) → a.fit → OnlyReads a x → OnlyReads x b
+pub labelled : {a x b : RackView} (array : ℕ) (now labels : Array) (label : Label) (area : Option Area) (header : Option Header) (group : Option Group) → a.fit → OnlyReads a x → OnlyReads x b
     → AreRead a x array now labels → Some label ≡ label_on labels → area ≡ area_of (a.sectors array) label → IsInArea x b array now area header group
     → IsPart a b array now (record { label = Some label; header = header; group = group })
 unfolding part_by

@@ -2,7 +2,7 @@
 use Rattle.std.proofs.Common.{◌≡◌, ℕ, zero, suc, ◌+◌, ◌<◌, ◌++◌, List, [], ◌∷◌, Some, inl, inr, refl, sym, ap, ◌∙◌, subst, arith}
 use Rattle.std.specs.Prelude.{length, slice_get}
 use Rattle.std.proofs.lemmas.Bool.{cases_eq}
-use Rattle.rack.specs.Seen.{Seen}
+use Rattle.rack.specs.Seen.{RackView}
 use Rattle.rack.specs.Sequences.{OnlyReads}
 use Rattle.lvm_group.specs.declared.parts.Part.{Part}
 use Rattle.lvm_group.specs.Parts.{Array, part_from}
@@ -12,7 +12,7 @@ use Rattle.lvm_group.proofs.Looking.{looks_same, now_later}
 use Rattle.lvm_group.proofs.AreaRead.{all_longer}
 
 -- a part that was read over a part of the time
-part_longer : {a b c d : Seen} (array : ℕ) (now : Array) (part : Part) → OnlyReads a b → OnlyReads c d → IsPart b c array now part → IsPart a d array now part
+part_longer : {a b c d : RackView} (array : ℕ) (now : Array) (part : Part) → OnlyReads a b → OnlyReads c d → IsPart b c array now part → IsPart a d array now part
 part_longer array now part before after found = record {
   labels = found.labels;
   headers = found.headers;
@@ -34,7 +34,7 @@ get_new [] y = refl
 get_new (x ∷ xs) y = get_new xs y
 
 -- one part more
-pub parts_more : {a x b : Seen} (parts : List Part) (part : Part) (array : ℕ) → a.fit → length parts ≡ array → array < a.disks → OnlyReads a x → OnlyReads x b
+pub parts_more : {a x b : RackView} (parts : List Part) (part : Part) (array : ℕ) → a.fit → length parts ≡ array → array < a.disks → OnlyReads a x → OnlyReads x b
     → AreParts a x array parts → ((now : Array) → IsNow x array now → IsPart x b array now part) → AreParts a b (array + 1) (parts ++ part ∷ [])
 parts_more {a} {x} {b} parts part array fit count there first second all new = λ k now below is. elim (cases_eq k array) [
   | inl here ↦ (

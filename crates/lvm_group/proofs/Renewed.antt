@@ -7,7 +7,7 @@ use Rattle.lvm_text.specs.declared.group.Group.{Group}
 use Rattle.lvm_text.specs.Printed.{printed}
 use Rattle.rack.specs.declared.Gone.{Gone}
 use Rattle.rack.specs.Values.{MayLeave}
-use Rattle.rack.specs.Seen.{Image, Seen}
+use Rattle.rack.specs.Seen.{Image, RackView}
 use Rattle.rack.specs.Moments.{Leaves}
 use Rattle.rack.specs.Joins.{leaves_weaker}
 use Rattle.rack.specs.Sequences.{IsMix, IsPayload}
@@ -53,7 +53,7 @@ names_first pool sectors numbers array few there = let below = names_below pool 
 
 -- ---- an extension
 
-pub leaves_both : {a b : Seen} (P Q : Image → Type 0) → Leaves a b P → Leaves a b Q → Leaves a b (λ c. P c × Q c)
+pub leaves_both : {a b : RackView} (P Q : Image → Type 0) → Leaves a b P → Leaves a b Q → Leaves a b (λ c. P c × Q c)
 leaves_both P Q one two = record {
   later = one.later;
   kept = one.kept;
@@ -83,7 +83,7 @@ next_is : (pool text : List ℕ) (l : Linear) (seqno : ℕ) (numbers : List ℕ)
     → over joined (extended l numbers) ≡ linear_in joined (next_group pool l sectors seqno numbers)
 next_is pool text l seqno numbers sectors joined is = sym (next_linear pool l.extent joined sectors (next_seqno seqno) numbers l.runs is.few is.fitting)
 
-change : {a b : Seen} {X : Type 0} (pool text : List ℕ) (l : Linear) (seqno : ℕ) (numbers : List ℕ) (joined : ℕ) (before : Image) (result : Result X Gone) → IsGrowing pool text l seqno numbers a.sectors
+change : {a b : RackView} {X : Type 0} (pool text : List ℕ) (l : Linear) (seqno : ℕ) (numbers : List ℕ) (joined : ℕ) (before : Image) (result : Result X Gone) → IsGrowing pool text l seqno numbers a.sectors
     → (changes : Changes pool text (length numbers) a b result) → length numbers ≤ joined → IsSettled pool joined l seqno a b before → IsChange pool text (length numbers) joined changes.starts (next_group pool l a.sectors seqno numbers) a b before
 change {a} {b} pool text l seqno numbers joined before result is changes joins settled = record {
   back = is.back;
@@ -97,7 +97,7 @@ change {a} {b} pool text l seqno numbers joined before result is changes joins s
 }
 
 -- each stop leaves the one or the other
-pub old_or_new : {a b : Seen} {X : Type 0} (pool text : List ℕ) (l : Linear) (seqno : ℕ) (numbers : List ℕ) (result : Result X Gone) → IsGrowing pool text l seqno numbers a.sectors
+pub old_or_new : {a b : RackView} {X : Type 0} (pool text : List ℕ) (l : Linear) (seqno : ℕ) (numbers : List ℕ) (result : Result X Gone) → IsGrowing pool text l seqno numbers a.sectors
     → Changes pool text (length numbers) a b result → a.traced → Leaves a b (IsOldOrNew pool l seqno numbers a b)
 old_or_new {a} {b} pool text l seqno numbers result is changes traced =
     let n : ℕ = length numbers in
@@ -125,23 +125,23 @@ old_or_new {a} {b} pool text l seqno numbers result is changes traced =
 -- ---- at its end
 
 -- the contents as they read at the end
-abbrev pub at_end : Seen → Image
+abbrev pub at_end : RackView → Image
 at_end b = λ d s. (b.held d s).current
 
-pub end_only : {a b : Seen} (pool text : List ℕ) (n joined : ℕ) (before : Image) (new : Group) (changes : Changes pool text n a b {X = Unit {0}} (Ok tt)) → IsChange pool text n joined changes.starts new a b before
+pub end_only : {a b : RackView} (pool text : List ℕ) (n joined : ℕ) (before : Image) (new : Group) (changes : Changes pool text n a b {X = Unit {0}} (Ok tt)) → IsChange pool text n joined changes.starts new a b before
     → (d s : ℕ) (v : List ℕ) → n ≤ d → d < joined → s < 2048 → MayLeave (b.held d s) v → v ≡ before d s
 end_only {a} {b} pool text n joined before new changes is d s v past below less may =
     let live = is.told d s below less in
     let kept = changes.puts.only.others d s live (payload_none (new_targets pool a.sectors changes.starts text n) d s (past_none pool a.sectors changes.starts text n d s past)) in
     is.only d s v below less (kept.within v may)
 
-end_past : {a b : Seen} (pool text : List ℕ) (n joined : ℕ) (before : Image) (new : Group) (changes : Changes pool text n a b {X = Unit {0}} (Ok tt)) → IsChange pool text n joined changes.starts new a b before
+end_past : {a b : RackView} (pool text : List ℕ) (n joined : ℕ) (before : Image) (new : Group) (changes : Changes pool text n a b {X = Unit {0}} (Ok tt)) → IsChange pool text n joined changes.starts new a b before
     → (d : ℕ) → n ≤ d → d < joined → IsKept pool d (a.sectors d) text (before d) (at_end b d)
 end_past {a} {b} pool text n joined before new changes is d past below =
     let same = λ (s : ℕ) (less : s < 2048). end_only pool text n joined before new changes is d s (b.held d s).current past below less (inl refl) in
     record { label = inl (same 1 (omega arith)); header = inl (same 8 (omega arith)); others = λ s less label header apart. same s less }
 
-end_written : {a b : Seen} (pool text : List ℕ) (n joined : ℕ) (before : Image) (new : Group) (changes : Changes pool text n a b {X = Unit {0}} (Ok tt)) → IsChange pool text n joined changes.starts new a b before
+end_written : {a b : RackView} (pool text : List ℕ) (n joined : ℕ) (before : Image) (new : Group) (changes : Changes pool text n a b {X = Unit {0}} (Ok tt)) → IsChange pool text n joined changes.starts new a b before
     → (d : ℕ) → d < n → IsWritten pool d (a.sectors d) (start_at changes.starts d).sector text (at_end b d)
 end_written {a} {b} pool text n joined before new changes is d below =
     let within = is.within in
@@ -150,7 +150,7 @@ end_written {a} {b} pool text n joined before new changes is d below =
     (λ array s less inside. is.told array s (omega arith) inside) (λ array s less inside. inl refl)
     (λ array less. rw (now_is pool text n joined changes.starts new is array 0 (omega arith) (omega arith)) ((is.areas array (omega arith)).free)) d below
 
-pub end_one : {a b : Seen} (pool text : List ℕ) (n joined : ℕ) (before : Image) (new : Group) (changes : Changes pool text n a b {X = Unit {0}} (Ok tt)) → IsChange pool text n joined changes.starts new a b before
+pub end_one : {a b : RackView} (pool text : List ℕ) (n joined : ℕ) (before : Image) (new : Group) (changes : Changes pool text n a b {X = Unit {0}} (Ok tt)) → IsChange pool text n joined changes.starts new a b before
     → (d : ℕ) → d < n
     → IsOneOf pool d new (part_of (before d) (a.sectors d)) (part_of (at_end b d) (a.sectors d)) × (has_own_label pool d (part_of (at_end b d) (a.sectors d)) ≡ true)
     × ((part_of (at_end b d) (a.sectors d)).group ≡ Some new)
@@ -160,7 +160,7 @@ end_one {a} {b} pool text n joined before new changes is d below =
     let says = written_says pool d (a.sectors d) (start_at changes.starts d).sector text new (part_of (before d) (a.sectors d)) (part_of (at_end b d) (a.sectors d)) there in
     (says.0, says.1, ap (λ (part : Part). part.group) there)
 
-pub end_area : {a b : Seen} (pool text : List ℕ) (n joined : ℕ) (before : Image) (new : Group) (changes : Changes pool text n a b {X = Unit {0}} (Ok tt)) → IsChange pool text n joined changes.starts new a b before
+pub end_area : {a b : RackView} (pool text : List ℕ) (n joined : ℕ) (before : Image) (new : Group) (changes : Changes pool text n a b {X = Unit {0}} (Ok tt)) → IsChange pool text n joined changes.starts new a b before
     → (d : ℕ) → d < joined → HasOwnArea (at_end b d)
 end_area {a} {b} pool text n joined before new changes is d below = elim (cases_lt d n) [
   | inl less ↦ area_there pool d (a.sectors d) (start_at changes.starts d).sector text (at_end b d) is.back.labels (end_written pool text n joined before new changes is d less)
@@ -170,7 +170,7 @@ end_area {a} {b} pool text n joined before new changes is d below = elim (cases_
 ]
 
 -- the new group is there, and the volume can be extended again
-new_at_end : {a b : Seen} (pool text : List ℕ) (l : Linear) (seqno : ℕ) (numbers : List ℕ) → IsGrowing pool text l seqno numbers a.sectors
+new_at_end : {a b : RackView} (pool text : List ℕ) (l : Linear) (seqno : ℕ) (numbers : List ℕ) → IsGrowing pool text l seqno numbers a.sectors
     → Changes pool text (length numbers) a b {X = Unit {0}} (Ok tt) → IsNew pool l seqno numbers a b
 new_at_end {a} {b} pool text l seqno numbers is changes = λ joined before joins settled.
     let n : ℕ = length numbers in
@@ -198,7 +198,7 @@ new_at_end {a} {b} pool text l seqno numbers is changes = λ joined before joins
       },
     )
 
-pub new_after : {a b : Seen} (pool text : List ℕ) (l : Linear) (seqno : ℕ) (numbers : List ℕ) (result : Result (Unit {0}) Gone) → IsGrowing pool text l seqno numbers a.sectors
+pub new_after : {a b : RackView} (pool text : List ℕ) (l : Linear) (seqno : ℕ) (numbers : List ℕ) (result : Result (Unit {0}) Gone) → IsGrowing pool text l seqno numbers a.sectors
     → Changes pool text (length numbers) a b result → OnOk result (IsNew pool l seqno numbers a b)
 new_after pool text l seqno numbers (Ok done) is changes = new_at_end pool text l seqno numbers is changes
 new_after pool text l seqno numbers (Err gone) is changes = tt
@@ -216,12 +216,12 @@ pub record IsExtensible (l : Linear) (seqno : ℕ) (numbers : List ℕ) (sectors
   pub fitting : fits l.runs numbers ≡ true
 
 -- the next group's text was written
-pub record IsWrittenNext (pool : List ℕ) (l : Linear) (seqno : ℕ) (numbers : List ℕ) (a b : Seen) {X : Type 0} (result : Result X Gone) (group : Group) : Type 0 where
+pub record IsWrittenNext (pool : List ℕ) (l : Linear) (seqno : ℕ) (numbers : List ℕ) (a b : RackView) {X : Type 0} (result : Result X Gone) (group : Group) : Type 0 where
   pub is : group ≡ next_group pool l a.sectors seqno numbers
   pub back : IsReadBack pool (printed group) (length numbers) a.sectors group
   pub changes : Changes pool (printed group) (length numbers) a b result
 
-growing : {a b : Seen} {X : Type 0} (pool : List ℕ) (l : Linear) (seqno : ℕ) (numbers : List ℕ) (result : Result X Gone) (group : Group) → IsExtensible l seqno numbers a.sectors
+growing : {a b : RackView} {X : Type 0} (pool : List ℕ) (l : Linear) (seqno : ℕ) (numbers : List ℕ) (result : Result X Gone) (group : Group) → IsExtensible l seqno numbers a.sectors
     → IsWrittenNext pool l seqno numbers a b result group → IsGrowing pool (printed (next_group pool l a.sectors seqno numbers)) l seqno numbers a.sectors
 growing {a} pool l seqno numbers result group is next = record {
   back = subst (λ (group : Group). IsReadBack pool (printed group) (length numbers) a.sectors group) next.is next.back;
@@ -234,16 +234,16 @@ growing {a} pool l seqno numbers result group is next = record {
   fitting = is.fitting;
 }
 
-changing : {a b : Seen} {X : Type 0} (pool : List ℕ) (l : Linear) (seqno : ℕ) (numbers : List ℕ) (result : Result X Gone) (group : Group)
+changing : {a b : RackView} {X : Type 0} (pool : List ℕ) (l : Linear) (seqno : ℕ) (numbers : List ℕ) (result : Result X Gone) (group : Group)
     → IsWrittenNext pool l seqno numbers a b result group → Changes pool (printed (next_group pool l a.sectors seqno numbers)) (length numbers) a b result
 changing {a} {b} pool l seqno numbers result group next = subst (λ (group : Group). Changes pool (printed group) (length numbers) a b result) next.is next.changes
 
-pub extended_images : {a b : Seen} {X : Type 0} (pool : List ℕ) (l : Linear) (seqno : ℕ) (numbers : List ℕ) (result : Result X Gone) (group : Group) → IsExtensible l seqno numbers a.sectors
+pub extended_images : {a b : RackView} {X : Type 0} (pool : List ℕ) (l : Linear) (seqno : ℕ) (numbers : List ℕ) (result : Result X Gone) (group : Group) → IsExtensible l seqno numbers a.sectors
     → IsWrittenNext pool l seqno numbers a b result group → a.traced → Leaves a b (IsOldOrNew pool l seqno numbers a b)
 extended_images {a} {b} pool l seqno numbers result group is next =
     old_or_new pool (printed (next_group pool l a.sectors seqno numbers)) l seqno numbers result (growing pool l seqno numbers result group is next) (changing pool l seqno numbers result group next)
 
-pub extended_end : {a b : Seen} (pool : List ℕ) (l : Linear) (seqno : ℕ) (numbers : List ℕ) (result : Result (Unit {0}) Gone) (group : Group) → IsExtensible l seqno numbers a.sectors
+pub extended_end : {a b : RackView} (pool : List ℕ) (l : Linear) (seqno : ℕ) (numbers : List ℕ) (result : Result (Unit {0}) Gone) (group : Group) → IsExtensible l seqno numbers a.sectors
     → IsWrittenNext pool l seqno numbers a b result group → OnOk result (IsNew pool l seqno numbers a b)
 extended_end {a} {b} pool l seqno numbers result group is next =
     new_after pool (printed (next_group pool l a.sectors seqno numbers)) l seqno numbers result (growing pool l seqno numbers result group is next) (changing pool l seqno numbers result group next)

@@ -4,7 +4,7 @@ use Rattle.std.proofs.lemmas.List.{length-take-le}
 use Rattle.std.specs.Prelude.{length, take, drop, slice_get, if◌then◌else◌}
 use Rattle.std.proofs.lemmas.Bool.{cases_lt, lt-ltb, le-ltb}
 use Rattle.std.proofs.lemmas.Nat.{le-div, div_below, div-add-mod'}
-use Rattle.rack.specs.Seen.{Seen}
+use Rattle.rack.specs.Seen.{RackView}
 use Rattle.lvm_group.specs.Parts.{Array, byte_at, row_at, behind}
 use Rattle.rack.specs.Sequences.{OnlyReads}
 use Rattle.lvm_group.specs.Reading.{IsRead, AreRead, held_on}
@@ -13,12 +13,12 @@ use Rattle.lvm_group.proofs.HeaderRead.{has_sector}
 use Rattle.lvm_group.proofs.Rows.{row_piece, row_none, behind_twice}
 
 -- past the end there is no byte
-past_end : (a : Seen) (array : ℕ) (now : Array) (place : ℕ) → 512 * a.sectors array ≤ place → byte_at (held_on a array now) place ≡ None
+past_end : (a : RackView) (array : ℕ) (now : Array) (place : ℕ) → 512 * a.sectors array ≤ place → byte_at (held_on a array now) place ≡ None
 past_end a array now place past =
     let sector : a.sectors array ≤ place / 512 = le-div (a.sectors array) place 512 (omega arith) (omega arith) in
     ap (λ test. slice_get (if test then now (place / 512) else []) (place % 512)) (le-ltb (place / 512) (a.sectors array) sector)
 
-pub row_past : (a : Seen) (array : ℕ) (now : Array) (from count : ℕ) → 0 < count → 512 * a.sectors array < from + count
+pub row_past : (a : RackView) (array : ℕ) (now : Array) (from count : ℕ) → 0 < count → 512 * a.sectors array < from + count
     → (c : Array) × AreRead a a array now c × (row_at c from count ≡ None)
 row_past a array now from count some past = (
   held_on a array now,
@@ -30,7 +30,7 @@ row_past a array now from count some past = (
 )
 
 -- a refused sector has no byte
-pub row_refused : {a x b : Seen} (array : ℕ) (now : Array) (from count at : ℕ) → OnlyReads a x → OnlyReads x b → from ≤ at → at < from + count → IsRead x b array now (at / 512) []
+pub row_refused : {a x b : RackView} (array : ℕ) (now : Array) (from count at : ℕ) → OnlyReads a x → OnlyReads x b → from ≤ at → at < from + count → IsRead x b array now (at / 512) []
     → (c : Array) × AreRead a b array now c × (row_at c from count ≡ None)
 row_refused {a} {x} {b} array now from count at before after starts ends is = (
   with_sector (held_on a array now) (at / 512) [],
@@ -40,7 +40,7 @@ row_refused {a} {x} {b} array now from count at before after starts ends is = (
 )
 
 -- a sector that was read is what the array holds
-held_is : {a x b : Seen} (array : ℕ) (now : Array) (sector : ℕ) (bytes : List ℕ) → OnlyReads a x → sector < a.sectors array → 0 < length bytes → IsRead x b array now sector bytes
+held_is : {a x b : RackView} (array : ℕ) (now : Array) (sector : ℕ) (bytes : List ℕ) → OnlyReads a x → sector < a.sectors array → 0 < length bytes → IsRead x b array now sector bytes
     → held_on a array now sector ≡ bytes
 held_is {a} {x} {b} array now sector bytes before inside some is =
     elim (is.within (subst (λ n. sector < n) (sym (before.stays.sectors array)) inside)) [
@@ -49,7 +49,7 @@ held_is {a} {x} {b} array now sector bytes before inside some is =
     ]
 
 -- so a row goes on behind the bytes read from it
-pub row_on : {a x b : Seen} (array : ℕ) (now : Array) (at left piece : ℕ) (bytes front : List ℕ) → OnlyReads a x → at + left ≤ 512 * a.sectors array → 0 < left → length bytes ≡ 512
+pub row_on : {a x b : RackView} (array : ℕ) (now : Array) (at left piece : ℕ) (bytes front : List ℕ) → OnlyReads a x → at + left ≤ 512 * a.sectors array → 0 < left → length bytes ≡ 512
     → piece ≤ left → at % 512 + piece ≤ 512 → IsRead x b array now (at / 512) bytes
     → behind front (row_at (held_on a array now) at left) ≡ behind (front ++ take piece (drop (at % 512) bytes)) (row_at (held_on a array now) (at + piece) (left - piece))
 row_on {a} {x} {b} array now at left piece bytes front before within some whole fits short is =

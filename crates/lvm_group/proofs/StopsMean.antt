@@ -9,7 +9,7 @@ use Rattle.lvm_label.specs.declared.label.Label.{Label}
 use Rattle.lvm_label.specs.Label.{HaveLabelsDecoded, IsLabel, label_bytes, label_word}
 use Rattle.lvm_label.specs.Header.{header_bytes, header_of}
 use Rattle.lvm_text.specs.declared.group.Group.{Group}
-use Rattle.rack.specs.Seen.{Image, Seen}
+use Rattle.rack.specs.Seen.{Image, RackView}
 use Rattle.rack.specs.Sequences.{IsMix, IsPayload}
 use Rattle.rack.specs.Targets.{Target, look}
 use Rattle.std.specs.Option.{option_or}
@@ -100,7 +100,7 @@ past_none pool sectors starts text n d s past =
 -- ---- the arrays before the headers are written
 
 -- a change of the joined arrays whose first sectors held these contents alone
-pub record IsChange (pool text : List ℕ) (n joined : ℕ) (starts : List TextStart) (new : Group) (a b : Seen) (before : Image) : Type 0 where
+pub record IsChange (pool text : List ℕ) (n joined : ℕ) (starts : List TextStart) (new : Group) (a b : RackView) (before : Image) : Type 0 where
   pub back : IsReadBack pool text n a.sectors new
   pub inside : AreStarts starts
   pub behind : AreBehind a n starts
@@ -110,18 +110,18 @@ pub record IsChange (pool text : List ℕ) (n joined : ℕ) (starts : List TextS
   pub areas : (array : ℕ) → array < joined → HasOwnArea (before array)
   pub sound : (array : ℕ) → array < joined → has_bad_text (part_of (before array) (a.sectors array)) ≡ false
 
-pub now_is : {a b : Seen} {before : Image} (pool text : List ℕ) (n joined : ℕ) (starts : List TextStart) (new : Group) → IsChange pool text n joined starts new a b before → (d s : ℕ) → d < joined → s < 2048
+pub now_is : {a b : RackView} {before : Image} (pool text : List ℕ) (n joined : ℕ) (starts : List TextStart) (new : Group) → IsChange pool text n joined starts new a b before → (d s : ℕ) → d < joined → s < 2048
     → (a.held d s).current ≡ before d s
 now_is {a} pool text n joined starts new is d s below less = is.only d s (a.held d s).current below less (inl refl)
 
-start_is : {a b : Seen} {before : Image} (pool text : List ℕ) (n joined : ℕ) (starts : List TextStart) (new : Group) → IsChange pool text n joined starts new a b before → (d : ℕ) → d < n
+start_is : {a b : RackView} {before : Image} (pool text : List ℕ) (n joined : ℕ) (starts : List TextStart) (new : Group) → IsChange pool text n joined starts new a b before → (d : ℕ) → d < n
     → start_at starts d ≡ start_of (before d 8)
 start_is pool text n joined starts new is d below =
     let within = is.within in
     let told = is.told d 8 (omega arith) (omega arith) in
     is.behind d below told.is_told ∙ ap start_of (now_is pool text n joined starts new is d 8 (omega arith) (omega arith))
 
-kept_sector : {a b : Seen} {before c : Image} (pool text : List ℕ) (n joined : ℕ) (starts : List TextStart) (new : Group) (xs : List Target) → IsChange pool text n joined starts new a b before → IsMix a b (IsPayload xs) c
+kept_sector : {a b : RackView} {before c : Image} (pool text : List ℕ) (n joined : ℕ) (starts : List TextStart) (new : Group) (xs : List Target) → IsChange pool text n joined starts new a b before → IsMix a b (IsPayload xs) c
     → (d s : ℕ) → d < joined → s < 2048 → look xs d s ≡ None → c d s ≡ before d s
 kept_sector {a} {b} {before} {c} pool text n joined starts new xs is mix d s below less none = elim (mix d s (is.told d s below less)) [
   | inl kept ↦ is.only d s (c d s) below less kept
@@ -129,7 +129,7 @@ kept_sector {a} {b} {before} {c} pool text n joined starts new xs is mix d s bel
 ]
 
 -- some of the first targets stand on an array
-mixed_array : {a b : Seen} {before c : Image} (pool text : List ℕ) (n joined : ℕ) (starts : List TextStart) (new : Group) → IsChange pool text n joined starts new a b before
+mixed_array : {a b : RackView} {before c : Image} (pool text : List ℕ) (n joined : ℕ) (starts : List TextStart) (new : Group) → IsChange pool text n joined starts new a b before
     → IsMix a b (IsPayload (targets_to (first_targets pool a.sectors starts text) n)) c → (d : ℕ) → d < n → IsKept pool d (a.sectors d) text (before d) (c d)
 mixed_array {a} {b} {before} {c} pool text n joined starts new is mix d below =
     let within = is.within in
@@ -157,23 +157,23 @@ mixed_array {a} {b} {before} {c} pool text n joined starts new is mix d below =
     }
 
 -- an array past the first ones stays as it was
-past_array : {a b : Seen} {before c : Image} (pool text : List ℕ) (n joined : ℕ) (starts : List TextStart) (new : Group) → IsChange pool text n joined starts new a b before
+past_array : {a b : RackView} {before c : Image} (pool text : List ℕ) (n joined : ℕ) (starts : List TextStart) (new : Group) → IsChange pool text n joined starts new a b before
     → IsMix a b (IsPayload (new_targets pool a.sectors starts text n)) c → (d : ℕ) → n ≤ d → d < joined → IsKept pool d (a.sectors d) text (before d) (c d)
 past_array {a} {b} {before} {c} pool text n joined starts new is mix d past inside =
     let same = λ (s : ℕ) (less : s < 2048). kept_sector pool text n joined starts new (new_targets pool a.sectors starts text n) is mix d s inside less (past_none pool a.sectors starts text n d s past) in
     record { label = inl (same 1 (omega arith)); header = inl (same 8 (omega arith)); others = λ s less label header apart. same s less }
 
-pub writing : {a b : Seen} {before : Image} (c : Image) (pool text : List ℕ) (n joined : ℕ) (starts : List TextStart) (new : Group) → IsChange pool text n joined starts new a b before → (d : ℕ) → d < joined
+pub writing : {a b : RackView} {before : Image} (c : Image) (pool text : List ℕ) (n joined : ℕ) (starts : List TextStart) (new : Group) → IsChange pool text n joined starts new a b before → (d : ℕ) → d < joined
     → IsKept pool d (a.sectors d) text (before d) (c d) → IsWriting pool d (a.sectors d) text (before d) (c d)
 writing c pool text n joined starts new is d inside kept = record { labels = is.back.labels; headers = is.back.headers; own = is.areas d inside; short = is.back.short; kept = kept }
 
-pub kept_one : {a b : Seen} {before : Image} (c : Image) (pool text : List ℕ) (n joined : ℕ) (starts : List TextStart) (new said : Group) → IsChange pool text n joined starts new a b before → (d : ℕ) → d < joined
+pub kept_one : {a b : RackView} {before : Image} (c : Image) (pool text : List ℕ) (n joined : ℕ) (starts : List TextStart) (new said : Group) → IsChange pool text n joined starts new a b before → (d : ℕ) → d < joined
     → IsKept pool d (a.sectors d) text (before d) (c d) → IsOneOf pool d said (part_of (before d) (a.sectors d)) (part_of (c d) (a.sectors d))
 kept_one {a} {b} {before} c pool text n joined starts new said is d inside kept =
     kept_says pool d (a.sectors d) text (before d) (c d) said (writing c pool text n joined starts new is d inside kept) (is.sound d inside)
 
 -- all of them say what they said
-pub all_mixed : {a b : Seen} {before c : Image} (pool text : List ℕ) (n joined : ℕ) (starts : List TextStart) (new said : Group) → IsChange pool text n joined starts new a b before
+pub all_mixed : {a b : RackView} {before c : Image} (pool text : List ℕ) (n joined : ℕ) (starts : List TextStart) (new said : Group) → IsChange pool text n joined starts new a b before
     → IsMix a b (IsPayload (targets_to (first_targets pool a.sectors starts text) n)) c → IsMix a b (IsPayload (new_targets pool a.sectors starts text n)) c
     → AreOneOf pool a.sectors joined said before c
 all_mixed {a} {b} {before} {c} pool text n joined starts new said is first all = λ d inside. kept_one c pool text n joined starts new said is d inside (elim (cases_lt d n) [
@@ -182,7 +182,7 @@ all_mixed {a} {b} {before} {c} pool text n joined starts new said is first all =
 ])
 
 -- and their areas stay the pool's
-pub areas_mixed : {a b : Seen} {before c : Image} (pool text : List ℕ) (n joined : ℕ) (starts : List TextStart) (new : Group) → IsChange pool text n joined starts new a b before
+pub areas_mixed : {a b : RackView} {before c : Image} (pool text : List ℕ) (n joined : ℕ) (starts : List TextStart) (new : Group) → IsChange pool text n joined starts new a b before
     → IsMix a b (IsPayload (targets_to (first_targets pool a.sectors starts text) n)) c → IsMix a b (IsPayload (new_targets pool a.sectors starts text n)) c
     → (d : ℕ) → d < joined → HasOwnArea (c d)
 areas_mixed {a} {b} {before} {c} pool text n joined starts new is first all d inside =
@@ -196,7 +196,7 @@ areas_mixed {a} {b} {before} {c} pool text n joined starts new is first all d in
 -- ---- and while they are
 
 -- a sector of a late image
-late_sector : {a b : Seen} {before c : Image} (pool text : List ℕ) (n joined : ℕ) (starts : List TextStart) (new : Group) → IsChange pool text n joined starts new a b before
+late_sector : {a b : RackView} {before c : Image} (pool text : List ℕ) (n joined : ℕ) (starts : List TextStart) (new : Group) → IsChange pool text n joined starts new a b before
     → IsLate a b (targets_to (first_targets pool a.sectors starts text) n) (targets_to (header_target starts text) n) n c → (d s : ℕ) → d < n → s < 2048 → (8 ≡ s → ⊥)
     → c d s ≡ unwrap_or (look (targets_to (first_targets pool a.sectors starts text) n) d s) (before d s)
 late_sector {a} {b} {before} {c} pool text n joined starts new is late d s below less other =
@@ -238,7 +238,7 @@ pub record IsReady (pool text : List ℕ) (d sectors first : ℕ) (x y : Array) 
   pub label : y 1 ≡ label_bytes (own_label pool d sectors)
   pub stands : (k : ℕ) → 512 * k < length text → y (place_at first k) ≡ piece text k
 
-ready : {a b : Seen} {before c : Image} (pool text : List ℕ) (n joined : ℕ) (starts : List TextStart) (new : Group) → IsChange pool text n joined starts new a b before
+ready : {a b : RackView} {before c : Image} (pool text : List ℕ) (n joined : ℕ) (starts : List TextStart) (new : Group) → IsChange pool text n joined starts new a b before
     → IsLate a b (targets_to (first_targets pool a.sectors starts text) n) (targets_to (header_target starts text) n) n c → (d : ℕ) → d < n
     → IsReady pool text d (a.sectors d) (start_at starts d).sector (before d) (c d)
 ready {a} {b} {before} {c} pool text n joined starts new is late d below =
@@ -272,7 +272,7 @@ ready_area pool text d sectors first x y labels is_label own is =
     }
 
 -- an array whose header has the new text
-written_one : {a b : Seen} {before : Image} (c : Image) (pool text : List ℕ) (n joined : ℕ) (starts : List TextStart) (new : Group) → IsChange pool text n joined starts new a b before → (d : ℕ) → d < n
+written_one : {a b : RackView} {before : Image} (c : Image) (pool text : List ℕ) (n joined : ℕ) (starts : List TextStart) (new : Group) → IsChange pool text n joined starts new a b before → (d : ℕ) → d < n
     → IsReady pool text d (a.sectors d) (start_at starts d).sector (before d) (c d) → c d 8 ≡ header_bytes (own_header (own_location (512 * (start_at starts d).sector) text ∷ []))
     → part_of (c d) (a.sectors d) ≡ written_part pool d (a.sectors d) (start_at starts d).sector text (Some new)
 written_one {a} {b} {before} c pool text n joined starts new is d below stands header =
@@ -297,7 +297,7 @@ written_says pool d sectors first text new before after is =
     (record { group = inr (ap (λ (part : Part). part.group) is); sound = ap has_bad_text is; labelled = λ before. own }, own)
 
 -- an array whose header hasn't
-unwritten_one : {a b : Seen} {before c : Image} (pool text : List ℕ) (n joined : ℕ) (starts : List TextStart) (new : Group) → IsChange pool text n joined starts new a b before
+unwritten_one : {a b : RackView} {before c : Image} (pool text : List ℕ) (n joined : ℕ) (starts : List TextStart) (new : Group) → IsChange pool text n joined starts new a b before
     → IsLate a b (targets_to (first_targets pool a.sectors starts text) n) (targets_to (header_target starts text) n) n c → (d : ℕ) → d < n
     → c d 8 ≡ unwrap_or (look (targets_to (first_targets pool a.sectors starts text) n) d 8) (before d 8)
     → IsOneOf pool d new (part_of (before d) (a.sectors d)) (part_of (c d) (a.sectors d)) × (has_own_label pool d (part_of (c d) (a.sectors d)) ≡ true)
@@ -343,7 +343,7 @@ unwritten_one {a} {b} {before} {c} pool text n joined starts new is late d below
       let kept = at false blank None (head_full pool d (a.sectors d)) in
       says (inl kept) (ap (λ (bytes : List ℕ). is_some (result_ok (header_of bytes))) kept ∙ full_some (header_on (before d)) (sym (ap (λ (s : TextStart). s.blank) start) ∙ blank))
 
-late_one : {a b : Seen} {before c : Image} (pool text : List ℕ) (n joined : ℕ) (starts : List TextStart) (new : Group) → IsChange pool text n joined starts new a b before
+late_one : {a b : RackView} {before c : Image} (pool text : List ℕ) (n joined : ℕ) (starts : List TextStart) (new : Group) → IsChange pool text n joined starts new a b before
     → IsLate a b (targets_to (first_targets pool a.sectors starts text) n) (targets_to (header_target starts text) n) n c → (d : ℕ) → d < n
     → IsOneOf pool d new (part_of (before d) (a.sectors d)) (part_of (c d) (a.sectors d)) × (has_own_label pool d (part_of (c d) (a.sectors d)) ≡ true)
 late_one {a} {b} {before} {c} pool text n joined starts new is late d below =
@@ -359,7 +359,7 @@ late_one {a} {b} {before} {c} pool text n joined starts new is late d below =
     ]
 
 -- all of them say what they said or the new group, and those of the new text are labelled
-pub all_late : {a b : Seen} {before c : Image} (pool text : List ℕ) (n joined : ℕ) (starts : List TextStart) (new : Group) → IsChange pool text n joined starts new a b before
+pub all_late : {a b : RackView} {before c : Image} (pool text : List ℕ) (n joined : ℕ) (starts : List TextStart) (new : Group) → IsChange pool text n joined starts new a b before
     → IsLate a b (targets_to (first_targets pool a.sectors starts text) n) (targets_to (header_target starts text) n) n c → IsMix a b (IsPayload (new_targets pool a.sectors starts text n)) c
     → AreOneOf pool a.sectors joined new before c × ((d : ℕ) → d < n → has_own_label pool d (part_of (c d) (a.sectors d)) ≡ true)
 all_late {a} {b} {before} {c} pool text n joined starts new is late all = (
@@ -371,7 +371,7 @@ all_late {a} {b} {before} {c} pool text n joined starts new is late all = (
 )
 
 -- their areas stay the pool's then too
-pub areas_late : {a b : Seen} {before c : Image} (pool text : List ℕ) (n joined : ℕ) (starts : List TextStart) (new : Group) → IsChange pool text n joined starts new a b before
+pub areas_late : {a b : RackView} {before c : Image} (pool text : List ℕ) (n joined : ℕ) (starts : List TextStart) (new : Group) → IsChange pool text n joined starts new a b before
     → IsLate a b (targets_to (first_targets pool a.sectors starts text) n) (targets_to (header_target starts text) n) n c → IsMix a b (IsPayload (new_targets pool a.sectors starts text n)) c
     → (d : ℕ) → d < joined → HasOwnArea (c d)
 areas_late {a} {b} {before} {c} pool text n joined starts new is late all d inside = elim (cases_lt d n) [

@@ -2,7 +2,7 @@
 use Rattle.std.proofs.Common.{◌≡◌, ℕ, ◌+◌, ◌-◌, List, [], Option, Some, None, refl, sym, ap, ◌∙◌}
 use Rattle.std.specs.Prelude.{nat_lt, if◌then◌else◌}
 use Rattle.std.specs.Option.{option_and_then}
-use Rattle.rack.specs.Seen.{Seen}
+use Rattle.rack.specs.Seen.{RackView}
 use Rattle.lvm_label.specs.declared.label.Area.{Area}
 use Rattle.lvm_label.specs.declared.header.Location.{Location}
 use Rattle.lvm_group.specs.Parts.{Array, row_at, behind, before_end, text_at}
@@ -11,7 +11,7 @@ use Rattle.lvm_group.specs.Reading.{held_on}
 use Rattle.lvm_group.proofs.Rows.{behind_none}
 
 -- the contents are the same after calls that bring no value
-pub same_held : {a b : Seen} (array : ℕ) (now : Array) → OnlyReads a b → held_on b array now ≡ held_on a array now
+pub same_held : {a b : RackView} (array : ℕ) (now : Array) → OnlyReads a b → held_on b array now ≡ held_on a array now
 same_held array now looks = λ i sector. if nat_lt sector (looks.stays.sectors array i) then now sector else []
 
 pub text_given : (c : Array) (area : Area) (location : Location) (from front again : ℕ) (first whole : List ℕ)

@@ -12,7 +12,7 @@ use Rattle.lvm_label.specs.Header.{header_of}
 use Rattle.lvm_group.specs.Parts.{is_inside, location_in, most_text}
 use Rattle.lvm_group.proofs.OwnText.{range_at}
 use Rattle.lvm_group.proofs.Passed.{both}
-use Rattle.rack.specs.Seen.{Seen}
+use Rattle.rack.specs.Seen.{RackView}
 use Rattle.rack.specs.Sequences.{OnlyReads}
 use Rattle.rack.proofs.Reading.{same_after}
 use Rattle.lvm_group.specs.declared.starts.TextStart.{TextStart}
@@ -40,7 +40,7 @@ inside_more starts start inside some below = λ array. elim (cases_eq array (len
   | inr elsewhere ↦ subst (λ (s : TextStart). (1 ≤ s.sector) × (s.sector < 2040)) (sym (other starts start array elsewhere)) (inside array)
 ]
 
-pub behind_more : {a x : Seen} (n : ℕ) (starts : List TextStart) (start : TextStart) → length starts ≡ n → n < a.disks → 8 < a.sectors n → OnlyReads a x → x.spent n 8 ≡ false → AreBehind a n starts
+pub behind_more : {a x : RackView} (n : ℕ) (starts : List TextStart) (start : TextStart) → length starts ≡ n → n < a.disks → 8 < a.sectors n → OnlyReads a x → x.spent n 8 ≡ false → AreBehind a n starts
     → (x.told n → start ≡ start_of (x.held n 8).current) → AreBehind a (n + 1) (starts ++ start ∷ [])
 behind_more {a} {x} n starts start count below within looks unspent behind is = λ array less told. elim (cases_eq array n) [
   | inl here ↦
@@ -74,10 +74,10 @@ by_header None = (omega arith, omega arith)
 by_header (Some header) = by_location (location_in header)
 
 -- those of the first arrays, so many
-abbrev pub starts_in : Seen → ℕ → List TextStart
+abbrev pub starts_in : RackView → ℕ → List TextStart
 starts_in a n = map (λ array. start_of (a.held array 8).current) (range_with_len 0 n)
 
-pub starts_behind : (a : Seen) (n : ℕ) → AreBehind a n (starts_in a n)
+pub starts_behind : (a : RackView) (n : ℕ) → AreBehind a n (starts_in a n)
 starts_behind a n = λ array below told.
     ap (λ (o : Option TextStart). unwrap_or o fresh) (slice_get-map (λ array. start_of (a.held array 8).current) (range_with_len 0 n) array ∙ ap (option_map (λ array. start_of (a.held array 8).current)) (range_at n array below))
 
@@ -86,5 +86,5 @@ inside_by f [] each array = (omega arith, omega arith)
 inside_by f (x ∷ xs) each zero = each x
 inside_by f (x ∷ xs) each (suc array) = inside_by f xs each array
 
-pub starts_inside : (a : Seen) (n : ℕ) → AreStarts (starts_in a n)
+pub starts_inside : (a : RackView) (n : ℕ) → AreStarts (starts_in a n)
 starts_inside a n = inside_by (λ array. start_of (a.held array 8).current) (range_with_len 0 n) (λ k. by_header (result_ok (header_of (a.held k 8).current)))

@@ -1,7 +1,7 @@
 -- What bringing the texts of the joined arrays up to the newest one leaves.
 use Rattle.std.specs.Prelude.{◌≡◌, ◌⊎◌, ℕ, ◌<◌, ◌≤◌, Bool, true, List, Some, Result, Ok}
 use Rattle.rack.specs.declared.Gone.{Gone}
-use Rattle.rack.specs.Seen.{Image, Seen}
+use Rattle.rack.specs.Seen.{Image, RackView}
 use Rattle.rack.specs.Moments.{Leaves}
 use Rattle.rack.specs.Sequences.{OnlyReads, WritesOnly}
 use Rattle.lvm_text.specs.declared.group.Group.{Group}
@@ -19,7 +19,7 @@ abbrev pub HaveAreas : (ℕ → ℕ) → ℕ → Type 0
 HaveAreas sectors arrays = (array : ℕ) → array < arrays → data_start ≤ sectors array
 
 -- a text is written as a change writes it, or nothing is, where the arrays are even, too many or too small
-abbrev pub Rewrites : List ℕ → List ℕ → ℕ → Bool → Seen → Seen → Type 0
+abbrev pub Rewrites : List ℕ → List ℕ → ℕ → Bool → RackView → RackView → Type 0
 Rewrites pool text n even a b =
     (OnlyReads a b × (n ≤ 16 → HaveAreas a.sectors n → even ≡ true))
     ⊎ ((result : Result (Unit {0}) Gone) × Changes pool text n a b result × ((group : Group) → group_of text ≡ Ok group → IsReadBack pool text n a.sectors group))
@@ -36,7 +36,7 @@ pub record IsEven (pool : List ℕ) (joined : ℕ) (l : Linear) (seqno : ℕ) (s
 
 -- A volume was opened by this group. Where that is the group of the contents, each stop leaves the volume, with the pool's metadata areas, and at the end
 -- all joined arrays say the group's seqno, unless a call was refused.
-pub record BringsUp (pool : List ℕ) (joined : ℕ) (l : Linear) (seqno : ℕ) (group : Group) (a b : Seen) : Type 0 where
+pub record BringsUp (pool : List ℕ) (joined : ℕ) (l : Linear) (seqno : ℕ) (group : Group) (a b : RackView) : Type 0 where
   pub writes : WritesOnly a b (IsBefore joined)
   pub right : (before : Image) → IsSettled pool joined l seqno a b before → AreServed a b a.disks → group_in before a.sectors joined ≡ Some group
   pub images :

@@ -7,7 +7,7 @@ use Rattle.lvm_label.specs.declared.header.Location.{Location}
 use Rattle.lvm_label.specs.declared.header.Header.{Header}
 use Rattle.lvm_label.specs.Header.{header_of}
 use Rattle.rack.specs.declared.Gone.{Gone}
-use Rattle.rack.specs.Seen.{Image, Seen, IsLive}
+use Rattle.rack.specs.Seen.{Image, RackView, IsLive}
 use Rattle.rack.specs.Moments.{Leaves}
 use Rattle.rack.specs.Sequences.{IsMix, IsPayload}
 use Rattle.rack.specs.Targets.{Target, look}
@@ -35,23 +35,23 @@ abbrev pub start_of : List ℕ → TextStart
 start_of bytes = start_by (result_ok (header_of bytes))
 
 -- the new texts of the first arrays, so many, begin behind the last ones
-abbrev pub AreBehind : Seen → ℕ → List TextStart → Type 0
+abbrev pub AreBehind : RackView → ℕ → List TextStart → Type 0
 AreBehind a n starts = (array : ℕ) → array < n → a.told array → start_at starts array ≡ start_of (a.held array 8).current
 
 -- ---- two lists of targets, the second behind a sync
 
 -- the first ones are durable on the first disks, so many, and some of the second ones stand there too
-abbrev pub IsLate : Seen → Seen → List Target → List Target → ℕ → Image → Type 0
+abbrev pub IsLate : RackView → RackView → List Target → List Target → ℕ → Image → Type 0
 IsLate a b xs ys n c = (d s : ℕ) → d < n → IsLive a b d s → IsPayload ys d s (c d s) ⊎ (c d s ≡ unwrap_or (look xs d s) (a.held d s).current)
 
 -- or none of the second ones does
-abbrev pub IsInTurn : Seen → Seen → List Target → List Target → ℕ → Image → Type 0
+abbrev pub IsInTurn : RackView → RackView → List Target → List Target → ℕ → Image → Type 0
 IsInTurn a b xs ys n c = IsMix a b (IsPayload xs) c ⊎ IsLate a b xs ys n c
 
 -- ---- a change
 
 -- a new text on the first arrays, so many
-pub record Changes (pool text : List ℕ) (n : ℕ) (a b : Seen) {X : Type 0} (result : Result X Gone) : Type 0 where
+pub record Changes (pool text : List ℕ) (n : ℕ) (a b : RackView) {X : Type 0} (result : Result X Gone) : Type 0 where
   pub starts : List TextStart
   pub inside : AreStarts starts
   pub behind : AreBehind a n starts

@@ -2,7 +2,7 @@
 use Rattle.std.specs.Prelude.{◌≡◌, ℕ, ◌+◌, ◌-◌, ◌<◌, ◌==◌, ◌||◌, nat_le, nat_lt, if◌then◌else◌, false, nat_eq, List, [], ◌∷◌, length, replicate, Some, None, Err}
 use Rattle.std.specs.List.{starts_with}
 use Rattle.rack.specs.Values.{MayLeave}
-use Rattle.rack.specs.Seen.{Image, Seen}
+use Rattle.rack.specs.Seen.{Image, RackView}
 use Rattle.rack.specs.Targets.{Target}
 use Rattle.lvm_label.specs.Label.{label_bytes, label_word}
 use Rattle.lvm_label.specs.Header.{header_bytes}
@@ -20,11 +20,11 @@ use Rattle.lvm_group.specs.Growth.{grown}
 use Rattle.lvm_group.specs.Own.{own_group}
 
 -- the first sectors of the first arrays have no label, as LVM2 would find it before that of sector 1
-abbrev pub AreFree : Seen → ℕ → Type 0
+abbrev pub AreFree : RackView → ℕ → Type 0
 AreFree a arrays = (d : ℕ) → d < arrays → starts_with nat_eq (a.held d 0).current label_word ≡ false
 
 -- contents that a stop may leave in those sectors
-abbrev pub ArePicks : Seen → ℕ → Image → Type 0
+abbrev pub ArePicks : RackView → ℕ → Image → Type 0
 ArePicks b arrays c = (d s : ℕ) → d < arrays → s < 2048 → MayLeave (b.held d s) (c d s)
 
 -- the runs of a new volume: the arrays' first extents, array by array
@@ -41,7 +41,7 @@ pub record Means (pool : List ℕ) (extent : ℕ) (sectors : ℕ → ℕ) (numbe
   pub volume : volume_in c sectors (length numbers) ≡ Some (contents_of (new_volume extent numbers) c)
   pub sound : first_bad pool extent sectors (length numbers) c ≡ None
 
-pub record Makes (pool : List ℕ) (extent : ℕ) (numbers : List ℕ) (a b : Seen) : Type 0 where
+pub record Makes (pool : List ℕ) (extent : ℕ) (numbers : List ℕ) (a b : RackView) : Type 0 where
   pub single : AreSingle a b (length numbers)
   pub means : AreTold a b (length numbers) → AreFree a (length numbers) → (c : Image) → ArePicks b (length numbers) c → Means pool extent a.sectors numbers c
   pub settled : AreTold a b (length numbers) → AreFree a (length numbers) → LeavesVolume pool (length numbers) (new_volume extent numbers) 1 a.sectors b
@@ -63,6 +63,6 @@ abbrev pub made_targets : List ℕ → ℕ → (ℕ → ℕ) → List ℕ → Li
 made_targets pool extent sectors numbers = new_targets pool sectors [] (printed (new_group pool extent sectors numbers)) (length numbers)
 
 -- a volume that wasn't made: without memory the rack is as it was; else an array refused a call, and some of the writes were made
-abbrev pub IsUnmade : {R : Type 0} → (R → Seen) → R → List Target → R → VolumeFault → Type 0
+abbrev pub IsUnmade : {R : Type 0} → (R → RackView) → R → List Target → R → VolumeFault → Type 0
 IsUnmade seen rack xs back fault.Memory = back ≡ rack
 IsUnmade seen rack xs back (fault.BadVolume array) = Puts (seen rack) (seen back) xs {X = Unit {0}} (Err (record { disk = array }))

@@ -3,7 +3,7 @@
 use Rattle.std.specs.Prelude.{◌≡◌, ℕ, ◌<◌, ◌==◌, ◌&&◌, ◌||◌, Bool, false, true, not, is_some, List, length, map, slice_get, Option, Some, None}
 use Rattle.std.specs.Option.{option_map_or}
 use Rattle.std.specs.List.{find, list_all, range_with_len}
-use Rattle.rack.specs.Seen.{Image, Seen, Rose}
+use Rattle.rack.specs.Seen.{Image, RackView, Rose}
 use Rattle.lvm_text.specs.declared.group.Pv.{Pv}
 use Rattle.lvm_text.specs.declared.group.Group.{Group}
 use Rattle.lvm_group.specs.declared.parts.Part.{Part}
@@ -58,20 +58,20 @@ HasFault pool extent sectors parts (fault.BadVolume array) = first_bad_among poo
 -- ---- by the contents of the arrays
 
 -- the parts that were read of the joined arrays
-pub record WereRead (a b : Seen) (joined : ℕ) (parts : List Part) : Type 0 where
+pub record WereRead (a b : RackView) (joined : ℕ) (parts : List Part) : Type 0 where
   pub count : length parts ≡ joined
   pub are : AreParts a b joined parts
 
 -- no array's faults rose, so that each sector was read
-abbrev pub AreServed : Seen → Seen → ℕ → Type 0
+abbrev pub AreServed : RackView → RackView → ℕ → Type 0
 AreServed a b joined = (array : ℕ) → array < joined → Rose (a.faults array) (b.faults array) → ⊥
 
 -- the contents of the joined arrays as they read, told
-abbrev pub AreNow : Seen → ℕ → Image → Type 0
+abbrev pub AreNow : RackView → ℕ → Image → Type 0
 AreNow a joined c = (array : ℕ) → array < joined → IsNow a array (c array)
 
 -- with nothing past the arrays' ends
-abbrev pub within_sectors : Seen → Image → Image
+abbrev pub within_sectors : RackView → Image → Image
 within_sectors a c = λ array. held_on a array (c array)
 
 -- contents whose group is the pool's, without a bad array, with this volume and seqno
@@ -85,26 +85,26 @@ pub record Means (pool : List ℕ) (extent joined : ℕ) (sectors : ℕ → ℕ)
 
 -- A volume that was opened: that of the group that was read, with no bad array. Where no sector was refused, it is the volume of
 -- the contents.
-pub record Opens (pool : List ℕ) (extent joined : ℕ) (a b : Seen) (l : Linear) (seqno : ℕ) : Type 0 where
+pub record Opens (pool : List ℕ) (extent joined : ℕ) (a b : RackView) (l : Linear) (seqno : ℕ) : Type 0 where
   pub parts : List Part
   pub read : WereRead a b joined parts
   pub runs : HasRuns pool extent a.sectors parts l seqno
   pub means : (c : Image) → AreServed a b joined → AreNow a joined c → Means pool extent joined a.sectors l seqno (within_sectors a c)
 
 -- A volume that was read, whether each array says a group of its seqno, and the text of its group.
-pub record Finds (pool : List ℕ) (extent joined : ℕ) (a b : Seen) (l : Linear) (seqno : ℕ) (even : Bool) (text : List ℕ) : Type 0 where
+pub record Finds (pool : List ℕ) (extent joined : ℕ) (a b : RackView) (l : Linear) (seqno : ℕ) (even : Bool) (text : List ℕ) : Type 0 where
   pub opens : Opens pool extent joined a b l seqno
   pub kept : IsTextOf text opens.runs.group
   pub all : even ≡ list_all (says seqno) opens.parts
 
 -- An array for which none was opened: the lowest bad one by what was read, and where no sector was refused, by the contents.
-pub record IsBadVolume (pool : List ℕ) (extent joined : ℕ) (a b : Seen) (array : ℕ) : Type 0 where
+pub record IsBadVolume (pool : List ℕ) (extent joined : ℕ) (a b : RackView) (array : ℕ) : Type 0 where
   pub parts : List Part
   pub read : WereRead a b joined parts
   pub bad : first_bad_among pool extent a.sectors parts ≡ Some array
   pub bad_in : (c : Image) → AreServed a b joined → AreNow a joined c → first_bad pool extent a.sectors joined (within_sectors a c) ≡ Some array
 
 -- without memory nothing is said of the arrays
-abbrev pub IsUnopened : List ℕ → ℕ → ℕ → Seen → Seen → VolumeFault → Type 0
+abbrev pub IsUnopened : List ℕ → ℕ → ℕ → RackView → RackView → VolumeFault → Type 0
 IsUnopened pool extent joined a b fault.Memory = Unit
 IsUnopened pool extent joined a b (fault.BadVolume array) = IsBadVolume pool extent joined a b array

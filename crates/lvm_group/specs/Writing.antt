@@ -11,7 +11,7 @@ use Rattle.lvm_text.specs.declared.group.Group.{Group}
 use Rattle.lvm_text.specs.Group.{group_of}
 use Rattle.shr_base.specs.Crc.{lvm_crc_of}
 use Rattle.rack.specs.declared.Gone.{Gone}
-use Rattle.rack.specs.Seen.{Seen, IsLive, Rose}
+use Rattle.rack.specs.Seen.{RackView, IsLive, Rose}
 use Rattle.rack.specs.Sequences.{IsPayload, WritesOnly}
 use Rattle.rack.specs.Targets.{Target, target, look}
 use Rattle.lvm_group.specs.declared.starts.TextStart.{TextStart}
@@ -104,7 +104,7 @@ new_targets pool sectors starts text n = targets_to (first_targets pool sectors 
 
 -- These targets were written, or a call was refused, whose disk's faults rose. A target that was written is current once all
 -- were; a rack that refuses only what is spent has a spent sector there.
-pub record Puts (a b : Seen) (xs : List Target) {X : Type 0} (result : Result X Gone) : Type 0 where
+pub record Puts (a b : RackView) (xs : List Target) {X : Type 0} (result : Result X Gone) : Type 0 where
   pub only : WritesOnly a b (IsPayload xs)
   pub gone : IfErr result (λ e. (e.disk < a.disks) × Rose (a.faults e.disk) (b.faults e.disk))
   pub spent : a.steady → IfErr result (λ e. (sector : ℕ) × (b.spent e.disk sector ≡ true))

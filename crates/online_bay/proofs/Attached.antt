@@ -3,7 +3,7 @@ use Rattle.std.proofs.Common.{◌≡◌, ◌⊎◌, ◌==◌, ◌<◌, ◌++◌,
 use Rattle.std.specs.Prelude.{if◌then◌else◌}
 use Rattle.std.proofs.lemmas.Bool.{eq-eqb, eqb-true}
 use Rattle.rack.specs.declared.AttachFault.{AttachFault}
-use Rattle.rack.specs.Seen.{Seen}
+use Rattle.rack.specs.Seen.{RackView}
 use Rattle.rack.specs.Shelf.{Attaches, IsFrom, SameDisk, Shelf, Waiting}
 use Rattle.online_bay.specs.Online.{is_offline, online_of}
 
@@ -30,7 +30,7 @@ flag_last [] flag = refl
 flag_last (first ∷ flags) flag = flag_last flags flag
 
 -- an old disk, with the flag that it had
-same_disk : (old new : List Bool) {a b : Seen} (d : ℕ) → is_offline new d ≡ is_offline old d → SameDisk a b d
+same_disk : (old new : List Bool) {a b : RackView} (d : ℕ) → is_offline new d ≡ is_offline old d → SameDisk a b d
     → SameDisk (online_of old a) (online_of new b) d
 same_disk old new {a} {b} d flag same = record {
   sectors = ap (λ flag. if flag then 0 else b.sectors d) flag ∙ ap (λ n. if is_offline old d then 0 else n) same.sectors;
@@ -40,7 +40,7 @@ same_disk old new {a} {b} d flag same = record {
 }
 
 -- a name is refused
-pub refused_still : (offline : List Bool) {a b : Seen} {s t : Shelf} (name : List ℕ) (fault : AttachFault)
+pub refused_still : (offline : List Bool) {a b : RackView} {s t : Shelf} (name : List ℕ) (fault : AttachFault)
     → Attaches a b s t name (Err fault) → Attaches (online_of offline a) (online_of offline b) s t name (Err fault)
 refused_still offline name fault attaches =
     let same = attaches.refused in
@@ -73,7 +73,7 @@ pub other_flag : (e d disks : ℕ) → e < disks → d ≡ disks → (e == d) �
 other_flag e d disks below number = unequal (e == d) (λ is. absurd (omega (arith, eqb-true e d is, below, number)))
 
 -- a disk is attached, and online
-pub attached_online : (old new : List Bool) {a b : Seen} {s t : Shelf} (name : List ℕ) (d : ℕ)
+pub attached_online : (old new : List Bool) {a b : RackView} {s t : Shelf} (name : List ℕ) (d : ℕ)
     → ((e : ℕ) → is_offline new e ≡ (if e == d then false else is_offline old e))
     → Attaches a b s t name (Ok d) → Attaches (online_of old a) (online_of new b) s t name (Ok d)
 attached_online old new {a} {b} name d flags attaches =

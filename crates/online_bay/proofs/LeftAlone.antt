@@ -5,7 +5,7 @@ use Rattle.std.proofs.lemmas.Bool.{eqb-true}
 use Rattle.rack.specs.declared.AttachFault.{AttachFault}
 use Rattle.rack.specs.declared.Gone.{Gone}
 use Rattle.rack.specs.Values.{Keeps, MayLeave, Values}
-use Rattle.rack.specs.Seen.{Image, IsLive, Seen, Stays, appended}
+use Rattle.rack.specs.Seen.{Image, IsLive, RackView, SameRack, appended}
 use Rattle.rack.specs.Calls.{Reads, Syncs, Writes}
 use Rattle.rack.specs.Shelf.{Attaches, KeepsShelf, Shelf}
 use Rattle.rack.specs.Joins.{keeps_same}
@@ -23,15 +23,15 @@ apart : (offline : List Bool) (d disk : ℕ) → is_offline offline d ≡ true �
 apart offline d disk off online same = let both = sym off ∙ ap (is_offline offline) same ∙ online in cc
 
 -- the values of other disks after a write to one sector
-elsewhere : (a : Seen) (disk sector : ℕ) (from : List ℕ) (d s : ℕ) → d ≢ disk → appended a.held disk sector from d s ≡ a.held d s
+elsewhere : (a : RackView) (disk sector : ℕ) (from : List ℕ) (d s : ℕ) → d ≢ disk → appended a.held disk sector from d s ≡ a.held d s
 elsewhere a disk sector from d s other = by (d == disk) (λ is. other (eqb-true d disk is)) where
   by : (test : Bool) → (test ≡ true → ⊥) → (if test && (s == sector) then Rattle.rack.specs.Values.append (a.held d s) from else a.held d s) ≡ a.held d s
   by true not = absurd (not refl)
   by false not = refl
 
-module _ (offline : List Bool) (a b : Seen) (s t : Shelf) (names : KeepsShelf s t) (unspent : (d n : ℕ) → b.spent d n ≡ false) where
+module _ (offline : List Bool) (a b : RackView) (s t : Shelf) (names : KeepsShelf s t) (unspent : (d n : ℕ) → b.spent d n ≡ false) where
   -- a call that writes none of the offline disks
-  left_alone : Stays a b → (a.traced → (a.clock ≤ b.clock) × ((k : ℕ) (i : Image) → k ≤ a.clock → b.stops k i → a.stops k i))
+  left_alone : SameRack a b → (a.traced → (a.clock ≤ b.clock) × ((k : ℕ) (i : Image) → k ≤ a.clock → b.stops k i → a.stops k i))
       → ((d : ℕ) → d < a.disks → is_offline offline d ≡ true → KeepsDisk s.told a b d) → KeepsOffline offline offline a b s t
   left_alone stays moments kept = record {
     disks = omega (arith, stays.disks);
@@ -45,7 +45,7 @@ module _ (offline : List Bool) (a b : Seen) (s t : Shelf) (names : KeepsShelf s 
     kept = kept;
   }
 
-  live : Stays a b → {d n : ℕ} → d < a.disks → n < a.sectors d → a.told d → IsLive a b d n
+  live : SameRack a b → {d n : ℕ} → d < a.disks → n < a.sectors d → a.told d → IsLive a b d n
   live stays {d} {n} below inside told = record {
     disk = omega (arith, below, stays.disks);
     sector = subst (λ m. n < m) (sym (stays.sectors d)) inside;
@@ -93,14 +93,14 @@ module _ (offline : List Bool) (a b : Seen) (s t : Shelf) (names : KeepsShelf s 
       })
 
 -- nothing was called
-same_values : {a b : Seen} (d : ℕ) → ((n : ℕ) → b.held d n ≡ a.held d n) → b.clock ≡ a.clock → (Told : Type 0) → KeepsDisk Told a b d
+same_values : {a b : RackView} (d : ℕ) → ((n : ℕ) → b.held d n ≡ a.held d n) → b.clock ≡ a.clock → (Told : Type 0) → KeepsDisk Told a b d
 same_values {a} {b} d held clock Told = record {
   held = λ n inside told. subst (Keeps (a.held d n)) (sym (held n)) (keeps_same (a.held d n));
   stops = λ known tr k i after upto left. absurd (omega (arith, after, upto, clock));
 }
 
 -- a disk is attached
-pub attached_leaves : (old new : List Bool) {a b : Seen} {s t : Shelf} (name : List ℕ) (d : ℕ)
+pub attached_leaves : (old new : List Bool) {a b : RackView} {s t : Shelf} (name : List ℕ) (d : ℕ)
     → ((e : ℕ) → is_offline new e ≡ (if e == d then false else is_offline old e))
     → Attaches a b s t name (Ok d) → KeepsOffline old new a b s t
 attached_leaves old new {a} {b} {s} name d flags attaches =
@@ -118,7 +118,7 @@ attached_leaves old new {a} {b} {s} name d flags attaches =
     }
 
 -- a name is refused
-pub refused_leaves : (offline : List Bool) {a b : Seen} {s t : Shelf} (name : List ℕ) (fault : AttachFault)
+pub refused_leaves : (offline : List Bool) {a b : RackView} {s t : Shelf} (name : List ℕ) (fault : AttachFault)
     → Attaches a b s t name (Err fault) → KeepsOffline offline offline a b s t
 refused_leaves offline {a} {b} {s} name fault attaches =
     let same = attaches.refused in

@@ -2,7 +2,7 @@
 use Rattle.std.specs.Prelude.{◌≡◌, ℕ, ◌<◌, ◌≤◌, ◌^◌, List, Bool, true, false, if◌then◌else◌, refl}
 use Rattle.std.proofs.Common.{arith, inl, inr, subst, sym, ◌∙◌}
 use Rattle.std.proofs.lemmas.Bool.{cases_lt}
-use Rattle.rack.specs.Seen.{Image, Seen, IsLive}
+use Rattle.rack.specs.Seen.{Image, RackView, IsLive}
 use Rattle.rack.specs.Joins.{keeps_same, keeps_then}
 use Rattle.rack.specs.Moments.{IsSound}
 use Rattle.rack.specs.Shelf.{Shelf}
@@ -15,7 +15,7 @@ sector_below true s sectors below = absurd (omega (arith, below))
 sector_below false s sectors below = below
 
 -- and is live there
-pub live_below : (offline : List Bool) {a b : Seen} {d s : ℕ} → IsLive (online_of offline a) (online_of offline b) d s → IsLive a b d s
+pub live_below : (offline : List Bool) {a b : RackView} {d s : ℕ} → IsLive (online_of offline a) (online_of offline b) d s → IsLive a b d s
 live_below offline {a} {b} {d} {s} live = record {
   disk = live.disk;
   sector = sector_below (is_offline offline d) s (b.sectors d) live.sector;
@@ -24,14 +24,14 @@ live_below offline {a} {b} {d} {s} live = record {
 }
 
 -- a stop now leaves held values, and may leave the contents as they read
-pub is_sound : (offline : List Bool) (x : Seen) → IsSound x → IsSound (online_of offline x)
+pub is_sound : (offline : List Bool) (x : RackView) → IsSound x → IsSound (online_of offline x)
 is_sound offline x sound = record {
   only_held = λ c left d s live. sound.only_held c left d s (live_below offline live);
   now = (sound.now.0, sound.now.1, λ d s live. sound.now.2 d s (live_below offline live));
 }
 
 -- no disk has more sectors than below
-pub stays_bounded : (offline : List Bool) (x : Seen) → ((d : ℕ) → d < x.disks → x.sectors d < 2 ^ 48)
+pub stays_bounded : (offline : List Bool) (x : RackView) → ((d : ℕ) → d < x.disks → x.sectors d < 2 ^ 48)
     → (d : ℕ) → d < x.disks → (online_of offline x).sectors d < 2 ^ 48
 stays_bounded offline x bounded d below = fewer (is_offline offline d) (bounded d below) where
   fewer : (flag : Bool) {n : ℕ} → n < 2 ^ 48 → (if flag then 0 else n) < 2 ^ 48
@@ -39,7 +39,7 @@ stays_bounded offline x bounded d below = fewer (is_offline offline d) (bounded 
   fewer false few = few
 
 -- no call leaves all disks alone
-pub offline_same : (offline : List Bool) (x : Seen) (s : Shelf) → KeepsOffline offline offline x x s s
+pub offline_same : (offline : List Bool) (x : RackView) (s : Shelf) → KeepsOffline offline offline x x s s
 offline_same offline x s = record {
   disks = omega arith;
   flags = λ d below. refl;
@@ -53,7 +53,7 @@ offline_same offline x s = record {
 }
 
 -- a disk that is left alone twice is left alone
-disk_then : (s t : Shelf) {a b c : Seen} (d : ℕ)
+disk_then : (s t : Shelf) {a b c : RackView} (d : ℕ)
     → (s.told → t.told) → (s.told → a.traced → b.traced) → (b.sectors d ≡ a.sectors d) → (a.told d → b.told d)
     → (s.told → a.traced → (k : ℕ) (i : Image) → k ≤ b.clock → c.stops k i → b.stops k i)
     → KeepsDisk s.told a b d → KeepsDisk t.told b c d → KeepsDisk s.told a c d
@@ -71,7 +71,7 @@ disk_then s t {a} {b} {c} d known traced sectors tells past one two = record {
   reaches n inside = subst (λ m. n < m) (sym sectors) inside
 
 -- and so do calls in a row
-pub offline_then : {f g h : List Bool} {a b c : Seen} {s t u : Shelf}
+pub offline_then : {f g h : List Bool} {a b c : RackView} {s t u : Shelf}
     → KeepsOffline f g a b s t → KeepsOffline g h b c t u → KeepsOffline f h a c s u
 offline_then {f} {g} {h} {a} {b} {c} {s} {t} {u} one two = record {
   disks = omega (arith, one.disks, two.disks);

@@ -1,6 +1,6 @@
 -- What a bay shows some of whose disks are offline: these have no sectors.
 use Rattle.std.specs.Prelude.{◌≡◌, ℕ, ◌<◌, ◌≤◌, Bool, true, false, List, slice_get, unwrap_or, if◌then◌else◌, Ok}
-use Rattle.rack.specs.Seen.{Image, Rose, Seen}
+use Rattle.rack.specs.Seen.{Image, Rose, RackView}
 use Rattle.rack.specs.Calls.{Reads}
 use Rattle.rack.specs.Sequences.{OnlyReads}
 use Rattle.rack.specs.Shelf.{Shelf}
@@ -10,7 +10,7 @@ use Rattle.rack.specs.Untouched.{KeepsDisk}
 abbrev pub is_offline : List Bool → ℕ → Bool
 is_offline offline disk = unwrap_or (slice_get offline disk) false
 
-abbrev pub online_of : List Bool → Seen → Seen
+abbrev pub online_of : List Bool → RackView → RackView
 online_of offline x = record {
   disks = x.disks;
   sectors = λ d. if is_offline offline d then 0 else x.sectors d;
@@ -27,7 +27,7 @@ online_of offline x = record {
 }
 
 -- one of the calls between two moments read this sector of a disk
-pub record Answered {B : Type 0} (seen : B → Seen) (runs : B → B → Type 0) (x y : B) (disk sector : ℕ) : Type 0 where
+pub record Answered {B : Type 0} (seen : B → RackView) (runs : B → B → Type 0) (x y : B) (disk sector : ℕ) : Type 0 where
   pub before : B
   pub after : B
   pub kept : runs x before × runs after y
@@ -35,7 +35,7 @@ pub record Answered {B : Type 0} (seen : B → Seen) (runs : B → B → Type 0)
   pub read : Reads (seen before) (seen after) disk sector into {X = Unit {0}} (Ok tt)
 
 -- Each disk was asked for a sector, where it has it, and nothing was written: one that is offline refused, any other one answered.
-pub record Asks {B : Type 0} (seen : B → Seen) (runs : B → B → Type 0) (x y : B) (sector : ℕ) (offline : List Bool) : Type 0 where
+pub record Asks {B : Type 0} (seen : B → RackView) (runs : B → B → Type 0) (x y : B) (sector : ℕ) (offline : List Bool) : Type 0 where
   pub reads : OnlyReads (seen x) (seen y)
   pub kept : runs x y
   pub refused : (d : ℕ) → is_offline offline d ≡ true → Rose ((seen x).faults d) ((seen y).faults d)
@@ -45,7 +45,7 @@ pub record Asks {B : Type 0} (seen : B → Seen) (runs : B → B → Type 0) (x 
 
 -- Calls in a row, attaching included, leave offline disks alone. `before` and `after` are the flags, `a` and `b` what the bay below shows, with all
 -- sectors of these disks, and `s` and `t` its names.
-pub record KeepsOffline (before after : List Bool) (a b : Seen) (s t : Shelf) : Type 0 where
+pub record KeepsOffline (before after : List Bool) (a b : RackView) (s t : Shelf) : Type 0 where
   pub disks : a.disks ≤ b.disks
   pub flags : (d : ℕ) → d < a.disks → is_offline after d ≡ is_offline before d
   pub sectors : (d : ℕ) → d < a.disks → b.sectors d ≡ a.sectors d

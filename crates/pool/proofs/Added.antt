@@ -6,7 +6,7 @@ use Rattle.std.specs.List.{list_any}
 use Rattle.std.proofs.Common.{◌≡◌, ◌≢◌, ℕ, ◌<◌, ◌==◌, ◌||◌, not, if◌then◌else◌, Bool, true, false, List, [], ◌∷◌, length, option_map, slice_get, Option, Some, None, refl, sym, ap, subst, ◌∙◌, inl, inr, arith, lt-ltb}
 use Rattle.std.proofs.lemmas.Bool.{both_ways, eq-eqb, ne_eqb}
 use Rattle.std.proofs.lemmas.Option.{slice_get_within}
-use Rattle.rack.specs.Seen.{Rose, Seen}
+use Rattle.rack.specs.Seen.{Rose, RackView}
 use Rattle.rack.specs.Sequences.{WritesOnly}
 use Rattle.rack.specs.Shelf.{KeepsShelf, Shelf}
 use Rattle.slice_rack.specs.Slices.{IsOrderly, Slices, disk_of, place_of, seat_of}
@@ -60,7 +60,7 @@ use Rattle.pool.proofs.Later.{later}
 use Rattle.pool.proofs.Vacating.{bay_continues}
 
 -- calls on the bay, reached through the arrays
-pub only_at : {R : Type 0} (seen : R → Seen) {old new : RaidRack R} {b : Seen} {may : ℕ → ℕ → List ℕ → Type 0} → old ≡ new → WritesOnly (seen (below_of (slices_in old))) b may
+pub only_at : {R : Type 0} (seen : R → RackView) {old new : RaidRack R} {b : RackView} {may : ℕ → ℕ → List ℕ → Type 0} → old ≡ new → WritesOnly (seen (below_of (slices_in old))) b may
     → WritesOnly (seen (below_of (slices_in new))) b may
 only_at seen {old} {new} {b} {may} same only = subst (λ k. WritesOnly (seen (below_of (slices_in k))) b may) same only
 
@@ -84,7 +84,7 @@ current_listed s k is = of (slice_get s.drives.items k) refl
     of None at = absurd (both_ways (is_current s k) (ap (λ o. option_map_or (λ (d : Drive). not d.missing) o false) at) is)
     of (Some d) at = slice_get_within s.drives.items k d at
 
-module _ (x : View) (b : Seen) (s : Shelf) (u : Slices) (z : Arrays) (disk : ℕ) (may : ℕ → ℕ → List ℕ → Type 0) (fit : (volume x).fit)
+module _ (x : View) (b : RackView) (s : Shelf) (u : Slices) (z : Arrays) (disk : ℕ) (may : ℕ → ℕ → List ℕ → Type 0) (fit : (volume x).fit)
     (only : WritesOnly x.bay b may) (names : KeepsShelf x.shelf s) (ordered : IsOrderly u) (after : IsFit z (slices_of u b)) where
   abbrev pub y : View
   y = later x b s u z

@@ -2,7 +2,7 @@
 use Rattle.std.specs.Prelude.{Ok, Err, OnOk}
 use Rattle.std.proofs.Common.{◌≡◌, ◌⊎◌, ℕ, ◌*◌, ◌≤◌, if◌then◌else◌, true, List, slice_get, Option, Some, None, refl, sym, ap, subst, ◌∙◌, inl, inr, arith, lt-ltb, le-ltb}
 use Rattle.std.proofs.lemmas.Bool.{both_ways, cases_lt}
-use Rattle.rack.specs.Seen.{Rose, Seen}
+use Rattle.rack.specs.Seen.{Rose, RackView}
 use Rattle.rack.specs.Shelf.{Shelf}
 use Rattle.slice_rack.specs.Slices.{IsOrderly, disk_of, seat_of}
 use Rattle.array_image.specs.Places.{log_slice}
@@ -37,7 +37,7 @@ late_answer l v sectors r answer f is = of (refusal_of_add l v sectors) (late_ad
     of None late (inr gone) = subst IsLate (same_fault Gone f (sym gone ∙ is)) late_gone
 
 module _ (x : View) (bay : x.bays.one) (name : List ℕ) (fit : (volume x).fit) (ordered : IsOrderly x.slices) where
-  abbrev b : Seen
+  abbrev b : RackView
   b = x.bays.seen bay
 
   abbrev s : Shelf

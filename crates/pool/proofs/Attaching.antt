@@ -8,7 +8,7 @@ use Rattle.rack.specs.declared.AttachFault.{AttachFault}
 use Rattle.rack.specs.declared.AttachFault.TheVariants.{Failed, Twice as TwiceAt, Memory as NoMemory}
 use Rattle.rack.specs.Joins.{keeps_same}
 use Rattle.rack.specs.Values.{Keeps, Values, only}
-use Rattle.rack.specs.Seen.{Seen}
+use Rattle.rack.specs.Seen.{RackView}
 use Rattle.rack.specs.Shelf.{Adds, Attaches, IsSame, Shelf}
 use Rattle.slice_rack.specs.Slices.{IsOrderly, disk_of, first_of, place_of, sectors_of}
 use Rattle.slice_rack.specs.Sliced.{IsInside, slices_of}
@@ -35,7 +35,7 @@ use Rattle.raid_laws.specs.Truths.{KeepsTruths}
 use Rattle.raid_rack.proofs.Truths.{truths_reads}
 
 -- what a bay promises of its disks
-pub record IsBay (b : Seen) (s : Shelf) : Type 0 where
+pub record IsBay (b : RackView) (s : Shelf) : Type 0 where
   pub fit : b.fit
   pub lasting : b.lasting
   pub unspent : (d k : ℕ) → b.spent d k ≡ false
@@ -58,7 +58,7 @@ got_new : {X : Type 0} (xs : List X) (y : X) → slice_get (xs ++ y ∷ []) (len
 got_new [] y = refl
 got_new (x ∷ xs) y = got_new xs y
 
-module _ (x : View) (b : Seen) (s : Shelf) (name : List ℕ) (raw : Result ℕ AttachFault) (was : IsBay x.bay x.shelf) (now : IsBay b s)
+module _ (x : View) (b : RackView) (s : Shelf) (name : List ℕ) (raw : Result ℕ AttachFault) (was : IsBay x.bay x.shelf) (now : IsBay b s)
     (orderly : IsOrderly x.slices) (linear : IsOrderlyVolume x.linear) (fit : (volume x).fit) (attaches : Attaches x.bay b x.shelf s name raw) where
   abbrev m : View
   m = later x b s x.slices x.arrays

@@ -4,7 +4,7 @@ use Rattle.std.specs.Option.{option_map_or}
 use Rattle.std.proofs.Common.{◌≡◌, ◌⊎◌, ℕ, ◌+◌, ◌*◌, ◌<◌, ◌≤◌, ◌==◌, ◌&&◌, not, Bool, true, false, if◌then◌else◌, List, [], slice_get, Option, Some, None, option_map, Result, refl, sym, ap, ap₂, subst, ◌∙◌, inl, inr, arith, eqb-true, lt-ltb}
 use Rattle.std.proofs.lemmas.Bool.{and_parts, both_ways, cases_Bool, cases_eq}
 use Rattle.arrayvec.specs.ArrayVec.{ArrayVec}
-use Rattle.rack.specs.Seen.{Seen}
+use Rattle.rack.specs.Seen.{RackView}
 use Rattle.array_image.specs.Arrays.{place_with}
 use Rattle.array_image.specs.States.{is_current}
 use Rattle.array_model.specs.declared.Seat.{Seat}
@@ -16,9 +16,9 @@ use Rattle.raid_laws.proofs.RowsRebuilt.{other_seat, own, own_before, own_seat}
 use Rattle.pool_state.specs.declared.contents.State.{State}
 use Rattle.pool_state.specs.declared.contents.Work.{Work}
 use Rattle.pool_state.specs.declared.contents.Work.TheVariants.{Resync, Rebuild, TakeOver, Begin, Reshape, Finish, Make, Zero, Ready, Extend, Close}
-use Rattle.raid_laws.specs.Book.{IsAfter}
+use Rattle.raid_laws.specs.Book.{OnlyMarksSince}
 use Rattle.raid_laws.specs.Losing.{geometry_then, only_then}
-use Rattle.raid_laws.specs.Moves.{IsHeeded, IsSeated, IsSet, KeepsArrays, LosesOnly, noted_at}
+use Rattle.raid_laws.specs.Moves.{IsHeeded, IsSeated, IsSet, KeepsArrays, OnlyFailures, noted_at}
 use Rattle.raid_laws.specs.Raid.{Raid}
 use Rattle.raid_laws.specs.Works.{Does, is_due, is_rebuilding_seat, is_whole_row, stepped}
 use Rattle.raid_rack.proofs.Raises.{raises_more, raises_none}
@@ -60,7 +60,7 @@ not_marked true false none is = absurd (let bad : Some true ≡ Some false = is 
 none_gone : (w : ArrayView) (p : ℕ) → w.went ≡ [] → has_gone w p ≡ false
 none_gone w p heeded = ap (λ ps. names ps p) heeded
 
-pub array_lost : (s : State) (n : ℕ) (u w : ArrayView) (y : Seen) → IsSeated s n w y → w.went ≡ [] → LosesOnly u w → KeepsArray s u w
+pub array_lost : (s : State) (n : ℕ) (u w : ArrayView) (y : RackView) → IsSeated s n w y → w.went ≡ [] → OnlyFailures u w → KeepsArray s u w
 array_lost s n u w y seated heeded only = record {
   geometry = only.same.geometry;
   young = only.same.young;
@@ -88,7 +88,7 @@ array_resynced s u rows = record {
   members = λ k low current. omega arith;
 }
 
-array_rebuilt : (s t : State) (n : ℕ) (u : ArrayView) (x : Seen) (place rows : ℕ) → IsSeated s n u x
+array_rebuilt : (s t : State) (n : ℕ) (u : ArrayView) (x : RackView) (place rows : ℕ) → IsSeated s n u x
     → option_map_or is_rebuilding_seat (seat_of u place) false ≡ true → rows ≤ rows_left u place → KeepsArray t u (rebuilt u place rows)
 array_rebuilt s t n u x place rows seated rebuilds left =
     let has = row_left s n u x place seated rebuilds in
@@ -123,17 +123,17 @@ array_rebuilt s t n u x place rows seated rebuilds left =
 pub book_same : (v : Raid) → KeepsBook v v
 book_same v n low = array_same v.state (v.arrays n)
 
-pub book_then : (v w z : Raid) → w.state.made ≡ v.state.made → IsAfter w.state z.state → KeepsBook v w → KeepsBook w z → KeepsBook v z
+pub book_then : (v w z : Raid) → w.state.made ≡ v.state.made → OnlyMarksSince w.state z.state → KeepsBook v w → KeepsBook w z → KeepsBook v z
 book_then v w z made after one two n low =
     array_then w.state z.state (v.arrays n) (w.arrays n) (z.arrays n) after.current (one n low) (two n (subst (λ k. n < k) (sym made) low))
 
 -- calls that lose members alone
-pub book_lost : (v w : Raid) (y : Seen) → IsSet w y → IsHeeded w → w.state.made ≡ v.state.made → KeepsArrays v w → KeepsBook v w
+pub book_lost : (v w : Raid) (y : RackView) → IsSet w y → IsHeeded w → w.state.made ≡ v.state.made → KeepsArrays v w → KeepsBook v w
 book_lost v w y set heeded made keeps n low =
     let there = subst (λ k. n < k) (sym made) low in
     array_lost w.state n (v.arrays n) (w.arrays n) y (set.arrays n there) (heeded n there) (keeps n low)
 
-pub book_seated : (w : Raid) (y : Seen) → IsSet w y → IsHeeded w → HasMarkedSeats w
+pub book_seated : (w : Raid) (y : RackView) → IsSet w y → IsHeeded w → HasMarkedSeats w
 book_seated w y set heeded n k low inside =
     let u = w.arrays n in
     let p = place_at u k in
@@ -154,7 +154,7 @@ seat_lost places place (Some seat) = by (names places place)
     by true = inr refl
     by false = inl refl
 
-gone_only : (u : ArrayView) (places : List ℕ) → IsArray u → LosesOnly u (gone places u)
+gone_only : (u : ArrayView) (places : List ℕ) → IsArray u → OnlyFailures u (gone places u)
 gone_only u places is_array = record {
   same = record { number = refl; geometry = geometry_same u; devices = refl; resync = refl; young = refl };
   seats = λ k.
@@ -164,31 +164,31 @@ gone_only u places is_array = record {
       ];
 }
 
-pub arrays_noted : (v w : Raid) (x : Seen) (places : List ℕ) → IsSet v x → KeepsArrays (noted_at places v) w → KeepsArrays v w
+pub arrays_noted : (v w : Raid) (x : RackView) (places : List ℕ) → IsSet v x → KeepsArrays (noted_at places v) w → KeepsArrays v w
 arrays_noted v w x places before keeps n low =
     only_then (v.arrays n) (gone places (v.arrays n)) (w.arrays n) (gone_only (v.arrays n) places (before.arrays n low).is_array)
-    (subst (λ (u : ArrayView). LosesOnly u (w.arrays n)) (ap (λ b. if b then gone places (v.arrays n) else v.arrays n) (lt-ltb n v.state.made low)) (keeps n low))
+    (subst (λ (u : ArrayView). OnlyFailures u (w.arrays n)) (ap (λ b. if b then gone places (v.arrays n) else v.arrays n) (lt-ltb n v.state.made low)) (keeps n low))
 
 -- a step of array m
-book_stepped : (v w : Raid) (y : Seen) (m : ℕ) (next : ArrayView) (is_done : Bool) → IsSet w y → IsHeeded w → w.state.made ≡ v.state.made
+book_stepped : (v w : Raid) (y : RackView) (m : ℕ) (next : ArrayView) (is_done : Bool) → IsSet w y → IsHeeded w → w.state.made ≡ v.state.made
     → (m < v.state.made → KeepsArray w.state (v.arrays m) next)
-    → ((n : ℕ) → n < v.state.made → LosesOnly (stepped v m next is_done n) (w.arrays n)) → KeepsBook v w
+    → ((n : ℕ) → n < v.state.made → OnlyFailures (stepped v m next is_done n) (w.arrays n)) → KeepsBook v w
 book_stepped v w y m next is_done set heeded made step only n low =
     let there = subst (λ k. n < k) (sym made) low in
     let seated = set.arrays n there in
     elim (cases_Bool ((n == m) && is_done)) [
       | inl done ↦
           let same = eqb-true n m (and_parts (n == m) is_done done).0 in
-          let last = subst (λ (u : ArrayView). LosesOnly u (w.arrays n)) (ap (λ b. if b then next else v.arrays n) done) (only n low) in
+          let last = subst (λ (u : ArrayView). OnlyFailures u (w.arrays n)) (ap (λ b. if b then next else v.arrays n) done) (only n low) in
           array_then w.state w.state (v.arrays n) next (w.arrays n) (λ p is. is)
           (subst (λ k. KeepsArray w.state (v.arrays k) next) (sym same) (step (subst (λ k. k < v.state.made) same low)))
           (array_lost w.state n next (w.arrays n) y seated (heeded n there) last)
       | inr idle ↦
           array_lost w.state n (v.arrays n) (w.arrays n) y seated (heeded n there)
-          (subst (λ (u : ArrayView). LosesOnly u (w.arrays n)) (ap (λ b. if b then next else v.arrays n) idle) (only n low))
+          (subst (λ (u : ArrayView). OnlyFailures u (w.arrays n)) (ap (λ b. if b then next else v.arrays n) idle) (only n low))
     ]
 
-pub book_worked : (work : Work) (most : ℕ) (v w : Raid) (x y : Seen) {E : Type 0} (r : Result ℕ E) → IsSet v x → IsSet w y → IsHeeded w → is_due v work ≡ true
+pub book_worked : (work : Work) (most : ℕ) (v w : Raid) (x y : RackView) {E : Type 0} (r : Result ℕ E) → IsSet v x → IsSet w y → IsHeeded w → is_due v work ≡ true
     → Does work most v w x y r → KeepsBook v w
 book_worked (Resync m) most v w x y r before set heeded due does =
     book_stepped v w y m (resynced (v.arrays m) does.rows.rows) does.rows.steps.is_done set heeded does.rows.steps.brings.book.same.made

@@ -6,7 +6,7 @@ use Rattle.std.proofs.Math.Nat.{div-le_self}
 use Rattle.std.proofs.lemmas.Bool.{and_parts, eqb-true}
 use Rattle.std.proofs.lemmas.List.Elements.{All-cons, All-map, All-nil}
 use Rattle.std.proofs.lemmas.List.FromFn.{length-map-range_with_len}
-use Rattle.rack.specs.Seen.{Seen}
+use Rattle.rack.specs.Seen.{RackView}
 use Rattle.md_super.specs.Profile.{is_mirror}
 use Rattle.array_image.specs.Supers.{has_role, is_reshaping, named_places, new_row}
 use Rattle.array_image.specs.SoundArray.{first_unsynced}
@@ -28,7 +28,7 @@ all_range P a (suc n) each =
     All-cons P a (range_with_len (a + 1) n) (each a (omega arith) (omega arith)) (all_range P (a + 1) n (λ k low high. each k (omega arith) (omega arith)))
 
 -- the roles of an array of the pool name its members
-pub named_is : (s : State) (n : ℕ) (v : View) (x : Seen) → IsSeated s n v x → length (named_places v.truth) ≡ v.truth.raid_disks
+pub named_is : (s : State) (n : ℕ) (v : View) (x : RackView) → IsSeated s n v x → length (named_places v.truth) ≡ v.truth.raid_disks
 named_is s n v x seated =
     eqb-true (length (named_places v.truth)) v.truth.raid_disks
     (and_parts (length (named_places v.truth) == v.truth.raid_disks)
@@ -40,7 +40,7 @@ most_disks : (mirror : Bool) (n : ℕ) → n ≤ (if mirror then 2 else 16) → 
 most_disks true n few = omega arith
 most_disks false n few = few
 
-pub named_few : (s : State) (n : ℕ) (v : View) (x : Seen) → IsSeated s n v x → length (named_places v.truth) ≤ 16
+pub named_few : (s : State) (n : ℕ) (v : View) (x : RackView) → IsSeated s n v x → length (named_places v.truth) ≤ 16
 named_few s n v x seated =
     let same = named_is s n v x seated in
     let most = most_disks (is_mirror v.truth) v.truth.raid_disks seated.is_array.most in
@@ -74,7 +74,7 @@ now_small extent v is_array =
     }
 
 -- where a drive is listed
-pub is_book : (l : Linear) (v : Raid) (x : Seen) → IsSet v x → 0 < length v.state.drives.items → extents_of l.runs < 2 ^ 52 → IsBook v.state (progress_by l v)
+pub is_book : (l : Linear) (v : Raid) (x : RackView) → IsSet v x → 0 < length v.state.drives.items → extents_of l.runs < 2 ^ 52 → IsBook v.state (progress_by l v)
 is_book l v x set some extents =
     let now : ℕ → ArrayNow = λ n. array_now v.state.extent (v.arrays n) in
     record {

@@ -1,6 +1,6 @@
 -- What a pool's volume holds, by what it carries along.
 use Rattle.std.proofs.Common.{◌≡◌, ℕ, ◌<◌, ◌≤◌, refl, sym, subst, ◌∙◌, arith}
-use Rattle.rack.specs.Seen.{Image, Stays}
+use Rattle.rack.specs.Seen.{Image, SameRack}
 use Rattle.rack.specs.Calls.{KeepsAll}
 use Rattle.rack.specs.Joins.{keeps_same, keeps_then}
 use Rattle.rack.specs.Moments.{IsSound}
@@ -8,7 +8,7 @@ use Rattle.flat_array.specs.Array.{FlatArray}
 use Rattle.raid_laws.specs.Truths.{KeepsTruths}
 use Rattle.raid_rack.proofs.Truths.{truths_then}
 use Rattle.pool.specs.View.{View, book, contents_in, slices_shown, volume}
-use Rattle.pool.specs.Volume.{Holds, Means}
+use Rattle.pool.specs.Volume.{VolumeIs, Means}
 use Rattle.pool.specs.Continuing.{Continues}
 use Rattle.pool.specs.Taking.{AreTold, Carries}
 use Rattle.pool.specs.Held.{KeepsHeld}
@@ -42,7 +42,7 @@ carries_then x y z go one two = record {
 }
 
 -- a call in which no value comes to the volume
-pub carries_kept : (x y : View) → Stays (volume x) (volume y) → KeepsAll (volume x) (volume y) → (book y).state.made ≡ (book x).state.made
+pub carries_kept : (x y : View) → SameRack (volume x) (volume y) → KeepsAll (volume x) (volume y) → (book y).state.made ≡ (book x).state.made
     → (x.shelf.told → AreTold x → KeepsTruths (book x) (book y) (slices_shown x) (slices_shown y))
     → (x.shelf.told → AreTold x → KeepsHeld (book x) (book y) (slices_shown x) (slices_shown y)) → Carries x y
 carries_kept x y stays keeps made truths held = record {
@@ -56,7 +56,7 @@ carries_kept x y stays keeps made truths held = record {
 }
 
 -- the volume holds what it held
-pub holds_of : (x y : View) → Continues x y → Carries x y → (a : FlatArray) → Holds x a → Holds y a
+pub holds_of : (x y : View) → Continues x y → Carries x y → (a : FlatArray) → VolumeIs x a → VolumeIs y a
 holds_of x y go carries a holds = record {
   told = λ s low alive.
       carries.told holds.shelf holds.disks s (subst (λ n. s < n) holds.size low) alive (holds.told s low (carries.spent s alive));
@@ -70,7 +70,7 @@ holds_of x y go carries a holds = record {
 }
 
 -- what a stop leaves when it has returned means that
-pub ends_of : (y : View) → IsSound (volume y) → (a : FlatArray) → Holds y a → (i : Image) → y.bay.stops y.bay.clock i → Means y a i
+pub ends_of : (y : View) → IsSound (volume y) → (a : FlatArray) → VolumeIs y a → (i : Image) → y.bay.stops y.bay.clock i → Means y a i
 ends_of y sound a holds i stopped s low alive =
     (holds.values s low alive).within (contents_in y.slices y.linear i s)
     (sound.only_held (λ d t. contents_in y.slices y.linear i t) (here i stopped) 0 s
@@ -80,7 +80,7 @@ ends_of y sound a holds i stopped s low alive =
     here i stopped = stopped_in y y.bay.clock i stopped
 
 -- and what stops leave in a call in which no value comes to the volume
-pub means_kept : (x y : View) → Stays (volume x) (volume y) → KeepsAll (volume x) (volume y) → x.bay.traced → (a : FlatArray) → Holds x a
+pub means_kept : (x y : View) → SameRack (volume x) (volume y) → KeepsAll (volume x) (volume y) → x.bay.traced → (a : FlatArray) → VolumeIs x a
     → (k : ℕ) (i : Image) → x.bay.clock < k → k ≤ y.bay.clock → y.bay.stops k i → Means y a i
 means_kept x y stays keeps traced a holds k i since until stopped s low alive =
     let was = stays.spent 0 s alive in

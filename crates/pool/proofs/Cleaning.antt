@@ -2,7 +2,7 @@
 use Rattle.std.proofs.Common.{◌≡◌, ℕ, ◌<◌, nat_lt, refl, sym, subst, lt-ltb, arith}
 use Rattle.rack.proofs.Writing.{only_quiet}
 use Rattle.rack.specs.Values.{IsSingle}
-use Rattle.rack.specs.Seen.{Rose, Seen}
+use Rattle.rack.specs.Seen.{Rose, RackView}
 use Rattle.rack.specs.Shelf.{Shelf}
 use Rattle.slice_rack.specs.Slices.{Slices, disk_of}
 use Rattle.slice_rack.specs.SliceRack.{below_of, tables}
@@ -17,11 +17,11 @@ use Rattle.raid_rack.specs.declared.arrays.RaidRack.{RaidRack}
 use Rattle.raid_laws.specs.Cleaning.{CleansAll, NoneFails, LeavesItsRows as LeavesRowsOf}
 use Rattle.raid_laws.specs.Laws.{live_parts, stops_inside}
 use Rattle.raid_laws.specs.Moves.{RaisesBy}
-use Rattle.raid_laws.specs.Raid.{IsTold, StopsInside, held_in, live_of, spent_of}
+use Rattle.raid_laws.specs.Raid.{IsTracked, StopsInside, held_in, live_of, spent_of}
 use Rattle.raid_rack.specs.RaidRack.{IsFit, KeepsRack, SliceRuns, raid_by, raid_in, raid_seen, slices_in, slices_seen}
 use Rattle.raid_laws.proofs.Moving.{moves_bring}
 use Rattle.raid_rack.proofs.Serving.{whole_call}
-use Rattle.raid_laws.specs.Runs.{KeepsMoments}
+use Rattle.raid_laws.specs.Runs.{CrashInvariant}
 use Rattle.raid_laws.specs.Truths.{KeepsTruths}
 use Rattle.raid_laws.specs.Unlost.{KeepsUnlost}
 use Rattle.raid_rack.proofs.TruthAgrees.{cleans_settled, truth_agrees}
@@ -41,8 +41,8 @@ use Rattle.pool.proofs.Reached.{reached_keeps, reached_stays, with_arrays}
 use Rattle.pool.proofs.Serving.{KeepNames, Laws, is_call}
 
 -- an array that was cleaned has one value in each sector that isn't spent
-cleaned_single : (a b : Arrays) (x y : Seen) (n s : ℕ) → IsFit a x → IsFit b y → StopsInside y → CleansAll (raid_by a) (raid_by b) x y
-    → n < a.state.made → IsTold (raid_by a) x n → live_of (raid_by b) n s → IsSingle (held_in (raid_by b) y n s)
+cleaned_single : (a b : Arrays) (x y : RackView) (n s : ℕ) → IsFit a x → IsFit b y → StopsInside y → CleansAll (raid_by a) (raid_by b) x y
+    → n < a.state.made → IsTracked (raid_by a) x n → live_of (raid_by b) n s → IsSingle (held_in (raid_by b) y n s)
 cleaned_single a b x y n s fit after inside cleans low told alive =
     let v = raid_by a in
     let w = raid_by b in
@@ -53,14 +53,14 @@ cleaned_single a b x y n s fit after inside cleans low told alive =
     (before_amid v w x y (held_in v x) call n told goes))
 
 -- what the arrays say of it
-pub record IsCleaned {R : Type 0} (seen : R → Seen) (runs : R → R → Type 0) (old new : RaidRack R) : Type 0 where
+pub record IsCleaned {R : Type 0} (seen : R → RackView) (runs : R → R → Type 0) (old new : RaidRack R) : Type 0 where
   pub cleans : CleansAll (raid_in old) (raid_in new) (slices_seen seen old) (slices_seen seen new)
   pub images : LeavesRowsOf (raid_in old) (raid_in new) (slices_seen seen old) (slices_seen seen new)
   pub keeps : KeepsRack (raid_seen seen old) (raid_seen seen new)
   pub raises : RaisesBy 288 (raid_in old) (raid_in new)
   pub ran : SliceRuns seen runs (slices_in old) (slices_in new)
   pub truths : KeepsTruths (raid_in old) (raid_in new) (slices_seen seen old) (slices_seen seen new)
-  pub moments : KeepsMoments (raid_in old) (raid_in new) (slices_seen seen old) (slices_seen seen new)
+  pub moments : CrashInvariant (raid_in old) (raid_in new) (slices_seen seen old) (slices_seen seen new)
   pub unlost : KeepsUnlost (raid_in old).state (raid_in new).state (slices_seen seen old) (slices_seen seen new)
 
 -- where no disk of the bay has a new fault, no slice has one
@@ -72,7 +72,7 @@ none_fails x y same quiet place fault =
 rows_left : (x y : View) → y.slices ≡ x.slices → LeavesRowsOf (book x) (book y) (slices_shown x) (slices_shown y) → LeavesItsRows x y
 rows_left x y same images quiet = images (none_fails x y same quiet)
 
-pub clean_done : {R : Type 0} (seen : R → Seen) (shelf : R → Shelf) (runs : R → R → Type 0) (laws : Laws seen) (names : KeepNames shelf runs) (p : Pool R) (raid : RaidRack R) → (volume (view seen shelf p)).fit
+pub clean_done : {R : Type 0} (seen : R → RackView) (shelf : R → Shelf) (runs : R → R → Type 0) (laws : Laws seen) (names : KeepNames shelf runs) (p : Pool R) (raid : RaidRack R) → (volume (view seen shelf p)).fit
     → IsCleaned seen runs (arrays_of p) raid → Cleaned (view seen shelf p) (view seen shelf (with_arrays p raid)) × Carries (view seen shelf p) (view seen shelf (with_arrays p raid))
 clean_done seen shelf runs laws names p raid fit cleaned =
     let x = view seen shelf p in

@@ -2,7 +2,7 @@
 use Rattle.std.specs.Option.{option_map_or}
 use Rattle.std.proofs.Common.{◌≡◌, ℕ, ◌<◌, ◌≤◌, ◌==◌, ◌&&◌, Bool, true, false, nat_lt, if◌then◌else◌, [], ◌∷◌, length, slice_get, Option, Some, Result, Err, refl, sym, ap, subst, ◌∙◌, inl, inr, ne_eqb}
 use Rattle.std.proofs.lemmas.Bool.{and_parts, both_ways, cases_Bool, cases_eq}
-use Rattle.rack.specs.Seen.{Seen}
+use Rattle.rack.specs.Seen.{RackView}
 use Rattle.array_model.specs.declared.Seat.{Seat}
 use Rattle.array_model.specs.View.{View as ArrayView, IsArray}
 use Rattle.array_core.specs.Seats.{seat_of}
@@ -13,9 +13,9 @@ use Rattle.pool_state.specs.declared.contents.Work.TheVariants.{Resync, Rebuild,
 use Rattle.growth_plan.specs.Works.{works_left}
 use Rattle.growth_plan.proofs.Last.{close_alone}
 use Rattle.lvm_group.specs.Runs.{Linear}
-use Rattle.raid_laws.specs.Book.{IsAfter, after_same, after_then}
+use Rattle.raid_laws.specs.Book.{OnlyMarksSince, after_same, after_then}
 use Rattle.raid_laws.specs.Losing.{only_same}
-use Rattle.raid_laws.specs.Moves.{IsHeeded, IsSet, LosesOnly}
+use Rattle.raid_laws.specs.Moves.{IsHeeded, IsSet, OnlyFailures}
 use Rattle.raid_laws.specs.Raid.{Raid}
 use Rattle.raid_laws.specs.Works.{Does, array_of, is_due, is_rebuilding_seat, is_whole_row, stepped}
 use Rattle.raid_rack.proofs.Rebuilt.{row_left}
@@ -48,7 +48,7 @@ members_then u v w one two = record {
       ];
 }
 
-members_lost : (u w : ArrayView) → LosesOnly u w → KeepsMembers u w
+members_lost : (u w : ArrayView) → OnlyFailures u w → KeepsMembers u w
 members_lost u w only = record {
   devices = only.same.devices;
   seats = λ k. elim (only.seats k) [ inl same ↦ inl same | inr lost ↦ inr (inl lost) ];
@@ -76,11 +76,11 @@ all_members_then v w z made one two n low =
 
 -- a step of array m
 module _ (v w : Raid) (m : ℕ) (next : ArrayView) (is_done : Bool)
-    (only : (n : ℕ) → n < v.state.made → LosesOnly (stepped v m next is_done n) (w.arrays n)) where
+    (only : (n : ℕ) → n < v.state.made → OnlyFailures (stepped v m next is_done n) (w.arrays n)) where
   -- the other arrays lose members alone
-  only_others : (n : ℕ) → n < v.state.made → (n ≡ m → ⊥) → LosesOnly (v.arrays n) (w.arrays n)
+  only_others : (n : ℕ) → n < v.state.made → (n ≡ m → ⊥) → OnlyFailures (v.arrays n) (w.arrays n)
   only_others n low other =
-      subst (λ (u : ArrayView). LosesOnly u (w.arrays n)) (ap (λ b. if b && is_done then next else v.arrays n) (ne_eqb n m other)) (only n low)
+      subst (λ (u : ArrayView). OnlyFailures u (w.arrays n)) (ap (λ b. if b && is_done then next else v.arrays n) (ne_eqb n m other)) (only n low)
 
   members_stepped : (m < v.state.made → KeepsMembers (v.arrays m) next) → KeepsAllMembers v w
   members_stepped step n low =
@@ -90,14 +90,14 @@ module _ (v w : Raid) (m : ℕ) (next : ArrayView) (is_done : Bool)
           | inl done ↦
               members_then (v.arrays n) next (w.arrays n)
               (subst (λ k. KeepsMembers (v.arrays k) next) (sym same) (step (subst (λ k. k < v.state.made) same low)))
-              (members_lost next (w.arrays n) (subst (λ (u : ArrayView). LosesOnly u (w.arrays n)) (ap (λ b. if b then next else v.arrays n) done) (only n low)))
+              (members_lost next (w.arrays n) (subst (λ (u : ArrayView). OnlyFailures u (w.arrays n)) (ap (λ b. if b then next else v.arrays n) done) (only n low)))
           | inr idle ↦
               members_lost (v.arrays n) (w.arrays n)
-              (subst (λ (u : ArrayView). LosesOnly u (w.arrays n)) (ap (λ b. if b then next else v.arrays n) idle) (only n low))
+              (subst (λ (u : ArrayView). OnlyFailures u (w.arrays n)) (ap (λ b. if b then next else v.arrays n) idle) (only n low))
         ]
       ]
 
-pub members_worked : (work : Work) (most : ℕ) (v w : Raid) (x y : Seen) {E : Type 0} (r : Result ℕ E) → IsSet v x → is_due v work ≡ true → Does work most v w x y r → KeepsAllMembers v w
+pub members_worked : (work : Work) (most : ℕ) (v w : Raid) (x y : RackView) {E : Type 0} (r : Result ℕ E) → IsSet v x → is_due v work ≡ true → Does work most v w x y r → KeepsAllMembers v w
 members_worked (Resync m) most v w x y r set due does =
     members_stepped v w m (resynced (v.arrays m) does.rows.rows) does.rows.steps.is_done does.rows.steps.arrays (λ low. record { devices = refl; seats = λ k. inl refl })
 members_worked (Rebuild m place) most v w x y r set due does =
@@ -119,8 +119,8 @@ members_worked Extend most v w x y r set due does = absurd does
 members_worked Close most v w x y r set due does = λ n low. members_lost (v.arrays n) (w.arrays n) (does.1.arrays n low)
 
 -- what a refused work leaves of the arrays that it isn't of, and of a plan
-pub others_stuck : (work : Work) (most : ℕ) (v w : Raid) (x y : Seen) {E : Type 0} (e : E) → Does work most v w x y (Err e)
-    → ((n : ℕ) → n < v.state.made → (n ≡ array_of work → ⊥) → LosesOnly (v.arrays n) (w.arrays n)) × (w.state.plan ≡ v.state.plan)
+pub others_stuck : (work : Work) (most : ℕ) (v w : Raid) (x y : RackView) {E : Type 0} (e : E) → Does work most v w x y (Err e)
+    → ((n : ℕ) → n < v.state.made → (n ≡ array_of work → ⊥) → OnlyFailures (v.arrays n) (w.arrays n)) × (w.state.plan ≡ v.state.plan)
 others_stuck (Resync m) most v w x y e does = (only_others v w m (resynced (v.arrays m) does.rows.rows) does.rows.steps.is_done does.rows.steps.arrays, does.rows.steps.plan)
 others_stuck (Rebuild m place) most v w x y e does = (only_others v w m (rebuilt (v.arrays m) place does.rows.rows) does.rows.steps.is_done does.rows.steps.arrays, does.rows.steps.plan)
 others_stuck (TakeOver m) most v w x y e does = absurd does
@@ -145,7 +145,7 @@ last_work l v = by (nat_lt 0 (length v.state.drives.items))
     by false first = absurd (cc first)
 
 -- one work
-pub plan_worked : (l : Linear) (work : Work) (most : ℕ) (v w : Raid) (x y : Seen) {E : Type 0} (r : Result ℕ E) → IsSet v x → IsHeeded v → slice_get (works_by l v) 0 ≡ Some work
+pub plan_worked : (l : Linear) (work : Work) (most : ℕ) (v w : Raid) (x y : RackView) {E : Type 0} (r : Result ℕ E) → IsSet v x → IsHeeded v → slice_get (works_by l v) 0 ≡ Some work
     → KeepsBook v w → Does work most v w x y r → KeepsPlan l v w
 plan_worked l (Resync m) most v w x y r set heeded first keeps does = inl does.rows.steps.plan
 plan_worked l (Rebuild m place) most v w x y r set heeded first keeps does = inl does.rows.steps.plan
@@ -171,7 +171,7 @@ plan_worked l Close most v w x y r set heeded first keeps does = inr (record {
 })
 
 -- a plan that has ended stays so
-ended_on : (l : Linear) (v w z : Raid) → IsAfter w.state z.state → KeepsBook w z → EndsPlan l v w → EndsPlan l v z
+ended_on : (l : Linear) (v w z : Raid) → OnlyMarksSince w.state z.state → KeepsBook w z → EndsPlan l v w → EndsPlan l v z
 ended_on l v w z after keeps ends = record {
   mid = ends.mid;
   marks = ends.marks;
@@ -186,7 +186,7 @@ ended_on l v w z after keeps ends = record {
 }
 
 -- works before it
-ended_late : (l : Linear) (v w z : Raid) → IsAfter v.state w.state → KeepsBook v w → KeepsAllMembers v w → w.state.plan ≡ v.state.plan → EndsPlan l w z → EndsPlan l v z
+ended_late : (l : Linear) (v w z : Raid) → OnlyMarksSince v.state w.state → KeepsBook v w → KeepsAllMembers v w → w.state.plan ≡ v.state.plan → EndsPlan l w z → EndsPlan l v z
 ended_late l v w z after keeps members same ends = record {
   mid = ends.mid;
   marks = after_then v.state w.state ends.mid.state after ends.marks;
@@ -201,7 +201,7 @@ ended_late l v w z after keeps members same ends = record {
 }
 
 -- works in a row
-pub plan_then : (l : Linear) (v w z : Raid) → IsAfter v.state w.state → IsAfter w.state z.state → KeepsBook v w → KeepsBook w z → KeepsAllMembers v w
+pub plan_then : (l : Linear) (v w z : Raid) → OnlyMarksSince v.state w.state → OnlyMarksSince w.state z.state → KeepsBook v w → KeepsBook w z → KeepsAllMembers v w
     → KeepsPlan l v w → KeepsPlan l w z → KeepsPlan l v z
 plan_then l v w z one two keeps more members before later =
     elim before [

@@ -5,11 +5,11 @@ use Rattle.std.proofs.lemmas.Bool.{both_ways, cases_Bool, cases_lt}
 use Rattle.rack.specs.Joins.{keeps_same}
 use Rattle.rack.specs.Values.{Keeps, MayLeave, Values}
 use Rattle.rack.specs.Moments.{IsSound}
-use Rattle.rack.specs.Seen.{Image, Rose, Seen}
+use Rattle.rack.specs.Seen.{Image, Rose, RackView}
 use Rattle.rack.specs.Shelf.{Shelf}
 use Rattle.flat_array.specs.Array.{FlatArray}
 use Rattle.array_image.specs.States.{is_current}
-use Rattle.raid_laws.specs.Book.{IsAfter, after_same}
+use Rattle.raid_laws.specs.Book.{OnlyMarksSince, after_same}
 use Rattle.raid_laws.specs.Losing.{arrays_same}
 use Rattle.raid_laws.specs.Moves.{KeepsArrays}
 use Rattle.raid_laws.specs.Enlisting.{new_table}
@@ -29,7 +29,7 @@ use Rattle.array_image.specs.Places.{log_slice}
 use Rattle.slice_rack.specs.Runs.{IsSliced}
 use Rattle.slice_rack.specs.Slices.{IsOrderly, disk_of, seat_of}
 use Rattle.pool.specs.View.{View, book, volume}
-use Rattle.pool.specs.Volume.{Holds}
+use Rattle.pool.specs.Volume.{VolumeIs}
 use Rattle.pool.proofs.Booked.{book_same, raises_still}
 use Rattle.pool.proofs.Carrying.{carries_same, carries_then, ends_of, holds_of}
 use Rattle.pool.proofs.Continuing.{continues_same, continues_then, outside_fewer, outside_then}
@@ -40,7 +40,7 @@ use Rattle.pool.proofs.Later.{later}
 use Rattle.pool.proofs.Late.{Answer, IsLate, answer_late, refusal_late, same_fault, same_of}
 
 -- nothing is called
-still_disk : (Told : Type 0) (a b : Seen) (d : ℕ) → ((k : ℕ) → b.held d k ≡ a.held d k) → b.clock ≡ a.clock → KeepsDisk Told a b d
+still_disk : (Told : Type 0) (a b : RackView) (d : ℕ) → ((k : ℕ) → b.held d k ≡ a.held d k) → b.clock ≡ a.clock → KeepsDisk Told a b d
 still_disk Told a b d held clock = record {
   held = λ k within told. subst (λ h. Keeps (a.held d k) h) (sym (held k)) (keeps_same (a.held d k));
   stops = λ told traced k i since until stopped. absurd (omega (arith, since, until, clock));
@@ -52,7 +52,7 @@ still_disk Told a b d held clock = record {
 declined_none : (x y : View) (place : ℕ) (fault : GrowFault) → book y ≡ book x → y.slices ≡ x.slices → y.bay.clock ≡ x.bay.clock
     → ((d : ℕ) → d < x.bay.disks → (s : ℕ) → y.bay.held d s ≡ x.bay.held d s) → IsDeclined (moment_of x) (moment_of y) place fault
 declined_none x y place fault same slices clock held = record {
-  marks = subst (λ (v : Raid). IsAfter (book x).state v.state) (sym same) (after_same (book x).state);
+  marks = subst (λ (v : Raid). OnlyMarksSince (book x).state v.state) (sym same) (after_same (book x).state);
   plan = ap (λ (v : Raid). v.state.plan) same;
   arrays = subst (λ (v : Raid). KeepsArrays (book x) v) (sym same) (arrays_same (book x));
   cause = λ k was now. absurd (both_ways (is_current (book x).state k) (subst (λ (v : Raid). is_current v.state k ≡ false) same now) was);
@@ -132,7 +132,7 @@ nothing_done x place disk e fit is = record {
 -- ---- a disk is attached, or none
 
 module _ (x : View) (bay : x.bays.one) (place : ℕ) (name : List ℕ) (listed : place < length (book x).state.drives.items) (fit : (volume x).fit) (ordered : IsOrderly x.slices) where
-  abbrev b : Seen
+  abbrev b : RackView
   b = x.bays.seen bay
 
   abbrev s : Shelf
@@ -429,8 +429,8 @@ module _ (x : View) (bay : x.bays.one) (place : ℕ) (name : List ℕ) (listed :
             })
 
         moments_since : (y : View) (r : Answer) → ((d : ℕ) → IsNamed (moment_of y) name d → d ≡ disk)
-            → OnOk r (b.traced → (a : FlatArray) → Holds m a → LeavesNew m y (λ i. MeansFormer m y place a i ⊎ MeansWith m y place disk a i))
-            → OnOk r ((d : ℕ) → IsNamed (moment_of y) name d → x.bay.traced → (a : FlatArray) → Holds x a → LeavesNew x y (λ i. MeansFormer x y place a i ⊎ MeansWith x y place d a i))
+            → OnOk r (b.traced → (a : FlatArray) → VolumeIs m a → LeavesNew m y (λ i. MeansFormer m y place a i ⊎ MeansWith m y place disk a i))
+            → OnOk r ((d : ℕ) → IsNamed (moment_of y) name d → x.bay.traced → (a : FlatArray) → VolumeIs x a → LeavesNew x y (λ i. MeansFormer x y place a i ⊎ MeansWith x y place d a i))
         moments_since y (Err e) same moments = tt
         moments_since y (Ok u) same moments =
             λ d named traced a holds k i since until stopped.

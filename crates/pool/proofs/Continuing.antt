@@ -2,12 +2,12 @@
 use Rattle.std.proofs.Common.{◌≡◌, ◌⊎◌, ℕ, ◌<◌, false, List, slice_get, refl, sym, ap, subst, ◌∙◌, inl, inr, arith}
 use Rattle.std.proofs.lemmas.Bool.{cases_lt}
 use Rattle.rack.specs.Joins.{keeps_then}
-use Rattle.rack.specs.Seen.{IsLive, Seen}
+use Rattle.rack.specs.Seen.{IsLive, RackView}
 use Rattle.rack.specs.Sequences.{WritesOnly}
 use Rattle.slice_rack.specs.Runs.{IsSliced}
 use Rattle.slice_rack.specs.Slices.{IsOrderly, Slices}
 use Rattle.pool.specs.View.{View, volume}
-use Rattle.pool.specs.Calls.{Passes}
+use Rattle.pool.specs.Calls.{CallFrame}
 use Rattle.pool.specs.Continuing.{Continues, IsOutside, KeepsOutside}
 
 -- no call
@@ -34,7 +34,7 @@ continues_same x fit = record {
 }
 
 -- a call that attaches none
-pub continues_of : (x y : View) → Passes x y → Continues x y
+pub continues_of : (x y : View) → CallFrame x y → Continues x y
 continues_of x y passes =
     let bay = passes.apart.stays in
     record {
@@ -98,7 +98,7 @@ continues_then x y z one two =
 -- ---- sectors outside slices
 
 -- calls that write sectors of slices and of these disks alone
-pub outside_writes : (t u : Slices) (named : ℕ → Type 0) (Told : Type 0) (a b : Seen) (may : ℕ → ℕ → List ℕ → Type 0)
+pub outside_writes : (t u : Slices) (named : ℕ → Type 0) (Told : Type 0) (a b : RackView) (may : ℕ → ℕ → List ℕ → Type 0)
     → WritesOnly a b may → ((d s : ℕ) → b.spent d s ≡ false)
     → ((d s : ℕ) (v : List ℕ) → may d s v → IsSliced t d s v ⊎ named d)
     → ((d s : ℕ) (v : List ℕ) → IsSliced u d s v → IsSliced t d s v ⊎ named d)
@@ -125,14 +125,14 @@ outside_writes t u named Told a b may only unspent inside slices = record {
     never d s out v written = elim (inside d s v written) [ inl sliced ↦ out.unsliced v sliced | inr is ↦ out.unnamed is ]
 
 -- a call that attaches none
-pub outside_of : (x y : View) (named : ℕ → Type 0) → Passes x y → ((d s : ℕ) → y.bay.spent d s ≡ false)
+pub outside_of : (x y : View) (named : ℕ → Type 0) → CallFrame x y → ((d s : ℕ) → y.bay.spent d s ≡ false)
     → KeepsOutside x.slices y.slices named x.shelf.told x.bay y.bay
 outside_of x y named passes unspent =
     outside_writes x.slices y.slices named x.shelf.told x.bay y.bay (IsSliced x.slices) passes.apart unspent (λ d s v is. inl is)
     (λ d s v is. inl (subst (λ t. IsSliced t d s v) passes.slices is))
 
 -- of fewer disks
-pub outside_fewer : (t u : Slices) (few named : ℕ → Type 0) (Told : Type 0) (a b : Seen) → ((d : ℕ) → few d → named d)
+pub outside_fewer : (t u : Slices) (few named : ℕ → Type 0) (Told : Type 0) (a b : RackView) → ((d : ℕ) → few d → named d)
     → KeepsOutside t u few Told a b → KeepsOutside t u named Told a b
 outside_fewer t u few named Told a b among keeps = record {
   slices = λ d s v is. elim (keeps.slices d s v is) [ inl before ↦ inl before | inr one ↦ inr (among d one) ];

@@ -8,7 +8,7 @@ use Rattle.std.specs.Option.{option_map_or}
 use Rattle.array_core.proofs.Rules.{get_range}
 use Rattle.arrayvec.specs.ArrayVec.{ArrayVec}
 use Rattle.shr_base.specs.declared.Id.{Id}
-use Rattle.rack.specs.Seen.{Seen}
+use Rattle.rack.specs.Seen.{RackView}
 use Rattle.pool_state.specs.declared.contents.Plan.{Plan}
 use Rattle.pool_state.specs.declared.contents.Plan.TheVariants.{Nothing}
 use Rattle.pool_state.specs.declared.contents.State.{State}
@@ -28,7 +28,7 @@ use Rattle.growth_plan.proofs.FirstRows.{first_rebuilds, first_resyncs}
 use Rattle.growth_plan.proofs.OneArray.{put}
 use Rattle.lvm_group.specs.Runs.{Linear, extents_of}
 use Rattle.raid_laws.specs.Book.{IsSameBook, drive_of}
-use Rattle.raid_laws.specs.Moves.{IsHeeded, IsSet, LosesOnly}
+use Rattle.raid_laws.specs.Moves.{IsHeeded, IsSet, OnlyFailures}
 use Rattle.raid_laws.specs.Raid.{Raid}
 use Rattle.raid_rack.specs.RaidRack.{no_super}
 use Rattle.raid_laws.specs.Works.{ClosesPlan, Does, StepsOne, is_due, is_whole_row, stepped}
@@ -63,7 +63,7 @@ alike : (f : ArrayVec ℕ → ℕ → List Seat → List Id → Bool) {r1 r2 : A
     → r1 ≡ r2 → d1 ≡ d2 → t1 ≡ t2 → e1 ≡ e2 → f r1 d1 t1 e1 ≡ f r2 d2 t2 e2
 alike f r d t e = cc
 
-rebuilding_same : (u w : View) → LosesOnly u w → w.seats ≡ u.seats → (place : ℕ) → is_rebuilding_on w place ≡ is_rebuilding_on u place
+rebuilding_same : (u w : View) → OnlyFailures u w → w.seats ≡ u.seats → (place : ℕ) → is_rebuilding_on w place ≡ is_rebuilding_on u place
 rebuilding_same u w only seats place =
     rebuilding_as w place
     ∙ alike (λ r d t e. rebuilding_by r d t e place) only.same.geometry.roles only.same.geometry.disks seats only.same.devices
@@ -72,9 +72,9 @@ rebuilding_same u w only seats place =
 -- ---- a call
 
 -- Two moments between which no drive is lost, and by what the arrays stand at the second one.
-module _ (l : Linear) (v w : Raid) (a b : Seen) (before : IsSet v a) (after_set : IsSet w b) (heeded : IsHeeded v) (still : IsHeeded w)
+module _ (l : Linear) (v w : Raid) (a b : RackView) (before : IsSet v a) (after_set : IsSet w b) (heeded : IsHeeded v) (still : IsHeeded w)
     (book : IsSameBook v.state w.state) (marks : (p : ℕ) → is_current w.state p ≡ is_current v.state p) (alone : HasRowsAlone v)
-    (next : ℕ → View) (only : (n : ℕ) → n < v.state.made → LosesOnly (next n) (w.arrays n))
+    (next : ℕ → View) (only : (n : ℕ) → n < v.state.made → OnlyFailures (next n) (w.arrays n))
     (roles : (n : ℕ) → (next n).truth.roles ≡ (v.arrays n).truth.roles) (disks : (n : ℕ) → (next n).truth.raid_disks ≡ (v.arrays n).truth.raid_disks)
     (missing : (n k : ℕ) → n < v.state.made → slice_get (v.arrays n).seats k ≡ Some Missing → slice_get (next n).seats k ≡ Some Missing)
     (less : (n p : ℕ) → n < v.state.made → is_rebuilding_on (next n) p ≡ true → is_rebuilding_on (v.arrays n) p ≡ true)
@@ -161,7 +161,7 @@ stepped_at v m next n = by (n == m) refl
     by false is = refl
 
 -- A step of array m that makes another of it, which stands by so many works less.
-module _ (l : Linear) (v w : Raid) (a b : Seen) (count : ℕ) (m : ℕ) (next : View → View) (to : ArrayNow → ArrayNow)
+module _ (l : Linear) (v w : Raid) (a b : RackView) (count : ℕ) (m : ℕ) (next : View → View) (to : ArrayNow → ArrayNow)
     (set : IsSet v a) (heeded : IsHeeded v) (some : 0 < length v.state.drives.items) (small : extents_of l.runs < 2 ^ 52) (alone : HasRowsAlone v)
     (marks : (p : ℕ) → is_current w.state p ≡ is_current v.state p)
     (inside : m < v.state.made) (steps : StepsOne v w a b m (next (v.arrays m)) true)
@@ -174,8 +174,8 @@ module _ (l : Linear) (v w : Raid) (a b : Seen) (count : ℕ) (m : ℕ) (next : 
   abbrev made : ℕ → View
   made = stepped v m (next (v.arrays m)) true
 
-  only : (n : ℕ) → n < v.state.made → LosesOnly (made n) (w.arrays n)
-  only n low = subst (λ d. LosesOnly (stepped v m (next (v.arrays m)) d n) (w.arrays n)) (steps.answer refl) (steps.arrays n low)
+  only : (n : ℕ) → n < v.state.made → OnlyFailures (made n) (w.arrays n)
+  only n low = subst (λ d. OnlyFailures (stepped v m (next (v.arrays m)) d n) (w.arrays n)) (steps.answer refl) (steps.arrays n low)
 
   here : (n : ℕ) → n ≡ m → made n ≡ next (v.arrays m)
   here n is = stepped_at v m next n ∙ ap (λ t. if t then (next (v.arrays n)) else v.arrays n) (eq-eqb n m is) ∙ ap (λ k. next (v.arrays k)) is
@@ -225,7 +225,7 @@ module _ (l : Linear) (v w : Raid) (a b : Seen) (count : ℕ) (m : ℕ) (next : 
       }
 
 -- rows are resynced
-resync_counted : (l : Linear) (v w : Raid) (a b : Seen) (m rows : ℕ) → IsSet v a → IsHeeded v → 0 < length v.state.drives.items → extents_of l.runs < 2 ^ 52
+resync_counted : (l : Linear) (v w : Raid) (a b : RackView) (m rows : ℕ) → IsSet v a → IsHeeded v → 0 < length v.state.drives.items → extents_of l.runs < 2 ^ 52
     → HasRowsAlone v → slice_get (works_by l v) 0 ≡ Some (Resync m) → ((p : ℕ) → is_current w.state p ≡ is_current v.state p)
     → m < v.state.made → rows ≤ rows_of (v.arrays m) - (v.arrays m).resync → StepsOne v w a b m (resynced (v.arrays m) rows) true → AreFewer l rows v w
 resync_counted l v w a b m rows set heeded some small alone first marks inside few steps =
@@ -237,7 +237,7 @@ resync_counted l v w a b m rows set heeded some small alone first marks inside f
     (subst (λ (o : Option ArrayNow). rows ≤ option_map_or (λ (x : ArrayNow). x.resync) o 0) (sym (now_at_number v m inside)) few))
 
 -- rows are rebuilt
-rebuild_counted : (l : Linear) (v w : Raid) (a b : Seen) (m place rows : ℕ) → IsSet v a → IsHeeded v → 0 < length v.state.drives.items → extents_of l.runs < 2 ^ 52
+rebuild_counted : (l : Linear) (v w : Raid) (a b : RackView) (m place rows : ℕ) → IsSet v a → IsHeeded v → 0 < length v.state.drives.items → extents_of l.runs < 2 ^ 52
     → HasRowsAlone v → slice_get (works_by l v) 0 ≡ Some (Rebuild m place) → ((p : ℕ) → is_current w.state p ≡ is_current v.state p)
     → m < v.state.made → is_rebuilding_on (v.arrays m) place ≡ true → rows ≤ rows_left (v.arrays m) place
     → StepsOne v w a b m (rebuilt (v.arrays m) place rows) true → AreFewer l rows v w
@@ -261,7 +261,7 @@ rebuild_counted l v w a b m place rows set heeded some small alone first marks i
     (subst (λ (o : Option ArrayNow). rows ≤ option_map_or (λ (x : ArrayNow). x.rebuild) o 0) (sym (now_at_number v m inside)) (omega (arith, few, before))))
 
 -- the plan ends
-close_counted : (l : Linear) (v w : Raid) (a b : Seen) → IsSet v a → IsHeeded v → 0 < length v.state.drives.items → extents_of l.runs < 2 ^ 52
+close_counted : (l : Linear) (v w : Raid) (a b : RackView) → IsSet v a → IsHeeded v → 0 < length v.state.drives.items → extents_of l.runs < 2 ^ 52
     → HasRowsAlone v → slice_get (works_by l v) 0 ≡ Some Close → ((p : ℕ) → is_current w.state p ≡ is_current v.state p)
     → ClosesPlan v w a b → AreFewer l 1 v w
 close_counted l v w a b set heeded some small alone first marks does =
@@ -284,7 +284,7 @@ close_counted l v w a b set heeded some small alone first marks does =
     }
 
 -- Any work, with those after it: where no drive is lost and so many are answered to be done, they are so many less.
-pub work_counted : (l : Linear) (v w : Raid) (a b : Seen) (work : Work) (most count : ℕ) → IsSet v a → IsHeeded v → 0 < length v.state.drives.items → extents_of l.runs < 2 ^ 52
+pub work_counted : (l : Linear) (v w : Raid) (a b : RackView) (work : Work) (most count : ℕ) → IsSet v a → IsHeeded v → 0 < length v.state.drives.items → extents_of l.runs < 2 ^ 52
     → HasRowsAlone v → slice_get (works_by l v) 0 ≡ Some work → ((p : ℕ) → is_current w.state p ≡ is_current v.state p)
     → is_due v work ≡ true → Does work most v w a b {E = Stuck} (Ok count) → AreFewer l count v w
 work_counted l v w a b (Resync m) most count set heeded some small alone first marks due does =

@@ -9,7 +9,7 @@ use Rattle.array_model.specs.View.{View, rows_of}
 use Rattle.sync_laws.specs.Steps.{resynced}
 use Rattle.growth_plan.specs.declared.ArrayNow.{ArrayNow}
 use Rattle.growth_plan.specs.Doing.{change, rows_resynced}
-use Rattle.raid_laws.specs.Moves.{LosesOnly}
+use Rattle.raid_laws.specs.Moves.{OnlyFailures}
 use Rattle.raid_rack.specs.RaidRack.{no_super}
 use Rattle.pool.specs.Works.{array_now, rows_to_zero}
 
@@ -49,7 +49,7 @@ alike : (f : ℤ → ArrayVec ℕ → ℕ → ℕ → ℕ → ℕ → List Seat 
 alike f l r s d m p t e n = cc
 
 -- an array that isn't young stands as it did where it has lost no member
-pub now_same : (extent : ℕ) (u w : View) → LosesOnly u w → w.seats ≡ u.seats → u.young ≡ false → array_now extent w ≡ array_now extent u
+pub now_same : (extent : ℕ) (u w : View) → OnlyFailures u w → w.seats ≡ u.seats → u.young ≡ false → array_now extent w ≡ array_now extent u
 now_same extent u w only seats grown =
     let g = only.same.geometry in
     is_grown extent w (only.same.young ∙ grown) ∙ stands_as extent w

@@ -13,8 +13,8 @@ use Rattle.slice_rack.specs.Sliced.{sliced}
 use Rattle.array_image.specs.Arrays.{arrays_in, replayed}
 use Rattle.lvm_group.specs.Shown.{contents_of}
 use Rattle.pool.specs.View.{View, contents_in, volume}
-use Rattle.pool.specs.Volume.{Does, Holds, is_spent, unchanged}
-use Rattle.pool.specs.Calls.{Passes}
+use Rattle.pool.specs.Volume.{Refines, VolumeIs, is_spent, unchanged}
+use Rattle.pool.specs.Calls.{CallFrame}
 
 -- What a call does to each array that the volume holds before it, in the volume's live sectors: `vals` are the values that stops inside
 -- it leave there.
@@ -41,7 +41,7 @@ stopped_in y k i stopped = (
 )
 
 -- a sector of an array that the volume holds is live where it isn't spent
-pub live_at : (x y : View) (a : FlatArray) → Passes x y → Holds x a → (s : ℕ) → s < a.size → is_spent y s ≡ false → IsLive (volume x) (volume y) 0 s
+pub live_at : (x y : View) (a : FlatArray) → CallFrame x y → VolumeIs x a → (s : ℕ) → s < a.size → is_spent y s ≡ false → IsLive (volume x) (volume y) 0 s
 live_at x y a passes holds s low alive = record {
   disk = omega arith;
   sector = subst (λ n. s < n) (holds.size ∙ sym (passes.stays.sectors 0)) low;
@@ -49,8 +49,8 @@ live_at x y a passes holds s low alive = record {
   unspent = alive;
 }
 
-pub becomes_of : (x y : View) (vals : Held) (during after : FlatArray → FlatArray) → Passes x y → Acts x y vals during after
-    → (a : FlatArray) → Holds x a → Holds y (after a)
+pub becomes_of : (x y : View) (vals : Held) (during after : FlatArray → FlatArray) → CallFrame x y → Acts x y vals during after
+    → (a : FlatArray) → VolumeIs x a → VolumeIs y (after a)
 becomes_of x y vals during after passes acts a holds = record {
   told = λ s low alive. passes.stays.told 0 (holds.told s (subst (λ n. s < n) (acts.size_after a) low) (passes.stays.spent 0 s alive));
   shelf = passes.shelf.told holds.shelf;
@@ -61,8 +61,8 @@ becomes_of x y vals during after passes acts a holds = record {
       acts.held_after a s (live_at x y a passes holds s inside alive) (holds.values s inside (passes.stays.spent 0 s alive));
 }
 
-pub does_of : (x y : View) (vals : Held) (during after : FlatArray → FlatArray) → Passes x y → (y.bay.traced → IsSound (volume y))
-    → Acts x y vals during after → Does x y during after
+pub does_of : (x y : View) (vals : Held) (during after : FlatArray → FlatArray) → CallFrame x y → (y.bay.traced → IsSound (volume y))
+    → Acts x y vals during after → Refines x y during after
 does_of x y vals during after passes sound acts = record {
   becomes = becomes_of x y vals during after passes acts;
   leaves = λ traced a holds.
@@ -95,11 +95,11 @@ acts_kept x y keeps = record {
   held_after = λ a s live kept. keeps_then (a.values s) ((volume x).held 0 s) ((volume y).held 0 s) kept (keeps.held 0 s live);
 }
 
-pub does_kept : (x y : View) → Passes x y → (y.bay.traced → IsSound (volume y)) → KeepsAll (volume x) (volume y) → Does x y unchanged unchanged
+pub does_kept : (x y : View) → CallFrame x y → (y.bay.traced → IsSound (volume y)) → KeepsAll (volume x) (volume y) → Refines x y unchanged unchanged
 does_kept x y passes sound keeps = does_of x y (volume x).held unchanged unchanged passes sound (acts_kept x y keeps)
 
 -- no call
-pub does_none : (x : View) → Passes x x → (x.bay.traced → IsSound (volume x)) → Does x x unchanged unchanged
+pub does_none : (x : View) → CallFrame x x → (x.bay.traced → IsSound (volume x)) → Refines x x unchanged unchanged
 does_none x passes sound =
     does_kept x x passes sound
     (record {
@@ -110,9 +110,9 @@ does_none x passes sound =
 -- ---- a flush
 
 -- each live sector has one value when it returns
-pub does_flush : (x y : View) → Passes x y → (y.bay.traced → IsSound (volume y)) → KeepsAll (volume x) (volume y)
+pub does_flush : (x y : View) → CallFrame x y → (y.bay.traced → IsSound (volume y)) → KeepsAll (volume x) (volume y)
     → ((s : ℕ) (v : List ℕ) → IsLive (volume x) (volume y) 0 s → MayLeave ((volume y).held 0 s) v → v ≡ ((volume y).held 0 s).current)
-    → Does x y unchanged flushed
+    → Refines x y unchanged flushed
 does_flush x y passes sound keeps single =
     does_of x y (volume x).held unchanged flushed passes sound
     (record {
@@ -132,10 +132,10 @@ both_appended : (b : Bool) (g h : Values) (v : List ℕ) → Keeps g h → Keeps
 both_appended true g h v keeps = keeps_append g h v keeps
 both_appended false g h v keeps = keeps
 
-pub does_write : (x y : View) (sector : ℕ) (from : List ℕ) → Passes x y → (y.bay.traced → IsSound (volume y))
+pub does_write : (x y : View) (sector : ℕ) (from : List ℕ) → CallFrame x y → (y.bay.traced → IsSound (volume y))
     → (x.bay.traced → Leaves (volume x) (volume y) (IsPick (volume x) (volume y) (appended (volume x).held 0 sector from)))
     → ((d s : ℕ) → IsLive (volume x) (volume y) d s → Keeps (appended (volume x).held 0 sector from d s) ((volume y).held d s))
-    → Does x y (λ a. written a sector from) (λ a. written a sector from)
+    → Refines x y (λ a. written a sector from) (λ a. written a sector from)
 does_write x y sector from passes sound stops done =
     let vals : Held = appended (volume x).held 0 sector from in
     let own : (a : FlatArray) (s : ℕ) → Keeps (a.values s) ((volume x).held 0 s) → Keeps ((written a sector from).values s) (vals 0 s) =
@@ -150,12 +150,12 @@ does_write x y sector from passes sound stops done =
     })
 
 -- a write that is refused brings no value to a sector that isn't spent
-pub does_refused : (x y : View) (sector : ℕ) (from : List ℕ) → Passes x y → (y.bay.traced → IsSound (volume y))
+pub does_refused : (x y : View) (sector : ℕ) (from : List ℕ) → CallFrame x y → (y.bay.traced → IsSound (volume y))
     → is_spent y sector ≡ true
     → (x.bay.traced → Leaves (volume x) (volume y) (IsPick (volume x) (volume y) (appended (volume x).held 0 sector from)))
     → ((d s : ℕ) → IsLive (volume x) (volume y) d s
     → Keeps ((volume x).held d s) ((volume y).held d s) ⊎ Keeps (appended (volume x).held 0 sector from d s) ((volume y).held d s))
-    → Does x y unchanged unchanged
+    → Refines x y unchanged unchanged
 does_refused x y sector from passes sound spent stops failed =
     let vals : Held = appended (volume x).held 0 sector from in
     let same : (s : ℕ) → IsLive (volume x) (volume y) 0 s → vals 0 s ≡ (volume x).held 0 s =

@@ -3,7 +3,7 @@ use Rattle.std.specs.Prelude.{Ok, Err, IfErr, OnOk}
 use Rattle.std.proofs.Common.{◌≡◌, ◌≢◌, ℕ, ◌<◌, ◌≤◌, ◌==◌, ◌||◌, if◌then◌else◌, true, false, List, length, None, refl, sym, ap, subst, ◌∙◌, inl, inr, arith, lt-ltb}
 use Rattle.std.proofs.lemmas.Bool.{both_ways, cases_Bool, cases_eq}
 use Rattle.rack.specs.Joins.{rose_before, rose_since}
-use Rattle.rack.specs.Seen.{Rose, Seen}
+use Rattle.rack.specs.Seen.{Rose, RackView}
 use Rattle.rack.specs.Sequences.{WritesOnly}
 use Rattle.rack.specs.Shelf.{KeepsShelf, Shelf}
 use Rattle.slice_rack.specs.Changes.{Seats}
@@ -52,7 +52,7 @@ use Rattle.pool.proofs.Vacating.{seats_from}
 
 -- ---- one try
 
-module _ (x : View) (b : Seen) (s : Shelf) (place disk : ℕ) (t : Slices) (linear : IsOrderlyVolume x.linear) (fit : (volume x).fit)
+module _ (x : View) (b : RackView) (s : Shelf) (place disk : ℕ) (t : Slices) (linear : IsOrderlyVolume x.linear) (fit : (volume x).fit)
     (kind : IsVacating x place t) (empty : IsFit x.arrays (slices_of t x.bay)) (now : IsBay b s) (names : KeepsShelf x.shelf s) (ordered : IsOrderly x.slices) (orderly : IsOrderly t)
     (low : disk < x.bay.disks) (may : ℕ → ℕ → List ℕ → Type 0) (only : WritesOnly x.bay b may) where
   -- it refused a call

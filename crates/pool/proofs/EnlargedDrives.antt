@@ -6,7 +6,7 @@ use Rattle.rack.specs.Seen.{Rose}
 use Rattle.slice_rack.specs.Slices.{IsOrderly}
 use Rattle.array_image.specs.States.{is_current}
 use Rattle.pool_state.specs.declared.contents.Plan.TheVariants.{Replace}
-use Rattle.raid_laws.specs.Book.{IsAfter}
+use Rattle.raid_laws.specs.Book.{OnlyMarksSince}
 use Rattle.raid_laws.specs.Moves.{RaisesBy}
 use Rattle.raid_rack.proofs.Raises.{raises_more}
 use Rattle.pool.specs.Adding.{IsTakenIn}
@@ -41,7 +41,7 @@ enlarged x y place disk r low admits other k few raises lost by =
     }
 
 -- where a try found a drive gone, and not that of the place alone, another one is marked
-pub other_lost : (x y : View) (place : ℕ) → has_other_missing (book x).state place ≡ false → IsAfter (book x).state (book y).state
+pub other_lost : (x y : View) (place : ℕ) → has_other_missing (book x).state place ≡ false → OnlyMarksSince (book x).state (book y).state
     → (not (is_current (book y).state place) && not (has_other_missing (book y).state place)) ≡ false → HasMarked (moment_of x) (moment_of y)
     → HasMarkedOther (moment_of x) (moment_of y) place
 other_lost x y place whole marks apart lost =
@@ -74,7 +74,7 @@ alone_is m place is =
     is_not false is = refl
 
 -- a drive that another try marked was current before the first
-pub lost_then : (x m y : View) (place : ℕ) → IsAfter (book x).state (book m).state → HasMarkedOther (moment_of m) (moment_of y) place → HasMarkedOther (moment_of x) (moment_of y) place
+pub lost_then : (x m y : View) (place : ℕ) → OnlyMarksSince (book x).state (book m).state → HasMarkedOther (moment_of m) (moment_of y) place → HasMarkedOther (moment_of x) (moment_of y) place
 lost_then x m y place marks lost = (lost.0, lost.1, marks.current lost.0 lost.2, lost.3)
 
 -- it isn't answered that the place isn't in the list

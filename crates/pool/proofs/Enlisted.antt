@@ -3,7 +3,7 @@ use Rattle.std.specs.List.{list_any, range_with_len}
 use Rattle.std.specs.Option.{option_map_or}
 use Rattle.std.proofs.Common.{◌≡◌, ◌≢◌, ℕ, zero, suc, ◌+◌, ◌<◌, ◌≤◌, ◌==◌, ◌&&◌, ◌||◌, nat_lt, not, Bool, true, false, if◌then◌else◌, List, [], ◌∷◌, map, slice_get, Option, Some, None, option_map, refl, sym, ap, subst, ◌∙◌, inl, inr, arith, le-ltb}
 use Rattle.std.proofs.lemmas.Bool.{both_ways, cases_Bool, cases_eq, ne_eqb}
-use Rattle.rack.specs.Seen.{Seen}
+use Rattle.rack.specs.Seen.{RackView}
 use Rattle.shr_base.specs.declared.Id.{Id}
 use Rattle.pool_state.specs.declared.contents.Plan.{Plan}
 use Rattle.pool_state.specs.declared.contents.State.{State}
@@ -33,7 +33,7 @@ use Rattle.pool.proofs.Quiet.{is_missing}
 -- ---- a member
 
 -- that of a place that isn't current is missing
-missing_seat : (s : State) (n k : ℕ) (u : ArrayView) (x : Seen) → IsSeated s n u x → k < u.truth.raid_disks → is_current s (place_at u k) ≡ false
+missing_seat : (s : State) (n k : ℕ) (u : ArrayView) (x : RackView) → IsSeated s n u x → k < u.truth.raid_disks → is_current s (place_at u k) ≡ false
     → slice_get u.seats k ≡ Some Missing
 missing_seat s n k u x seated low gone =
     is_missing (slice_get u.seats k) (seated.marks k low ∙ ap (λ b. Some (not (b && not (has_gone u (place_at u k))))) gone)
@@ -115,7 +115,7 @@ book_then_but place v w z made fewer one two n low =
 
 -- ---- all arrays
 
-module _ (place units : ℕ) (plan : Plan) (joining : ℕ → Bool) (v w : Raid) (x y : Seen) (before : IsSet v x) (after : IsSet w y) (heeded : IsHeeded w)
+module _ (place units : ℕ) (plan : Plan) (joining : ℕ → Bool) (v w : Raid) (x y : RackView) (before : IsSet v x) (after : IsSet w y) (heeded : IsHeeded w)
     (made : w.state.made ≡ v.state.made) (keeps : KeepsArrays (with_drive place units plan joining v) w) where
   abbrev mid : ℕ → ArrayView
   mid = (with_drive place units plan joining v).arrays

@@ -3,7 +3,7 @@ use Rattle.std.specs.Prelude.{Ok, Err, Result}
 use Rattle.std.proofs.Common.{◌≡◌, ◌≢◌, ◌⊎◌, ℕ, ◌+◌, ◌<◌, ◌≤◌, ◌||◌, Bool, true, false, List, Option, Some, if◌then◌else◌, length, slice_get, option_map, refl, sym, ap, subst, ◌∙◌, inl, inr, arith, lt-ltb, eq-eqb, unwrap_or}
 use Rattle.std.proofs.lemmas.Bool.{both_ways, cases_Bool, cases_eq, cases_lt, ne_eqb}
 use Rattle.rack.specs.Values.{Keeps, MayLeave}
-use Rattle.rack.specs.Seen.{Image, IsLive, Rose, Seen}
+use Rattle.rack.specs.Seen.{Image, IsLive, Rose, RackView}
 use Rattle.rack.specs.Shelf.{KeepsShelf, Shelf}
 use Rattle.flat_array.specs.Array.{FlatArray}
 use Rattle.slice_rack.specs.Runs.{IsSliced}
@@ -12,7 +12,7 @@ use Rattle.slice_rack.specs.Sliced.{sliced, slices_of}
 use Rattle.array_image.specs.Arrays.{Shape, arrays_in as arrays_held, replayed}
 use Rattle.array_image.specs.Places.{log_slice}
 use Rattle.array_image.specs.States.{is_current, state_in}
-use Rattle.array_model.specs.Says.{Says}
+use Rattle.array_model.specs.Says.{ImageShowsArray}
 use Rattle.gpt_table.specs.declared.Table.{Table}
 use Rattle.gpt_table.specs.Disk.{HoldsCopy, now_on}
 use Rattle.gpt_table.specs.Plans.{IsOfTable}
@@ -31,7 +31,7 @@ use Rattle.raid_laws.specs.Moves.{KeepsArrays}
 use Rattle.raid_laws.specs.Laws.{live_parts, says_value}
 use Rattle.raid_laws.specs.Losses.{has_other}
 use Rattle.raid_laws.specs.NewDrive.{SeatsDrive, drive_table, joins}
-use Rattle.raid_laws.specs.Raid.{held_in, is_left, is_over, live_of, raid_of, spent_of}
+use Rattle.raid_laws.specs.Raid.{held_in, is_left, is_failed, live_of, raid_of, spent_of}
 use Rattle.raid_rack.specs.RaidRack.{IsFit, raid_by}
 use Rattle.raid_rack.proofs.Ended.{none_past}
 use Rattle.raid_laws.proofs.Committed.{raised_more, raised_range}
@@ -52,7 +52,7 @@ use Rattle.pool.specs.Replaced.{MeansBy, MeansFormer, MeansWith, table_for}
 use Rattle.pool.specs.Replacing.{IsAdmitted}
 use Rattle.pool.specs.Taking.{AreTold, Carries, TakesBy}
 use Rattle.pool.specs.View.{View, book, contents_in, volume}
-use Rattle.pool.specs.Volume.{Holds, is_spent, size_of}
+use Rattle.pool.specs.Volume.{VolumeIs, is_spent, size_of}
 use Rattle.pool.proofs.Admitted.{reaches_each, same_units}
 use Rattle.pool.proofs.Attaching.{IsBay}
 use Rattle.pool.proofs.Carrying.{carries_then, holds_of}
@@ -63,7 +63,7 @@ use Rattle.pool.proofs.Shown.{views_are}
 use Rattle.pool.proofs.Taken.{goes_on, laid_by, low_disk, mid_carries, mid_fit, mid_goes, outside_of_it, retired_by, vacates}
 use Rattle.pool.proofs.Vacating.{seats_from}
 
-module _ (x : View) (b : Seen) (s : Shelf) (place disk units : ℕ) (t u : Slices) (z : Arrays) (linear : IsOrderlyVolume x.linear) (fit : (volume x).fit)
+module _ (x : View) (b : RackView) (s : Shelf) (place disk units : ℕ) (t u : Slices) (z : Arrays) (linear : IsOrderlyVolume x.linear) (fit : (volume x).fit)
     (kind : IsVacating x place t) (empty : IsFit x.arrays (slices_of t x.bay))
     (was : IsBay x.bay x.shelf) (now : IsBay b s) (names : KeepsShelf x.shelf s) (ordered : IsOrderly x.slices) (orderly : IsOrderly t) (orderly_now : IsOrderly u)
     (admits : IsAdmitted (book x) place (x.bay.sectors disk)) (low : disk < x.bay.disks) (listed : place < length x.arrays.state.drives.items)
@@ -103,7 +103,7 @@ module _ (x : View) (b : Seen) (s : Shelf) (place disk units : ℕ) (t u : Slice
         | inl below ↦ below
         | inr past ↦
             absurd
-            (both_ways (is_over (raid_by z) (array_of x.linear k)) (live_parts (raid_by z) (array_of x.linear k) (sector_of x.linear k) alive).0
+            (both_ways (is_failed (raid_by z) (array_of x.linear k)) (live_parts (raid_by z) (array_of x.linear k) (sector_of x.linear k) alive).0
             (none_past z (array_of x.linear k) after.running.count (omega (arith, past, made))))
       ]
 
@@ -146,7 +146,7 @@ module _ (x : View) (b : Seen) (s : Shelf) (place disk units : ℕ) (t u : Slice
         let n = array_of x.linear k in
         let parts = live_parts (raid_by z) n (sector_of x.linear k) alive in
         let below = alive_array k alive in
-        or_from (is_over (book x) n) (spent_in ((book x).arrays n) (sector_of x.linear k)) (enlists.is.still n below (alive_other k alive) parts.0)
+        or_from (is_failed (book x) n) (spent_in ((book x).arrays n) (sector_of x.linear k)) (enlists.is.still n below (alive_other k alive) parts.0)
         (enlists.is.spent n (sector_of x.linear k) below parts.1);
     told = λ names all k inside alive told n below. (tells all k alive n (low_array n below) told below).told;
     keeps = λ names all k inside alive told.
@@ -159,7 +159,7 @@ module _ (x : View) (b : Seen) (s : Shelf) (place disk units : ℕ) (t u : Slice
       sectors = enlists.is.sectors;
       live = λ n k low alive.
           let parts = live_parts (raid_by z) n k alive in
-          or_from (is_over (book x) n) (spent_in ((book x).arrays n) k) (enlists.is.still n low (live_other n k low alive) parts.0) (enlists.is.spent n k low parts.1);
+          or_from (is_failed (book x) n) (spent_in ((book x).arrays n) k) (enlists.is.still n low (live_other n k low alive) parts.0) (enlists.is.spent n k low parts.1);
       told = λ n k low alive told. (enlists.told n low told (opened all) (live_other n k low alive)).told;
       keeps = λ n k low within alive told. (enlists.told n low told (opened all) (live_other n k low alive)).keeps k alive;
     };
@@ -181,7 +181,7 @@ module _ (x : View) (b : Seen) (s : Shelf) (place disk units : ℕ) (t u : Slice
   -- contents that say an array give a value of a sector of the volume
   given : (r : Slices) (i : Image) (a : FlatArray) (k : ℕ) → k < size_of x → Keeps (a.values k) ((volume mid).held 0 k)
       → (st : State) → (shape : Shape) → state_in (replayed (sectors_of r) (sliced r i)) ≡ Some st
-      → Says st (array_of x.linear k) shape (held_in (book x) (slices_of t x.bay) (array_of x.linear k)) (spent_of (raid_by z) (array_of x.linear k)) (replayed (sectors_of r) (sliced r i))
+      → ImageShowsArray st (array_of x.linear k) shape (held_in (book x) (slices_of t x.bay) (array_of x.linear k)) (spent_of (raid_by z) (array_of x.linear k)) (replayed (sectors_of r) (sliced r i))
       → is_spent y k ≡ false → MayLeave (a.values k) (contents_in r x.linear i k)
   given r i a k inside keeps st shape state says alive =
       let n = array_of x.linear k in
@@ -199,14 +199,14 @@ module _ (x : View) (b : Seen) (s : Shelf) (place disk units : ℕ) (t u : Slice
   epoch_of i q is = ap (λ o. option_map_or (λ (r : State). r.epoch) o 0) is
 
   -- one that has the new drive is later
-  epoch_up : (n : ℕ) → is_over (raid_by z) n ≡ false → (book x).state.epoch < raised (book x).state.epoch
+  epoch_up : (n : ℕ) → is_failed (raid_by z) n ≡ false → (book x).state.epoch < raised (book x).state.epoch
   epoch_up n goes =
       let room = (number_room (raid_by z) n goes).1 in
       let up = enlists.is.book.epoch in
       let less = (raised_range (book x).state.epoch).0 in
       raised_more (book x).state.epoch (omega (arith, room, up, less))
 
-  module _ (traced : x.bay.traced) (a : FlatArray) (holds : Holds mid a) (k : ℕ) (i : Image) (since : x.bay.clock < k) (until : k ≤ b.clock) (stopped : b.stops k i) where
+  module _ (traced : x.bay.traced) (a : FlatArray) (holds : VolumeIs mid a) (k : ℕ) (i : Image) (since : x.bay.clock < k) (until : k ≤ b.clock) (stopped : b.stops k i) where
     inside_of : (q : ℕ) → q < a.size → q < size_of x
     inside_of q inside = subst (λ n. q < n) holds.size inside
 
@@ -219,7 +219,7 @@ module _ (x : View) (b : Seen) (s : Shelf) (place disk units : ℕ) (t u : Slice
         let below = array_inside q (inside_of q inside) in
         tells holds.disks q alive (array_of x.linear q) (low_array (array_of x.linear q) below) (holds.told q inside (new_carries.spent q alive)) below
 
-    over_of : (q : ℕ) → is_spent y q ≡ false → is_over (raid_by z) (array_of x.linear q) ≡ false
+    over_of : (q : ℕ) → is_spent y q ≡ false → is_failed (raid_by z) (array_of x.linear q) ≡ false
     over_of q alive = (live_parts (raid_by z) (array_of x.linear q) (sector_of x.linear q) alive).0
 
     table_now : HoldsTable disk (new_table x.arrays.state x.arrays.all.items place (x.bay.sectors disk)) i → HoldsTable disk (table_for x y place disk) i

@@ -13,7 +13,7 @@ use Rattle.lvm_group.specs.Growth.{AreBelow, fits}
 use Rattle.lvm_group.specs.Own.{HoldAll}
 use Rattle.lvm_group.specs.Runs.{Linear, data_start, extents_of, place_of, sectors_in}
 use Rattle.lvm_group.specs.Shown.{IsInside, total as total_of}
-use Rattle.rack.specs.Seen.{Seen}
+use Rattle.rack.specs.Seen.{RackView}
 use Rattle.raid_laws.specs.Raid.{Raid, raid_of}
 use Rattle.pool.specs.Growing.{can_extend, holds_extents, holds_number}
 
@@ -114,7 +114,7 @@ totals f (suc n) =
     omega (arith, more, last, before)
 
 -- the volume's extents lie inside them still
-pub inside_longer : (l : Linear) (Fit Fit_now : Type 0) (r s : ℕ → ℕ) (v w : Raid) (a b : Seen) → GetsLonger v w → IsInside l (raid_of Fit r v a)
+pub inside_longer : (l : Linear) (Fit Fit_now : Type 0) (r s : ℕ → ℕ) (v w : Raid) (a b : RackView) → GetsLonger v w → IsInside l (raid_of Fit r v a)
     → ((e : ℕ) → e < extents_of l.runs → (place_of l.runs e).array < v.state.made) → IsInside l (raid_of Fit_now s w b)
 inside_longer l Fit Fit_now r s v w a b longer inside low = record {
   small =

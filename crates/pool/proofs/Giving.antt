@@ -16,7 +16,7 @@ use Rattle.slice_rack.specs.Runs.{IsSliced}
 use Rattle.slice_rack.specs.Slices.{IsOrderly, disk_of, seat_of}
 use Rattle.shr_base.specs.declared.Id.{Id}
 use Rattle.shr_base.specs.Units.{units_of}
-use Rattle.raid_laws.specs.Book.{IsAfter, after_then}
+use Rattle.raid_laws.specs.Book.{OnlyMarksSince, after_then}
 use Rattle.raid_laws.specs.Enlisting.{HoldsTable, enlisted, new_table, next_drive, with_drive}
 use Rattle.raid_laws.specs.Losing.{arrays_then}
 use Rattle.raid_laws.specs.Moves.{KeepsArrays, RaisesBy}
@@ -37,7 +37,7 @@ use Rattle.pool.specs.Replaced.{DriveWentFrom, HasMarked, HasMarkedOther, HasTab
 use Rattle.pool.specs.Replacing.{IsAdmissible, IsAdmitted, has_other_missing}
 use Rattle.pool.specs.Taking.{AreTold, Carries, ReplacesBy, TakesBy}
 use Rattle.pool.specs.View.{View, book, slices_shown, volume}
-use Rattle.pool.specs.Volume.{Holds}
+use Rattle.pool.specs.Volume.{VolumeIs}
 use Rattle.pool.proofs.Admitted.{admitted, others_current}
 use Rattle.pool.proofs.Attaching.{IsBay}
 use Rattle.pool.proofs.Booked.{book_then}
@@ -65,11 +65,11 @@ pub record IsReady (x m : View) (place disk many : ℕ) : Type 0 where
       → MayLeave (x.bay.held disk s) v ⊎ IsLaid disk (table_on x place disk) disk s v
   pub names : m.shelf.names ≡ x.shelf.names
   pub disks : m.bay.disks ≡ x.bay.disks
-  pub marks : IsAfter (book x).state (book m).state
+  pub marks : OnlyMarksSince (book x).state (book m).state
   pub plan : (book m).state.plan ≡ (book x).state.plan
   pub arrays : KeepsArrays (book x) (book m)
   pub cause : (k : ℕ) → is_current (book x).state k ≡ true → is_current (book m).state k ≡ false → DriveWentFrom (moment_of x) (moment_of m) k
-  pub leaves : x.bay.traced → (a : FlatArray) → Holds x a → LeavesNew x m (λ i. MeansFormer x m place a i)
+  pub leaves : x.bay.traced → (a : FlatArray) → VolumeIs x a → LeavesNew x m (λ i. MeansFormer x m place a i)
 
 -- A disk that is taken in at once, where the place's drive is missing.
 pub at_once : (x y : View) (place disk : ℕ) (r : Result (Unit {0}) GrowFault) → is_current (book x).state place ≡ false → IsAdmissible x.linear (book x) place (x.bay.sectors disk)
@@ -398,7 +398,7 @@ module _ (x m : View) (place disk many : ℕ) (fit : (volume x).fit) (ordered : 
           moments = moments_at r by by.moments;
         }
       where
-        early : TakesBy m y place disk r → x.bay.traced → (a : FlatArray) → Holds x a → (k : ℕ) (i : Image) → x.bay.clock < k → k ≤ m.bay.clock → y.bay.stops k i → MeansFormer x y place a i
+        early : TakesBy m y place disk r → x.bay.traced → (a : FlatArray) → VolumeIs x a → (k : ℕ) (i : Image) → x.bay.clock < k → k ≤ m.bay.clock → y.bay.stops k i → MeansFormer x y place a i
         early by traced a holds k i since past stopped =
             fewer_spent x m y place a i by.continues.linear by.carries.spent (unread_then y by.continues)
             (ready.leaves traced a holds k i since past (by.continues.past (ready.continues.told holds.shelf) (ready.continues.traced holds.shelf traced) k i past stopped))
@@ -420,8 +420,8 @@ module _ (x m : View) (place disk many : ℕ) (fit : (volume x).fit) (ordered : 
         }
 
         moments_at : (r : Result (Unit {0}) GrowFault) → TakesBy m y place disk r
-            → OnOk r (m.bay.traced → (a : FlatArray) → Holds m a → LeavesNew m y (λ i. MeansFormer m y place a i ⊎ MeansWith m y place disk a i))
-            → OnOk r (x.bay.traced → (a : FlatArray) → Holds x a → LeavesNew x y (λ i. MeansFormer x y place a i ⊎ MeansWith x y place disk a i))
+            → OnOk r (m.bay.traced → (a : FlatArray) → VolumeIs m a → LeavesNew m y (λ i. MeansFormer m y place a i ⊎ MeansWith m y place disk a i))
+            → OnOk r (x.bay.traced → (a : FlatArray) → VolumeIs x a → LeavesNew x y (λ i. MeansFormer x y place a i ⊎ MeansWith x y place disk a i))
         moments_at (Err e) by moments = tt
         moments_at (Ok u) by moments =
             λ traced a holds k i since until stopped.

@@ -2,7 +2,7 @@
 use Rattle.std.specs.Prelude.{Ok, Err}
 use Rattle.std.proofs.Common.{◌≡◌, ◌≢◌, ℕ, ◌<◌, if◌then◌else◌, true, false, List, length, slice_get, Some, None, refl, sym, ap, subst, ◌∙◌, inl, inr}
 use Rattle.std.proofs.lemmas.Bool.{both_ways, cases_Bool, cases_eq, eq-eqb, ne_eqb}
-use Rattle.rack.specs.Seen.{Rose, Seen}
+use Rattle.rack.specs.Seen.{Rose, RackView}
 use Rattle.rack.specs.Sequences.{WritesOnly}
 use Rattle.rack.specs.Shelf.{KeepsShelf, Shelf}
 use Rattle.slice_rack.specs.declared.SliceRack.{SliceRack}
@@ -41,7 +41,7 @@ use Rattle.pool.proofs.Ways.{free_of}
 none_some : {d : ℕ} → None ≡ Some d → ⊥
 none_some e = cc
 
-module _ {R : Type 0} (seen : R → Seen) (shelf : R → Shelf) (p q : Pool R) (old : RaidRack R) (place disk : ℕ) (value : old ≡ arrays_of q)
+module _ {R : Type 0} (seen : R → RackView) (shelf : R → Shelf) (p q : Pool R) (old : RaidRack R) (place disk : ℕ) (value : old ≡ arrays_of q)
     (rest : arrays_of q ≡ record (arrays_of p) { slices = slices_in (arrays_of q) }) (bay : bay_in q ≡ bay_in p) where
   abbrev x : View
   x = view seen shelf p
@@ -101,7 +101,7 @@ module _ {R : Type 0} (seen : R → Seen) (shelf : R → Shelf) (p q : Pool R) (
     abbrev t : Slices
     t = tables (slices_in (arrays_of q))
 
-    abbrev b : Seen
+    abbrev b : RackView
     b = seen (below_of (slices_in new))
 
     abbrev s : Shelf

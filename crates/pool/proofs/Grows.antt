@@ -6,7 +6,7 @@ use Rattle.rack.specs.Joins.{leaves_same, leaves_weaker, rose_before, rose_since
 use Rattle.rack.specs.Sequences.{IsMix, WritesOnly}
 use Rattle.array_core.proofs.LogWrites.{goes_then}
 use Rattle.array_core.specs.Pool.{Goes}
-use Rattle.rack.specs.Seen.{Rose, Seen}
+use Rattle.rack.specs.Seen.{Rose, RackView}
 use Rattle.rack.specs.Several.{Several}
 use Rattle.rack.specs.Shelf.{KeepsShelf, Shelf, keeps_shelf_same, keeps_shelf_then}
 use Rattle.slice_rack.specs.Slices.{disk_of, place_of, seat_of}
@@ -28,7 +28,7 @@ use Rattle.pool_state.specs.declared.contents.Work.{Work}
 use Rattle.pool_state.specs.declared.contents.Work.TheVariants.{Resync, Rebuild, TakeOver, Begin, Reshape, Finish, Make, Zero, Ready, Extend, Close}
 use Rattle.raid_laws.proofs.Whole.{heeded_left}
 use Rattle.raid_laws.specs.Book.{IsSameBook}
-use Rattle.raid_laws.specs.Moves.{AreCaused, IsHeeded, LosesOnly, RaisesBy}
+use Rattle.raid_laws.specs.Moves.{AreCaused, IsHeeded, OnlyFailures, RaisesBy}
 use Rattle.raid_laws.specs.Raid.{Raid, is_left}
 use Rattle.raid_laws.specs.Runs.{RaidRuns}
 use Rattle.raid_laws.specs.Works.{Does, StepsOne, array_of, is_due}
@@ -72,7 +72,7 @@ keeps_by x y fit after longer seats goes shelf caused k few raises = record {
 }
 
 -- calls that wrote sectors
-pub goes_of : {a b : Seen} {may : ℕ → ℕ → List ℕ → Type 0} → WritesOnly a b may → Goes a b
+pub goes_of : {a b : RackView} {may : ℕ → ℕ → List ℕ → Type 0} → WritesOnly a b may → Goes a b
 goes_of {a} {b} {may} only = record { stays = only.stays; leaves = λ traced. leaves_weaker (IsMix a b may) (λ c. Unit {0}) (λ c at. tt) (only.stops traced) }
 
 -- arrays that are as they were
@@ -166,7 +166,7 @@ many_then n k x y z any (inr over) (inr works) =
     absurd (none_first (works_of y) first.0 over.3 first.1)
 
 -- a work can't be done once so many are
-pub stops_behind : {R : Type 0} (seen : R → Seen) (shelf : R → Shelf) (runs : R → R → Type 0) (most k : ℕ) (p r : Pool R) (mid : Raid) (work : Work) (array : ℕ) → k < most
+pub stops_behind : {R : Type 0} (seen : R → RackView) (shelf : R → Shelf) (runs : R → R → Type 0) (most k : ℕ) (p r : Pool R) (mid : Raid) (work : Work) (array : ℕ) → k < most
     → (volume (view seen shelf p)).fit → KeepsGrowing 1 (view seen shelf p) (view seen shelf r) → (view seen shelf r).linear ≡ (view seen shelf p).linear
     → DoesWorks k (view seen shelf p).linear (book (view seen shelf p)) (view seen shelf p).linear mid → slice_get (works_by (view seen shelf p).linear mid) 0 ≡ Some work
     → IsRefused seen runs (view seen shelf p).slices (bay_in p) (view seen shelf p).linear work mid (book (view seen shelf r)) array
@@ -190,7 +190,7 @@ stops_behind seen shelf runs most k p r mid work array few fit keeps still done 
     }
 
 -- a work is the first one
-pub first_tried : {R : Type 0} (seen : R → Seen) (shelf : R → Shelf) (runs : R → R → Type 0) (most : ℕ) (p q : Pool R) (work : Work) (r : Result (Unit {0}) Stuck) → 0 < most
+pub first_tried : {R : Type 0} (seen : R → RackView) (shelf : R → Shelf) (runs : R → R → Type 0) (most : ℕ) (p q : Pool R) (work : Work) (r : Result (Unit {0}) Stuck) → 0 < most
     → (volume (view seen shelf p)).fit → slice_get (works_of (view seen shelf p)) 0 ≡ Some work → TriesWork work (view seen shelf p) (view seen shelf q) runs (bay_in p) r
     → TriesFirst most (view seen shelf p) (view seen shelf q) runs (one_done r)
 first_tried seen shelf runs most p q work r any fit first tries = record { keeps = tries.keeps; some = some_of r; done = done_of r tries; stuck = stuck_of r tries }
@@ -234,7 +234,7 @@ none_behind (suc n) l m v w work done empty first =
     let one = first_in (suc n) l m v w (omega arith) done in none_first (works_by l v) one.0 empty one.1
 
 -- it can't be done, or one of those behind it
-pub stops_growing : {R : Type 0} (seen : R → Seen) (shelf : R → Shelf) (runs : R → R → Type 0) (n most count : ℕ) (p q r : Pool R) (array : ℕ) → n + most ≤ count
+pub stops_growing : {R : Type 0} (seen : R → RackView) (shelf : R → Shelf) (runs : R → R → Type 0) (n most count : ℕ) (p q r : Pool R) (array : ℕ) → n + most ≤ count
     → KeepsGrowing n (view seen shelf p) (view seen shelf q) → DoesMany n (view seen shelf p) (view seen shelf q)
     → StopsGrowing most (view seen shelf q) (view seen shelf r) runs array → StopsGrowing count (view seen shelf p) (view seen shelf r) runs array
 stops_growing seen shelf runs n most count p q r array few before (inr over) stops =
@@ -276,7 +276,7 @@ turned_done seconds work L v w turns =
     }
 
 -- a step of one array
-step_done : (work : Work) (v w : Raid) (a b : Seen) (m : ℕ) (next : ArrayView) → (changed (change_in 0 work v) v).state ≡ v.state
+step_done : (work : Work) (v w : Raid) (a b : RackView) (m : ℕ) (next : ArrayView) → (changed (change_in 0 work v) v).state ≡ v.state
     → ((n : ℕ) → (changed (change_in 0 work v) v).arrays n ≡ (if n == m then next else v.arrays n))
     → StepsOne v w a b m next true → IsDone work v w
 step_done work v w a b m next same is steps = record {
@@ -287,8 +287,8 @@ step_done work v w a b m next same is steps = record {
   current = λ place now. subst (λ (s : State). is_current s place ≡ true) (sym same) (steps.brings.book.current place now);
   after = record {
     arrays = λ n low.
-        subst (λ (u : ArrayView). LosesOnly u (w.arrays n)) (sym (is n))
-        (subst (λ (t : Bool). LosesOnly (if t then next else v.arrays n) (w.arrays n)) (and_true (n == m) steps.is_done (steps.answer refl))
+        subst (λ (u : ArrayView). OnlyFailures u (w.arrays n)) (sym (is n))
+        (subst (λ (t : Bool). OnlyFailures (if t then next else v.arrays n) (w.arrays n)) (and_true (n == m) steps.is_done (steps.answer refl))
         (steps.arrays n (subst (λ (s : State). n < s.made) same low)));
     plan = steps.plan ∙ sym (ap (λ (s : State). s.plan) same);
   };
@@ -299,7 +299,7 @@ step_done work v w a b m next same is steps = record {
     and_true false d is = refl
 
 -- a row of an array, or the end of a plan
-pub row_done : (work : Work) (v w : Raid) (a b : Seen) → is_due v work ≡ true → Does work 1 v w a b {E = Stuck} (Ok 1) → IsDone work v w
+pub row_done : (work : Work) (v w : Raid) (a b : RackView) → is_due v work ≡ true → Does work 1 v w a b {E = Stuck} (Ok 1) → IsDone work v w
 row_done (Resync m) v w a b due does =
     step_done (Resync m) v w a b m (resynced (v.arrays m) 1) refl (λ n. refl)
     (subst (λ rows. StepsOne v w a b m (resynced (v.arrays m) rows) true) (sym does.rows.answer) does.rows.steps)
@@ -334,7 +334,7 @@ extend_done v w loses = record {
   same = loses.marks.same;
   current = loses.marks.current;
   after = record {
-    arrays = λ n low. subst (λ (u : ArrayView). LosesOnly u (w.arrays n)) (sym (own n)) (loses.arrays n low);
+    arrays = λ n low. subst (λ (u : ArrayView). OnlyFailures u (w.arrays n)) (sym (own n)) (loses.arrays n low);
     plan = loses.plan;
   };
 }
@@ -347,7 +347,7 @@ extend_done v w loses = record {
 
 -- ---- what a work of a growth keeps
 
-pub grown_keeps : {R : Type 0} (seen : R → Seen) (shelf : R → Shelf) (runs : R → R → Type 0) (names : KeepNames shelf runs) (p : Pool R) (new : RaidRack R) (work : Work)
+pub grown_keeps : {R : Type 0} (seen : R → RackView) (shelf : R → Shelf) (runs : R → R → Type 0) (names : KeepNames shelf runs) (p : Pool R) (new : RaidRack R) (work : Work)
     → (volume (view seen shelf p)).fit → (ok : Bool) → (is_due_to_grow (raid_in (arrays_of p)) work ≡ false → (ok ≡ false) × (new ≡ arrays_of p))
     → (is_due_to_grow (raid_in (arrays_of p)) work ≡ true
     → GetsLonger (raid_in (arrays_of p)) (raid_in new) × AreCaused (raid_in (arrays_of p)) (raid_in new) (slices_seen seen (arrays_of p)) (slices_seen seen new))
@@ -381,7 +381,7 @@ grown_keeps {R} seen shelf runs names p new work fit ok idle grows after k few r
 
 -- ---- a work of the arrays, tried
 
-module _ {R : Type 0} (seen : R → Seen) (shelf : R → Shelf) (runs : R → R → Type 0) (names : KeepNames shelf runs) (p : Pool R) (new : RaidRack R) (work : Work)
+module _ {R : Type 0} (seen : R → RackView) (shelf : R → Shelf) (runs : R → R → Type 0) (names : KeepNames shelf runs) (p : Pool R) (new : RaidRack R) (work : Work)
     (fit : (volume (view seen shelf p)).fit) (r : Result (Unit {0}) Stuck) (same : linear p.volume ≡ linear_after work (linear p.volume) (raid_in (arrays_of p))) where
   abbrev x : View
   x = view seen shelf p
@@ -465,7 +465,7 @@ module _ {R : Type 0} (seen : R → Seen) (shelf : R → Shelf) (runs : R → R 
       )
 
 -- what is said of a young array that gets ready
-pub ready_grows : (n : ℕ) (v w : Raid) (a b : Seen) (ok : Bool) → IsHeeded v → (ok ≡ false → (w ≡ v) × (lacks v n ≡ true)) → (ok ≡ true → Grows (Ready n) (Lacks (Ready n)) v w a b true)
+pub ready_grows : (n : ℕ) (v w : Raid) (a b : RackView) (ok : Bool) → IsHeeded v → (ok ≡ false → (w ≡ v) × (lacks v n ≡ true)) → (ok ≡ true → Grows (Ready n) (Lacks (Ready n)) v w a b true)
     → Grows (Ready n) (Lacks (Ready n)) v w a b ok
 ready_grows n v w a b true heeded stuck grows = grows refl
 ready_grows n v w a b false heeded stuck grows =
@@ -481,10 +481,10 @@ ready_grows n v w a b false heeded stuck grows =
 -- ---- the volume
 
 -- what the arrays say of calls that they serve
-pub loses_by : {R : Type 0} (seen : R → Seen) (runs : R → R → Type 0) (old new : RaidRack R) → AreRuns seen runs old new → LosesBook (raid_in old) (raid_in new)
+pub loses_by : {R : Type 0} (seen : R → RackView) (runs : R → R → Type 0) (old new : RaidRack R) → AreRuns seen runs old new → LosesBook (raid_in old) (raid_in new)
 loses_by seen runs old new ran = record { marks = ran.1.book; plan = ran.2.plan; arrays = ran.2.arrays; number = ran.1.number; events = ran.1.events }
 
-pub volume_grows : {R : Type 0} (seen : R → Seen) (shelf : R → Shelf) (runs : R → R → Type 0) (names : KeepNames shelf runs) (p q : Pool R) (n : ℕ) → (volume (view seen shelf p)).fit
+pub volume_grows : {R : Type 0} (seen : R → RackView) (shelf : R → Shelf) (runs : R → R → Type 0) (names : KeepNames shelf runs) (p q : Pool R) (n : ℕ) → (volume (view seen shelf p)).fit
     → (volume (view seen shelf q)).fit → AreRuns seen runs (arrays_of p) (arrays_of q) → n ≤ 16
     → Several (λ a b. IsOneCall (raid_in a) (raid_in b)) (most_extended n) (arrays_of p) (arrays_of q) → KeepsGrowing 1 (view seen shelf p) (view seen shelf q)
 volume_grows seen shelf runs names p q n fit after ran few several =

@@ -1,14 +1,14 @@
 -- The arrays of a pool keep what they hold.
 use Rattle.std.proofs.Common.{◌≡◌, ℕ, ◌<◌, refl, sym, subst, ◌∙◌, arith}
 use Rattle.rack.specs.Joins.{keeps_same, keeps_then}
-use Rattle.rack.specs.Seen.{Seen}
+use Rattle.rack.specs.Seen.{RackView}
 use Rattle.rack.specs.Sequences.{OnlyReads}
 use Rattle.slice_rack.specs.Slices.{IsOrderly, Slices, disk_of, place_of}
 use Rattle.slice_rack.specs.Sliced.{slices_of}
 use Rattle.array_image.specs.Places.{log_slice}
 use Rattle.raid_rack.specs.declared.arrays.Arrays.{Arrays}
 use Rattle.raid_laws.specs.Laws.{live_parts, stops_inside}
-use Rattle.raid_laws.specs.Moves.{Moves}
+use Rattle.raid_laws.specs.Moves.{ChangesNoData}
 use Rattle.raid_laws.specs.Raid.{Raid, live_of}
 use Rattle.raid_rack.specs.RaidRack.{IsFit, raid_by}
 use Rattle.raid_laws.proofs.Apart.{moves_quiet, seat_is}
@@ -19,7 +19,7 @@ use Rattle.raid_laws.proofs.Whole.{heeded_left}
 use Rattle.pool.specs.Held.{KeepsHeld}
 use Rattle.pool.specs.View.{View, book, slices_shown, volume}
 
-pub held_same : (v : Raid) (a : Seen) → KeepsHeld v v a a
+pub held_same : (v : Raid) (a : RackView) → KeepsHeld v v a a
 held_same v a = record {
   sectors = λ n. refl;
   live = λ n s low alive. alive;
@@ -27,7 +27,7 @@ held_same v a = record {
   keeps = λ n s low within alive told. keeps_same _;
 }
 
-pub held_then : (u v w : Raid) (a b c : Seen) → v.state.made ≡ u.state.made → KeepsHeld u v a b → KeepsHeld v w b c → KeepsHeld u w a c
+pub held_then : (u v w : Raid) (a b c : RackView) → v.state.made ≡ u.state.made → KeepsHeld u v a b → KeepsHeld v w b c → KeepsHeld u w a c
 held_then u v w a b c made one two = record {
   sectors = λ n. two.sectors n ∙ one.sectors n;
   live = λ n s low alive. one.live n s low (two.live n s (omega (arith, low, made)) alive);
@@ -42,8 +42,8 @@ held_then u v w a b c made one two = record {
 }
 
 -- a call of the arrays that moves no value
-pub held_moves : (x : View) (b : Seen) (u : Slices) (z : Arrays) → (volume x).fit → IsFit z (slices_of u b)
-    → Moves (book x) (raid_by z) (slices_shown x) (slices_of u b) → KeepsHeld (book x) (raid_by z) (slices_shown x) (slices_of u b)
+pub held_moves : (x : View) (b : RackView) (u : Slices) (z : Arrays) → (volume x).fit → IsFit z (slices_of u b)
+    → ChangesNoData (book x) (raid_by z) (slices_shown x) (slices_of u b) → KeepsHeld (book x) (raid_by z) (slices_shown x) (slices_of u b)
 held_moves x b u z fit after moves =
     let keeps = brings_keep {r = x.refused} x.arrays z (slices_shown x) (slices_of u b) fit.0 after (stops_inside u b) (moves_bring (book x) (raid_by z) (slices_shown x) (slices_of u b) moves) in
     record {
@@ -62,7 +62,7 @@ held_moves x b u z fit after moves =
     }
 
 -- nothing of the slices was written
-pub held_reads : (x : View) (b : Seen) → (volume x).fit → IsFit x.arrays (slices_of x.slices b) → OnlyReads (slices_shown x) (slices_of x.slices b)
+pub held_reads : (x : View) (b : RackView) → (volume x).fit → IsFit x.arrays (slices_of x.slices b) → OnlyReads (slices_shown x) (slices_of x.slices b)
     → KeepsHeld (book x) (book x) (slices_shown x) (slices_of x.slices b)
 held_reads x b fit after reads = held_moves x b x.slices x.arrays fit after (moves_quiet (book x) (slices_shown x) (slices_of x.slices b) fit.0.running.set reads)
 

@@ -3,7 +3,7 @@ use Rattle.std.specs.List.{range_with_len}
 use Rattle.std.specs.Option.{option_map_or}
 use Rattle.std.proofs.Common.{◌≡◌, ℕ, zero, suc, ◌+◌, ◌-◌, ◌*◌, ◌<◌, ◌≤◌, ◌==◌, ◌&&◌, nat_lt, Bool, true, false, if◌then◌else◌, List, [], length, map, slice_get, Option, Some, refl, sym, ap, subst, ◌∙◌, inl, inr, arith, eq-eqb, lt-ltb, ne_eqb}
 use Rattle.std.proofs.lemmas.Bool.{cases_eq}
-use Rattle.rack.specs.Seen.{Seen}
+use Rattle.rack.specs.Seen.{RackView}
 use Rattle.array_image.specs.States.{is_current}
 use Rattle.array_model.specs.View.{View as ArrayView, IsArray, rows_of}
 use Rattle.sync_laws.specs.Steps.{HasRowLeft, reach_on, rebuilt, resynced, rows_left}
@@ -20,7 +20,7 @@ use Rattle.growth_plan.proofs.OneArray.{put}
 use Rattle.lvm_group.specs.Runs.{Linear, extents_of}
 use Rattle.raid_laws.specs.Book.{IsSameBook, after_same}
 use Rattle.raid_laws.specs.Losing.{only_same, only_then}
-use Rattle.raid_laws.specs.Moves.{LosesOnly}
+use Rattle.raid_laws.specs.Moves.{OnlyFailures}
 use Rattle.raid_laws.specs.Raid.{Raid}
 use Rattle.raid_laws.specs.Works.{StepsOne, stepped}
 use Rattle.transition_laws.specs.Changes.{changed, with_view}
@@ -99,11 +99,11 @@ works_then k (suc n) l m o v w z one (more rest last) =
     subst (λ j. DoesWorks j l v o z) (let e : suc (n + k) ≡ suc n + k = omega arith in e) (more (works_then k n _ _ _ _ _ _ one rest) last)
 
 -- Rows of array m, each of which is the first work then, and all of them together.
-module _ (l : Linear) (v w : Raid) (a b : Seen) (m : ℕ) (work : Work) (next : ArrayView → ArrayView) (big : ArrayView) (rows : ℕ)
+module _ (l : Linear) (v w : Raid) (a b : RackView) (m : ℕ) (work : Work) (next : ArrayView → ArrayView) (big : ArrayView) (rows : ℕ)
     (changes : (u : Raid) → changed (change_in 0 work u) u ≡ with_view u m (next (u.arrays m)))
     (still : (u : Raid) → linear_after work l u ≡ l)
     (first : (i : ℕ) → i ≤ rows → slice_get (works_by l (by_rows next m i v)) 0 ≡ Some work)
-    (alike : LosesOnly (times next (suc rows) (v.arrays m)) big)
+    (alike : OnlyFailures (times next (suc rows) (v.arrays m)) big)
     (steps : StepsOne v w a b m big true) where
   before : (i : ℕ) → i ≤ rows → DoesWorks i l v l (by_rows next m i v)
   before zero few = none
@@ -116,17 +116,17 @@ module _ (l : Linear) (v w : Raid) (a b : Seen) (m : ℕ) (work : Work) (next : 
         linear = sym (still (by_rows next m i v));
       })
 
-  only : (n : ℕ) → n < v.state.made → LosesOnly ((by_rows next m (suc rows) v).arrays n) (w.arrays n)
+  only : (n : ℕ) → n < v.state.made → OnlyFailures ((by_rows next m (suc rows) v).arrays n) (w.arrays n)
   only n low =
-      let after = subst (λ d. LosesOnly (stepped v m big d n) (w.arrays n)) (steps.answer refl) (steps.arrays n low) in
+      let after = subst (λ d. OnlyFailures (stepped v m big d n) (w.arrays n)) (steps.answer refl) (steps.arrays n low) in
       elim (cases_eq n m) [
         | inl same ↦
             only_then _ big (w.arrays n)
-            (subst (λ k. LosesOnly ((by_rows next m (suc rows) v).arrays k) big) (sym same)
-            (subst (λ (u : ArrayView). LosesOnly u big) (sym (own_by next m (suc rows) v)) alike))
-            (subst (λ (u : ArrayView). LosesOnly u (w.arrays n)) (at_own n same) after)
+            (subst (λ k. OnlyFailures ((by_rows next m (suc rows) v).arrays k) big) (sym same)
+            (subst (λ (u : ArrayView). OnlyFailures u big) (sym (own_by next m (suc rows) v)) alike))
+            (subst (λ (u : ArrayView). OnlyFailures u (w.arrays n)) (at_own n same) after)
         | inr other ↦
-            subst (λ (u : ArrayView). LosesOnly u (w.arrays n)) (at_other n other ∙ sym (other_by next m (suc rows) v n other)) after
+            subst (λ (u : ArrayView). OnlyFailures u (w.arrays n)) (at_other n other ∙ sym (other_by next m (suc rows) v n other)) after
       ]
     where
       both : (t : Bool) → (n == m) ≡ t → stepped v m big true n ≡ (if t then big else v.arrays n)
@@ -163,7 +163,7 @@ module _ (l : Linear) (v w : Raid) (a b : Seen) (m : ℕ) (work : Work) (next : 
 
 -- ---- rows that are resynced
 
-resynced_by : (n : ℕ) (u : ArrayView) → LosesOnly (times (λ z. resynced z 1) n u) (resynced u n)
+resynced_by : (n : ℕ) (u : ArrayView) → OnlyFailures (times (λ z. resynced z 1) n u) (resynced u n)
 resynced_by zero u = record {
   same = record {
     number = refl;
@@ -206,7 +206,7 @@ resync_now extent (suc n) u grown =
     ∙ ap (λ (k : ℕ). record (array_now extent u) { resync = k })
     (let e : (array_now extent u).resync - n - 1 ≡ (array_now extent u).resync - suc n = omega arith in e)
 
-pub resyncs_in_row : (l : Linear) (v w : Raid) (a b : Seen) (m rows : ℕ) → 0 < length v.state.drives.items → m < v.state.made → (v.arrays m).young ≡ false
+pub resyncs_in_row : (l : Linear) (v w : Raid) (a b : RackView) (m rows : ℕ) → 0 < length v.state.drives.items → m < v.state.made → (v.arrays m).young ≡ false
     → slice_get (works_by l v) 0 ≡ Some (Resync m) → 0 < rows → rows ≤ rows_of (v.arrays m) - (v.arrays m).resync
     → StepsOne v w a b m (resynced (v.arrays m) rows) true → DoesWorks rows l v l w
 resyncs_in_row l v w a b m zero some low grown first any few steps = absurd (omega (arith, any))
@@ -256,7 +256,7 @@ rebuild_first_at l v m place (suc i) some low is_array has first few =
     ∙ rebuild_stays v.state (progress_by l v) m place (suc i) (first_by l v (Rebuild m place) some first)
     (subst (λ (o : Option ArrayNow). suc i < option_map_or (λ (x : ArrayNow). x.rebuild) o 0) (sym (now_at_number v m low)) (omega (arith, few, before)))
 
-pub rebuilds_in_row : (l : Linear) (v w : Raid) (a b : Seen) (m place rows : ℕ) → 0 < length v.state.drives.items → m < v.state.made → IsArray (v.arrays m) → HasRowLeft (v.arrays m) place
+pub rebuilds_in_row : (l : Linear) (v w : Raid) (a b : RackView) (m place rows : ℕ) → 0 < length v.state.drives.items → m < v.state.made → IsArray (v.arrays m) → HasRowLeft (v.arrays m) place
     → slice_get (works_by l v) 0 ≡ Some (Rebuild m place) → 0 < rows → rows ≤ rows_left (v.arrays m) place
     → StepsOne v w a b m (rebuilt (v.arrays m) place rows) true → DoesWorks rows l v l w
 rebuilds_in_row l v w a b m place zero some low is_array has first any few steps = absurd (omega (arith, any))

@@ -2,7 +2,7 @@
 use Rattle.std.specs.Prelude.{unwrap_or}
 use Rattle.std.proofs.Common.{◌≡◌, ℕ, ◌+◌, ◌*◌, ◌<◌, not, false, refl, sym, ap, subst, ◌∙◌, inl, inr, arith}
 use Rattle.std.proofs.lemmas.Bool.{both_ways, and_left, cases_Bool}
-use Rattle.rack.specs.Seen.{IsLive, Rose, Stays}
+use Rattle.rack.specs.Seen.{IsLive, Rose, SameRack}
 use Rattle.rack.specs.Joins.{keeps_same, keeps_then, rose_before, rose_since, stays_same, stays_then}
 use Rattle.rack.specs.Sequences.{WritesOnly}
 use Rattle.rack.specs.Shelf.{KeepsShelf, keeps_shelf_same, keeps_shelf_then}
@@ -15,10 +15,10 @@ use Rattle.log_laws.proofs.Kept.{place_of_log}
 use Rattle.array_model.specs.View.{HasFault as HasDriveFault}
 use Rattle.lvm_group.specs.Framed.{IsShown}
 use Rattle.lvm_group.specs.Runs.{Linear}
-use Rattle.raid_laws.specs.Book.{IsAfter, after_same, after_then}
+use Rattle.raid_laws.specs.Book.{OnlyMarksSince, after_same, after_then}
 use Rattle.raid_laws.specs.Moves.{AreCaused, KeepsMarked}
 use Rattle.raid_laws.specs.Raid.{Raid, gone_in, is_left}
-use Rattle.raid_laws.specs.Runs.{KeepsMoments, moments_same, moments_then}
+use Rattle.raid_laws.specs.Runs.{CrashInvariant, moments_same, moments_then}
 use Rattle.raid_laws.specs.Truths.{KeepsTruths}
 use Rattle.raid_laws.proofs.Moving.{marked_later}
 use Rattle.raid_rack.proofs.Truths.{truths_then}
@@ -27,10 +27,10 @@ use Rattle.pool.specs.View.{View, arrays_shown, book, slices_shown, volume}
 use Rattle.pool.proofs.Booked.{book_same, book_then}
 use Rattle.raid_rack.proofs.Raises.{raises_more, raises_then}
 use Rattle.pool.specs.Keeping.{KeepsBook, Raises, most_raised}
-use Rattle.pool.specs.Calls.{DriveWent, Marks, MarksBut, Passes}
+use Rattle.pool.specs.Calls.{DriveWent, Marks, MarksBut, CallFrame}
 
 -- A drive that is marked missing isn't written again in two calls either.
-unwritten_then : (x y z : View) → y.slices ≡ x.slices → z.slices ≡ y.slices → Stays x.bay y.bay → Stays y.bay z.bay → IsAfter (book x).state (book y).state
+unwritten_then : (x y z : View) → y.slices ≡ x.slices → z.slices ≡ y.slices → SameRack x.bay y.bay → SameRack y.bay z.bay → OnlyMarksSince (book x).state (book y).state
     → KeepsMarked (book x) (slices_shown x) (slices_shown y) → KeepsMarked (book y) (slices_shown y) (slices_shown z) → KeepsMarked (book x) (slices_shown x) (slices_shown z)
 unwritten_then x y z same later first second marks one two d t live gone =
     keeps_then ((slices_shown x).held d t) ((slices_shown y).held d t) ((slices_shown z).held d t) (one d t before gone)
@@ -55,7 +55,7 @@ unwritten_then x y z same later first second marks one two d t live gone =
     }
 
 -- no call
-pub passes_same : (x : View) → (volume x).fit → Passes x x
+pub passes_same : (x : View) → (volume x).fit → CallFrame x x
 passes_same x fit = record {
   stays = stays_same (volume x) fit;
   linear = refl;
@@ -74,10 +74,10 @@ pub marks_same : (x : View) (lost : ℕ → Type 0) → MarksBut lost x x
 marks_same x lost place was now = absurd (both_ways (is_current (book x).state place) now was)
 
 -- the volume stays, and calls in a row of its slices run below it
-pub passes_of : {own : Type 0} (x y : View) → (volume x).fit → Stays (volume x) (volume y) → y.linear ≡ x.linear
-    → Runs x.slices y.slices x.bay y.bay own → IsAfter (book x).state (book y).state → KeepsBook (book x) (book y)
-    → KeepsTruths (book x) (book y) (slices_shown x) (slices_shown y) → KeepsMoments (book x) (book y) (slices_shown x) (slices_shown y)
-    → KeepsMarked (book x) (slices_shown x) (slices_shown y) → WritesOnly (arrays_shown x) (arrays_shown y) (IsShown x.linear) → KeepsShelf x.shelf y.shelf → Passes x y
+pub passes_of : {own : Type 0} (x y : View) → (volume x).fit → SameRack (volume x) (volume y) → y.linear ≡ x.linear
+    → Runs x.slices y.slices x.bay y.bay own → OnlyMarksSince (book x).state (book y).state → KeepsBook (book x) (book y)
+    → KeepsTruths (book x) (book y) (slices_shown x) (slices_shown y) → CrashInvariant (book x) (book y) (slices_shown x) (slices_shown y)
+    → KeepsMarked (book x) (slices_shown x) (slices_shown y) → WritesOnly (arrays_shown x) (arrays_shown y) (IsShown x.linear) → KeepsShelf x.shelf y.shelf → CallFrame x y
 passes_of x y fit stays same runs marks keeps truths moments unwritten arrays shelf = record {
   stays = stays;
   linear = same;
@@ -113,7 +113,7 @@ marks_of x y fit same caused place was now =
 
 -- ---- calls in a row
 
-pub passes_then : (x y z : View) → Passes x y → Passes y z → Passes x z
+pub passes_then : (x y z : View) → CallFrame x y → CallFrame y z → CallFrame x z
 passes_then x y z one two = record {
   stays = stays_then one.stays two.stays;
   linear = two.linear ∙ one.linear;
@@ -130,7 +130,7 @@ passes_then x y z one two = record {
   shelf = keeps_shelf_then x.shelf y.shelf z.shelf one.shelf two.shelf;
 }
 
-pub marks_then : (x y z : View) → Passes x y → Passes y z → Marks x y → Marks y z → Marks x z
+pub marks_then : (x y z : View) → CallFrame x y → CallFrame y z → Marks x y → Marks y z → Marks x z
 marks_then x y z one two first second place was now =
     elim (cases_Bool (is_current (book y).state place)) [
       | inl then ↦ elim (second place then now) [ inl rose ↦ inl (later rose) | inr none ↦ absurd none ]
@@ -143,7 +143,7 @@ marks_then x y z one two first second place was now =
         (subst (λ (t : Slices). Rose (y.bay.faults (disk_of t (log_slice place))) (z.bay.faults (disk_of t (log_slice place)))) one.slices rose)
 
 -- one call more
-pub raises_next : (calls : ℕ) (x y z : View) → Passes x y → Raises calls x y → Raises 1 y z → Raises (calls + 1) x z
+pub raises_next : (calls : ℕ) (x y z : View) → CallFrame x y → Raises calls x y → Raises 1 y z → Raises (calls + 1) x z
 raises_next calls x y z passes one two =
     raises_more (most_raised * calls + most_raised) (most_raised * (calls + 1)) (book x) (book z) (omega arith)
     (raises_then (most_raised * calls) most_raised (book x) (book y) (book z) passes.marks.same.made one two)

@@ -1,6 +1,6 @@
 -- A pool's volume where its arrays' slices, or the disks below, have changed.
 use Rattle.std.proofs.Common.{◌≡◌, ℕ, ◌+◌, ◌*◌, ◌<◌, ◌≤◌, false, refl, sym, subst, arith}
-use Rattle.rack.specs.Seen.{Seen, Stays}
+use Rattle.rack.specs.Seen.{RackView, SameRack}
 use Rattle.rack.specs.Shelf.{Shelf}
 use Rattle.rack.specs.Calls.{KeepsAll}
 use Rattle.rack.specs.Sequences.{OnlyReads}
@@ -13,7 +13,7 @@ use Rattle.lvm_group.specs.Shown.{IsInside as IsInsideVolume}
 use Rattle.lvm_group.proofs.Totals.{total_same}
 use Rattle.raid_rack.specs.declared.arrays.Arrays.{Arrays}
 use Rattle.raid_laws.specs.Laws.{live_parts, stops_inside}
-use Rattle.raid_laws.specs.Moves.{Moves}
+use Rattle.raid_laws.specs.Moves.{ChangesNoData}
 use Rattle.raid_laws.specs.Raid.{raid_of}
 use Rattle.raid_rack.specs.RaidRack.{IsFit, raid_by}
 use Rattle.raid_laws.proofs.Apart.{moves_quiet, seat_is}
@@ -26,11 +26,11 @@ use Rattle.pool.specs.View.{View, book, slices_shown, volume}
 use Rattle.pool.specs.Volume.{is_spent}
 
 -- a pool later, whose volume lies where it lay
-abbrev pub later : View → Seen → Shelf → Slices → Arrays → View
+abbrev pub later : View → RackView → Shelf → Slices → Arrays → View
 later x b s u z = record { bays = x.bays; bay = b; shelf = s; slices = u; arrays = z; refused = x.refused; linear = x.linear }
 
 -- its arrays are of as many sectors
-pub inside_later : (x : View) (b : Seen) (s : Shelf) (u : Slices) (z : Arrays) → (volume x).fit → z.state.made ≡ x.arrays.state.made
+pub inside_later : (x : View) (b : RackView) (s : Shelf) (u : Slices) (z : Arrays) → (volume x).fit → z.state.made ≡ x.arrays.state.made
     → ((n : ℕ) → array_sectors ((raid_by z).arrays n) ≡ array_sectors ((book x).arrays n))
     → IsInsideVolume x.linear (raid_of (IsFit z (slices_of u b)) x.refused (raid_by z) (slices_of u b))
 inside_later x b s u z fit made same =
@@ -45,8 +45,8 @@ inside_later x b s u z fit made same =
     }
 
 -- a call of the arrays that moves no value
-pub moved : (x : View) (b : Seen) (s : Shelf) (u : Slices) (z : Arrays) → IsOrderlyVolume x.linear → (volume x).fit → IsFit z (slices_of u b)
-    → Moves (book x) (raid_by z) (slices_shown x) (slices_of u b) → Stays (volume x) (volume (later x b s u z)) × KeepsAll (volume x) (volume (later x b s u z))
+pub moved : (x : View) (b : RackView) (s : Shelf) (u : Slices) (z : Arrays) → IsOrderlyVolume x.linear → (volume x).fit → IsFit z (slices_of u b)
+    → ChangesNoData (book x) (raid_by z) (slices_shown x) (slices_of u b) → SameRack (volume x) (volume (later x b s u z)) × KeepsAll (volume x) (volume (later x b s u z))
 moved x b s u z orderly fit after moves =
     let a = raid_of (IsFit x.arrays (slices_shown x)) x.refused (book x) (slices_shown x) in
     let c = raid_of (IsFit z (slices_of u b)) x.refused (raid_by z) (slices_of u b) in
@@ -55,14 +55,14 @@ moved x b s u z orderly fit after moves =
     (stays, keeps_volume {l = x.linear} {a = a} {b = c} orderly stays.fit.1 keeps.keeps)
 
 -- nothing of the slices was written
-pub only_read : (x : View) (b : Seen) (s : Shelf) → IsOrderlyVolume x.linear → (volume x).fit → IsFit x.arrays (slices_of x.slices b)
+pub only_read : (x : View) (b : RackView) (s : Shelf) → IsOrderlyVolume x.linear → (volume x).fit → IsFit x.arrays (slices_of x.slices b)
     → OnlyReads (slices_shown x) (slices_of x.slices b)
-    → Stays (volume x) (volume (later x b s x.slices x.arrays)) × KeepsAll (volume x) (volume (later x b s x.slices x.arrays))
+    → SameRack (volume x) (volume (later x b s x.slices x.arrays)) × KeepsAll (volume x) (volume (later x b s x.slices x.arrays))
 only_read x b s orderly fit after reads =
     moved x b s x.slices x.arrays orderly fit after (moves_quiet (book x) (slices_shown x) (slices_of x.slices b) fit.0.running.set reads)
 
 -- the arrays over other disks below, of which the slices are as they were
-pub disks_fit : (a : Arrays) (t : Slices) (c b : Seen) → IsFit a (slices_of t c) → (slices_of t b).fit → b.lasting → IsFit a (slices_of t b)
+pub disks_fit : (a : Arrays) (t : Slices) (c b : RackView) → IsFit a (slices_of t c) → (slices_of t b).fit → b.lasting → IsFit a (slices_of t b)
 disks_fit a t c b was fit lasting =
     let set = was.running.set in
     record {

@@ -6,7 +6,7 @@ use Rattle.std.proofs.Common.{◌≡◌, ℕ, ◌<◌, ◌&&◌, ◌||◌, not, 
 use Rattle.std.proofs.lemmas.Bool.{both_ways, and_parts, and_from, cases_Bool, cases_eq, cases_lt}
 use Rattle.std.proofs.lemmas.Option.{slice_get_past}
 use Rattle.rack.proofs.Writing.{only_quiet}
-use Rattle.rack.specs.Seen.{Seen}
+use Rattle.rack.specs.Seen.{RackView}
 use Rattle.rack.specs.Shelf.{Shelf}
 use Rattle.slice_rack.specs.SliceRack.{below_of}
 use Rattle.pool_state.specs.Valid.{has_arrays, has_epoch, has_places, is_drive, is_extent, is_valid}
@@ -16,7 +16,7 @@ use Rattle.commit_log.proofs.Deciding.{names_first}
 use Rattle.array_model.specs.View.{has_gone}
 use Rattle.array_core.specs.Seats.{gone, names}
 use Rattle.lvm_group.specs.Framed.{IsShown}
-use Rattle.raid_laws.specs.Runs.{KeepsMoments}
+use Rattle.raid_laws.specs.Runs.{CrashInvariant}
 use Rattle.raid_laws.specs.Truths.{KeepsTruths}
 use Rattle.raid_laws.specs.Losses.{has_other}
 use Rattle.raid_laws.specs.Moves.{IsHeeded, IsSet, Mends, RaisesBy, noted_at}
@@ -57,7 +57,7 @@ some_made s own valid =
     let least = leb-true 1 s.made (and_parts (nat_le 1 s.made) (nat_le s.made 16) made.0).0 in
     omega (arith, least)
 
-module _ (v : Raid) (x : Seen) (place : ℕ) (set : IsSet v x) (heeded : IsHeeded v) (current : is_current v.state place ≡ true) where
+module _ (v : Raid) (x : RackView) (place : ℕ) (set : IsSet v x) (heeded : IsHeeded v) (current : is_current v.state place ≡ true) where
   noting : IsNoting (place ∷ []) v (noted_at (place ∷ []) v).arrays
   noting = record {
     arrays = λ n low. ap (λ (t : Bool). if t then gone (place ∷ []) (v.arrays n) else v.arrays n) (lt-ltb n v.state.made low);
@@ -106,14 +106,14 @@ marks_lost x y place fit same current mends p was now =
     ]
 
 -- what the arrays say of a loss that they served
-pub record IsLost {R : Type 0} (seen : R → Seen) (runs : R → R → Type 0) (old new : RaidRack R) (place : ℕ) : Type 0 where
+pub record IsLost {R : Type 0} (seen : R → RackView) (runs : R → R → Type 0) (old new : RaidRack R) (place : ℕ) : Type 0 where
   pub other : has_other (raid_in old).state place ≡ true
   pub mends : Mends (noted_at (place ∷ []) (raid_in old)) (raid_in new) (slices_seen seen old) (slices_seen seen new)
   pub keeps : KeepsRack (raid_seen seen old) (raid_seen seen new)
   pub raises : RaisesBy 17 (raid_in old) (raid_in new)
   pub ran : SliceRuns seen runs (slices_in old) (slices_in new)
   pub truths : KeepsTruths (raid_in old) (raid_in new) (slices_seen seen old) (slices_seen seen new)
-  pub moments : KeepsMoments (raid_in old) (raid_in new) (slices_seen seen old) (slices_seen seen new)
+  pub moments : CrashInvariant (raid_in old) (raid_in new) (slices_seen seen old) (slices_seen seen new)
 
 never_fault : (e : LoseFault) → ◌≡◌ {A = Result (Unit {0}) LoseFault} (Ok tt) (Err e) → ⊥
 never_fault e same = cc
@@ -124,7 +124,7 @@ same_fault e f same = cc
 missing_last : NoSuchDrive ≡ LastDrive → ⊥
 missing_last same = cc
 
-pub lose_done : {R : Type 0} (seen : R → Seen) (shelf : R → Shelf) (runs : R → R → Type 0) (laws : Laws seen) (names : KeepNames shelf runs) (p : Pool R) (raid : RaidRack R) (place : ℕ)
+pub lose_done : {R : Type 0} (seen : R → RackView) (shelf : R → Shelf) (runs : R → R → Type 0) (laws : Laws seen) (names : KeepNames shelf runs) (p : Pool R) (raid : RaidRack R) (place : ℕ)
     → (volume (view seen shelf p)).fit → is_current (book (view seen shelf p)).state place ≡ true → IsLost seen runs (arrays_of p) raid place
     → LosesDrive (view seen shelf p) (view seen shelf (with_arrays p raid)) place {X = Unit {0}} (Ok tt)
 lose_done seen shelf runs laws names p raid place fit current lost =

@@ -20,7 +20,7 @@ use Rattle.pool_state.specs.declared.contents.Work.{Work}
 use Rattle.pool_state.specs.declared.contents.Work.TheVariants.{Reshape}
 use Rattle.raid_laws.specs.Book.{after_same}
 use Rattle.raid_laws.specs.Losing.{only_same, only_then}
-use Rattle.raid_laws.specs.Moves.{LosesOnly}
+use Rattle.raid_laws.specs.Moves.{OnlyFailures}
 use Rattle.raid_laws.specs.Raid.{Raid}
 use Rattle.transition_laws.specs.Changes.{changed, with_view}
 use Rattle.pool.specs.Growing.{DoesWorks, IsDone, change_in, more, none}
@@ -31,7 +31,7 @@ use Rattle.pool.proofs.InRow.{works_after}
 -- ---- one array
 
 -- its events are no part of the works
-only_events : (u : ArrayView) (rows e f : ℕ) → LosesOnly (ahead_by u rows e) (ahead_by u rows f)
+only_events : (u : ArrayView) (rows e f : ℕ) → OnlyFailures (ahead_by u rows e) (ahead_by u rows f)
 only_events u rows e f = record {
   same = record {
     number = refl;
@@ -44,7 +44,7 @@ only_events u rows e f = record {
 }
 
 -- one row more
-only_more : (u : ArrayView) (rows e f g : ℕ) → LosesOnly (ahead_by (ahead_by u rows e) 1 f) (ahead_by u (suc rows) g)
+only_more : (u : ArrayView) (rows e f g : ℕ) → OnlyFailures (ahead_by (ahead_by u rows e) 1 f) (ahead_by u (suc rows) g)
 only_more u rows e f g = record {
   same = record {
     number = refl;
@@ -60,7 +60,7 @@ only_more u rows e f g = record {
     by p n x = grind arith
 
 -- the same rows of two
-only_both : (u w : ArrayView) (rows e f : ℕ) → LosesOnly u w → LosesOnly (ahead_by u rows e) (ahead_by w rows f)
+only_both : (u w : ArrayView) (rows e f : ℕ) → OnlyFailures u w → OnlyFailures (ahead_by u rows e) (ahead_by w rows f)
 only_both u w rows e f only =
     let g = only.same.geometry in
     record {
@@ -109,12 +109,12 @@ moved_by m rows v = with_view v m (ahead_by (v.arrays m) rows (v.arrays m).truth
 own_moved : (m rows : ℕ) (v : Raid) → (moved_by m rows v).arrays m ≡ ahead_by (v.arrays m) rows (v.arrays m).truth.events
 own_moved m rows v = stepped_own v m (ahead_by (v.arrays m) rows (v.arrays m).truth.events)
 
-only_at : (t : Bool) (a b x y : ArrayView) → LosesOnly a b → LosesOnly x y → LosesOnly (if t then a else x) (if t then b else y)
+only_at : (t : Bool) (a b x y : ArrayView) → OnlyFailures a b → OnlyFailures x y → OnlyFailures (if t then a else x) (if t then b else y)
 only_at true a b x y own other = own
 only_at false a b x y own other = other
 
 -- an array that is changed again
-only_again : (t : Bool) (a b c x : ArrayView) → LosesOnly a c → LosesOnly (if t then a else (if t then b else x)) (if t then c else x)
+only_again : (t : Bool) (a b c x : ArrayView) → OnlyFailures a c → OnlyFailures (if t then a else (if t then b else x)) (if t then c else x)
 only_again true a b c x own = own
 only_again false a b c x own = only_same x x refl
 
@@ -193,7 +193,7 @@ one_more m rows v =
       after = record {
         arrays = λ n low.
             subst
-            (λ (z : ArrayView). LosesOnly (if n == m then ahead_by z 1 (raised z.truth.events) else (if n == m then before else v.arrays n)) (if n == m then all else v.arrays n))
+            (λ (z : ArrayView). OnlyFailures (if n == m then ahead_by z 1 (raised z.truth.events) else (if n == m then before else v.arrays n)) (if n == m then all else v.arrays n))
             (sym (own_moved m rows v))
             (only_again (n == m) own before all (v.arrays n) (only_more u rows u.truth.events (raised u.truth.events) u.truth.events));
         plan = refl;

@@ -2,7 +2,7 @@
 use Rattle.std.proofs.Common.{◌≡◌, ℕ, zero, suc, ◌+◌, ◌*◌, ◌<◌, ◌≤◌, false, List, Some, refl, sym, ap, subst, ◌∙◌, inl, inr, arith}
 use Rattle.std.proofs.lemmas.Bool.{cases_lt}
 use Rattle.std.proofs.lemmas.Option.{none-some}
-use Rattle.rack.specs.Seen.{Image, IsLive, Seen, Stays}
+use Rattle.rack.specs.Seen.{Image, IsLive, RackView, SameRack}
 use Rattle.rack.specs.Joins.{leaves_weaker}
 use Rattle.rack.specs.Sequences.{IsMix}
 use Rattle.array_image.specs.Places.{state_sector, super_sector}
@@ -27,7 +27,7 @@ use Rattle.pool_format.specs.Writing.{InCleared}
 use Rattle.pool_format.specs.Stops.{HaveCopiesTo, IsStop, StopsAmid, clearing, filling, saying}
 use Rattle.pool_format.proofs.Lists.{got}
 use Rattle.assembler_laws.specs.Holding.{AreSteady}
-use Rattle.assembler.specs.Sound.{AreAlone}
+use Rattle.assembler.specs.Sound.{NoStraySuperblock}
 use Rattle.new_pool.specs.Contents.{IsNewPool, MeanNoneOrZeros, MeanZeros, SaysNone, unsaid}
 use Rattle.new_pool.proofs.Founds.{found_is, shown, sound_logs}
 use Rattle.new_pool.proofs.Identities.{no_seat, seat_at, zeros_say_none}
@@ -50,7 +50,7 @@ plan_size plan extent same = ap (λ n. n * plan.extent) (new_extents_are (extent
 none_says : (v : List ℕ) → v ≡ no_state → SaysNone v
 none_says v cleared = subst SaysNone (sym cleared) zeros_say_none
 
-module _ (x y : Seen) (extent : ℕ) (birth : Birth) (plan : NewPool) (planned : IsPlanOf (units_on x extent) extent plan) (is : IsPlan plan) (room : HasRoom plan x) (stays : Stays x y)
+module _ (x y : RackView) (extent : ℕ) (birth : Birth) (plan : NewPool) (planned : IsPlanOf (units_on x extent) extent plan) (is : IsPlan plan) (room : HasRoom plan x) (stays : SameRack x y)
     (steady : AreSteady x) (ids : HaveOwnIds birth x.disks) where
   pub low_before : (d : ℕ) → d < y.disks → d < x.disks
   low_before d low = subst (λ n. d < n) stays.disks low
@@ -140,7 +140,7 @@ module _ (x y : Seen) (extent : ℕ) (birth : Birth) (plan : NewPool) (planned :
       ])
 
 -- what stops inside leave
-stops_meant : (x y : Seen) (extent : ℕ) (birth : Birth) (plan : NewPool) → IsPlanOf (units_on x extent) extent plan → IsPlan plan → HasRoom plan x → Stays x y → StopsAmid plan birth x y
+stops_meant : (x y : RackView) (extent : ℕ) (birth : Birth) (plan : NewPool) → IsPlanOf (units_on x extent) extent plan → IsPlan plan → HasRoom plan x → SameRack x y → StopsAmid plan birth x y
     → StopsMean plan birth x y (capacity_of plan * extent)
 stops_meant x y extent birth plan planned is room stays stops traced =
     leaves_weaker (IsStop plan birth x y) (MeansStop plan birth x y (capacity_of plan * extent)) of (stops traced)
@@ -171,7 +171,7 @@ module _ (plan : NewPool) (birth : Birth) (disks : Disks) (c : Image) (is : IsNe
   ]
 
   -- what stands where its slice would begin is none of the array's
-  pub alone_now : AreAlone f c
+  pub alone_now : NoStraySuperblock f c
   alone_now n p d first made seat none begins inside t here =
       let at = seat_is p d seat in
       let a = got plan.arrays.items n made in
@@ -182,8 +182,8 @@ module _ (plan : NewPool) (birth : Birth) (disks : Disks) (c : Image) (is : IsNe
 
 -- ---- a pool that was made
 
-module _ (x y : Seen) (extent : ℕ) (birth : Birth) (a : Arrays) (l : Linear) (made : IsMade x y extent birth a l) where
-  abbrev stays : Stays x y
+module _ (x y : RackView) (extent : ℕ) (birth : Birth) (a : Arrays) (l : Linear) (made : IsMade x y extent birth a l) where
+  abbrev stays : SameRack x y
   stays = made.only.stays
 
   module _ (steady : AreSteady x) (sized : AreSectors y) (ids : HaveOwnIds birth x.disks) (others : HaveNoOthers made.plan birth y (now_in y)) where
@@ -251,7 +251,7 @@ module _ (x y : Seen) (extent : ℕ) (birth : Birth) (a : Arrays) (l : Linear) (
 
 -- ---- and one that wasn't
 
-pub safely : (x y : Seen) (extent : ℕ) (birth : Birth) → IsGivenBack x y extent birth → IsSafelyRefused x y extent birth
+pub safely : (x y : RackView) (extent : ℕ) (birth : Birth) → IsGivenBack x y extent birth → IsSafelyRefused x y extent birth
 safely x y extent birth back = record {
   back = back;
   stops = stops_meant x y extent birth back.plan back.planned back.well_planned back.room back.only.stays back.stops;

@@ -6,7 +6,7 @@ use Rattle.std.proofs.lemmas.Bool.{both_ways}
 use Rattle.std.proofs.lemmas.Option.{slice_get_within}
 use Rattle.arrayvec.specs.ArrayVec.{ArrayVec}
 use Rattle.shr_base.specs.declared.Id.{Id}
-use Rattle.rack.specs.Seen.{Seen}
+use Rattle.rack.specs.Seen.{RackView}
 use Rattle.pool_state.specs.declared.contents.Drive.{Drive}
 use Rattle.pool_state.specs.declared.contents.State.{State}
 use Rattle.array_image.specs.States.{is_current}
@@ -15,7 +15,7 @@ use Rattle.array_model.specs.declared.Seat.TheVariants.{Whole, Missing, Rebuildi
 use Rattle.array_image.specs.Arrays.{place_with}
 use Rattle.array_model.specs.View.{View, is_missing_seat, place_at}
 use Rattle.raid_laws.specs.Book.{IsSameBook, drive_of}
-use Rattle.raid_laws.specs.Moves.{IsSeated, LosesOnly}
+use Rattle.raid_laws.specs.Moves.{IsSeated, OnlyFailures}
 
 -- ---- seats
 
@@ -37,7 +37,7 @@ is_missing (Some Missing) is = refl
 is_missing (Some (Rebuilding to)) is = let no : false ≡ true = cc is in absurd (both_ways false refl no)
 
 -- the marks of an array whose losses are heeded
-marked_at : (s : State) (n k : ℕ) (v : View) (x : Seen) → IsSeated s n v x → v.went ≡ [] → k < v.truth.raid_disks
+marked_at : (s : State) (n k : ℕ) (v : View) (x : RackView) → IsSeated s n v x → v.went ≡ [] → k < v.truth.raid_disks
     → option_map is_missing_seat (slice_get v.seats k) ≡ Some (not (is_current s (place_at v k)))
 marked_at s n k v x seated none low =
     seated.marks k low
@@ -49,8 +49,8 @@ marked_at s n k v x seated none low =
     and_true false = refl
 
 -- Where no place comes to be marked, an array that may have lost members has lost none. `u` is the array once a step of it is done.
-pub seats_same : (s t : State) (n : ℕ) (v u w : View) (a b : Seen) → IsSeated s n v a → IsSeated t n w b → v.went ≡ [] → w.went ≡ []
-    → ((p : ℕ) → is_current t p ≡ is_current s p) → LosesOnly u w → u.truth.roles ≡ v.truth.roles → u.truth.raid_disks ≡ v.truth.raid_disks
+pub seats_same : (s t : State) (n : ℕ) (v u w : View) (a b : RackView) → IsSeated s n v a → IsSeated t n w b → v.went ≡ [] → w.went ≡ []
+    → ((p : ℕ) → is_current t p ≡ is_current s p) → OnlyFailures u w → u.truth.roles ≡ v.truth.roles → u.truth.raid_disks ≡ v.truth.raid_disks
     → ((k : ℕ) → slice_get v.seats k ≡ Some Missing → slice_get u.seats k ≡ Some Missing) → w.seats ≡ u.seats
 seats_same s t n v u w a b before after heeded none marks only roles disks still =
     same_list w.seats u.seats (λ k.

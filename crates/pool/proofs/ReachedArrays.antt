@@ -6,13 +6,13 @@ use Rattle.std.proofs.Common.{◌≡◌, ℕ, zero, suc, ◌+◌, ◌-◌, ◌/�
 use Rattle.std.proofs.lemmas.Bool.{and_from, and_parts, both_ways}
 use Rattle.std.proofs.lemmas.List.FromFn.{get_or-map-range_with_len, length-map-range_with_len}
 use Rattle.std.proofs.lemmas.Option.{slice_get-get_or, slice_get_within}
-use Rattle.rack.specs.Seen.{Seen}
+use Rattle.rack.specs.Seen.{RackView}
 use Rattle.array_core.specs.Seats.{seat_of}
 use Rattle.array_model.specs.View.{View as ArrayView}
 use Rattle.growth_laws.specs.NewDrives.{height, reaches, top}
 use Rattle.growth_plan.specs.Book.{height_of}
 use Rattle.growth_plan.specs.declared.ArrayNow.{ArrayNow}
-use Rattle.raid_laws.specs.Book.{IsAfter}
+use Rattle.raid_laws.specs.Book.{OnlyMarksSince}
 use Rattle.raid_laws.specs.Moves.{KeepsArrays}
 use Rattle.raid_laws.specs.NewDrive.{first_in, reaches_all, slice_length}
 use Rattle.raid_laws.specs.Raid.{Raid}
@@ -70,7 +70,7 @@ all_same f g a zero same = refl
 all_same f g a (suc n) same = ap₂ (λ b c. b && c) (same a (omega arith)) (all_same f g (a + 1) n (λ i low. same i (omega (arith, low))))
 
 -- losses leave it so
-module _ (r q : Arrays) (x y : Seen) (before : IsRunning r x) (after : IsRunning q y) (marks : IsAfter r.state q.state) (keeps : KeepsArrays (raid_by r) (raid_by q)) (place : ℕ) where
+module _ (r q : Arrays) (x y : RackView) (before : IsRunning r x) (after : IsRunning q y) (marks : OnlyMarksSince r.state q.state) (keeps : KeepsArrays (raid_by r) (raid_by q)) (place : ℕ) where
   heights_same : (k : ℕ) → height_of (take k (arrays_now (raid_by q))) ≡ height_of (take k (arrays_now (raid_by r)))
   heights_same k =
       ap (λ n. height_of (take k (map (λ i. array_now q.state.extent ((raid_by q).arrays i)) (range_with_len 0 n)))) marks.same.made

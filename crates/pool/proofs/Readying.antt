@@ -5,7 +5,7 @@ use Rattle.std.specs.Option.{option_map_or}
 use Rattle.std.proofs.Common.{◌≡◌, ◌≢◌, ◌⊎◌, ℕ, zero, suc, ◌+◌, ◌-◌, ◌<◌, ◌≤◌, ◌^◌, ◌==◌, ◌&&◌, ◌||◌, not, nat_le, Bool, true, false, List, [], ◌∷◌, Option, Some, None, drop, filter, if◌then◌else◌, is_some, length, length-take, map, slice_get, take, option_map, refl, sym, ap, ap₂, subst, ◌∙◌, inl, inr, arith, lt-ltb, le-ltb}
 use Rattle.std.proofs.lemmas.Bool.{both_ways, cases_lt}
 use Rattle.std.proofs.lemmas.Option.{slice_get-get_or, slice_get_past}
-use Rattle.rack.specs.Seen.{Seen}
+use Rattle.rack.specs.Seen.{RackView}
 use Rattle.array_image.specs.Places.{log_kind, log_sectors, raid_kind, state_sector}
 use Rattle.array_image.specs.States.{is_current}
 use Rattle.gpt_table.specs.declared.Table.{Table}
@@ -17,9 +17,9 @@ use Rattle.raid_laws.specs.Raid.{Raid}
 use Rattle.std.proofs.lemmas.List.FromFn.{get_or-map-range_with_len, length-map-range_with_len}
 use Rattle.array_core.specs.Seats.{renewed, seat_of}
 use Rattle.raid_rack.specs.declared.arrays.Arrays.{Arrays}
-use Rattle.raid_laws.specs.Book.{IsAfter, drive_of}
+use Rattle.raid_laws.specs.Book.{OnlyMarksSince, drive_of}
 use Rattle.raid_laws.specs.Enlisting.{enlisted, next_drive, with_drive}
-use Rattle.raid_laws.specs.Moves.{KeepsArrays, LosesOnly}
+use Rattle.raid_laws.specs.Moves.{KeepsArrays, OnlyFailures}
 use Rattle.raid_laws.specs.NewDrive.{drive_table, entry_of, first_in, is_reached, joins, length_in, reaches_all}
 use Rattle.raid_rack.specs.RaidRack.{IsRunning, no_array, raid_by}
 use Rattle.raid_laws.specs.Missing.{raised}
@@ -40,21 +40,21 @@ got_map [] k = refl
 got_map (d ∷ ds) zero = refl
 got_map (d ∷ ds) (suc k) = got_map ds k
 
-drive_same : (s t : State) → IsAfter s t → (k : ℕ) → option_map drive_of (slice_get t.drives.items k) ≡ option_map drive_of (slice_get s.drives.items k)
+drive_same : (s t : State) → OnlyMarksSince s t → (k : ℕ) → option_map drive_of (slice_get t.drives.items k) ≡ option_map drive_of (slice_get s.drives.items k)
 drive_same s t after k = got_map t.drives.items k ∙ ap (λ ds. slice_get ds k) after.same.drives ∙ sym (got_map s.drives.items k)
 
 length_map : (ds : List Drive) → length (map drive_of ds) ≡ length ds
 length_map [] = refl
 length_map (d ∷ ds) = ap suc (length_map ds)
 
-pub many_same : (s t : State) → IsAfter s t → length t.drives.items ≡ length s.drives.items
+pub many_same : (s t : State) → OnlyMarksSince s t → length t.drives.items ≡ length s.drives.items
 many_same s t after = sym (length_map t.drives.items) ∙ ap length after.same.drives ∙ length_map s.drives.items
 
 units_in : (o : Option Drive) → option_map (λ (d : Drive). d.units) o ≡ option_map (λ (p : List ℕ × ℕ). p.1) (option_map drive_of o)
 units_in None = refl
 units_in (Some d) = refl
 
-pub units_same : (s t : State) → IsAfter s t → (k : ℕ) → option_map (λ (d : Drive). d.units) (slice_get t.drives.items k) ≡ option_map (λ (d : Drive). d.units) (slice_get s.drives.items k)
+pub units_same : (s t : State) → OnlyMarksSince s t → (k : ℕ) → option_map (λ (d : Drive). d.units) (slice_get t.drives.items k) ≡ option_map (λ (d : Drive). d.units) (slice_get s.drives.items k)
 units_same s t after k =
     units_in (slice_get t.drives.items k) ∙ ap (option_map (λ (p : List ℕ × ℕ). p.1)) (drive_same s t after k) ∙ sym (units_in (slice_get s.drives.items k))
 
@@ -62,7 +62,7 @@ has_in : (n : ℕ) (o : Option Drive) → option_map_or (λ (d : Drive). d.units
 has_in n None = refl
 has_in n (Some d) = refl
 
-pub has_units_same : (s t : State) → IsAfter s t → (k n : ℕ) → has_units t k n ≡ has_units s k n
+pub has_units_same : (s t : State) → OnlyMarksSince s t → (k n : ℕ) → has_units t k n ≡ has_units s k n
 has_units_same s t after k n =
     has_in n (slice_get t.drives.items k) ∙ ap (λ o. option_map_or (λ (p : List ℕ × ℕ). p.1 == n) o false) (drive_same s t after k) ∙ sym (has_in n (slice_get s.drives.items k))
 
@@ -87,7 +87,7 @@ map_set [] k d = refl
 map_set (e ∷ ds) zero d = refl
 map_set (e ∷ ds) (suc k) d = ap (λ rest. drive_of e ∷ rest) (map_set ds k d)
 
-pub next_same : (s t : State) → IsAfter s t → next_drive t ≡ next_drive s
+pub next_same : (s t : State) → OnlyMarksSince s t → next_drive t ≡ next_drive s
 next_same s t after =
     ap (λ p. next_drive (record s { pool = p; serial = t.serial })) after.same.pool ∙ ap (λ n. next_drive (record s { serial = n })) after.same.serial
 
@@ -113,7 +113,7 @@ raised_both a b = elim (raised_at a) [
   ]
 ]
 
-pub after_enlisted : (place units : ℕ) (plan : Plan) (s t : State) → place < length s.drives.items → IsAfter s t → IsAfter (enlisted place units plan s) (enlisted place units plan t)
+pub after_enlisted : (place units : ℕ) (plan : Plan) (s t : State) → place < length s.drives.items → OnlyMarksSince s t → OnlyMarksSince (enlisted place units plan s) (enlisted place units plan t)
 after_enlisted place units plan s t low after = record {
   same = record {
     pool = after.same.pool;
@@ -174,7 +174,7 @@ table_by drive sectors many f l j = record {
   };
 }
 
-module _ (r q : Arrays) (x y : Seen) (before : IsRunning r x) (after : IsRunning q y) (marks : IsAfter r.state q.state) (keeps : KeepsArrays (raid_by r) (raid_by q)) (place : ℕ) where
+module _ (r q : Arrays) (x y : RackView) (before : IsRunning r x) (after : IsRunning q y) (marks : OnlyMarksSince r.state q.state) (keeps : KeepsArrays (raid_by r) (raid_by q)) (place : ℕ) where
   are : AreSameMembers r.all.items q.all.items
   are = same_members r q x y before after marks.same.made keeps
 
@@ -212,9 +212,9 @@ module _ (r q : Arrays) (x y : Seen) (before : IsRunning r x) (after : IsRunning
   pub with_same : (units sectors : ℕ) (plan : Plan)
       → KeepsArrays (with_drive place units plan (joins xs place sectors) (raid_by r)) (with_drive place units plan (joins ys place sectors) (raid_by q))
   with_same units sectors plan n low =
-      subst (λ (b : Bool). LosesOnly (if joins xs place sectors n then renewed place (next_drive r.state) ((raid_by r).arrays n) else (raid_by r).arrays n)
+      subst (λ (b : Bool). OnlyFailures (if joins xs place sectors n then renewed place (next_drive r.state) ((raid_by r).arrays n) else (raid_by r).arrays n)
       (if b then renewed place (next_drive q.state) ((raid_by q).arrays n) else (raid_by q).arrays n)) (sym (joins_same xs ys same_views place sectors n))
-      (subst (λ e. LosesOnly (if joins xs place sectors n then renewed place (next_drive r.state) ((raid_by r).arrays n) else (raid_by r).arrays n)
+      (subst (λ e. OnlyFailures (if joins xs place sectors n then renewed place (next_drive r.state) ((raid_by r).arrays n) else (raid_by r).arrays n)
       (if joins xs place sectors n then renewed place e ((raid_by q).arrays n) else (raid_by q).arrays n)) (sym (next_same r.state q.state marks))
       (renewed_if ((raid_by r).arrays n) ((raid_by q).arrays n) place (next_drive r.state) (joins xs place sectors n) (before.set.arrays n low).is_array
       (after.set.arrays n (let made = marks.same.made in omega (arith, low, made))).is_array (keeps n low)))

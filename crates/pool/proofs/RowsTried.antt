@@ -2,7 +2,7 @@
 use Rattle.std.specs.Prelude.{IfErr, IfOk, Result, is_ok, nat_lt, not}
 use Rattle.std.proofs.Common.{◌≡◌, ◌⊎◌, ℕ, zero, suc, ◌-◌, ◌<◌, ◌≤◌, ◌==◌, ◌&&◌, if◌then◌else◌, Bool, true, false, slice_get, Some, Ok, Err, refl, sym, ap, subst, inl, inr, ltb-true, arith}
 use Rattle.std.proofs.lemmas.Bool.{and_parts, both_ways, cases_Bool}
-use Rattle.rack.specs.Seen.{Seen}
+use Rattle.rack.specs.Seen.{RackView}
 use Rattle.rack.specs.Shelf.{Shelf}
 use Rattle.array_model.specs.View.{rows_of}
 use Rattle.array_image.specs.Supers.{is_reshaping}
@@ -35,7 +35,7 @@ use Rattle.pool.proofs.Serving.{KeepNames, Laws}
 use Rattle.pool.proofs.Stepping.{SaysOf, lacks_row, some_done, some_drive}
 use Rattle.pool.proofs.Trying.{goes_on, seats_on}
 
-module _ {R : Type 0} (seen : R → Seen) (shelf : R → Shelf) (runs : R → R → Type 0) (laws : Laws seen) (names : KeepNames shelf runs) (p : Pool R) (new : RaidRack R) (work : Work) (most : ℕ)
+module _ {R : Type 0} (seen : R → RackView) (shelf : R → Shelf) (runs : R → R → Type 0) (laws : Laws seen) (names : KeepNames shelf runs) (p : Pool R) (new : RaidRack R) (work : Work) (most : ℕ)
     (fit : (volume (view seen shelf p)).fit) (first : slice_get (works_of (view seen shelf p)) 0 ≡ Some work) (any : 0 < most) where
   abbrev x : View
   x = view seen shelf p
@@ -126,7 +126,7 @@ module _ {R : Type 0} (seen : R → Seen) (shelf : R → Shelf) (runs : R → R 
 -- ---- rows to move
 
 -- what the call of the arrays says of them
-pub record MovesSays {R : Type 0} (seen : R → Seen) (runs : R → R → Type 0) (m most : ℕ) (r : Result ℕ Stuck) (old new : RaidRack R) : Type 0 where
+pub record MovesSays {R : Type 0} (seen : R → RackView) (runs : R → R → Type 0) (m most : ℕ) (r : Result ℕ Stuck) (old new : RaidRack R) : Type 0 where
   pub idle : is_due_to_grow (raid_in old) (Reshape m) ≡ false → (is_ok r ≡ false) × (new ≡ old)
   pub grows : is_due_to_grow (raid_in old) (Reshape m) ≡ true → MovesRows m most (raid_in old) (raid_in new) (slices_seen seen old) (slices_seen seen new) r
   pub named : IfErr r (λ e. e.array ≡ m)
@@ -134,7 +134,7 @@ pub record MovesSays {R : Type 0} (seen : R → Seen) (runs : R → R → Type 0
   pub raises : RaisesBy 18 (raid_in old) (raid_in new)
   pub ran : SliceRuns seen runs (slices_in old) (slices_in new)
 
-module _ {R : Type 0} (seen : R → Seen) (shelf : R → Shelf) (runs : R → R → Type 0) (names : KeepNames shelf runs) (p : Pool R) (new : RaidRack R) (m most : ℕ)
+module _ {R : Type 0} (seen : R → RackView) (shelf : R → Shelf) (runs : R → R → Type 0) (names : KeepNames shelf runs) (p : Pool R) (new : RaidRack R) (m most : ℕ)
     (fit : (volume (view seen shelf p)).fit) (first : slice_get (works_of (view seen shelf p)) 0 ≡ Some (Reshape m)) (any : 0 < most) where
   abbrev a : View
   a = view seen shelf p

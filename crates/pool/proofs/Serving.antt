@@ -3,7 +3,7 @@ use Rattle.std.specs.Prelude.{Result}
 use Rattle.std.proofs.Common.{◌≡◌, ℕ, ◌+◌, ◌<◌, ◌≤◌, Bool, true, false, List, Ok, Err, refl, sym, subst, ◌∙◌, arith}
 use Rattle.std.proofs.lemmas.Bool.{both_ways}
 use Rattle.rack.specs.declared.Gone.{Gone}
-use Rattle.rack.specs.Seen.{Seen, Stays}
+use Rattle.rack.specs.Seen.{RackView, SameRack}
 use Rattle.rack.specs.Moments.{IsSound}
 use Rattle.rack.specs.Shelf.{KeepsShelf, Shelf}
 use Rattle.rack.specs.Calls.{Reads, Syncs, Writes}
@@ -18,8 +18,8 @@ use Rattle.raid_rack.specs.AllRuns.{AreRuns, IsOneCall}
 use Rattle.raid_laws.specs.Laws.{raid_sound, stops_inside}
 use Rattle.raid_laws.specs.Losing.{arrays_same}
 use Rattle.raid_laws.specs.Moves.{AreCaused, KeepsMarked}
-use Rattle.raid_laws.specs.Book.{IsAfter}
-use Rattle.raid_laws.specs.Runs.{KeepsMoments}
+use Rattle.raid_laws.specs.Book.{OnlyMarksSince}
+use Rattle.raid_laws.specs.Runs.{CrashInvariant}
 use Rattle.raid_laws.specs.Truths.{KeepsTruths}
 use Rattle.raid_rack.specs.RaidRack.{SliceRuns, raid_in, raid_seen, slices_in, slices_seen}
 use Rattle.pool.specs.declared.Pool.{Pool}
@@ -28,7 +28,7 @@ use Rattle.pool.specs.declared.calls.SectorFault.TheVariants.{Range, Spent}
 use Rattle.pool.specs.View.{View, arrays_of, bay_in, book, view, volume}
 use Rattle.pool.specs.Volume.{is_spent, size_of}
 use Rattle.pool.specs.Keeping.{KeepsBook, KeepsWorks, Raises, most_raised}
-use Rattle.pool.specs.Calls.{Flushes, HasFault, Marks, Passes, ReadsSector, WritesSector}
+use Rattle.pool.specs.Calls.{Flushes, HasFault, Marks, CallFrame, ReadsSector, WritesSector}
 use Rattle.raid_rack.proofs.Raises.{raises_more, raises_none, several_raise}
 use Rattle.pool.proofs.Booked.{book_lost}
 use Rattle.pool.proofs.Keeping.{marks_of, marks_same, passes_of, passes_same}
@@ -37,14 +37,14 @@ use Rattle.pool.proofs.Doing.{does_flush, does_kept, does_none, does_refused, do
 -- ---- a call of the volume
 
 -- what holds of a rack's stops at any moment
-abbrev pub Laws : {R : Type 0} → (R → Seen) → Type 0
+abbrev pub Laws : {R : Type 0} → (R → RackView) → Type 0
 Laws {R} seen = (rack : R) → (seen rack).fit → (seen rack).traced → IsSound (seen rack)
 
 -- runs keep a bay's names
 abbrev pub KeepNames : {R : Type 0} → (R → Shelf) → (R → R → Type 0) → Type 0
 KeepNames {R} shelf runs = (r s : R) → runs r s → KeepsShelf (shelf r) (shelf s)
 
-pub sound_in : {R : Type 0} (seen : R → Seen) (shelf : R → Shelf) (laws : Laws seen) (pool : Pool R) → (volume (view seen shelf pool)).fit → (seen (bay_in pool)).traced
+pub sound_in : {R : Type 0} (seen : R → RackView) (shelf : R → Shelf) (laws : Laws seen) (pool : Pool R) → (volume (view seen shelf pool)).fit → (seen (bay_in pool)).traced
     → IsSound (volume (view seen shelf pool))
 sound_in seen shelf laws pool fit traced =
     let raid = arrays_of pool in
@@ -57,20 +57,20 @@ sound_in seen shelf laws pool fit traced =
 
 -- what each call keeps and marks, and what holds of the volume after it
 pub record IsCall (calls : ℕ) (x y : View) : Type 0 where
-  pub passes : Passes x y
+  pub passes : CallFrame x y
   pub raises : Raises calls x y
   pub marks : Marks x y
   pub sound : y.bay.traced → IsSound (volume y)
 
-pub is_call : {R : Type 0} (seen : R → Seen) (shelf : R → Shelf) (runs : R → R → Type 0) (laws : Laws seen) (names : KeepNames shelf runs) (calls : ℕ) (p q : Pool R)
+pub is_call : {R : Type 0} (seen : R → RackView) (shelf : R → Shelf) (runs : R → R → Type 0) (laws : Laws seen) (names : KeepNames shelf runs) (calls : ℕ) (p q : Pool R)
     → (volume (view seen shelf p)).fit
-    → Stays (volume (view seen shelf p)) (volume (view seen shelf q)) → linear q.volume ≡ linear p.volume
+    → SameRack (volume (view seen shelf p)) (volume (view seen shelf q)) → linear q.volume ≡ linear p.volume
     → SliceRuns seen runs (slices_in (arrays_of p)) (slices_in (arrays_of q))
-    → IsAfter (raid_in (arrays_of p)).state (raid_in (arrays_of q)).state
+    → OnlyMarksSince (raid_in (arrays_of p)).state (raid_in (arrays_of q)).state
     → AreCaused (raid_in (arrays_of p)) (raid_in (arrays_of q)) (slices_seen seen (arrays_of p)) (slices_seen seen (arrays_of q))
     → KeepsBook (raid_in (arrays_of p)) (raid_in (arrays_of q))
     → KeepsTruths (raid_in (arrays_of p)) (raid_in (arrays_of q)) (slices_seen seen (arrays_of p)) (slices_seen seen (arrays_of q))
-    → KeepsMoments (raid_in (arrays_of p)) (raid_in (arrays_of q)) (slices_seen seen (arrays_of p)) (slices_seen seen (arrays_of q))
+    → CrashInvariant (raid_in (arrays_of p)) (raid_in (arrays_of q)) (slices_seen seen (arrays_of p)) (slices_seen seen (arrays_of q))
     → KeepsMarked (raid_in (arrays_of p)) (slices_seen seen (arrays_of p)) (slices_seen seen (arrays_of q))
     → WritesOnly (raid_seen seen (arrays_of p)) (raid_seen seen (arrays_of q)) (IsShown (linear p.volume))
     → Raises calls (view seen shelf p) (view seen shelf q)
@@ -89,9 +89,9 @@ pub record IsServing (x y : View) : Type 0 where
   pub works : KeepsWorks (book x) (book y)
 
 -- a call of the volume
-pub volume_call : {R : Type 0} (seen : R → Seen) (shelf : R → Shelf) (runs : R → R → Type 0) (laws : Laws seen) (names : KeepNames shelf runs) (p q : Pool R)
+pub volume_call : {R : Type 0} (seen : R → RackView) (shelf : R → Shelf) (runs : R → R → Type 0) (laws : Laws seen) (names : KeepNames shelf runs) (p q : Pool R)
     → (volume (view seen shelf p)).fit
-    → Stays (volume (view seen shelf p)) (volume (view seen shelf q)) → Frames (raid_seen seen) p.volume q.volume → AreRuns seen runs (arrays_of p) (arrays_of q)
+    → SameRack (volume (view seen shelf p)) (volume (view seen shelf q)) → Frames (raid_seen seen) p.volume q.volume → AreRuns seen runs (arrays_of p) (arrays_of q)
     → Several (λ a b. IsOneCall (raid_in a) (raid_in b)) (1 + (linear p.volume).arrays) (arrays_of p) (arrays_of q)
     → IsServing (view seen shelf p) (view seen shelf q)
 volume_call seen shelf runs laws names p q fit stays frames ran several =
@@ -109,7 +109,7 @@ volume_call seen shelf runs laws names p q fit stays frames ran several =
     }
 
 -- no call
-pub no_call : {R : Type 0} (seen : R → Seen) (shelf : R → Shelf) (laws : Laws seen) (p : Pool R) → (volume (view seen shelf p)).fit → IsServing (view seen shelf p) (view seen shelf p)
+pub no_call : {R : Type 0} (seen : R → RackView) (shelf : R → Shelf) (laws : Laws seen) (p : Pool R) → (volume (view seen shelf p)).fit → IsServing (view seen shelf p) (view seen shelf p)
 no_call seen shelf laws p fit = record {
   call = record {
     passes = passes_same (view seen shelf p) fit;

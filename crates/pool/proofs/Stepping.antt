@@ -5,7 +5,7 @@ use Rattle.std.proofs.Common.{◌≡◌, ℕ, zero, suc, ◌+◌, ◌<◌, ◌�
 use Rattle.std.proofs.lemmas.Bool.{both_ways, cases_Bool}
 use Rattle.std.proofs.lemmas.List.{drop-drop, drop_all}
 use Rattle.rack.specs.Joins.{rose_before, rose_since}
-use Rattle.rack.specs.Seen.{Seen}
+use Rattle.rack.specs.Seen.{RackView}
 use Rattle.rack.specs.Shelf.{Shelf}
 use Rattle.array_image.specs.States.{is_current}
 use Rattle.growth_plan.specs.Works.{works_left}
@@ -15,7 +15,7 @@ use Rattle.lvm_group.specs.Volume.{linear}
 use Rattle.pool_state.specs.declared.contents.Work.{Work}
 use Rattle.pool_state.specs.declared.contents.Work.TheVariants.{Resync, Rebuild, TakeOver, Begin, Reshape, Finish, Make, Zero, Ready, Extend, Close}
 use Rattle.raid_laws.specs.Losing.{only_same}
-use Rattle.raid_laws.specs.Moves.{LosesOnly}
+use Rattle.raid_laws.specs.Moves.{OnlyFailures}
 use Rattle.raid_laws.specs.Raid.{Raid}
 use Rattle.raid_rack.specs.RaidRack.{IsFit, arrays_in, raid_in, raid_seen, slices_seen}
 use Rattle.raid_laws.specs.Works.{Does, array_of, is_due, is_stuck}
@@ -25,7 +25,7 @@ use Rattle.pool.specs.declared.Pool.{Pool}
 use Rattle.pool.specs.View.{View, arrays_of, book, view, volume}
 use Rattle.pool.specs.Works.{IsStuck, IsWorked, KeepsAllMembers, KeepsPlan, LacksRow, left_of, progress_by, works_by, works_of}
 use Rattle.pool.specs.Keeping.{KeepsBook}
-use Rattle.pool.specs.Calls.{DoesFirst, IsQuiet, Marks, Passes}
+use Rattle.pool.specs.Calls.{DoesFirst, IsQuiet, Marks, CallFrame}
 use Rattle.pool.proofs.Booked.{book_same, book_worked}
 use Rattle.pool.proofs.Closing.{members_same, members_worked, others_stuck, plan_worked}
 use Rattle.pool.proofs.Counted.{work_counted}
@@ -36,7 +36,7 @@ use Rattle.pool.proofs.Working.{worked_call}
 -- ---- where no disk's faults rose
 
 -- no drive comes to be marked
-quiet_marks : (x y : View) → Passes x y → Marks x y → IsQuiet x y → (p : ℕ) → is_current (book y).state p ≡ is_current (book x).state p
+quiet_marks : (x y : View) → CallFrame x y → Marks x y → IsQuiet x y → (p : ℕ) → is_current (book y).state p ≡ is_current (book x).state p
 quiet_marks x y passes marks quiet p =
     elim (cases_Bool (is_current (book x).state p)) [
       | inl was ↦
@@ -71,7 +71,7 @@ some_drive l v work first =
     ]
 
 -- a row that was refused can't be had
-pub lacks_row : (v w : Raid) (a b : Seen) (work : Work) (most : ℕ) (e : Stuck) → Does work most v w a b (Err e) → LacksRow v w work
+pub lacks_row : (v w : Raid) (a b : RackView) (work : Work) (most : ℕ) (e : Stuck) → Does work most v w a b (Err e) → LacksRow v w work
 lacks_row v w a b (Resync m) most e does = not_false (is_stuck w m (v.arrays m).resync) does.answer
   where
     not_false : (t : Bool) → false ≡ not t → t ≡ true
@@ -89,13 +89,13 @@ lacks_row v w a b Extend most e does = absurd does
 lacks_row v w a b Close most e does = absurd does.0
 
 -- what the arrays say of it and of those after it, at most so many; `answer` is how many are done
-pub record SaysOf {R : Type 0} (seen : R → Seen) (work : Work) (most : ℕ) {T : Type 0} (r : Result T Stuck) (answer : Result ℕ Stuck) (old new : RaidRack R) : Type 0 where
+pub record SaysOf {R : Type 0} (seen : R → RackView) (work : Work) (most : ℕ) {T : Type 0} (r : Result T Stuck) (answer : Result ℕ Stuck) (old new : RaidRack R) : Type 0 where
   pub idle : is_due (raid_in old) work ≡ false → (is_ok r ≡ false) × (new ≡ old)
   pub does : is_due (raid_in old) work ≡ true → Does work most (raid_in old) (raid_in new) (slices_seen seen old) (slices_seen seen new) answer
   pub named : IfErr r (λ e. e.array ≡ array_of work)
 
 -- what it keeps of the book
-pub work_book : {R : Type 0} (seen : R → Seen) (shelf : R → Shelf) (p : Pool R) (new : RaidRack R) (work : Work) (most : ℕ) → (volume (view seen shelf p)).fit → (r : Result ℕ Stuck)
+pub work_book : {R : Type 0} (seen : R → RackView) (shelf : R → Shelf) (p : Pool R) (new : RaidRack R) (work : Work) (most : ℕ) → (volume (view seen shelf p)).fit → (r : Result ℕ Stuck)
     → IsFit (arrays_in new) (slices_seen seen new) → SaysOf seen work most r r (arrays_of p) new → KeepsBook (raid_in (arrays_of p)) (raid_in new)
 work_book seen shelf p new work most fit r after says =
     let v = raid_in (arrays_of p) in
@@ -107,7 +107,7 @@ work_book seen shelf p new work most fit r after says =
     ]
 
 -- and of its members and its plan
-pub work_plan : {R : Type 0} (seen : R → Seen) (shelf : R → Shelf) (p : Pool R) (new : RaidRack R) (work : Work) (most : ℕ) → (volume (view seen shelf p)).fit → (r : Result ℕ Stuck)
+pub work_plan : {R : Type 0} (seen : R → RackView) (shelf : R → Shelf) (p : Pool R) (new : RaidRack R) (work : Work) (most : ℕ) → (volume (view seen shelf p)).fit → (r : Result ℕ Stuck)
     → slice_get (works_of (view seen shelf p)) 0 ≡ Some work → KeepsBook (raid_in (arrays_of p)) (raid_in new) → SaysOf seen work most r r (arrays_of p) new
     → KeepsAllMembers (raid_in (arrays_of p)) (raid_in new) × KeepsPlan (linear p.volume) (raid_in (arrays_of p)) (raid_in new)
 work_plan seen shelf p new work most fit r first keeps says =
@@ -125,10 +125,10 @@ work_plan seen shelf p new work most fit r first keeps says =
           (subst (KeepsAllMembers v) (sym still) (members_same v), inl (ap (λ (k : Raid). k.state.plan) still))
     ]
 
-module _ {R : Type 0} (seen : R → Seen) (shelf : R → Shelf) (runs : R → R → Type 0) (laws : Laws seen) (names : KeepNames shelf runs) (p : Pool R) (new : RaidRack R) (work : Work) (most : ℕ)
+module _ {R : Type 0} (seen : R → RackView) (shelf : R → Shelf) (runs : R → R → Type 0) (laws : Laws seen) (names : KeepNames shelf runs) (p : Pool R) (new : RaidRack R) (work : Work) (most : ℕ)
     (fit : (volume (view seen shelf p)).fit) (first : slice_get (works_of (view seen shelf p)) 0 ≡ Some work) where
   -- so many were asked for at most
-  number : (work : Work) (v w : Raid) (a b : Seen) (k : ℕ) → 0 < most → Does work most v w a b {E = Stuck} (Ok k) → (0 < k) × (k ≤ most)
+  number : (work : Work) (v w : Raid) (a b : RackView) (k : ℕ) → 0 < most → Does work most v w a b {E = Stuck} (Ok k) → (0 < k) × (k ≤ most)
   number (Resync m) v w a b k any does = by_rows does.rows.rows k does.rows.some does.rows.few does.rows.answer
     where
       by_rows : (rows k : ℕ) → 0 < rows → rows ≤ most → k ≡ rows → (0 < k) × (k ≤ most)
@@ -183,7 +183,7 @@ module _ {R : Type 0} (seen : R → Seen) (shelf : R → Shelf) (runs : R → R 
       let w = raid_in new in
       let a = slices_seen seen (arrays_of p) in
       let b = slices_seen seen new in
-      let left : ((n : ℕ) → n < v.state.made → (n ≡ array_of work → ⊥) → LosesOnly (v.arrays n) (w.arrays n)) × (w.state.plan ≡ v.state.plan) =
+      let left : ((n : ℕ) → n < v.state.made → (n ≡ array_of work → ⊥) → OnlyFailures (v.arrays n) (w.arrays n)) × (w.state.plan ≡ v.state.plan) =
       elim (cases_Bool (is_due v work)) [
         | inl due ↦ others_stuck work most v w a b e (says.does due)
         | inr idle ↦
@@ -207,7 +207,7 @@ module _ {R : Type 0} (seen : R → Seen) (shelf : R → Shelf) (runs : R → R 
 pub does_none : (x : View) → DoesFirst 0 x x
 does_none x = λ quiet alone. (alone, refl)
 
-pub does_then : (x y z : View) (n k : ℕ) → Passes x y → Passes y z → DoesFirst n x y → DoesFirst k y z → DoesFirst (n + k) x z
+pub does_then : (x y z : View) (n k : ℕ) → CallFrame x y → CallFrame y z → DoesFirst n x y → DoesFirst k y z → DoesFirst (n + k) x z
 does_then x y z n k one two before more =
     λ quiet alone.
     let early = before (λ d rose. quiet d (rose_before (two.apart.stays.faults d) rose)) alone in

@@ -2,7 +2,7 @@
 use Rattle.std.specs.Prelude.{Err}
 use Rattle.std.proofs.Common.{◌≡◌, ◌≢◌, ◌⊎◌, ℕ, ◌<◌, Bool, true, false, List, Some, None, if◌then◌else◌, refl, sym, ap, subst, ◌∙◌, inl, inr, arith}
 use Rattle.std.proofs.lemmas.Bool.{both_ways, cases_Bool, cases_eq, ne_eqb}
-use Rattle.rack.specs.Seen.{IsLive, Rose, Seen}
+use Rattle.rack.specs.Seen.{IsLive, Rose, RackView}
 use Rattle.rack.specs.Sequences.{WritesOnly}
 use Rattle.rack.specs.Values.{MayLeave}
 use Rattle.rack.specs.Shelf.{KeepsShelf, Shelf}
@@ -16,7 +16,7 @@ use Rattle.array_image.specs.States.{is_current}
 use Rattle.array_model.specs.View.{HasFault}
 use Rattle.lvm_group.specs.Runs.{IsOrderly as IsOrderlyVolume}
 use Rattle.raid_rack.specs.declared.arrays.Arrays.{Arrays}
-use Rattle.raid_laws.specs.Book.{IsAfter, after_same}
+use Rattle.raid_laws.specs.Book.{OnlyMarksSince, after_same}
 use Rattle.raid_laws.specs.Enlisting.{IsNotWhole, IsRefused, IsWrittenBy, new_table}
 use Rattle.raid_laws.specs.Losing.{arrays_same}
 use Rattle.raid_laws.specs.Moves.{IsSet, KeepsArrays}
@@ -53,7 +53,7 @@ use Rattle.pool.proofs.Vacating.{bay_continues, without_carries, without_continu
 use Rattle.raid_rack.proofs.Truths.{truths_reads}
 
 -- the drive of a place that is left is one of the bay's disks
-pub low_disk : (v : Raid) (t : Slices) (a : Seen) (p : ℕ) → IsOrderly t → IsSet v (slices_of t a) → is_left v p ≡ true → disk_of t (log_slice p) < a.disks
+pub low_disk : (v : Raid) (t : Slices) (a : RackView) (p : ℕ) → IsOrderly t → IsSet v (slices_of t a) → is_left v p ≡ true → disk_of t (log_slice p) < a.disks
 low_disk v t a p orderly set left =
     let long = set.logs p left in
     set.fit.1.seats (place_of (log_slice p)) (disk_of t (log_slice p)) (seat_is t (log_slice p) 0 orderly (omega (arith, long)))
@@ -63,7 +63,7 @@ one_disk disk d (inl none) = absurd none
 one_disk disk d (inr is) = is
 
 -- a disk that isn't written is as it was
-kept_disk : (Told : Type 0) (a b : Seen) (may : ℕ → ℕ → List ℕ → Type 0) (d : ℕ) → WritesOnly a b may → ((e k : ℕ) → b.spent e k ≡ false) → d < a.disks
+kept_disk : (Told : Type 0) (a b : RackView) (may : ℕ → ℕ → List ℕ → Type 0) (d : ℕ) → WritesOnly a b may → ((e k : ℕ) → b.spent e k ≡ false) → d < a.disks
     → ((k : ℕ) (v : List ℕ) → may d k v → ⊥) → KeepsDisk Told a b d
 kept_disk Told a b may d only unspent low never = record {
   held = λ k within told. only.others d k (live k within told) (never k);
@@ -79,7 +79,7 @@ kept_disk Told a b may d only unspent low never = record {
       unspent = unspent d k;
     }
 
-module _ (x : View) (b : Seen) (s : Shelf) (place disk : ℕ) (t : Slices) (linear : IsOrderlyVolume x.linear) (fit : (volume x).fit)
+module _ (x : View) (b : RackView) (s : Shelf) (place disk : ℕ) (t : Slices) (linear : IsOrderlyVolume x.linear) (fit : (volume x).fit)
     (kind : IsVacating x place t) (empty : IsFit x.arrays (slices_of t x.bay))
     (now : IsBay b s) (names : KeepsShelf x.shelf s) (ordered : IsOrderly x.slices) (orderly : IsOrderly t) where
   abbrev mid : View
@@ -209,7 +209,7 @@ module _ (x : View) (b : Seen) (s : Shelf) (place disk : ℕ) (t : Slices) (line
   }
 
   -- another drive was found gone
-  pub declined_lost : (z : Arrays) → IsAfter (book x).state (raid_by z).state → (raid_by z).state.plan ≡ (book x).state.plan → KeepsArrays (book x) (raid_by z)
+  pub declined_lost : (z : Arrays) → OnlyMarksSince (book x).state (raid_by z).state → (raid_by z).state.plan ≡ (book x).state.plan → KeepsArrays (book x) (raid_by z)
       → ((k : ℕ) → is_left (book x) k ≡ true → is_left (raid_by z) k ≡ false → HasFault (slices_of t x.bay) (slices_of t b) k) → HasMarked (moment_of x) (moment_of (later x b s t z))
       → IsDeclined (moment_of x) (moment_of (later x b s t z)) place NotWhole
   declined_lost z marks plan arrays cause lost = record {

@@ -1,7 +1,7 @@
 -- A work is tried: what the call of the arrays says, reached through the volume.
 use Rattle.std.specs.Prelude.{IfErr, Result, is_ok}
 use Rattle.std.proofs.Common.{◌≡◌, ℕ, ◌^◌, ◌≤◌, true, false, sym, ap, subst}
-use Rattle.rack.specs.Seen.{Seen}
+use Rattle.rack.specs.Seen.{RackView}
 use Rattle.rack.specs.Shelf.{Shelf}
 use Rattle.slice_rack.specs.Slices.{seat_of}
 use Rattle.slice_rack.specs.SliceRack.{below_of, tables}
@@ -25,7 +25,7 @@ use Rattle.pool.proofs.Serving.{KeepNames}
 use Rattle.pool.proofs.Stepping.{SaysOf}
 
 -- what the call of a row, or of the end of a plan, says
-pub record RowSays {R : Type 0} (seen : R → Seen) (runs : R → R → Type 0) (work : Work) (r : Result (Unit {0}) Stuck) (old new : RaidRack R) : Type 0 where
+pub record RowSays {R : Type 0} (seen : R → RackView) (runs : R → R → Type 0) (work : Work) (r : Result (Unit {0}) Stuck) (old new : RaidRack R) : Type 0 where
   pub says : SaysOf seen work 1 r (one_done r) old new
   pub keeps : KeepsRack (raid_seen seen old) (raid_seen seen new)
   pub ran : SliceRuns seen runs (slices_in old) (slices_in new)
@@ -33,7 +33,7 @@ pub record RowSays {R : Type 0} (seen : R → Seen) (runs : R → R → Type 0) 
   pub raises : RaisesBy 18 (raid_in old) (raid_in new)
 
 -- what that of a work of a growth says
-pub record GrowthSays {R : Type 0} (seen : R → Seen) (runs : R → R → Type 0) (seconds : ℕ) (work : Work) (L : RaidRack R → Raid → Raid → Type 0) (k : ℕ) (r : Result (Unit {0}) Stuck)
+pub record GrowthSays {R : Type 0} (seen : R → RackView) (runs : R → R → Type 0) (seconds : ℕ) (work : Work) (L : RaidRack R → Raid → Raid → Type 0) (k : ℕ) (r : Result (Unit {0}) Stuck)
     (old new : RaidRack R) : Type 0 where
   pub idle : is_due_to_grow (raid_in old) work ≡ false → (is_ok r ≡ false) × (new ≡ old)
   pub grows : is_due_to_grow (raid_in old) work ≡ true → GrowsBy (change_in seconds work) (L old) (raid_in old) (raid_in new) (slices_seen seen old) (slices_seen seen new) (is_ok r)
@@ -45,15 +45,15 @@ pub record GrowthSays {R : Type 0} (seen : R → Seen) (runs : R → R → Type 
   pub ran : runs (below_of (slices_in old)) (below_of (slices_in new))
 
 -- where slices stay where they are
-pub seats_on : {R : Type 0} (seen : R → Seen) (runs : R → R → Type 0) (old new : RaidRack R) → SliceRuns seen runs (slices_in old) (slices_in new) → (place : ℕ)
+pub seats_on : {R : Type 0} (seen : R → RackView) (runs : R → R → Type 0) (old new : RaidRack R) → SliceRuns seen runs (slices_in old) (slices_in new) → (place : ℕ)
     → seat_of (tables (slices_in new)) place ≡ seat_of (tables (slices_in old)) place
 seats_on seen runs old new ran place = ap (λ t. seat_of t place) ran.tables
 
-pub goes_on : {R : Type 0} (seen : R → Seen) (runs : R → R → Type 0) (old new : RaidRack R) → IsFit (arrays_in old) (slices_seen seen old)
+pub goes_on : {R : Type 0} (seen : R → RackView) (runs : R → R → Type 0) (old new : RaidRack R) → IsFit (arrays_in old) (slices_seen seen old)
     → SliceRuns seen runs (slices_in old) (slices_in new) → Goes (seen (below_of (slices_in old))) (seen (below_of (slices_in new)))
 goes_on seen runs old new fit ran = goes_of (ran.apart fit.running.set.fit.0 fit.running.set.fit.1)
 
-module _ {R : Type 0} (seen : R → Seen) (shelf : R → Shelf) (runs : R → R → Type 0) (names : KeepNames shelf runs) (p : Pool R) (old new : RaidRack R) (asked work : Work)
+module _ {R : Type 0} (seen : R → RackView) (shelf : R → Shelf) (runs : R → R → Type 0) (names : KeepNames shelf runs) (p : Pool R) (old new : RaidRack R) (asked work : Work)
     (is : asked ≡ work) (reached : old ≡ arrays_of p) (fit : (volume (view seen shelf p)).fit) (r : Result (Unit {0}) Stuck)
     (same : linear p.volume ≡ linear_after work (linear p.volume) (raid_in (arrays_of p))) where
   pub row_from : RowSays seen runs asked r old new

@@ -14,7 +14,7 @@ use Rattle.pool.specs.Moment.{moment_of}
 use Rattle.pool.specs.Replaced.{HasMarked, HasMarkedOther, is_vacant}
 use Rattle.pool.specs.Replacing.{IsAdmissible, IsAdmitted, has_other_missing}
 use Rattle.pool.specs.Taking.{Carries, IsOfPlace, ReplacesBy, TakesBy}
-use Rattle.rack.specs.Seen.{Seen}
+use Rattle.rack.specs.Seen.{RackView}
 use Rattle.rack.specs.Shelf.{Shelf}
 use Rattle.raid_rack.specs.RaidRack.{arrays_in, refused_in}
 use Rattle.pool.specs.declared.Pool.{Pool}
@@ -161,7 +161,7 @@ meanwhile_is P bays one s t arrays refused k l tables volumes here =
     (subst (λ q. P (record { bays = bays; bay = bays.seen one; shelf = bays.shelf one; slices = q; arrays = arrays; refused = refused; linear = k })) tables here)
 
 -- a pool whose slices and volume are as those of an earlier one, as that one meanwhile
-pub to_mean : {R : Type 0} (seen : R → Seen) (shelf : R → Shelf) (p q : Pool R) (P : View → Type 0) → (view seen shelf q).slices ≡ (view seen shelf p).slices
+pub to_mean : {R : Type 0} (seen : R → RackView) (shelf : R → Shelf) (p q : Pool R) (P : View → Type 0) → (view seen shelf q).slices ≡ (view seen shelf p).slices
     → (view seen shelf q).linear ≡ (view seen shelf p).linear → P (view seen shelf q)
     → P (meanwhile (view seen shelf p) (bay_in q) (arrays_in (arrays_of q)) (refused_in (arrays_of q)))
 to_mean seen shelf p q P slices volumes =

@@ -1,7 +1,7 @@
 -- Works of maintenance in a row, and what they are to the volume.
 use Rattle.std.proofs.Common.{◌≡◌, ℕ, ◌+◌, ◌*◌, ◌≤◌, refl, sym, subst, ◌∙◌, inl, arith}
 use Rattle.rack.proofs.Writing.{only_quiet}
-use Rattle.rack.specs.Seen.{IsPick, Seen, Stays}
+use Rattle.rack.specs.Seen.{IsPick, RackView, SameRack}
 use Rattle.rack.specs.Shelf.{Shelf}
 use Rattle.rack.specs.Calls.{KeepsAll}
 use Rattle.rack.specs.Joins.{keeps_all_then, stays_same, stays_then, keeps_same, leaves_same}
@@ -20,7 +20,7 @@ use Rattle.pool.specs.declared.Pool.{Pool}
 use Rattle.pool.specs.View.{arrays_of, bay_in, view, volume}
 use Rattle.pool.specs.Keeping.{KeepsBook, most_raised}
 use Rattle.pool.specs.Works.{IsWorked, KeepsAllMembers, KeepsPlan}
-use Rattle.pool.specs.Volume.{Does, unchanged}
+use Rattle.pool.specs.Volume.{Refines, unchanged}
 use Rattle.raid_rack.proofs.Raises.{raises_more, raises_none, raises_then}
 use Rattle.pool.proofs.Booked.{book_same, book_then}
 use Rattle.pool.proofs.Closing.{all_members_then, members_same, plan_then}
@@ -28,7 +28,7 @@ use Rattle.pool.proofs.Doing.{does_kept}
 use Rattle.pool.proofs.Reached.{with_arrays}
 use Rattle.pool.proofs.Serving.{IsCall, KeepNames, Laws, is_call}
 
-module _ {R : Type 0} (seen : R → Seen) (shelf : R → Shelf) (runs : R → R → Type 0) where
+module _ {R : Type 0} (seen : R → RackView) (shelf : R → Shelf) (runs : R → R → Type 0) where
   -- no work
   pub worked_none : ((r : R) → runs r r) → (p : Pool R) → (volume (view seen shelf p)).fit → IsWorked seen runs 0 p p
   worked_none same p fit =
@@ -103,9 +103,9 @@ module _ {R : Type 0} (seen : R → Seen) (shelf : R → Shelf) (runs : R → R 
       }
 
   -- the volume after them
-  worked_stays : (count : ℕ) (p q : Pool R) → (volume (view seen shelf p)).fit → IsWorked seen runs count p q → Stays (volume (view seen shelf p)) (volume (view seen shelf q))
+  worked_stays : (count : ℕ) (p q : Pool R) → (volume (view seen shelf p)).fit → IsWorked seen runs count p q → SameRack (volume (view seen shelf p)) (volume (view seen shelf q))
   worked_stays count p q fit worked =
-      subst (λ (l : Linear). Stays (volume (view seen shelf p)) (volume_of l (raid_seen seen (arrays_of q)))) (sym worked.linear)
+      subst (λ (l : Linear). SameRack (volume (view seen shelf p)) (volume_of l (raid_seen seen (arrays_of q)))) (sym worked.linear)
       (stays_volume {l = linear p.volume} {a = raid_seen seen (arrays_of p)} {b = raid_seen seen (arrays_of q)} fit.1 worked.keeps.stays)
 
   worked_keeps : (count : ℕ) (p q : Pool R) → (volume (view seen shelf p)).fit → IsWorked seen runs count p q → KeepsAll (volume (view seen shelf p)) (volume (view seen shelf q))
@@ -125,7 +125,7 @@ module _ {R : Type 0} (seen : R → Seen) (shelf : R → Shelf) (runs : R → R 
       (only_quiet (IsShown (linear p.volume)) worked.keeps.stays worked.keeps.keeps) worked.raises
 
   pub worked_does : (laws : Laws seen) (names : KeepNames shelf runs) (count : ℕ) (p q : Pool R) → (volume (view seen shelf p)).fit → IsWorked seen runs count p q
-      → Does (view seen shelf p) (view seen shelf q) unchanged unchanged
+      → Refines (view seen shelf p) (view seen shelf q) unchanged unchanged
   worked_does laws names count p q fit worked =
       let call = worked_call laws names count p q fit worked in
       does_kept (view seen shelf p) (view seen shelf q) call.passes call.sound (worked_keeps count p q fit worked)

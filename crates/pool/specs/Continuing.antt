@@ -1,7 +1,7 @@
 -- What calls of a pool in a row keep, also such as attach disks and take drives in.
 use Rattle.std.specs.Prelude.{◌≡◌, ◌⊎◌, ℕ, ◌<◌, ◌≤◌, false, List, slice_get, Some, None}
 use Rattle.rack.specs.Values.{Keeps, MayLeave}
-use Rattle.rack.specs.Seen.{Image, Seen}
+use Rattle.rack.specs.Seen.{Image, RackView}
 use Rattle.slice_rack.specs.Runs.{IsSliced}
 use Rattle.slice_rack.specs.Slices.{IsOrderly, Slices}
 use Rattle.pool.specs.View.{View, volume}
@@ -35,7 +35,7 @@ pub record Continues (x y : View) : Type 0 where
   pub past : x.shelf.told → x.bay.traced → (k : ℕ) (i : Image) → k ≤ x.bay.clock → y.bay.stops k i → x.bay.stops k i
 
 -- a sector of a disk that was there, which is told, that isn't of these disks and of no slice
-pub record IsOutside (t : Slices) (named : ℕ → Type 0) (a : Seen) (d s : ℕ) : Type 0 where
+pub record IsOutside (t : Slices) (named : ℕ → Type 0) (a : RackView) (d s : ℕ) : Type 0 where
   pub disk : d < a.disks
   pub sector : s < a.sectors d
   pub is_told : a.told d
@@ -44,7 +44,7 @@ pub record IsOutside (t : Slices) (named : ℕ → Type 0) (a : Seen) (d s : ℕ
 
 -- But for these disks, sectors of slices alone are written, of the disks that there were, and no sector becomes one of a slice. `t` and `u` are
 -- the slices before and after. What stops leave is told where a disk that is attached is.
-pub record KeepsOutside (t u : Slices) (named : ℕ → Type 0) (Told : Type 0) (a b : Seen) : Type 0 where
+pub record KeepsOutside (t u : Slices) (named : ℕ → Type 0) (Told : Type 0) (a b : RackView) : Type 0 where
   pub slices : (d s : ℕ) (v : List ℕ) → IsSliced u d s v → IsSliced t d s v ⊎ named d
   pub held : (d s : ℕ) → IsOutside t named a d s → Keeps (a.held d s) (b.held d s)
   pub stops :

@@ -1,7 +1,7 @@
 -- The works of a growth of a pool: what each does to its book and to its volume, and works in a row.
 use Rattle.std.specs.Prelude.{◌≡◌, ◌⊎◌, ℕ, zero, suc, ◌+◌, ◌*◌, ◌^◌, ◌<◌, ◌≤◌, ◌&&◌, nat_le, nat_lt, min, Bool, true, false, List, [], length, slice_get, slice_index, Some, Result, IfErr, IfOk, OnOk}
 use Rattle.std.specs.List.{list_all, range_with_len}
-use Rattle.rack.specs.Seen.{Seen}
+use Rattle.rack.specs.Seen.{RackView}
 use Rattle.array_core.specs.Pool.{Goes}
 use Rattle.rack.specs.Shelf.{KeepsShelf}
 use Rattle.slice_rack.specs.Slices.{Slices, seat_of}
@@ -110,7 +110,7 @@ pub data DoesWorks : ℕ → Linear → Raid → Linear → Raid → Type 0 wher
 
 -- It can't any more once the losses of the try are marked; or the slice of a member that joins can't be laid, or that of a member of a new array can't be entered or laid.
 -- `t` and `r` are the slices and the bay before it.
-abbrev pub LacksIn : {R : Type 0} → (R → Seen) → (R → R → Type 0) → Slices → R → Work → Raid → Raid → Type 0
+abbrev pub LacksIn : {R : Type 0} → (R → RackView) → (R → R → Type 0) → Slices → R → Work → Raid → Raid → Type 0
 LacksIn seen runs t r (Begin n place) mid w = Lacks (Begin n place) mid w ⊎ CannotLay t (seen r) mid place n
 LacksIn seen runs t r (Make n height) mid w = Lacks (Make n height) mid w ⊎ CannotMake seen runs t r mid height
 LacksIn seen runs t r (Resync n) mid w = Lacks (Resync n) mid w
@@ -128,12 +128,12 @@ abbrev pub IsRefusedRow : Work → (v w : Raid) → Type 0
 IsRefusedRow work v w = ((is_due v work ≡ false) × (w ≡ v)) ⊎ LacksRow v w work
 
 -- a work of a growth, so
-abbrev pub IsRefusedGrowth : {R : Type 0} → (R → Seen) → (R → R → Type 0) → Slices → R → Work → (v w : Raid) → Type 0
+abbrev pub IsRefusedGrowth : {R : Type 0} → (R → RackView) → (R → R → Type 0) → Slices → R → Work → (v w : Raid) → Type 0
 IsRefusedGrowth seen runs t r work v w =
     ((is_due_to_grow v work ≡ false) × (w ≡ v)) ⊎ ((seconds : ℕ) × Turns (change_in seconds work) (LacksIn seen runs t r work) v w false)
 
 -- why a work isn't done, which names this array
-abbrev pub IsRefused : {R : Type 0} → (R → Seen) → (R → R → Type 0) → Slices → R → Linear → Work → (v w : Raid) → (array : ℕ) → Type 0
+abbrev pub IsRefused : {R : Type 0} → (R → RackView) → (R → R → Type 0) → Slices → R → Linear → Work → (v w : Raid) → (array : ℕ) → Type 0
 IsRefused seen runs t r l (Resync n) v w array = (array ≡ n) × IsRefusedRow (Resync n) v w
 IsRefused seen runs t r l (Rebuild n place) v w array = (array ≡ n) × IsRefusedRow (Rebuild n place) v w
 IsRefused seen runs t r l (TakeOver n) v w array = (array ≡ n) × IsRefusedGrowth seen runs t r (TakeOver n) v w

@@ -11,7 +11,7 @@ use Rattle.pool.specs.Moment.{IsNamed, moment_of}
 use Rattle.pool.specs.Replaced.{ChangesDrive, HasGrowCause, HasTable, IsDeclined, IsReplaced, LeavesNew, MeansFormer, MeansWith}
 use Rattle.pool.specs.Taking.{AttachesDisk}
 use Rattle.pool.specs.View.{View, book, over, slices_shown}
-use Rattle.pool.specs.Volume.{Holds, Means}
+use Rattle.pool.specs.Volume.{VolumeIs, Means}
 
 -- The disk of a name, which was attached where it wasn't, was taken in at a place.
 pub record EntersNamed (x y : View) (place : ℕ) (name : List ℕ) (disk : ℕ) : Type 0 where
@@ -45,13 +45,13 @@ pub record ReplacesDrive (x y : View) (place : ℕ) (name : List ℕ) (result : 
   pub declined : IfErr result (IsDeclined (moment_of x) (moment_of y) place)
   pub replaced : OnOk result ((d : ℕ) → IsNamed (moment_of y) name d → IsReplaced (moment_of x) (moment_of y) place d)
   pub table : OnOk result ((d : ℕ) → IsNamed (moment_of y) name d → HasTable x y place d)
-  pub holds : (a : FlatArray) → Holds x a → Holds y a
+  pub holds : (a : FlatArray) → VolumeIs x a → VolumeIs y a
   -- where the disks are told, superblocks that said an array's truth do so after it, and so do those of the new members
   pub truths : x.shelf.told → ((d : ℕ) → d < x.bay.disks → x.bay.told d) → KeepsTruths (book x) (book y) (slices_shown x) (slices_shown y)
-  pub leaves : x.bay.traced → (a : FlatArray) → Holds x a → LeavesNew x y (λ i. MeansFormer x y place a i ⊎ Means y a i)
+  pub leaves : x.bay.traced → (a : FlatArray) → VolumeIs x a → LeavesNew x y (λ i. MeansFormer x y place a i ⊎ Means y a i)
   -- where it is replaced, stops leave it as it was, or with the new drive and its table
   pub moments :
-      OnOk result ((d : ℕ) → IsNamed (moment_of y) name d → x.bay.traced → (a : FlatArray) → Holds x a
+      OnOk result ((d : ℕ) → IsNamed (moment_of y) name d → x.bay.traced → (a : FlatArray) → VolumeIs x a
       → LeavesNew x y (λ i. MeansFormer x y place a i ⊎ MeansWith x y place d a i))
   pub steps : EntersDrive x y place name result
-  pub ends : x.bay.traced → (a : FlatArray) → Holds x a → (i : Image) → y.bay.stops y.bay.clock i → Means y a i
+  pub ends : x.bay.traced → (a : FlatArray) → VolumeIs x a → (i : Image) → y.bay.stops y.bay.clock i → Means y a i

@@ -16,7 +16,7 @@ use Rattle.pool_state.specs.declared.contents.State.{State}
 use Rattle.slice_rack.specs.Slices.{Slices, disk_of, seat_of}
 use Rattle.slice_rack.specs.Changes.{Seats}
 use Rattle.slice_rack.specs.Runs.{IsSliced}
-use Rattle.raid_laws.specs.Book.{IsAfter}
+use Rattle.raid_laws.specs.Book.{OnlyMarksSince}
 use Rattle.raid_laws.specs.Enlisting.{HoldsTable, enlisted, new_table, next_drive, with_drive}
 use Rattle.raid_laws.specs.Moves.{KeepsArrays}
 use Rattle.raid_laws.specs.NewDrive.{IsOfDrive as IsLaid, SeatsDrive, drive_table, joins}
@@ -117,7 +117,7 @@ DriveWentFrom p q k = Rose (p.faults (disk_of p.slices (log_slice k))) (q.faults
 -- is marked, and the book is as it was where the place's drive was missing; and where nobody is marked and it refused none, nothing is called, and disks hold
 -- what they held. The place has the disk that it had, or it is missing and has none.
 pub record IsDeclined (p q : Moment) (place : ℕ) (fault : GrowFault) : Type 0 where
-  pub marks : IsAfter p.book.state q.book.state
+  pub marks : OnlyMarksSince p.book.state q.book.state
   pub plan : q.book.state.plan ≡ p.book.state.plan
   pub arrays : KeepsArrays p.book q.book
   pub cause : (k : ℕ) → is_current p.book.state k ≡ true → is_current q.book.state k ≡ false → DriveWentFrom p q k
@@ -136,7 +136,7 @@ pub record IsReplaced (p q : Moment) (place disk : ℕ) : Type 0 where
   pub units : ℕ
   pub units_is : option_map (λ d. d.units) (slice_get p.book.state.drives.items place) ≡ Some units
   pub enough : units_of (q.sectors disk) p.book.state.extent ≡ units
-  pub marks : IsAfter (enlisted place units (Replace place) p.book.state) q.book.state
+  pub marks : OnlyMarksSince (enlisted place units (Replace place) p.book.state) q.book.state
   pub plan : q.book.state.plan ≡ Replace place
   pub cause :
       (k : ℕ) → is_current (enlisted place units (Replace place) p.book.state) k ≡ true → is_current q.book.state k ≡ false → DriveWentSince p q k

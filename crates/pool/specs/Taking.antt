@@ -20,7 +20,7 @@ use Rattle.pool.specs.Moment.{IsImage, IsNamed, Moment, moment_of}
 use Rattle.pool.specs.Replaced.{HasMarked, HasMarkedOther, HasTable, IsAnswer, IsDeclined, IsOfDrive, IsReplaced, LeavesNew, MeansFormer, MeansWith, NamesDisk, faults_before, is_vacant}
 use Rattle.pool.specs.Replacing.{IsAdmissible, refusal_of}
 use Rattle.pool.specs.View.{View, book, slices_shown, volume}
-use Rattle.pool.specs.Volume.{Holds, Means, is_spent, size_of}
+use Rattle.pool.specs.Volume.{VolumeIs, Means, is_spent, size_of}
 
 -- the disks are told
 abbrev pub AreTold : View → Type 0
@@ -93,9 +93,9 @@ pub record TakesBy (x y : View) (place disk : ℕ) (result : Result (Unit {0}) G
   pub replaced : OnOk result (IsReplaced (moment_of x) (moment_of y) place disk)
   pub table : OnOk result (HasTable x y place disk)
   pub enters : OnOk result (EntersBy x y place disk)
-  pub leaves : x.bay.traced → (a : FlatArray) → Holds x a → LeavesNew x y (λ i. MeansFormer x y place a i ⊎ Means y a i)
+  pub leaves : x.bay.traced → (a : FlatArray) → VolumeIs x a → LeavesNew x y (λ i. MeansFormer x y place a i ⊎ Means y a i)
   pub moments :
-      OnOk result (x.bay.traced → (a : FlatArray) → Holds x a → LeavesNew x y (λ i. MeansFormer x y place a i ⊎ MeansWith x y place disk a i))
+      OnOk result (x.bay.traced → (a : FlatArray) → VolumeIs x a → LeavesNew x y (λ i. MeansFormer x y place a i ⊎ MeansWith x y place disk a i))
 
 -- A disk, which isn't a current drive's, takes the place of a drive.
 pub record ReplacesBy (x y : View) (place disk : ℕ) (result : Result (Unit {0}) GrowFault) : Type 0 where
@@ -131,6 +131,6 @@ pub record ReplacesBy (x y : View) (place disk : ℕ) (result : Result (Unit {0}
   pub replaced : OnOk result (IsReplaced (moment_of x) (moment_of y) place disk)
   pub table : OnOk result (HasTable x y place disk)
   pub enters : OnOk result (Enters x y place disk)
-  pub leaves : x.bay.traced → (a : FlatArray) → Holds x a → LeavesNew x y (λ i. MeansFormer x y place a i ⊎ Means y a i)
+  pub leaves : x.bay.traced → (a : FlatArray) → VolumeIs x a → LeavesNew x y (λ i. MeansFormer x y place a i ⊎ Means y a i)
   pub moments :
-      OnOk result (x.bay.traced → (a : FlatArray) → Holds x a → LeavesNew x y (λ i. MeansFormer x y place a i ⊎ MeansWith x y place disk a i))
+      OnOk result (x.bay.traced → (a : FlatArray) → VolumeIs x a → LeavesNew x y (λ i. MeansFormer x y place a i ⊎ MeansWith x y place disk a i))

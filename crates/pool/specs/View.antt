@@ -1,6 +1,6 @@
 -- What a pool shows to contracts.
 use Rattle.std.specs.Prelude.{ℕ, Bool, List}
-use Rattle.rack.specs.Seen.{Image, Seen}
+use Rattle.rack.specs.Seen.{Image, RackView}
 use Rattle.rack.specs.Shelf.{Shelf}
 use Rattle.slice_rack.specs.Slices.{Slices, sectors_of}
 use Rattle.slice_rack.specs.Sliced.{sliced, slices_of}
@@ -18,13 +18,13 @@ use Rattle.pool.specs.declared.Pool.{Pool}
 -- the bays on which a pool may stand, and what each shows
 pub record Bays : Type 1 where
   pub one : Type 0
-  pub seen : one → Seen
+  pub seen : one → RackView
   pub shelf : one → Shelf
 
 pub record View : Type 1 where
   pub bays : Bays
   -- the disks of its bay
-  pub bay : Seen
+  pub bay : RackView
   -- their names, and what waits
   pub shelf : Shelf
   -- where the slices of its drives lie on them
@@ -45,15 +45,15 @@ abbrev pub book : View → Raid
 book x = raid_by x.arrays
 
 -- its slices, as a rack
-abbrev pub slices_shown : View → Seen
+abbrev pub slices_shown : View → RackView
 slices_shown x = slices_of x.slices x.bay
 
 -- its arrays, as a rack
-abbrev pub arrays_shown : View → Seen
+abbrev pub arrays_shown : View → RackView
 arrays_shown x = raid_of (IsFit x.arrays (slices_shown x)) x.refused (book x) (slices_shown x)
 
 -- its volume, as a rack of one disk
-abbrev pub volume : View → Seen
+abbrev pub volume : View → RackView
 volume x = volume_of x.linear (arrays_shown x)
 
 -- a sector of a volume can't be had by a book
@@ -75,7 +75,7 @@ abbrev pub bay_in : {R : Type 0} → Pool R → R
 bay_in pool = rack_of (slices_in (arrays_of pool))
 
 -- what it shows
-abbrev pub view : {R : Type 0} → (R → Seen) → (R → Shelf) → Pool R → View
+abbrev pub view : {R : Type 0} → (R → RackView) → (R → Shelf) → Pool R → View
 view {R} seen shelf pool = record {
   bays = record { one = R; seen = seen; shelf = shelf };
   bay = seen (bay_in pool);

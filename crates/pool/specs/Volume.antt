@@ -15,7 +15,7 @@ abbrev pub size_of : View → ℕ
 size_of x = (volume x).sectors 0
 
 -- The volume holds an array, of which older values may have been dropped. So the bay's disks and names are told.
-pub record Holds (x : View) (a : FlatArray) : Type 0 where
+pub record VolumeIs (x : View) (a : FlatArray) : Type 0 where
   -- where every sector is spent, nothing need be told of its arrays
   pub told : (s : ℕ) → s < a.size → is_spent x s ≡ false → (volume x).told 0
   pub shelf : x.shelf.told
@@ -33,10 +33,10 @@ Means y a disks = PicksLive (is_spent y) a (contents_in y.slices y.linear disks)
 
 -- A call: what a stop inside it leaves means one array, `during`, and what one at its return leaves another, `after`, which the volume
 -- holds then; both by the array before the call, and in the sectors that aren't spent when it returns.
-pub record Does (x y : View) (during after : FlatArray → FlatArray) : Type 0 where
-  pub becomes : (a : FlatArray) → Holds x a → Holds y (after a)
-  pub leaves : x.bay.traced → (a : FlatArray) → Holds x a → Leaves x.bay y.bay (Means y (during a))
-  pub ends : x.bay.traced → (a : FlatArray) → Holds x a → (i : Image) → y.bay.stops y.bay.clock i → Means y (after a) i
+pub record Refines (x y : View) (during after : FlatArray → FlatArray) : Type 0 where
+  pub becomes : (a : FlatArray) → VolumeIs x a → VolumeIs y (after a)
+  pub leaves : x.bay.traced → (a : FlatArray) → VolumeIs x a → Leaves x.bay y.bay (Means y (during a))
+  pub ends : x.bay.traced → (a : FlatArray) → VolumeIs x a → (i : Image) → y.bay.stops y.bay.clock i → Means y (after a) i
 
 -- no sector changes
 abbrev pub unchanged : FlatArray → FlatArray

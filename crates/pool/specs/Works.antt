@@ -17,12 +17,12 @@ use Rattle.growth_plan.specs.declared.Progress.{Progress}
 use Rattle.growth_plan.specs.Works.{works_left}
 use Rattle.lvm_group.specs.Runs.{Linear, extents_of}
 use Rattle.lvm_group.specs.Volume.{linear as linear_of}
-use Rattle.rack.specs.Seen.{Seen}
-use Rattle.raid_laws.specs.Moves.{LosesOnly, RaisesBy}
-use Rattle.raid_laws.specs.Raid.{Raid, is_over}
+use Rattle.rack.specs.Seen.{RackView}
+use Rattle.raid_laws.specs.Moves.{OnlyFailures, RaisesBy}
+use Rattle.raid_laws.specs.Raid.{Raid, is_failed}
 use Rattle.raid_rack.specs.RaidRack.{KeepsRack, SliceRuns, raid_in, raid_seen, slices_in, slices_seen, written_in}
 use Rattle.raid_laws.specs.Runs.{RaidRuns}
-use Rattle.raid_laws.specs.Book.{IsAfter}
+use Rattle.raid_laws.specs.Book.{OnlyMarksSince}
 use Rattle.raid_laws.specs.Works.{array_of, is_due, is_rebuilding_seat, is_stuck, next_row}
 use Rattle.pool.specs.declared.Pool.{Pool}
 use Rattle.pool.specs.Keeping.{HasMarkedSeats, KeepsBook, most_raised}
@@ -117,13 +117,13 @@ KeepsAllMembers v w = (n : ℕ) → n < v.state.made → KeepsMembers (v.arrays 
 -- missing whose drives are marked, and none is being rebuilt that wasn't.
 pub record EndsPlan (l : Linear) (v w : Raid) : Type 0 where
   pub mid : Raid
-  pub marks : IsAfter v.state mid.state
+  pub marks : OnlyMarksSince v.state mid.state
   pub done : KeepsBook v mid
   pub members : KeepsAllMembers v mid
   pub seated : HasMarkedSeats mid
   pub before : mid.state.plan ≡ v.state.plan
   pub last : works_by l mid ≡ Close ∷ []
-  pub losses : IsAfter mid.state w.state
+  pub losses : OnlyMarksSince mid.state w.state
   pub left : KeepsBook mid w
   pub ended : w.state.plan ≡ Nothing
 
@@ -136,7 +136,7 @@ KeepsPlan l v w = (w.state.plan ≡ v.state.plan) ⊎ EndsPlan l v w
 -- The next row of a work of the book v can't be had by the book w: that of a resync, or what the others give of the member that is rebuilt.
 abbrev pub LacksRow : (v w : Raid) → Work → Type 0
 LacksRow v w (Resync n) = is_stuck w n (v.arrays n).resync ≡ true
-LacksRow v w (Rebuild n place) = (is_over w n || not (others_give (w.arrays n) place (next_row (v.arrays n) place))) ≡ true
+LacksRow v w (Rebuild n place) = (is_failed w n || not (others_give (w.arrays n) place (next_row (v.arrays n) place))) ≡ true
 LacksRow v w (TakeOver n) = ⊥
 LacksRow v w (Begin n place) = ⊥
 LacksRow v w (Reshape n) = ⊥
@@ -154,7 +154,7 @@ pub record IsStuck (l : Linear) (v w : Raid) (array : ℕ) : Type 0 where
   pub first : slice_get (works_by l v) 0 ≡ Some work
   pub named : array ≡ array_of work
   pub why : ((is_due v work ≡ false) × (w ≡ v)) ⊎ LacksRow v w work
-  pub others : (n : ℕ) → n < v.state.made → n ≢ array → LosesOnly (v.arrays n) (w.arrays n)
+  pub others : (n : ℕ) → n < v.state.made → n ≢ array → OnlyFailures (v.arrays n) (w.arrays n)
   pub plan : w.state.plan ≡ v.state.plan
 
 -- So it is by a book between two, in which just those members are missing whose drives are marked. Up to it fewer works than were asked for were done, members stayed but for
@@ -162,7 +162,7 @@ pub record IsStuck (l : Linear) (v w : Raid) (array : ℕ) : Type 0 where
 -- works that were left. From it to the last book there is what a try does.
 pub record StopsStuck (Quiet : Type 0) (l : Linear) (count : ℕ) (v w : Raid) (array : ℕ) : Type 0 where
   pub mid : Raid
-  pub marks : IsAfter v.state mid.state
+  pub marks : OnlyMarksSince v.state mid.state
   pub done : KeepsBook v mid
   pub kept : KeepsAllMembers v mid
   pub seated : HasMarkedSeats mid
@@ -170,7 +170,7 @@ pub record StopsStuck (Quiet : Type 0) (l : Linear) (count : ℕ) (v w : Raid) (
   pub few : works < count
   pub rest : Quiet → HasRowsAlone v → works_by l mid ≡ drop works (works_by l v)
   pub plan : KeepsPlan l v mid
-  pub losses : IsAfter mid.state w.state
+  pub losses : OnlyMarksSince mid.state w.state
   pub left : KeepsBook mid w
   pub members : KeepsAllMembers v w
   pub stuck : IsStuck l mid w array
@@ -179,7 +179,7 @@ pub record StopsStuck (Quiet : Type 0) (l : Linear) (count : ℕ) (v w : Raid) (
 
 -- Works in a row, by so many calls of the arrays at most: the volume lies where it lay, its arrays keep their values and their members, they run on the slices below, and a plan goes on, or has ended as
 -- the last work.
-pub record IsWorked {R : Type 0} (seen : R → Seen) (runs : R → R → Type 0) (count : ℕ) (p q : Pool R) : Type 0 where
+pub record IsWorked {R : Type 0} (seen : R → RackView) (runs : R → R → Type 0) (count : ℕ) (p q : Pool R) : Type 0 where
   pub linear : linear_of q.volume ≡ linear_of p.volume
   pub keeps : KeepsRack (raid_seen seen (arrays_of p)) (raid_seen seen (arrays_of q))
   pub ran : SliceRuns seen runs (slices_in (arrays_of p)) (slices_in (arrays_of q))

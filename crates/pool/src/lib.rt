@@ -8,9 +8,9 @@
 //! arrays, with their marks), and its volume as a rack of one disk.
 //!
 //! **The contract for the layer above**: each call does to the volume what it does to a flat array of sectors, at each moment that a
-//! stop may meet, in all sectors that aren't spent when the call returns (`Does` of specs/Volume.antt); it is refused exactly by its
+//! stop may meet, in all sectors that aren't spent when the call returns (`Refines` of specs/Volume.antt); it is refused exactly by its
 //! cause (specs/Calls.antt); each step of maintenance takes one work off those that are left (specs/Works.antt); drives are marked lost
-//! only where their faults rose, or the caller lost them (`Marks`); and of the bay's disks only sectors of slices are written (`Passes`).
+//! only where their faults rose, or the caller lost them (`Marks`); and of the bay's disks only sectors of slices are written (`CallFrame`).
 //!
 //! **A replaced drive.** [`Pool::replace`] attaches a disk and takes it in at a place whose drive is missing, or gives way to it
 //! (`ReplacesDrive` of specs/Naming.antt). The volume goes on with its values; each refusal has its cause, in a fixed order

@@ -2,7 +2,7 @@
 use Rattle.std.proofs.Common.{◌≡◌, ◌↔◌, ℕ, ◌+◌, ◌<◌, ◌==◌, Bool, true, false, if◌then◌else◌, List, length, set, Some, inl, inr, sym, ap, subst, ◌∙◌, arith}
 use Rattle.std.proofs.lemmas.Bool.{cases_eq, eq-eqb}
 use Rattle.std.proofs.lemmas.List.{get_or-set_other, get_or-set_same}
-use Rattle.rack.specs.Seen.{Seen}
+use Rattle.rack.specs.Seen.{RackView}
 use Rattle.rack.specs.Sequences.{OnlyReads}
 use Rattle.gpt_table.specs.Disk.{CopiesAgree}
 use Rattle.pool_image.specs.Disks.{Seats}
@@ -24,13 +24,13 @@ flag_in flags place flag within p =
     ]
 
 -- what is said after reads was so before them
-pub agreement_then : (x y : Seen) (d : ℕ) (flag : Bool) → OnlyReads x y → d < x.disks → IsAgreement y d flag → IsAgreement x d flag
+pub agreement_then : (x y : RackView) (d : ℕ) (flag : Bool) → OnlyReads x y → d < x.disks → IsAgreement y d flag → IsAgreement x d flag
 agreement_then x y d flag reads inside says told contents agrees =
     subst (λ (n : ℕ). (flag ≡ true) ↔ CopiesAgree n contents) (reads.stays.sectors d)
     (says (reads.stays.told d told) contents (agrees_then {x = x} {y = y} d contents reads inside told agrees))
 
 -- one place more is compared
-pub compared_more : (x : Seen) (seats : Seats) (before after : List Bool) (place : ℕ) (flag : Bool)
+pub compared_more : (x : RackView) (seats : Seats) (before after : List Bool) (place : ℕ) (flag : Bool)
     → ((p : ℕ) → flag_by after p ≡ (if p == place then flag else flag_by before p))
     → ((p d : ℕ) → p < place → seats p ≡ Some d → IsAgreement x d (flag_by before p))
     → ((d : ℕ) → seats place ≡ Some d → IsAgreement x d flag)

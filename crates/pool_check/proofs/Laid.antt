@@ -4,7 +4,7 @@ use Rattle.std.specs.Prelude.{OnOk}
 use Rattle.std.specs.Option.{option_and_then, option_map_or}
 use Rattle.std.proofs.lemmas.Bool.{both_ways, cases_eq, cases_lt, eq-eqb}
 use Rattle.std.proofs.lemmas.Option.{none-some}
-use Rattle.rack.specs.Seen.{Seen}
+use Rattle.rack.specs.Seen.{RackView}
 use Rattle.slice_rack.specs.declared.SliceFault.{SliceFault}
 use Rattle.slice_rack.specs.declared.SliceFault.TheVariants.{Unseated, Outside, Overlap}
 use Rattle.slice_rack.specs.Slices.{Slices, seat_of, first_of, sectors_of}
@@ -256,7 +256,7 @@ slot_is seats arrays extents n p e is = of_view (slice_get arrays n) refl is
     of_view None at lies = absurd (none-some e lies)
     of_view (Some v) at lies = of_seat v at (is_named v.truth p) refl (seats p) refl lies
 
-module _ (seats : Seats) (arrays : List View) (extents : List Extent) (a : Seen) (t : Slices) (number place : ℕ) (low_number : number < 16) (low_place : place < 16)
+module _ (seats : Seats) (arrays : List View) (extents : List Extent) (a : RackView) (t : Slices) (number place : ℕ) (low_number : number < 16) (low_place : place < 16)
     (logs : HasLogsOnly t seats) (slots : AreSlots a.sectors seats arrays extents) (laid : IsLaidTo seats arrays extents number place t)
     (e : Extent) (is : laid_at seats arrays extents number place ≡ Some e) where
   slot : IsSlot seats arrays extents number place e

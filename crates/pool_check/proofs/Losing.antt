@@ -4,7 +4,7 @@ use Rattle.std.specs.Prelude.{filter, length}
 use Rattle.std.specs.List.{range_with_len}
 use Rattle.std.proofs.lemmas.Bool.{cases_eq, eq-eqb}
 use Rattle.std.proofs.lemmas.Option.{none-some}
-use Rattle.rack.specs.Seen.{Seen, Stays}
+use Rattle.rack.specs.Seen.{RackView, SameRack}
 use Rattle.pool_state.specs.declared.contents.State.{State}
 use Rattle.pool_image.specs.Disks.{Seats}
 use Rattle.pool_check.specs.Drives.{Goes, IsSeating, Loses}
@@ -29,7 +29,7 @@ without_some before after place p d is at =
       | inr other ↦ sym (without_other before after place p is other) ∙ at
     ]
 
-pub seating_without : (x : Seen) (s : State) (before after : Seats) (place : ℕ) → IsWithout before after place → IsSeating x s before → IsSeating x s after
+pub seating_without : (x : RackView) (s : State) (before after : Seats) (place : ℕ) → IsWithout before after place → IsSeating x s before → IsSeating x s after
 seating_without x s before after place is seating = record {
   inside = λ p d at. seating.inside p d (without_some before after place p d is at);
   current = λ p d at. seating.current p d (without_some before after place p d is at);
@@ -37,7 +37,7 @@ seating_without x s before after place is seating = record {
 }
 
 -- with its cause
-pub loses_more : (x y z : Seen) (first before after : Seats) (place : ℕ) → Stays x y → Stays y z → IsWithout before after place → Goes y z before place
+pub loses_more : (x y z : RackView) (first before after : Seats) (place : ℕ) → SameRack x y → SameRack y z → IsWithout before after place → Goes y z before place
     → Loses x y first before → Loses x z first after
 loses_more x y z first before after place early late is goes loses p =
     elim (cases_eq p place) [

@@ -4,7 +4,7 @@ use Rattle.std.specs.Option.{option_and_then, option_map_or, option_or}
 use Rattle.std.specs.List.{range_with_len}
 use Rattle.std.proofs.lemmas.Bool.{both_ways, cases_eq, eq-eqb}
 use Rattle.std.proofs.lemmas.Option.{none-some}
-use Rattle.rack.specs.Seen.{Seen}
+use Rattle.rack.specs.Seen.{RackView}
 use Rattle.pool_state.specs.declared.contents.State.{State}
 use Rattle.array_image.specs.States.{current_places, is_current}
 use Rattle.array_core.proofs.Opened.{current_below}
@@ -179,7 +179,7 @@ check_passes f bad few lowest is =
 
 -- ---- the pool that the disks make, where nothing is pending
 
-abbrev pub drives_now : Seen → State → Drives
+abbrev pub drives_now : RackView → State → Drives
 drives_now a s = record {
   disks = disks_of a;
   before = standing_by (disks_of a) (now_in a) s;
@@ -187,7 +187,7 @@ drives_now a s = record {
   identities = identities_of (disks_of a) (now_in a);
 }
 
-module _ (a : Seen) (s : State) (seats : Seats) (newest_is : newest (disks_of a) (identities_of (disks_of a) (now_in a)) ≡ Some s)
+module _ (a : RackView) (s : State) (seats : Seats) (newest_is : newest (disks_of a) (identities_of (disks_of a) (now_in a)) ≡ Some s)
     (rests : (standing_by (disks_of a) (now_in a) s).targets ≡ [])
     (seated : (place : ℕ) → seats place ≡ seat_of s (disks_of a) (identities_of (disks_of a) (now_in a)) place) where
   stands : standing (disks_of a) (now_in a) ≡ Some (standing_by (disks_of a) (now_in a) s)
@@ -223,7 +223,7 @@ module _ (a : Seen) (s : State) (seats : Seats) (newest_is : newest (disks_of a)
       ∙ ap (λ o. option_map_or refused_by o (Some no_pool)) found_is
 
 -- and a check's premises hold of it
-pub drives_are : (a : Seen) (s : State) (seats : Seats) → AllTold a → IsSeating a s seats → AreDrivesOf a seats (drives_now a s)
+pub drives_are : (a : RackView) (s : State) (seats : Seats) → AllTold a → IsSeating a s seats → AreDrivesOf a seats (drives_now a s)
 drives_are a s seats told seating = record {
   told = λ place d seat. told d (seating.inside place d seat);
   sectors = λ place d seat. refl;
@@ -231,7 +231,7 @@ drives_are a s seats told seating = record {
   tables = λ place d seat. refl;
 }
 
-pub copies_are : (a b : Seen) (known : List Known) (s : State) (seats : Seats) → IsScan a b known → AllTold a → IsUnfaulted a b → IsSeating a s seats
+pub copies_are : (a b : RackView) (known : List Known) (s : State) (seats : Seats) → IsScan a b known → AllTold a → IsUnfaulted a b → IsSeating a s seats
     → AreCopied known seats (drives_now a s)
 copies_are a b known s seats scan told free seating = record {
   copied = λ place d seat. (scan_meant a b known scan told free).copied d (seating.inside place d seat);

@@ -4,7 +4,7 @@ use Rattle.std.specs.Option.{option_and_then, option_map_or}
 use Rattle.std.specs.List.{list_all, range_with_len}
 use Rattle.std.proofs.lemmas.Bool.{both_ways, cases_eq}
 use Rattle.std.proofs.lemmas.Option.{none-some}
-use Rattle.rack.specs.Seen.{Seen}
+use Rattle.rack.specs.Seen.{RackView}
 use Rattle.gpt_table.specs.declared.Table.{Table}
 use Rattle.gpt_table.specs.Changes.{the_table}
 use Rattle.pool_state.specs.declared.contents.Copied.{Copied}
@@ -150,7 +150,7 @@ table_is f layers sectors place table are small inside =
 
 -- ---- one drive
 
-module _ (x : Seen) (s : State) (seats : Seats) (o : Drives) (layers : List Layer) (place d : ℕ) (inside : place < 16) (small : x.sectors d < 2 ^ 48)
+module _ (x : RackView) (s : State) (seats : Seats) (o : Drives) (layers : List Layer) (place d : ℕ) (inside : place < 16) (small : x.sectors d < 2 ^ 48)
     (seat : seats place ≡ Some d) (drives : AreDrivesOf x seats o) (are : AreRead (found_with s seats o) layers) where
   abbrev f : Found
   f = found_with s seats o

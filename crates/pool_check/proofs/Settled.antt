@@ -3,7 +3,7 @@ use Rattle.std.proofs.Common.{◌≡◌, ◌≢◌, ◌⊎◌, ℕ, ◌+◌, ◌
 use Rattle.std.proofs.lemmas.Bool.{cases_eq}
 use Rattle.std.proofs.lemmas.Option.{none-some}
 use Rattle.rack.specs.Values.{IsSingle, Keeps}
-use Rattle.rack.specs.Seen.{Image, IsLive, IsPick, Rose, Seen, Stays}
+use Rattle.rack.specs.Seen.{Image, IsLive, IsPick, Rose, RackView, SameRack}
 use Rattle.rack.specs.Moments.{Leaves}
 use Rattle.rack.specs.Joins.{leaves_same, leaves_then, leaves_weaker, live_first, live_second, rose_later}
 use Rattle.rack.specs.Sequences.{IsMix, OnlyReads, WritesOnly}
@@ -36,17 +36,17 @@ tables_agree n x y same =
     (table_at_agrees Primary n x y (λ s is. same s (inl is)))
     (table_at_agrees Backup n x y (λ s is. same s (inr is)))
 
-single_in : (a : Seen) (d n : ℕ) → AreSingle a d n → (s : ℕ) → IsOfCopies n s → IsSingle (a.held d s)
+single_in : (a : RackView) (d n : ℕ) → AreSingle a d n → (s : ℕ) → IsOfCopies n s → IsSingle (a.held d s)
 single_in a d n single s (inl is) = single Primary s is
 single_in a d n single s (inr is) = single Backup s is
 
-keeps_start : (a : Seen) (d : ℕ) → KeepsTable a a d
+keeps_start : (a : RackView) (d : ℕ) → KeepsTable a a d
 keeps_start a d = record {
   stops = λ traced live single. leaves_same a (λ c. the_table (a.sectors d) (c d) ≡ the_table (a.sectors d) (now_on a d));
   held = λ live single contents left. tables_agree (a.sectors d) contents (now_on a d) (λ s is. single_in a d (a.sectors d) single s is (contents s) (left s is));
 }
 
-module _ {a b c : Seen} (stays : Stays a b) (e : ℕ) (after : Stays b c) where
+module _ {a b c : RackView} (stays : SameRack a b) (e : ℕ) (after : SameRack b c) where
   abbrev n : ℕ
   n = a.sectors e
 
@@ -182,7 +182,7 @@ module _ {a b c : Seen} (stays : Stays a b) (e : ℕ) (after : Stays b c) where
 -- ---- what flags say
 
 -- a table is settled where it is if its disk is told
-pub settled_told : (a c : Seen) (d : ℕ) → (a.told d → IsSettled a c d) → IsSettled a c d
+pub settled_told : (a c : RackView) (d : ℕ) → (a.told d → IsSettled a c d) → IsSettled a c d
 settled_told a c d settled = record {
   now = λ had live. (settled (told live)).now had live;
   durable = λ had live single contents left. (settled (told live)).durable had live single contents left;
@@ -193,11 +193,11 @@ settled_told a c d settled = record {
     told live = (live Primary 1 (inl refl)).is_told
 
 -- a flag is true of a disk that it speaks of
-pub true_told : (x : Seen) (d : ℕ) (flag : Bool) → x.told d → IsAgreement x d flag → IsTrueOf x d flag
+pub true_told : (x : RackView) (d : ℕ) (flag : Bool) → x.told d → IsAgreement x d flag → IsTrueOf x d flag
 true_told x d flag told agrees is live = (agrees told (now_on x d) (λ s below unspent. refl)).0 is
 
 -- and is so after calls that don't touch its table
-pub true_since : (a b : Seen) (d : ℕ) (flag : Bool) → Stays a b → a.told d
+pub true_since : (a b : RackView) (d : ℕ) (flag : Bool) → SameRack a b → a.told d
     → ((s : ℕ) → IsOfCopies (a.sectors d) s → IsLive a b d s → Keeps (a.held d s) (b.held d s)) → IsTrueOf a d flag → IsTrueOf b d flag
 true_since a b d flag stays told untouched was is live =
     subst (λ m. CopiesAgree m (now_on b d)) (sym (stays.sectors d)) (both.0, still Primary ∙ both.1, still Backup ∙ both.2)
@@ -215,7 +215,7 @@ true_since a b d flag stays told untouched was is live =
 
 -- ---- calls that write no table
 
-module _ {a b : Seen} (may : ℕ → ℕ → List ℕ → Type 0) (e n : ℕ) (only : WritesOnly a b may) (never : (s : ℕ) (v : List ℕ) → IsOfCopies n s → may e s v → ⊥) where
+module _ {a b : RackView} (may : ℕ → ℕ → List ℕ → Type 0) (e n : ℕ) (only : WritesOnly a b may) (never : (s : ℕ) (v : List ℕ) → IsOfCopies n s → may e s v → ⊥) where
   kept_tables : (s : ℕ) → IsOfCopies n s → IsLive a b e s → Keeps (a.held e s) (b.held e s)
   kept_tables s is live = only.others e s live (λ v. never s v is)
 
@@ -225,13 +225,13 @@ module _ {a b : Seen} (may : ℕ → ℕ → List ℕ → Type 0) (e n : ℕ) (o
       (λ i mix s is. elim (mix e s (live_of a b e n s live is)) [ inl old ↦ old | inr new ↦ absurd (never s (i e s) is new) ]) (only.stops traced)
 
 -- before others that keep a disk's table they keep it too, and so they do after them
-pub keeps_before : (a b c : Seen) (may : ℕ → ℕ → List ℕ → Type 0) (e : ℕ) → WritesOnly a b may → Stays b c
+pub keeps_before : (a b c : RackView) (may : ℕ → ℕ → List ℕ → Type 0) (e : ℕ) → WritesOnly a b may → SameRack b c
     → ((s : ℕ) (v : List ℕ) → IsOfCopies (a.sectors e) s → may e s v → ⊥) → KeepsTable b c e → KeepsTable a c e
 keeps_before a b c may e only after never old =
     keeps_since only.stays e after (kept_tables may e (a.sectors e) only never) (only.stays.sectors e)
     (λ traced live. left_tables may e (a.sectors e) only never traced (live_before only.stays e after live)) old
 
-pub keeps_after : (a b c : Seen) (may : ℕ → ℕ → List ℕ → Type 0) (e : ℕ) → Stays a b → WritesOnly b c may
+pub keeps_after : (a b c : RackView) (may : ℕ → ℕ → List ℕ → Type 0) (e : ℕ) → SameRack a b → WritesOnly b c may
     → ((s : ℕ) (v : List ℕ) → IsOfCopies (a.sectors e) s → may e s v → ⊥) → KeepsTable a b e → KeepsTable a c e
 keeps_after a b c may e stays only never old =
     keeps_by stays e only.stays (kept_tables may e (a.sectors e) only never)
@@ -240,7 +240,7 @@ keeps_after a b c may e stays only never old =
 -- ---- one place
 
 -- a table was settled, or there was none
-settled_table : (a b : Seen) (d : ℕ) (result : Result (Unit {0}) TableFault) → SettlesTable a b d (a.sectors d) result
+settled_table : (a b : RackView) (d : ℕ) (result : Result (Unit {0}) TableFault) → SettlesTable a b d (a.sectors d) result
     → (result ≡ Err NoTable → a.told d → first_table (a.sectors d) (now_on a d) ≡ None)
     → (result ≡ Err Gone → ⊥) → IsSettled a b d
 settled_table a b d (Ok u) settles none gone = record {
@@ -259,7 +259,7 @@ settled_table a b d (Err NoTable) settles none gone = record {
     no_table live = ap (option_map (λ found. found.table)) (none refl (live Primary 1 (inl refl)).is_told)
 
 -- both copies agree already
-agreed_settled : (a : Seen) (d : ℕ) → (BothLive a a d (a.sectors d) → CopiesAgree (a.sectors d) (now_on a d)) → IsSettled a a d
+agreed_settled : (a : RackView) (d : ℕ) → (BothLive a a d (a.sectors d) → CopiesAgree (a.sectors d) (now_on a d)) → IsSettled a a d
 agreed_settled a d agree = record {
   now = λ had live. says live (now_on a d) (λ s is. refl);
   durable = λ had live single contents left. says live contents (λ s is. single_in a d (a.sectors d) single s is (contents s) (left s is));
@@ -278,7 +278,7 @@ agreed_settled a d agree = record {
         each Backup = table_at_agrees Backup (a.sectors d) contents (now_on a d) (λ s is. same s (inr is)) ∙ both.2
 
 -- nothing is called where a flag says so
-pub place_agreed : (a : Seen) (seats : Seats) (place : ℕ) (flag : Bool) → a.fit → flag ≡ true → SettlesPlace a a seats seats place flag
+pub place_agreed : (a : RackView) (seats : Seats) (place : ℕ) (flag : Bool) → a.fit → flag ≡ true → SettlesPlace a a seats seats place flag
 place_agreed a seats place flag fit is = record {
   others = λ p other. refl;
   empty = λ none. (only_reads_start a fit, none);
@@ -291,7 +291,7 @@ place_agreed a seats place flag fit is = record {
   settles = λ d seat. inl (seat, λ says. agreed_settled a d (says is));
 }
 
-pub place_empty : (a : Seen) (seats : Seats) (place : ℕ) (flag : Bool) → a.fit → seats place ≡ None → SettlesPlace a a seats seats place flag
+pub place_empty : (a : RackView) (seats : Seats) (place : ℕ) (flag : Bool) → a.fit → seats place ≡ None → SettlesPlace a a seats seats place flag
 place_empty a seats place flag fit none = record {
   others = λ p other. refl;
   empty = λ is. (only_reads_start a fit, none);
@@ -301,7 +301,7 @@ place_empty a seats place flag fit none = record {
 }
 
 -- the place keeps its disk
-pub place_kept : (a b : Seen) (seats : Seats) (place d : ℕ) (flag : Bool) (result : Result (Unit {0}) TableFault) → seats place ≡ Some d
+pub place_kept : (a b : RackView) (seats : Seats) (place d : ℕ) (flag : Bool) (result : Result (Unit {0}) TableFault) → seats place ≡ Some d
     → SettlesTable a b d (a.sectors d) result
     → (result ≡ Err NoTable → a.told d → first_table (a.sectors d) (now_on a d) ≡ None)
     → (result ≡ Err Gone → ⊥) → SettlesPlace a b seats seats place flag
@@ -320,7 +320,7 @@ place_kept a b seats place d flag result seat settles none gone = record {
     same e at = let both : Some d ≡ Some e = sym seat ∙ at in cc
 
 -- the place loses it
-pub place_lost : (a b : Seen) (before after : Seats) (place d : ℕ) (flag : Bool) (result : Result (Unit {0}) TableFault) → before place ≡ Some d
+pub place_lost : (a b : RackView) (before after : Seats) (place d : ℕ) (flag : Bool) (result : Result (Unit {0}) TableFault) → before place ≡ Some d
     → IsWithout before after place → SettlesTable a b d (a.sectors d) result → Rose (a.faults d) (b.faults d) → SettlesPlace a b before after place flag
 place_lost a b before after place d flag result seat without settles rose = record {
   others = λ p other. without_other before after place p without other;
@@ -338,7 +338,7 @@ place_lost a b before after place d flag result seat without settles rose = reco
 
 -- ---- all places
 
-pub settled_none : (a : Seen) (seats : Seats) (agreed : List Bool) → a.fit → AreSettled a a seats seats agreed 0
+pub settled_none : (a : RackView) (seats : Seats) (agreed : List Bool) → a.fit → AreSettled a a seats seats agreed 0
 settled_none a seats agreed fit = record {
   only = only_none a (IsTableSector a a seats 0) fit;
   seats = λ place. inl refl;
@@ -347,7 +347,7 @@ settled_none a seats agreed fit = record {
   settled = λ p d below seat. absurd (omega (arith, below));
 }
 
-module _ (a b c : Seen) (first before after : Seats) (agreed : List Bool) (place : ℕ) (low : place < 16) (distinct : AreDistinct first)
+module _ (a b c : RackView) (first before after : Seats) (agreed : List Bool) (place : ℕ) (low : place < 16) (distinct : AreDistinct first)
     (old : AreSettled a b first before agreed place) (settles : SettlesPlace b c before after place (flag_by agreed place)) where
   -- a place that has a disk had it from the first
   had : (p d : ℕ) → before p ≡ Some d → first p ≡ Some d
@@ -357,10 +357,10 @@ module _ (a b c : Seen) (first before after : Seats) (agreed : List Bool) (place
       by (inl same) = sym same ∙ seat
       by (inr gone) = absurd (none-some d (sym gone.0 ∙ seat))
 
-  stays : Stays a b
+  stays : SameRack a b
   stays = old.only.stays
 
-  other_seats : Stays b c → (p : ℕ) → (p ≡ place → ⊥) → (after p ≡ first p) ⊎ ((after p ≡ None) × Goes a c first p)
+  other_seats : SameRack b c → (p : ℕ) → (p ≡ place → ⊥) → (after p ≡ first p) ⊎ ((after p ≡ None) × Goes a c first p)
   other_seats later p other = by (old.seats p)
     where
       by : (before p ≡ first p) ⊎ ((before p ≡ None) × Goes a b first p) → (after p ≡ first p) ⊎ ((after p ≡ None) × Goes a c first p)

@@ -1,6 +1,6 @@
 -- What is written while tables of disks are settled one after the other: values of a copy of the table that each disk had.
 use Rattle.std.proofs.Common.{◌≡◌, ◌⊎◌, ℕ, ◌+◌, ◌<◌, ◌≤◌, List, Some, inl, inr, refl, sym, subst, ◌∙◌, arith}
-use Rattle.rack.specs.Seen.{Seen, Stays}
+use Rattle.rack.specs.Seen.{RackView, SameRack}
 use Rattle.rack.specs.Joins.{live_first}
 use Rattle.rack.specs.Sequences.{OnlyReads, WritesOnly}
 use Rattle.rack.proofs.Writing.{only_quiet, only_then, only_weaker}
@@ -19,10 +19,10 @@ replaced_of copy table s v (inl header) = inl header.0
 replaced_of copy table s v (inr is) = is.within
 
 -- and one that is written while a table is settled is one of its copies
-settled_of : (x : Seen) (d n s : ℕ) (v : List ℕ) → IsInSettled x d n s v → IsOfCopies n s
+settled_of : (x : RackView) (d n s : ℕ) (v : List ℕ) → IsInSettled x d n s v → IsOfCopies n s
 settled_of x d n s v is = of_one is.copy n s (subst (λ m. IsOfCopy is.copy m s) is.size (replaced_of is.copy is.table s v is.within))
 
-module _ (a b c : Seen) (after : Stays b c) where
+module _ (a b c : RackView) (after : SameRack b c) where
   -- a value from before later calls
   value_later : (d s : ℕ) (v : List ℕ) → IsSettledValue a b d s v → IsSettledValue a c d s v
   value_later d s v is = record {
@@ -44,7 +44,7 @@ module _ (a b c : Seen) (after : Stays b c) where
       }
 
   -- a table that earlier calls kept was settled: what is written is of the table from before them
-  value_kept : (d s : ℕ) (v : List ℕ) → Stays a b → KeepsTable a b d → IsInSettled b d (b.sectors d) s v → IsSettledValue a c d s v
+  value_kept : (d s : ℕ) (v : List ℕ) → SameRack a b → KeepsTable a b d → IsInSettled b d (b.sectors d) s v → IsSettledValue a c d s v
   value_kept d s v stays keeps is = record {
     copy = is.copy;
     table = is.table;
@@ -55,7 +55,7 @@ module _ (a b c : Seen) (after : Stays b c) where
     within = is.within;
   }
 
-  sector_kept : (seats : Seats) (place d : ℕ) → seats place ≡ Some d → Stays a b → KeepsTable a b d → (e s : ℕ) (v : List ℕ)
+  sector_kept : (seats : Seats) (place d : ℕ) → seats place ≡ Some d → SameRack a b → KeepsTable a b d → (e s : ℕ) (v : List ℕ)
       → (e ≡ d) × IsInSettled b d (b.sectors d) s v → IsTableSector a c seats (place + 1) e s v
   sector_kept seats place d seat stays keeps e s v here =
       subst (λ k. IsTableSector a c seats (place + 1) k s v) (sym here.0)

@@ -2,7 +2,7 @@
 use Rattle.std.proofs.Common.{◌≡◌, ℕ, ◌+◌, ◌<◌, ◌≤◌, ◌^◌, Bool, true, false, ◌||◌, ◌==◌, nat_lt, nat_le, is_ok, bytes_eq, if◌then◌else◌, [], length, Option, Some, None, refl, sym, ap, subst, ◌∙◌, inl, inr, lt-ltb, le-ltb, arith}
 use Rattle.std.specs.Option.{option_map_or}
 use Rattle.std.proofs.lemmas.Bool.{and_parts, cases_Bool, cases_lt, le-leb}
-use Rattle.rack.specs.Seen.{Seen}
+use Rattle.rack.specs.Seen.{RackView}
 use Rattle.gpt_table.specs.Disk.{Contents}
 use Rattle.md_super.specs.declared.superblock.Super.{Super}
 use Rattle.md_super.specs.Profile.{profiled}
@@ -60,7 +60,7 @@ usable_super s array place (Some t) fit =
     ]
 
 -- the superblock of a seated place is that of its disk's sector
-pub super_seated : (x : Seen) (s : State) (seats : Seats) (o : Drives) (array first place d : ℕ) → array < 16 → seats place ≡ Some d
+pub super_seated : (x : RackView) (s : State) (seats : Seats) (o : Drives) (array first place d : ℕ) → array < 16 → seats place ≡ Some d
     → AreDrivesOf x seats o
     → super_on s array place (x.sectors d) (first + super_sector) (o.contents d) ≡ super_in s (slices_from (found_with s seats o) first) array place
 super_seated x s seats o array first place d low seat are =

@@ -1,6 +1,6 @@
 -- The sectors of a partition table's copies.
 use Rattle.std.proofs.Common.{◌≡◌, ◌⊎◌, ℕ, ◌+◌, ◌-◌, ◌<◌, ◌≤◌, inl, inr, arith}
-use Rattle.rack.specs.Seen.{IsLive, Seen}
+use Rattle.rack.specs.Seen.{IsLive, RackView}
 use Rattle.gpt_table.specs.declared.TableCopy.{TableCopy}
 use Rattle.gpt_table.specs.declared.TableCopy.TheVariants.{Primary, Backup}
 use Rattle.gpt_table.specs.Changes.{BothLive, IsOfCopies}
@@ -10,7 +10,7 @@ pub of_one : (copy : TableCopy) (sectors s : ℕ) → IsOfCopy copy sectors s �
 of_one Primary sectors s is = inl is
 of_one Backup sectors s is = inr is
 
-pub live_of : (a b : Seen) (d n s : ℕ) → BothLive a b d n → IsOfCopies n s → IsLive a b d s
+pub live_of : (a b : RackView) (d n s : ℕ) → BothLive a b d n → IsOfCopies n s → IsLive a b d s
 live_of a b d n s live (inl is) = live Primary s is
 live_of a b d n s live (inr is) = live Backup s is
 

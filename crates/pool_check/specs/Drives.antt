@@ -1,7 +1,7 @@
 -- The pool that seated disks make, and what a rack shows of it.
 use Rattle.std.specs.Prelude.{◌≡◌, ◌⊎◌, ℕ, ◌*◌, ◌<◌, ◌≤◌, ◌^◌, Bool, true, false, List, get_or, length, slice_get, Option, Some, None}
 use Rattle.std.specs.Option.{option_map_or}
-use Rattle.rack.specs.Seen.{Image, Seen, Rose}
+use Rattle.rack.specs.Seen.{Image, RackView, Rose}
 use Rattle.gpt_table.specs.Changes.{the_table}
 use Rattle.gpt_table.specs.Disk.{AgreesUnspent}
 use Rattle.pool_state.specs.declared.contents.State.{State}
@@ -33,7 +33,7 @@ found_with s seats o =
     record { disks = o.disks; before = o.before; contents = o.contents; identities = o.identities; state = s; seats = seats }
 
 -- Seats are disks of the rack, on current places alone. Disks have fewer than 2^48 sectors.
-pub record IsSeating (x : Seen) (s : State) (seats : Seats) : Type 0 where
+pub record IsSeating (x : RackView) (s : State) (seats : Seats) : Type 0 where
   pub inside : (place d : ℕ) → seats place ≡ Some d → d < x.disks
   pub current : (place d : ℕ) → seats place ≡ Some d → is_current s place ≡ true
   pub small : (d : ℕ) → d < x.disks → x.sectors d < 2 ^ 48
@@ -52,7 +52,7 @@ pub record HasFewPlaces (s : State) (seats : Seats) : Type 0 where
   pub current : (place d : ℕ) → seats place ≡ Some d → is_current s place ≡ true
 
 -- The rack tells the seated disks, and the drives hold what these read as now; their tables are those that these contents have.
-pub record AreDrivesOf (x : Seen) (seats : Seats) (o : Drives) : Type 0 where
+pub record AreDrivesOf (x : RackView) (seats : Seats) (o : Drives) : Type 0 where
   pub told : (place d : ℕ) → seats place ≡ Some d → x.told d
   pub sectors : (place d : ℕ) → seats place ≡ Some d → o.disks.sectors d ≡ x.sectors d
   pub contents : (place d : ℕ) → seats place ≡ Some d → AgreesUnspent x d (o.contents d)
@@ -63,11 +63,11 @@ pub record AreCopied (known : List Known) (seats : Seats) (o : Drives) : Type 0 
   pub copied : (place d : ℕ) → seats place ≡ Some d → (o.identities d).copied ≡ copied_at known d
 
 -- the disk of a place went in these calls
-abbrev pub Goes : Seen → Seen → Seats → ℕ → Type 0
+abbrev pub Goes : RackView → RackView → Seats → ℕ → Type 0
 Goes x y seats place = (d : ℕ) × (seats place ≡ Some d) × Rose (x.faults d) (y.faults d)
 
 -- seats are as before, but for places whose disks' faults rose
-abbrev pub Loses : Seen → Seen → Seats → Seats → Type 0
+abbrev pub Loses : RackView → RackView → Seats → Seats → Type 0
 Loses x y before after =
     (place : ℕ)
     → (after place ≡ before place) ⊎ ((after place ≡ None) × Goes x y before place)

@@ -5,7 +5,7 @@ use Rattle.array_image.specs.States.{current_places}
 use Rattle.pool_state.specs.declared.contents.State.{State as PoolState}
 use Rattle.pool_image.specs.Drives.{Found}
 use Rattle.pool_image.specs.Meaning.{Part as MeaningPart, has_log, in_table, in_state, in_log, in_superblock, Refusal, absent, damaged, too_few, dirty_degraded, absent_count, arrays_of, has_supers, has_table, is_dirty_degraded, is_too_few}
-use Rattle.rack.specs.Seen.{Seen}
+use Rattle.rack.specs.Seen.{RackView}
 use Rattle.pool_image.specs.Disks.{Seats}
 use Rattle.pool_check.specs.declared.Halt.{Halt}
 use Rattle.pool_check.specs.declared.Halt.TheVariants.{Fault, Went}
@@ -89,7 +89,7 @@ IsDamage well f place fault =
     (part : MeaningPart) × (damage_with well f place ≡ Some part) × (refusal_by fault ≡ damaged place part)
 
 -- a check ends with a fault of which this holds, or because the disk of a place went
-abbrev pub Halts : Seen → Seen → Seats → (CheckFault → Type 0) → Halt → Type 0
+abbrev pub Halts : RackView → RackView → Seats → (CheckFault → Type 0) → Halt → Type 0
 Halts x y seats holds (Fault fault) = holds fault
 Halts x y seats holds (Went place) = Goes x y seats place
 

@@ -1,6 +1,6 @@
 -- Each drive of a new pool has its parts.
 use Rattle.std.proofs.Common.{◌≡◌, ◌≢◌, ℕ, ◌+◌, ◌<◌, [], sym, ◌∙◌, subst, length, arith}
-use Rattle.rack.specs.Seen.{IsLive, Seen, Stays}
+use Rattle.rack.specs.Seen.{IsLive, RackView, SameRack}
 use Rattle.rack.specs.Joins.{live_second, stays_then}
 use Rattle.rack.specs.Sequences.{WritesOnly}
 use Rattle.gpt_table.specs.Disk.{Contents, now_on}
@@ -19,7 +19,7 @@ use Rattle.pool_format.proofs.Leaving.{closing_apart, laid_still, stands, states
 -- ---- disks that are whole
 
 -- a disk that is whole has live sectors
-pub whole_live : (a b : Seen) (d s : ℕ) → Stays a b → a.lasting → IsWhole a d → s < a.sectors d → IsLive a b d s
+pub whole_live : (a b : RackView) (d s : ℕ) → SameRack a b → a.lasting → IsWhole a d → s < a.sectors d → IsLive a b d s
 whole_live a b d s stays lasting whole within = record {
   disk = subst (λ k. d < k) (sym stays.disks) whole.disk;
   sector = subst (λ k. s < k) (sym (stays.sectors d)) within;
@@ -28,7 +28,7 @@ whole_live a b d s stays lasting whole within = record {
 }
 
 -- and stays whole
-pub whole_then : (a b : Seen) (d : ℕ) → Stays a b → a.lasting → IsWhole a d → IsWhole b d
+pub whole_then : (a b : RackView) (d : ℕ) → SameRack a b → a.lasting → IsWhole a d → IsWhole b d
 whole_then a b d stays lasting whole = record {
   disk = subst (λ k. d < k) (sym stays.disks) whole.disk;
   is_told = stays.told d whole.is_told;
@@ -36,12 +36,12 @@ whole_then a b d stays lasting whole = record {
 }
 
 -- what holds of whole disks after some calls holds of those that were whole before them
-pub parts_first : (plan : NewPool) (birth : Birth) (a m : Seen) → Stays a m → a.lasting → (d : ℕ) → IsWhole a d → (c : Contents)
+pub parts_first : (plan : NewPool) (birth : Birth) (a m : RackView) → SameRack a m → a.lasting → (d : ℕ) → IsWhole a d → (c : Contents)
     → (IsWhole m d → HasParts plan birth d (m.sectors d) c) → HasParts plan birth d (a.sectors d) c
 parts_first plan birth a m stays lasting d whole c parts =
     subst (λ n. HasParts plan birth d n c) (stays.sectors d) (parts (whole_then a m d stays lasting whole))
 
-module _ (plan : NewPool) (birth : Birth) (x : Seen) (is : IsPlan plan) (room : HasRoom plan x) (d : ℕ) (disk : d < x.disks) where
+module _ (plan : NewPool) (birth : Birth) (x : RackView) (is : IsPlan plan) (room : HasRoom plan x) (d : ℕ) (disk : d < x.disks) where
   low_drive : d < length plan.units.items
   low_drive = let disks = room.disks in omega (arith, disk, disks)
 
@@ -73,9 +73,9 @@ module _ (plan : NewPool) (birth : Birth) (x : Seen) (is : IsPlan plan) (room : 
 
 -- ---- the drives
 
-module _ (plan : NewPool) (birth : Birth) (a m b : Seen) (is : IsPlan plan) (room : HasRoom plan a) (lasting : a.lasting)
+module _ (plan : NewPool) (birth : Birth) (a m b : RackView) (is : IsPlan plan) (room : HasRoom plan a) (lasting : a.lasting)
     (laying : WritesOnly a m (InLayings plan a.sectors)) (closing : WritesOnly m b (InClosings plan)) where
-  all : Stays a b
+  all : SameRack a b
   all = stays_then laying.stays closing.stays
 
   -- a disk that is whole has all parts that its place is to have, once it is laid and closed
@@ -96,7 +96,7 @@ module _ (plan : NewPool) (birth : Birth) (a m b : Seen) (is : IsPlan plan) (roo
       live_at s within = whole_live a b d s all lasting whole within
 
 -- and its copy of the state, once that is written
-pub drive_new : (plan : NewPool) (birth : Birth) (a m b : Seen) → IsPlan plan → HasRoom plan a → a.lasting → (filled : Stays a m) → (said : WritesOnly m b (InStates plan)) → (d : ℕ)
+pub drive_new : (plan : NewPool) (birth : Birth) (a m b : RackView) → IsPlan plan → HasRoom plan a → a.lasting → (filled : SameRack a m) → (said : WritesOnly m b (InStates plan)) → (d : ℕ)
     → IsWhole a d → HasParts plan birth d (a.sectors d) (now_on m d) → LeavesState plan birth d m b → IsNewDrive plan birth d (a.sectors d) (now_on b d)
 drive_new plan birth a m b is room lasting filled said d whole parts state =
     let all = stays_then filled said.stays in

@@ -4,7 +4,7 @@ use Rattle.std.specs.List.{list_all}
 use Rattle.std.proofs.lemmas.Bool.{and_from, cases_Bool}
 use Rattle.std.proofs.lemmas.List.Elements.{All-nil, All-cons}
 use Rattle.std.proofs.lemmas.Option.{slice_get_within}
-use Rattle.rack.specs.Seen.{Seen}
+use Rattle.rack.specs.Seen.{RackView}
 use Rattle.gpt_table.specs.declared.Entry.{Entry}
 use Rattle.gpt_table.specs.Format.{Ascends, IsWritable, is_inside}
 use Rattle.array_image.specs.Places.{data_sector, drive_id, log_kind, log_sectors, raid_kind, state_sector}
@@ -55,7 +55,7 @@ entry_inside drive slice kind first sectors whole some fits =
     and_from (nat_le first (first + sectors - 1)) (nat_lt (first + sectors - 1) whole) (le-leb first (first + sectors - 1) (omega (arith, some)))
     (lt-ltb (first + sectors - 1) whole (omega (arith, some, fits)))
 
-module _ (plan : NewPool) (birth : Birth) (x : Seen) (is : IsPlan plan) (room : HasRoom plan x) (place : ℕ) (drive_is : place < length plan.units.items) where
+module _ (plan : NewPool) (birth : Birth) (x : RackView) (is : IsPlan plan) (room : HasRoom plan x) (place : ℕ) (drive_is : place < length plan.units.items) where
   abbrev drive : List ℕ
   drive = drive_id birth.pool place
 

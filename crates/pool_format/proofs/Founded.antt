@@ -5,7 +5,7 @@ use Rattle.std.specs.List.{range_with_len, list_all}
 use Rattle.std.proofs.lemmas.Bool.{and_from, and_parts, both_ways}
 use Rattle.std.proofs.lemmas.List.FromFn.{length-map-range_with_len}
 use Rattle.std.proofs.lemmas.Option.{get_or_from_slice_get, slice_get_within}
-use Rattle.rack.specs.Seen.{Seen}
+use Rattle.rack.specs.Seen.{RackView}
 use Rattle.slice_rack.specs.Slices.{Slices, sectors_of as slice_sectors}
 use Rattle.slice_rack.specs.Sliced.{slices_of}
 use Rattle.md_super.specs.declared.superblock.Super.{Super}
@@ -163,7 +163,7 @@ module _ (plan : NewPool) (birth : Birth) (is : IsPlan plan) where
           ∙ ap (λ o. Some (slot_by (place_by u k) o).seat) (seen_at birth a n plan.extent n_drives chunks.0 is.most na chunks.1 some_extent few (place_by u k))
           ∙ ap (λ b. Some (slot_by (place_by u k) (if b then Some (new_super birth a n (place_by u k)) else None)).seat) (among k low)
 
-      seated_super : IsArray v → (x : Seen) (t : Slices) → (slices_of t x).fit → x.lasting → AreLaid plan.arrays.items n_drives (17 * n_drives) t → IsSeated s n v (slices_of t x)
+      seated_super : IsArray v → (x : RackView) (t : Slices) → (slices_of t x).fit → x.lasting → AreLaid plan.arrays.items n_drives (17 * n_drives) t → IsSeated s n v (slices_of t x)
       seated_super made x t fit lasting laid =
           let number = slice_get_within plan.arrays.items n a at in
           let few_arrays = is.few in
@@ -207,7 +207,7 @@ module _ (plan : NewPool) (birth : Birth) (is : IsPlan plan) where
           not_whole : (to : ℕ) → ◌≡◌ {A = Option Seat} (Some (Rebuilding to)) (Some Whole) → ⊥
           not_whole to same = cc
 
-    pub new_seated : (x : Seen) (t : Slices) → (slices_of t x).fit → x.lasting → AreLaid plan.arrays.items n_drives (17 * n_drives) t → IsSeated s n (new_view birth a n) (slices_of t x)
+    pub new_seated : (x : RackView) (t : Slices) → (slices_of t x).fit → x.lasting → AreLaid plan.arrays.items n_drives (17 * n_drives) t → IsSeated s n (new_view birth a n) (slices_of t x)
     new_seated x t fit lasting laid =
         let view : new_view birth a n ≡ view_found n false (new_found birth a n) (new_super birth a n own.0) =
         view_is ∙ ap (view_found n false (new_found birth a n)) own.2 in
@@ -229,7 +229,7 @@ module _ (plan : NewPool) (birth : Birth) (is : IsPlan plan) where
 
   -- ---- all arrays
 
-  pub new_fit : (x : Seen) (t : Slices) (arrs : Arrays) → IsNewRaid plan birth t arrs → (slices_of t x).fit → x.lasting → IsFit arrs (slices_of t x)
+  pub new_fit : (x : RackView) (t : Slices) (arrs : Arrays) → IsNewRaid plan birth t arrs → (slices_of t x).fit → x.lasting → IsFit arrs (slices_of t x)
   new_fit x t arrs new fit lasting = record {
     running = record {
       count = ap (λ (vs : List View). length vs) new.arrays ∙ views_count birth 0 plan.arrays.items ∙ sym (ap (λ (r : State). r.made) new.state);

@@ -4,7 +4,7 @@ use Rattle.std.specs.Option.{option_map_or}
 use Rattle.std.proofs.lemmas.Bool.{ne_eqb}
 use Rattle.std.proofs.lemmas.Option.{slice_get_within}
 use Rattle.rack.specs.declared.Gone.{Gone}
-use Rattle.rack.specs.Seen.{Seen, Rose, Stays}
+use Rattle.rack.specs.Seen.{RackView, Rose, SameRack}
 use Rattle.rack.specs.Calls.{Writes, Syncs}
 use Rattle.rack.specs.Joins.{rose_since}
 use Rattle.rack.specs.Sequences.{WritesOnly, WritesDurably}
@@ -99,7 +99,7 @@ table_on_disk n s room (inr (inr of)) = copy_is_on_disk Backup n s room of
 
 -- ---- where parts lie
 
-module _ (plan : NewPool) (x : Seen) (is : IsPlan plan) (room : HasRoom plan x) where
+module _ (plan : NewPool) (x : RackView) (is : IsPlan plan) (room : HasRoom plan x) where
   member_sectors : (d s at k : ℕ) → place_of k ≡ d → (o : Option NewArray) → slice_get plan.arrays.items (slice_of k - 1) ≡ o
       → at < option_map_or (λ (a : NewArray). if has a.members.items (place_of k) then a.size + data_sector else 0) o 0
       → s ≡ option_map_or (λ (a : NewArray). a.first) o 0 + at → (2048 ≤ s) × (s + 33 < x.sectors d)
@@ -138,26 +138,26 @@ module _ (plan : NewPool) (x : Seen) (is : IsPlan plan) (room : HasRoom plan x) 
 
 -- ---- calls in a row
 
-pub lays_after : (may : ℕ → ℕ → List ℕ → Type 0) (a b c : Seen) (r : Result (Unit {0}) Gone) → WritesOnly a b may → Lays may b c r → Lays may a c r
+pub lays_after : (may : ℕ → ℕ → List ℕ → Type 0) (a b c : RackView) (r : Result (Unit {0}) Gone) → WritesOnly a b may → Lays may b c r → Lays may a c r
 lays_after may a b c (Ok x) one two = record { only = only_then may one two.only; gone = tt }
 lays_after may a b c (Err e) one two = record {
   only = only_then may one two.only;
   gone = (subst (λ n. e.disk < n) one.stays.disks two.gone.0, rose_since (one.stays.faults e.disk) two.gone.1);
 }
 
-pub lays_weaker : (may more : ℕ → ℕ → List ℕ → Type 0) (a b : Seen) (r : Result (Unit {0}) Gone) → ((d s : ℕ) (v : List ℕ) → may d s v → more d s v)
+pub lays_weaker : (may more : ℕ → ℕ → List ℕ → Type 0) (a b : RackView) (r : Result (Unit {0}) Gone) → ((d s : ℕ) (v : List ℕ) → may d s v → more d s v)
     → Lays may a b r → Lays more a b r
 lays_weaker may more a b r weaker lays = record { only = only_weaker may more weaker lays.only; gone = lays.gone }
 
-pub lays_end : (may : ℕ → ℕ → List ℕ → Type 0) (a b : Seen) → WritesOnly a b may → Lays may a b {X = Unit {0}} (Ok tt)
+pub lays_end : (may : ℕ → ℕ → List ℕ → Type 0) (a b : RackView) → WritesOnly a b may → Lays may a b {X = Unit {0}} (Ok tt)
 lays_end may a b laid = record { only = laid; gone = tt }
 
-gone_inside : (a b : Seen) (disk : ℕ) (r : Result (Unit {0}) Gone) → disk < a.disks → IfErr r (λ e. (e.disk ≡ disk) × Rose (a.faults disk) (b.faults disk))
+gone_inside : (a b : RackView) (disk : ℕ) (r : Result (Unit {0}) Gone) → disk < a.disks → IfErr r (λ e. (e.disk ≡ disk) × Rose (a.faults disk) (b.faults disk))
     → IfErr r (λ e. (e.disk < a.disks) × Rose (a.faults e.disk) (b.faults e.disk))
 gone_inside a b disk (Ok x) inside gone = tt
 gone_inside a b disk (Err e) inside gone = (subst (λ k. k < a.disks) (sym gone.0) inside, subst (λ k. Rose (a.faults k) (b.faults k)) (sym gone.0) gone.1)
 
-pub lays_durable : (may : ℕ → ℕ → List ℕ → Type 0) (a b : Seen) (disk sector : ℕ) (v : List ℕ) (r : Result (Unit {0}) Gone) → disk < a.disks → may disk sector v
+pub lays_durable : (may : ℕ → ℕ → List ℕ → Type 0) (a b : RackView) (disk sector : ℕ) (v : List ℕ) (r : Result (Unit {0}) Gone) → disk < a.disks → may disk sector v
     → WritesDurably a b disk sector v r → Lays may a b r
 lays_durable may a b disk sector v r inside part writes = record {
   only =
@@ -166,7 +166,7 @@ lays_durable may a b disk sector v r inside part writes = record {
   gone = gone_inside a b disk r inside writes.gone;
 }
 
-pub lays_write : (may : ℕ → ℕ → List ℕ → Type 0) (a b : Seen) (disk sector : ℕ) (v : List ℕ) (r : Result (Unit {0}) Gone) → disk < a.disks → may disk sector v
+pub lays_write : (may : ℕ → ℕ → List ℕ → Type 0) (a b : RackView) (disk sector : ℕ) (v : List ℕ) (r : Result (Unit {0}) Gone) → disk < a.disks → may disk sector v
     → Writes a b disk sector v r → Lays may a b r
 lays_write may a b disk sector v (Ok x) inside part writes = record { only = only_written may disk sector v part writes; gone = tt }
 lays_write may a b disk sector v (Err e) inside part writes = record {
@@ -174,10 +174,10 @@ lays_write may a b disk sector v (Err e) inside part writes = record {
   gone = gone_inside a b disk (Err e) inside writes.cause.gone;
 }
 
-pub lays_sync : (may : ℕ → ℕ → List ℕ → Type 0) (a b : Seen) (disk : ℕ) (r : Result (Unit {0}) Gone) → disk < a.disks → Syncs a b disk r → Lays may a b r
+pub lays_sync : (may : ℕ → ℕ → List ℕ → Type 0) (a b : RackView) (disk : ℕ) (r : Result (Unit {0}) Gone) → disk < a.disks → Syncs a b disk r → Lays may a b r
 lays_sync may a b disk r inside syncs = record { only = only_quiet may syncs.stays syncs.keeps; gone = gone_inside a b disk r inside syncs.gone }
 
-pub lays_table : (plan : NewPool) (a b : Seen) (disk : ℕ) (table : Table) (r : Result (Unit {0}) Gone) → disk < a.disks → table.sectors ≡ a.sectors disk
+pub lays_table : (plan : NewPool) (a b : RackView) (disk : ℕ) (table : Table) (r : Result (Unit {0}) Gone) → disk < a.disks → table.sectors ≡ a.sectors disk
     → WritesTable a b disk table r → Lays (InLaying plan a.sectors disk) a b r
 lays_table plan a b disk table r inside size writes = record {
   only =
@@ -194,7 +194,7 @@ data_slice plan is d n s datum =
     subst (IsOfSlice plan d) same (member_part plan is n d (data_sector + datum.row) datum.array datum.at datum.among (omega (arith, within)))
 
 -- the disks have room still
-pub room_then : (plan : NewPool) (a b : Seen) → Stays a b → HasRoom plan a → HasRoom plan b
+pub room_then : (plan : NewPool) (a b : RackView) → SameRack a b → HasRoom plan a → HasRoom plan b
 room_then plan a b stays room = record {
   disks = stays.disks ∙ room.disks;
   small = λ d below. let small = room.small d (subst (λ n. d < n) stays.disks below) in let same = stays.sectors d in omega (arith, small, same);
@@ -203,12 +203,12 @@ room_then plan a b stays room = record {
 }
 
 -- a member's slice lies inside its drive
-pub record IsInside (x : Seen) (d : ℕ) (a : NewArray) : Type 0 where
+pub record IsInside (x : RackView) (d : ℕ) (a : NewArray) : Type 0 where
   pub disk : d < x.disks
   pub fits : a.first + (a.size + 2048) + 33 ≤ x.sectors d
   pub small : x.sectors d < 2 ^ 48
 
-pub member_inside : (plan : NewPool) (x : Seen) → IsPlan plan → HasRoom plan x → (n d : ℕ) (a : NewArray) → slice_get plan.arrays.items n ≡ Some a → has a.members.items d ≡ true
+pub member_inside : (plan : NewPool) (x : RackView) → IsPlan plan → HasRoom plan x → (n d : ℕ) (a : NewArray) → slice_get plan.arrays.items n ≡ Some a → has a.members.items d ≡ true
     → IsInside x d a
 member_inside plan x is room n d a at among =
     let drive = member_drive plan is n d a at among in

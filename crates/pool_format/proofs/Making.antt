@@ -5,7 +5,7 @@ use Rattle.std.specs.Option.{option_map_or}
 use Rattle.std.proofs.Math.Nat.{mul-add, mul-le-mul_right, mul_assoc}
 use Rattle.std.proofs.lemmas.List.{length-map}
 use Rattle.std.proofs.lemmas.Option.{get_or_from_slice_get, slice_get_within}
-use Rattle.rack.specs.Seen.{Seen}
+use Rattle.rack.specs.Seen.{RackView}
 use Rattle.array_model.specs.View.{View, IsArray, sectors_of}
 use Rattle.lvm_group.specs.Growth.{AreBelow}
 use Rattle.lvm_group.specs.Own.{HoldAll}
@@ -81,7 +81,7 @@ module _ (plan : NewPool) (is : IsPlan plan) where
   pub extents_below : AreBelow (extents_of plan)
   extents_below = all_mapped (λ number. number < 2 ^ 45) (λ (a : NewArray). a.extents) plan.arrays.items extents_low
 
-module _ (plan : NewPool) (birth : Birth) (x : Seen) (is : IsPlan plan) (room : HasRoom plan x) (are : (n : ℕ) (v : View) → slice_get (new_views birth 0 plan.arrays.items) n ≡ Some v → IsArray v) where
+module _ (plan : NewPool) (birth : Birth) (x : RackView) (is : IsPlan plan) (room : HasRoom plan x) (are : (n : ℕ) (v : View) → slice_get (new_views birth 0 plan.arrays.items) n ≡ Some v → IsArray v) where
   abbrev size_of : ℕ → ℕ
   size_of n = sectors_in (new_views birth 0 plan.arrays.items) n
 

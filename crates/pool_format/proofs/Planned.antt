@@ -5,7 +5,7 @@ use Rattle.std.proofs.Math.Nat.{mul-le-mul_right, mul-le-mul_left}
 use Rattle.std.proofs.lemmas.Bool.{both_ways, cases_lt}
 use Rattle.std.proofs.lemmas.List.Sums.{sum_by-cons}
 use Rattle.std.proofs.lemmas.Option.{get_or_from_slice_get, slice_get_within}
-use Rattle.rack.specs.Seen.{Seen}
+use Rattle.rack.specs.Seen.{RackView}
 use Rattle.layer_plan.specs.declared.Layer.{Layer}
 use Rattle.layer_plan.specs.declared.Layers.{Layers}
 use Rattle.layer_plan.specs.declared.PlanError.TheVariants.{TooFew, NoRoom}
@@ -86,7 +86,7 @@ arrays_offer first extent (layer ∷ others) =
     ∙ ap (λ n. layer.extents + n) (arrays_offer (first + (layer.height * extent + 4096)) extent others)
     ∙ sym (sum_by-cons (λ (l : Layer). l.extents) layer others)
 
-module _ (x : Seen) (extent : ℕ) (is : is_extent extent ≡ true) (bounded : (d : ℕ) → d < x.disks → x.sectors d < 2 ^ 48)
+module _ (x : RackView) (extent : ℕ) (is : is_extent extent ≡ true) (bounded : (d : ℕ) → d < x.disks → x.sectors d < 2 ^ 48)
     (most : x.disks ≤ 16) (units : List ℕ) (units_are : units ≡ units_on x extent) (layers : Layers)
     (says : SaysPlan units (Ok layers)) (layering : IsLayering units layers.layers.items) where
   count : length units ≡ x.disks
@@ -222,7 +222,7 @@ module _ (x : Seen) (extent : ℕ) (is : is_extent extent ≡ true) (bounded : (
     }
 
 -- no slice of a plan that disks have room for ends past them
-pub plan_low : (plan : NewPool) (x : Seen) → IsPlan plan → HasRoom plan x → AreLow plan.arrays.items
+pub plan_low : (plan : NewPool) (x : RackView) → IsPlan plan → HasRoom plan x → AreLow plan.arrays.items
 plan_low plan x is room k d below =
     let one = got plan.arrays.items k below in
     let array = is.each k one.0 one.1 in

@@ -3,7 +3,7 @@ use Rattle.std.proofs.Common.{◌≡◌, ◌≢◌, ◌⊎◌, ℕ, ◌+◌, ◌
 use Rattle.std.specs.Option.{option_map_or}
 use Rattle.std.proofs.lemmas.Bool.{cases_Bool, cases_lt, cases_eq, ne_eqb}
 use Rattle.std.proofs.lemmas.Option.{slice_get_within}
-use Rattle.rack.specs.Seen.{Seen}
+use Rattle.rack.specs.Seen.{RackView}
 use Rattle.slice_rack.specs.declared.SliceFault.{SliceFault}
 use Rattle.slice_rack.specs.declared.SliceFault.TheVariants.{Unseated, Outside, Overlap}
 use Rattle.slice_rack.specs.Slices.{Slices, seat_of, first_of, sectors_of, place_of}
@@ -165,7 +165,7 @@ added t u at first sectors (Err Unseated) unseated outside overlap adds = absurd
 added t u at first sectors (Err Outside) unseated outside overlap adds = absurd (outside refl)
 added t u at first sectors (Err Overlap) unseated outside overlap adds = absurd (overlap refl)
 
-module _ (plan : NewPool) (x : Seen) (is : IsPlan plan) (room : HasRoom plan x) (place : ℕ) (drive : place < length plan.units.items) where
+module _ (plan : NewPool) (x : RackView) (is : IsPlan plan) (room : HasRoom plan x) (place : ℕ) (drive : place < length plan.units.items) where
   seat_is : (arrays : List NewArray) (limit : ℕ) (t : Slices) → AreLaid arrays (place + 1) limit t → seat_of t place ≡ Some place
   seat_is arrays limit t laid = laid.seats place ∙ ap (λ b. if b then Some place else None) (lt-ltb place (place + 1) (omega arith))
 

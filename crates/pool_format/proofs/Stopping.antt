@@ -2,7 +2,7 @@
 use Rattle.std.proofs.Common.{◌≡◌, ◌≢◌, ◌⊎◌, ℕ, ◌<◌, List, length, Result, sym, subst, inl, inr, arith}
 use Rattle.rack.specs.declared.Gone.{Gone}
 use Rattle.rack.specs.Values.{MayLeave}
-use Rattle.rack.specs.Seen.{Image, IsLive, IsPick, Seen, Stays, appended}
+use Rattle.rack.specs.Seen.{Image, IsLive, IsPick, RackView, SameRack, appended}
 use Rattle.rack.specs.Moments.{Leaves}
 use Rattle.rack.specs.Joins.{leaves_same, leaves_then, leaves_weaker, live_first, live_second, stays_then}
 use Rattle.rack.specs.Sequences.{IsMix, WritesDurably, WritesOnly}
@@ -21,7 +21,7 @@ use Rattle.pool_format.proofs.Leaving.{cleared_still, filling_unstated}
 use Rattle.pool_format.proofs.Laying.{room_then}
 
 -- two properties of what stops leave
-leaves_both : {a b : Seen} (P Q : Image → Type 0) → Leaves a b P → Leaves a b Q → Leaves a b (λ c. P c × Q c)
+leaves_both : {a b : RackView} (P Q : Image → Type 0) → Leaves a b P → Leaves a b Q → Leaves a b (λ c. P c × Q c)
 leaves_both P Q one two = record {
   later = one.later;
   kept = one.kept;
@@ -35,11 +35,11 @@ leaves_both P Q one two = record {
 abbrev pub InStatesTo : NewPool → ℕ → ℕ → ℕ → List ℕ → Type 0
 InStatesTo plan place d s v = InStates plan d s v × (d < place)
 
-pub copies_none : (plan : NewPool) (birth : Birth) (a : Seen) → CopiesInOrder plan birth a a
+pub copies_none : (plan : NewPool) (birth : Birth) (a : RackView) → CopiesInOrder plan birth a a
 copies_none plan birth a traced = leaves_same a (λ c. (k : ℕ) × HaveCopiesTo plan birth a a (Stood a) k c)
 
 -- one copy more
-module _ (plan : NewPool) (birth : Birth) (a m b : Seen) (place : ℕ) (v : List ℕ) (r : Result (Unit {0}) Gone) (so_far : WritesOnly a m (InStatesTo plan place))
+module _ (plan : NewPool) (birth : Birth) (a m b : RackView) (place : ℕ) (v : List ℕ) (r : Result (Unit {0}) Gone) (so_far : WritesOnly a m (InStatesTo plan place))
     (states : (d : ℕ) → d < place → LeavesState plan birth d a m) (copy : IsCopyOf plan birth place v) (writes : WritesDurably m b place state_sector v r) where
   longer : (c : Image) → (k : ℕ) × HaveCopiesTo plan birth a m (Stood a) k c → (k : ℕ) × HaveCopiesTo plan birth a b (Stood a) k c
   longer c have = (
@@ -92,25 +92,25 @@ module _ (plan : NewPool) (birth : Birth) (a m b : Seen) (place : ℕ) (v : List
 
 -- ---- the whole making
 
-module _ (plan : NewPool) (birth : Birth) (a b : Seen) where
+module _ (plan : NewPool) (birth : Birth) (a b : RackView) where
   -- copies are cleared
-  pub stops_clearing : (m : Seen) → WritesOnly a m (InCleared plan) → Stays m b → a.traced → Leaves a m (IsStop plan birth a b)
+  pub stops_clearing : (m : RackView) → WritesOnly a m (InCleared plan) → SameRack m b → a.traced → Leaves a m (IsStop plan birth a b)
   stops_clearing m only stays traced =
       leaves_weaker (IsMix a m (InCleared plan)) (IsStop plan birth a b) (λ c mix. clearing (λ d s live. mix d s (live_first stays live))) (only.stops traced)
 
-  module _ (is : IsPlan plan) (room : HasRoom plan a) (m : Seen) (begun : WritesOnly a m (InCleared plan))
+  module _ (is : IsPlan plan) (room : HasRoom plan a) (m : RackView) (begun : WritesOnly a m (InCleared plan))
       (cleared : (d : ℕ) → d < length plan.units.items → LeavesCleared d a m) where
-    low_drive : (d : ℕ) {s : ℕ} (n : Seen) → Stays a n → IsLive a n d s → d < length plan.units.items
+    low_drive : (d : ℕ) {s : ℕ} (n : RackView) → SameRack a n → IsLive a n d s → d < length plan.units.items
     low_drive d n stays live = let disk = live.disk in let same = stays.disks in let many = room.disks in omega (arith, disk, same, many)
 
-    module _ (n : Seen) (filled : WritesOnly m n (InFilling plan m.sectors)) where
+    module _ (n : RackView) (filled : WritesOnly m n (InFilling plan m.sectors)) where
       never : (d : ℕ) → d < length plan.units.items → (v : List ℕ) → InFilling plan m.sectors d state_sector v → ⊥
       never d low v may = filling_unstated plan is m (room_then plan a m begun.stays room) d v low may
 
       -- the other parts are written
-      pub stops_filling : Stays n b → a.traced → Leaves m n (IsStop plan birth a b)
+      pub stops_filling : SameRack n b → a.traced → Leaves m n (IsStop plan birth a b)
       stops_filling stays traced =
-          let early : Stays a n = stays_then begun.stays filled.stays in
+          let early : SameRack a n = stays_then begun.stays filled.stays in
           leaves_weaker
           (IsMix m n (InFilling plan m.sectors))
           (IsStop plan birth a b)
@@ -128,10 +128,10 @@ module _ (plan : NewPool) (birth : Birth) (a b : Seen) where
       -- the copies are
       module _ (lasting : a.lasting) (parts : (d : ℕ) → IsWhole m d → HasParts plan birth d (m.sectors d) (now_on n d))
           (single : (d : ℕ) → d < length plan.units.items → LeavesSingle d m n) (said : WritesOnly n b (InStates plan)) (copies : CopiesInOrder plan birth n b) (read : IsGroupRead plan birth) where
-        early : Stays a n
+        early : SameRack a n
         early = stays_then begun.stays filled.stays
 
-        all : Stays a b
+        all : SameRack a b
         all = stays_then early said.stays
 
         unsaid : (d : ℕ) (v : List ℕ) → IsLive a b d state_sector → Stood n d v → v ≡ no_state

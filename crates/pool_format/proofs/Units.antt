@@ -3,7 +3,7 @@ use Rattle.std.proofs.Common.{◌≡◌, ◌↔◌, ℕ, ◌+◌, ◌-◌, ◌*�
 use Rattle.std.proofs.Math.Nat.{div-mul-le_self, mul-le-mul_left}
 use Rattle.std.proofs.lemmas.Bool.{and_parts, cases_Bool, cases_lt, cond-true, cond-false}
 use Rattle.std.proofs.lemmas.List.FromFn.{length-map-range_with_len, get_or-map-range_with_len}
-use Rattle.rack.specs.Seen.{Seen}
+use Rattle.rack.specs.Seen.{RackView}
 use Rattle.layer_plan.specs.declared.Layers.{Layers}
 use Rattle.layer_plan.specs.declared.PlanError.{PlanError}
 use Rattle.layer_plan.specs.declared.PlanError.TheVariants.{TooFew, TooMany, NoRoom}
@@ -50,7 +50,7 @@ units_small sectors extent is bounded =
       | inr none ↦ omega (arith, none)
     ]
 
-module _ (x : Seen) (extent : ℕ) (is : is_extent extent ≡ true) (bounded : (d : ℕ) → d < x.disks → x.sectors d < 2 ^ 48) where
+module _ (x : RackView) (extent : ℕ) (is : is_extent extent ≡ true) (bounded : (d : ℕ) → d < x.disks → x.sectors d < 2 ^ 48) where
   pub units_count : length (units_on x extent) ≡ x.disks
   units_count = length-map-range_with_len (λ disk. units_of (x.sectors disk) extent) 0 x.disks
 

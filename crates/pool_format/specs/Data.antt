@@ -1,7 +1,7 @@
 -- The data of a new pool's members.
 use Rattle.std.specs.Prelude.{◌≡◌, ℕ, ◌+◌, ◌-◌, ◌*◌, ◌%◌, ◌<◌, true, List, length, map, slice_get, slice_index, Some}
 use Rattle.std.specs.List.{range_with_len}
-use Rattle.rack.specs.Seen.{Seen, IsLive}
+use Rattle.rack.specs.Seen.{RackView, IsLive}
 use Rattle.gpt_table.specs.Disk.{now_on}
 use Rattle.parity.specs.Xor.{xor_all}
 use Rattle.raid_map.specs.LeftSymmetric.{StandsAt, parity_at, row_at}
@@ -64,7 +64,7 @@ pub record IsDataOf (plan : NewPool) (place number sector : ℕ) : Type 0 where
   pub sector_is : sector ≡ array.first + data_sector + row
 
 -- what calls in a row leave in the live sectors of that data
-abbrev pub LeavesData : NewPool → Birth → ℕ → ℕ → Seen → Seen → Type 0
+abbrev pub LeavesData : NewPool → Birth → ℕ → ℕ → RackView → RackView → Type 0
 LeavesData plan birth d n a b =
     (e : NewArray) → slice_get plan.arrays.items n ≡ Some e → has e.members.items d ≡ true → (s : ℕ) → s < e.size
     → IsLive a b d (e.first + data_sector + s)

@@ -1,7 +1,7 @@
 -- What stands on the drives of a new pool.
 use Rattle.std.specs.Prelude.{◌≡◌, ℕ, ◌+◌, ◌++◌, ◌<◌, true, false, List, length, replicate, slice_get, Some, Ok}
 use Rattle.rack.specs.Values.{IsSector, IsSingle, MayLeave}
-use Rattle.rack.specs.Seen.{Seen, IsLive}
+use Rattle.rack.specs.Seen.{RackView, IsLive}
 use Rattle.gpt_table.specs.Disk.{Contents, HoldsCopy, now_on}
 use Rattle.gpt_table.specs.Format.{mbr_of}
 use Rattle.gpt_table.specs.Plans.{IsOfTable}
@@ -73,7 +73,7 @@ pub record IsNewDrive (plan : NewPool) (birth : Birth) (place sectors : ℕ) (co
   pub state : IsCopyOf plan birth place (contents state_sector)
 
 -- a disk that is told, and no sector of it is spent
-pub record IsWhole (x : Seen) (d : ℕ) : Type 0 where
+pub record IsWhole (x : RackView) (d : ℕ) : Type 0 where
   pub disk : d < x.disks
   pub is_told : x.told d
   pub unspent : (s : ℕ) → s < x.sectors d → x.spent d s ≡ false
@@ -81,34 +81,34 @@ pub record IsWhole (x : Seen) (d : ℕ) : Type 0 where
 -- ---- what calls in a row leave on a drive, in its live sectors
 
 -- its table
-abbrev pub LeavesTable : NewPool → Birth → ℕ → Seen → Seen → Type 0
+abbrev pub LeavesTable : NewPool → Birth → ℕ → RackView → RackView → Type 0
 LeavesTable plan birth d a b = ((s : ℕ) → IsOfTable (a.sectors d) s → IsLive a b d s) → HoldsTable plan birth d (a.sectors d) (now_on b d)
 
 -- its table, and the data of its members
-pub record LeavesLaid (plan : NewPool) (birth : Birth) (d : ℕ) (a b : Seen) : Type 0 where
+pub record LeavesLaid (plan : NewPool) (birth : Birth) (d : ℕ) (a b : RackView) : Type 0 where
   pub table : LeavesTable plan birth d a b
   pub members : (n : ℕ) → LeavesData plan birth d n a b
 
 -- the superblock of its member of an array
-abbrev pub LeavesSuper : NewPool → Birth → ℕ → ℕ → Seen → Seen → Type 0
+abbrev pub LeavesSuper : NewPool → Birth → ℕ → ℕ → RackView → RackView → Type 0
 LeavesSuper plan birth d n a b =
     (e : NewArray) → slice_get plan.arrays.items n ≡ Some e → has e.members.items d ≡ true → IsLive a b d (e.first + super_sector)
     → IsBlockOf (new_super birth e n d) (now_on b d (e.first + super_sector))
 
 -- the closed gate and the superblocks of its members
-pub record LeavesClosed (plan : NewPool) (birth : Birth) (d : ℕ) (a b : Seen) : Type 0 where
+pub record LeavesClosed (plan : NewPool) (birth : Birth) (d : ℕ) (a b : RackView) : Type 0 where
   pub gate : IsLive a b d gate_at → now_on b d gate_at ≡ first_gate
   pub supers : (n : ℕ) → LeavesSuper plan birth d n a b
 
 -- its copy of the state, and one value in each sector
-pub record LeavesState (plan : NewPool) (birth : Birth) (d : ℕ) (a b : Seen) : Type 0 where
+pub record LeavesState (plan : NewPool) (birth : Birth) (d : ℕ) (a b : RackView) : Type 0 where
   pub state : IsLive a b d state_sector → IsCopyOf plan birth d (now_on b d state_sector)
   pub single : (s : ℕ) → IsLive a b d s → IsSingle (b.held d s)
 
 -- zeros in place of its copy of the state, durably
-abbrev pub LeavesCleared : ℕ → Seen → Seen → Type 0
+abbrev pub LeavesCleared : ℕ → RackView → RackView → Type 0
 LeavesCleared d a b = IsLive a b d state_sector → (v : List ℕ) → MayLeave (b.held d state_sector) v → v ≡ no_state
 
 -- one value in each sector
-abbrev pub LeavesSingle : ℕ → Seen → Seen → Type 0
+abbrev pub LeavesSingle : ℕ → RackView → RackView → Type 0
 LeavesSingle d a b = (s : ℕ) → IsLive a b d s → IsSingle (b.held d s)

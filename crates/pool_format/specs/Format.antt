@@ -2,7 +2,7 @@
 use Rattle.std.specs.Prelude.{◌≡◌, ℕ, Result, MatchResult}
 use Rattle.rack.specs.declared.Back.{Back}
 use Rattle.rack.specs.Values.{IsSingle}
-use Rattle.rack.specs.Seen.{Seen, IsLive}
+use Rattle.rack.specs.Seen.{RackView, IsLive}
 use Rattle.rack.specs.Sequences.{WritesOnly}
 use Rattle.gpt_table.specs.Disk.{now_on}
 use Rattle.lvm_group.specs.Runs.{Linear}
@@ -26,7 +26,7 @@ IsRefusedFor why result = MatchResult result (λ made. ⊥) (λ back. back.why �
 -- Only tables and slices of the plan were written, in their order at each moment. Each sector has one value, which a stop leaves, and each
 -- disk that is told has the table, the state, the gate, the superblocks and the data of its place. What its arrays hold by these is read as
 -- the volume's group.
-pub record IsMade (x y : Seen) (extent : ℕ) (birth : Birth) (a : Arrays) (l : Linear) : Type 0 where
+pub record IsMade (x y : RackView) (extent : ℕ) (birth : Birth) (a : Arrays) (l : Linear) : Type 0 where
   pub plan : NewPool
   pub planned : IsPlanOf (units_on x extent) extent plan
   pub well_planned : IsPlan plan
@@ -41,7 +41,7 @@ pub record IsMade (x y : Seen) (extent : ℕ) (birth : Birth) (a : Arrays) (l : 
   pub group : IsGroupRead plan birth
 
 -- what a refused making left: a part of those writes, in their order
-pub record IsGivenBack (x y : Seen) (extent : ℕ) (birth : Birth) : Type 0 where
+pub record IsGivenBack (x y : RackView) (extent : ℕ) (birth : Birth) : Type 0 where
   pub plan : NewPool
   pub planned : IsPlanOf (units_on x extent) extent plan
   pub well_planned : IsPlan plan

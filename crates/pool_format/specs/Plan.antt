@@ -1,7 +1,7 @@
 -- The plan of a new pool: the units of its drives, and its arrays with the slices of their members.
 use Rattle.std.specs.Prelude.{◌≡◌, ℕ, Bool, true, ◌+◌, ◌-◌, ◌*◌, ◌<◌, ◌≤◌, ◌^◌, ◌==◌, List, [], ◌∷◌, All, map, filter, length, position, slice_get, Some, sum, sum_by, take}
 use Rattle.std.specs.List.{range_with_len}
-use Rattle.rack.specs.Seen.{Seen}
+use Rattle.rack.specs.Seen.{RackView}
 use Rattle.shr_base.specs.Units.{units_of}
 use Rattle.layer_plan.specs.declared.Layer.{Layer}
 use Rattle.layer_plan.specs.declared.PlanError.{PlanError}
@@ -15,7 +15,7 @@ use Rattle.pool_format.specs.declared.planning.NewArray.{NewArray}
 use Rattle.pool_format.specs.declared.planning.NewPool.{NewPool}
 
 -- the units of a rack's disks, in their order
-abbrev pub units_on : Seen → ℕ → List ℕ
+abbrev pub units_on : RackView → ℕ → List ℕ
 units_on x extent = map (λ disk. units_of (x.sectors disk) extent) (range_with_len 0 x.disks)
 
 -- drives of so many units have no plan, for this reason
@@ -85,7 +85,7 @@ pub record IsPlan (plan : NewPool) : Type 0 where
       → a.first + (a.size + 2048) ≤ b.first
 
 -- disks on which the plan's slices lie before the backup of the table
-pub record HasRoom (plan : NewPool) (x : Seen) : Type 0 where
+pub record HasRoom (plan : NewPool) (x : RackView) : Type 0 where
   pub disks : x.disks ≡ length plan.units.items
   pub small : (d : ℕ) → d < x.disks → x.sectors d < 2 ^ 48
   pub logs : (d : ℕ) → d < x.disks → arrays_first + 33 ≤ x.sectors d

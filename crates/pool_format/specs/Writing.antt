@@ -1,7 +1,7 @@
 -- What the making of a pool may write.
 use Rattle.std.specs.Prelude.{◌≡◌, ◌⊎◌, ℕ, ◌+◌, ◌<◌, ◌≤◌, List, length, Result, IfErr}
 use Rattle.rack.specs.declared.Gone.{Gone}
-use Rattle.rack.specs.Seen.{Seen, Rose}
+use Rattle.rack.specs.Seen.{RackView, Rose}
 use Rattle.rack.specs.Sequences.{WritesOnly}
 use Rattle.gpt_table.specs.Plans.{IsOfTable}
 use Rattle.array_image.specs.Places.{place_of, state_sector}
@@ -72,6 +72,6 @@ abbrev pub InCleared : NewPool → ℕ → ℕ → List ℕ → Type 0
 InCleared plan d s v = InStates plan d s v × (v ≡ no_state)
 
 -- nothing was written but these sectors; a refusal names a disk whose faults rose
-pub record Lays (may : ℕ → ℕ → List ℕ → Type 0) (a b : Seen) {X : Type 0} (result : Result X Gone) : Type 0 where
+pub record Lays (may : ℕ → ℕ → List ℕ → Type 0) (a b : RackView) {X : Type 0} (result : Result X Gone) : Type 0 where
   pub only : WritesOnly a b may
   pub gone : IfErr result (λ e. (e.disk < a.disks) × Rose (a.faults e.disk) (b.faults e.disk))

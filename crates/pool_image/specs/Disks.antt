@@ -3,7 +3,7 @@ use Rattle.std.specs.Prelude.{ℕ, false, ◌==◌, nat_lt, bytes_eq, if◌then�
 use Rattle.std.specs.Option.{option_and_then, option_map_or}
 use Rattle.std.specs.Result.{result_ok}
 use Rattle.std.specs.List.{range_with_len}
-use Rattle.rack.specs.Seen.{Image, Seen}
+use Rattle.rack.specs.Seen.{Image, RackView}
 use Rattle.gpt_table.specs.declared.Table.{Table}
 use Rattle.gpt_table.specs.Changes.{the_table}
 use Rattle.pool_state.specs.declared.contents.Copied.{Copied}
@@ -18,7 +18,7 @@ pub record Disks : Type 0 where
   pub count : ℕ
   pub sectors : ℕ → ℕ
 
-abbrev pub disks_of : Seen → Disks
+abbrev pub disks_of : RackView → Disks
 disks_of x = record { count = x.disks; sectors = x.sectors }
 
 abbrev pub all_disks : Disks → List ℕ

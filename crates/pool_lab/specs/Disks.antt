@@ -1,7 +1,7 @@
 -- What a bay of attached disks shows: sizes, names and faults, and no contents.
 use Rattle.std.specs.Prelude.{◌≡◌, ℕ, ◌≤◌, List, [], length, map, slice_get, Option, Some, None, false}
 use Rattle.rack.specs.Values.{only}
-use Rattle.rack.specs.Seen.{Seen, Rose}
+use Rattle.rack.specs.Seen.{RackView, Rose}
 use Rattle.rack.specs.Shelf.{Shelf}
 use Rattle.pool_lab.specs.declared.attached.Attached.{Attached}
 
@@ -24,7 +24,7 @@ abbrev pub Differ : List (List ℕ) → Type 0
 Differ names = (i j : ℕ) (name : List ℕ) → slice_get names i ≡ Some name → slice_get names j ≡ Some name → i ≡ j
 
 -- what the rack shows
-abbrev pub bay_seen : List Attached → Seen
+abbrev pub bay_seen : List Attached → RackView
 bay_seen disks =
     record {
       disks = length disks;

@@ -3,7 +3,7 @@ use Rattle.std.proofs.Common.{◌≡◌, ℕ, ◌<◌, ◌≤◌, Bool, true, fa
 use Rattle.std.specs.Result.{result_ok}
 use Rattle.std.proofs.lemmas.Bool.{cases_Bool, cases_lt}
 use Rattle.std.proofs.lemmas.Option.{none-some}
-use Rattle.rack.specs.Seen.{Image, Seen}
+use Rattle.rack.specs.Seen.{Image, RackView}
 use Rattle.rack.specs.Targets.{Target, look}
 use Rattle.rack.specs.Values.{MayLeave}
 use Rattle.shr_base.specs.Blocks.{bytes_at, number_at}
@@ -14,7 +14,7 @@ use Rattle.array_image.specs.Arrays.{replayed}
 use Rattle.array_image.specs.Places.{log_slice, place_of}
 use Rattle.array_image.specs.Record.{pending}
 use Rattle.log_laws.specs.Commits.{Stands}
-use Rattle.log_laws.specs.Kept.{LogKept}
+use Rattle.log_laws.specs.Kept.{LogInvariant}
 use Rattle.log_laws.specs.Saying.{CopiesIn, HoldsCopies}
 use Rattle.log_laws.specs.Standing.{LogsStand, deciding}
 use Rattle.raid_laws.specs.Book.{after_same}
@@ -25,7 +25,7 @@ nothing_decodes : (copy : Copied) → decoded [] ≡ Ok copy → ⊥
 unfolding number_at bytes_at
 nothing_decodes copy is = none-some copy (ap result_ok is)
 
-module _ (s : State) (number : ℕ) (gone : ℕ → Bool) (x : Seen) (kept : LogKept s number gone x) (none : (p : ℕ) → gone p ≡ true → x.sectors (log_slice p) ≡ 0)
+module _ (s : State) (number : ℕ) (gone : ℕ → Bool) (x : RackView) (kept : LogInvariant s number gone x) (none : (p : ℕ) → gone p ≡ true → x.sectors (log_slice p) ≡ 0)
     (idle : (c : Image) → LogsStand x c → pending (deciding c) c ≡ []) where
   -- a place that has a log slice hasn't gone
   left : (p : ℕ) → 0 < x.sectors (log_slice p) → gone p ≡ false

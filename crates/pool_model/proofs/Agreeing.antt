@@ -6,7 +6,7 @@ use Rattle.rack.specs.Seen.{Image}
 use Rattle.pool_state.specs.declared.contents.State.{State}
 use Rattle.array_image.specs.States.{is_current}
 use Rattle.array_core.proofs.Stripped.{some_same}
-use Rattle.raid_laws.specs.Book.{IsAfter}
+use Rattle.raid_laws.specs.Book.{OnlyMarksSince}
 use Rattle.raid_laws.specs.Reach.{KeepsReach}
 use Rattle.pool_image.specs.Alike.{Agree, IsSamePool, MeansTheSame}
 use Rattle.pool_image.specs.Disks.{Disks, identities_of, newest, seat_of}
@@ -17,7 +17,7 @@ use Rattle.pool_image.proofs.Founds.{damage_same, joined_same, shapes_same}
 use Rattle.pool_image.proofs.Rested.{stood_by}
 use Rattle.pool_rest.specs.SoundLogs.{HasSoundLogs}
 use Rattle.pool_rest.proofs.Unwritten.{agreeing_mean}
-use Rattle.pool_model.specs.Openings.{HoldOpened, MayReplay}
+use Rattle.pool_model.specs.Openings.{RecoversInOpening, MayReplay}
 use Rattle.pool_model.proofs.Found.{found_is}
 use Rattle.pool_model.proofs.LackingRows.{dirty_same}
 use Rattle.pool_model.proofs.Rereading.{agree_holds}
@@ -46,7 +46,7 @@ agree_means disks c i f found_before logs agree =
     (sym (ap (option_and_then (λ (x : Standing). found_by disks x (written disks x c))) stands) ∙ found_before) in
     agreeing_mean disks c i by.0 new.0 stands new.1 agree
 
-pub agree_opened : (f : Found) (from : ℕ) (c i : Image) → HoldOpened f from c → Agree f.disks i c → HoldOpened f from i
+pub agree_opened : (f : Found) (from : ℕ) (c i : Image) → RecoversInOpening f from c → Agree f.disks i c → RecoversInOpening f from i
 agree_opened f from c i holds agree =
     let h = holds.now in
     let disks : h.disks ≡ f.disks = (found_is f.disks c h holds.found_is).1 in
@@ -61,7 +61,7 @@ agree_opened f from c i holds agree =
       found_is = found_now;
       sound = again.sound;
       logs = subst (λ (k : Disks). HasSoundLogs k i) disks again.logs;
-      after = subst (λ (z : State). IsAfter f.state z) (sym is.state) holds.after;
+      after = subst (λ (z : State). OnlyMarksSince f.state z) (sym is.state) holds.after;
       plan = ap (λ (z : State). z.plan) is.state ∙ holds.plan;
       marks = λ p counts past. holds.marks p counts (sym (ap (λ (z : State). is_current z p) is.state) ∙ past);
       seats = λ p counts. is.seats p ∙ holds.seats p (sym (ap (λ (z : State). is_current z p) is.state) ∙ counts);

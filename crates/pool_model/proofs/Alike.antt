@@ -2,7 +2,7 @@
 use Rattle.std.proofs.Common.{◌≡◌, ℕ, zero, suc, ◌+◌, ◌<◌, ◌≤◌, ◌&&◌, false, nat_lt, if◌then◌else◌, [], Option, Some, option_map, refl, sym, ap, ap₂, ◌∙◌, inl, inr, le-ltb, arith}
 use Rattle.std.specs.Option.{option_and_then, option_map_or}
 use Rattle.std.proofs.lemmas.Bool.{cases_lt}
-use Rattle.rack.specs.Seen.{Image, Seen}
+use Rattle.rack.specs.Seen.{Image, RackView}
 use Rattle.slice_rack.specs.Slices.{Slices, place_of}
 use Rattle.md_super.specs.declared.superblock.Super.{Super}
 use Rattle.pool_state.specs.declared.contents.Copied.{Copied}
@@ -19,7 +19,7 @@ use Rattle.pool_image.specs.Replay.{Extent}
 use Rattle.pool_image.proofs.Truths.{extent_found, truth_found}
 use Rattle.raid_laws.specs.Raid.{Raid}
 use Rattle.pool_model.specs.InService.{HasSeat, IsArranged, IsOutset}
-use Rattle.pool_model.specs.Left.{AreAloneBy, IsServed}
+use Rattle.pool_model.specs.Left.{NoStraySuperblockBy, IsServed}
 use Rattle.pool_model.specs.Pools.{AreSlicesOf}
 use Rattle.pool_model.proofs.Layers.{IsLaid, laid}
 
@@ -134,12 +134,12 @@ module _ (f : Found) (e : Identities) (few : f.state.made ≤ 16) (has : (n : �
     own = λ n u low truth. arranged.own n u low (sym (truth_same f said few has has_truths n low) ∙ truth);
   }
 
-  pub alone_said : (s : State) (i : Image) → AreAloneBy s f i → AreAloneBy s said i
+  pub alone_said : (s : State) (i : Image) → NoStraySuperblockBy s f i → NoStraySuperblockBy s said i
   alone_said s i alone n p d first low counts seat none begins within =
       alone n p d first low counts seat (sym (member_same f said few has has_truths n low p) ∙ none)
       (sym (first_same f said few has has_truths n (omega (arith, low))) ∙ begins) within
 
-  pub served_said : (t : Slices) (v : Raid) (y : Seen) → IsServed f t v y → IsServed said t v y
+  pub served_said : (t : Slices) (v : Raid) (y : RackView) → IsServed f t v y → IsServed said t v y
   served_said t v y served = record {
     slices = slices_said t served.slices;
     after = served.after;

@@ -1,7 +1,7 @@
 -- The disks of a pool in service say, outside its slices, that it stands alone on them: from its opening on, after calls, and after disks were declined
 -- or taken in.
 --
--- `HoldAlone f bound Out s t x` (specs/Alone.antt) goes beside `InService f t v x`: `alone_begins` at the opening, `alone_calls` after calls that write slices alone,
+-- `NoImpostor f bound Out s t x` (specs/Alone.antt) goes beside `RunInvariant f t v x`: `alone_begins` at the opening, `alone_calls` after calls that write slices alone,
 -- `alone_attached` after a drive was declined and `alone_taken` after one was taken in. `HoldTabled f s t x` says of it the tables alone, without a word of other disks:
 -- `tabled_begins`, `tabled_calls`, `tabled_declined` (proofs/Tables.antt) and `tabled_taken`, by lemmas on what contents have (`AreTabled`).
 use Rattle.std.proofs.Common.{◌≡◌, ◌≢◌, ◌⊎◌, ℕ, ◌<◌, ◌≤◌, true, false, bytes_eq, position, List, Option, Some, None, option_map, refl, sym, ap, ap₂, subst, ◌∙◌, inl, inr, arith}
@@ -9,7 +9,7 @@ use Rattle.std.specs.Option.{option_and_then, option_map_or}
 use Rattle.std.proofs.lemmas.Bool.{and_parts, both_ways, cases_eq, cases_lt}
 use Rattle.std.proofs.lemmas.Option.{none-some}
 use Rattle.std.proofs.lemmas.Slice.Eq.{bytes_eq-Decides}
-use Rattle.rack.specs.Seen.{Image, Seen}
+use Rattle.rack.specs.Seen.{Image, RackView}
 use Rattle.rack.specs.Sequences.{WritesOnly}
 use Rattle.array_image.specs.States.{id_of, is_current}
 use Rattle.slice_rack.specs.Runs.{IsSliced}
@@ -31,9 +31,9 @@ use Rattle.pool_image.specs.Meaning.{has_table, is_table, truth_of}
 use Rattle.raid_laws.specs.Enlisting.{enlisted}
 use Rattle.raid_laws.specs.Raid.{Raid}
 use Rattle.pool_model.specs.Absent.{IsApart, StandsAlone}
-use Rattle.pool_model.specs.Alone.{AreTabled, HoldAlone, HoldTabled, IsStranger, IsTabled, IsUngiven, SaysAlone, TakesAlone}
-use Rattle.pool_model.specs.InService.{InService, IsArranged}
-use Rattle.pool_model.specs.Left.{AreElsewhere, HoldRest, IsPickOff}
+use Rattle.pool_model.specs.Alone.{AreTabled, NoImpostor, HoldTabled, IsStranger, IsTabled, IsUngiven, SaysNoImpostor, TakesAlone}
+use Rattle.pool_model.specs.InService.{RunInvariant, IsArranged}
+use Rattle.pool_model.specs.Left.{AreElsewhere, HoldRest, IsPickOutsideSlices}
 use Rattle.pool_model.specs.Taken.{AreDistinct, AreSerial, KeepsRest, SeatsNew, attached, taken}
 use Rattle.pool_model.proofs.Again.{off_later}
 use Rattle.pool_model.proofs.Alike.{HasTruths, extent_same, has_truths as said_truths, member_same}
@@ -46,7 +46,7 @@ use Rattle.pool_model.proofs.Taken.{IsKnownBefore, has_truths, seat_here, seat_o
 use Rattle.pool_model.proofs.Undamaged.{members_alike}
 
 -- a disk with the contents and the sectors that it had says what it said
-said_same : (f : Found) (z : Seen) (was i : Image) (d : ℕ) → was d ≡ i d → z.sectors d ≡ f.disks.sectors d → identities_of f.disks was d ≡ identities_of (disks_of z) i d
+said_same : (f : Found) (z : RackView) (was i : Image) (d : ℕ) → was d ≡ i d → z.sectors d ≡ f.disks.sectors d → identities_of f.disks was d ≡ identities_of (disks_of z) i d
 said_same f z was i d same sectors =
     ap (λ c. identities_of f.disks (λ k. c) d) same ∙ ap (λ n. identities_of (record { count = f.disks.count; sectors = λ k. n }) i d) (sym sectors)
 
@@ -81,13 +81,13 @@ tables_there : (f : Found) (Out : ℕ → Type 0) (s : State) (i : Image) → ((
 tables_there f Out s i good elsewhere p d seat why =
     ap (λ o. option_map_or (is_table f p (f.disks.sectors d)) o false) (elsewhere.tables p d seat) ∙ good p d seat
 
-pub tabled_begins : (f : Found) (s : State) (t : Slices) (x : Seen) → ((p d : ℕ) → f.seats p ≡ Some d → has_table f p d ≡ true) → HoldRest f t x → HoldTabled f s t x
+pub tabled_begins : (f : Found) (s : State) (t : Slices) (x : RackView) → ((p d : ℕ) → f.seats p ≡ Some d → has_table f p d ≡ true) → HoldRest f t x → HoldTabled f s t x
 tabled_begins f s t x good rest i off = tables_there f (λ d. Unit {0}) s i good (rest.elsewhere i off)
 
 -- disks on which a pool was found that stood alone, and no other one that stays had an id that it gives later
-pub alone_begins : (f : Found) (bound : ℕ) (Out : ℕ → Type 0) (s : State) (t : Slices) (x : Seen) → StandsAlone f
+pub alone_begins : (f : Found) (bound : ℕ) (Out : ℕ → Type 0) (s : State) (t : Slices) (x : RackView) → StandsAlone f
     → ((d : ℕ) → ((p : ℕ) → f.seats p ≡ Some d → ⊥) → (Out d → ⊥) → d < f.disks.count → IsUngiven f.state bound (f.identities d))
-    → HoldRest f t x → HoldAlone f bound Out s t x
+    → HoldRest f t x → NoImpostor f bound Out s t x
 alone_begins f bound Out s t x stands ungiven rest i off =
     let elsewhere = rest.elsewhere i off in
     record {
@@ -101,13 +101,13 @@ tables_marked : (f : Found) (Out : ℕ → Type 0) (s r : State) (i : Image) →
     → AreTabled f Out r i
 tables_marked f Out s r i marks tables p d seat why = tables p d seat (elim why [ inl now ↦ inl (marks p now) | inr stays ↦ inr stays ])
 
-pub tabled_calls : (f : Found) (s r : State) (t : Slices) (x y : Seen) → ((p : ℕ) → is_current r p ≡ true → is_current s p ≡ true) → x.lasting
+pub tabled_calls : (f : Found) (s r : State) (t : Slices) (x y : RackView) → ((p : ℕ) → is_current r p ≡ true → is_current s p ≡ true) → x.lasting
     → WritesOnly x y (IsSliced t) → HoldTabled f s t x → HoldTabled f r t y
 tabled_calls f s r t x y marks lasting only tabled i off = tables_marked f (λ d. Unit {0}) s r i marks (tabled i (off_later t x y i lasting only off))
 
 -- calls that write slices alone, while marks come to the state
-pub alone_calls : (f : Found) (bound : ℕ) (Out : ℕ → Type 0) (s r : State) (t : Slices) (x y : Seen) → ((p : ℕ) → is_current r p ≡ true → is_current s p ≡ true) → x.lasting
-    → WritesOnly x y (IsSliced t) → HoldAlone f bound Out s t x → HoldAlone f bound Out r t y
+pub alone_calls : (f : Found) (bound : ℕ) (Out : ℕ → Type 0) (s r : State) (t : Slices) (x y : RackView) → ((p : ℕ) → is_current r p ≡ true → is_current s p ≡ true) → x.lasting
+    → WritesOnly x y (IsSliced t) → NoImpostor f bound Out s t x → NoImpostor f bound Out r t y
 alone_calls f bound Out s r t x y marks lasting only alone i off =
     let says = alone i (off_later t x y i lasting only off) in
     record { tables = tables_marked f Out s r i marks says.tables; others = says.others }
@@ -128,7 +128,7 @@ pub tabled_says : (f : Found) (s : State) (e : Identities) (i : Image) → IsArr
 tabled_says f s e i arranged tabled tables p d now seat = table_says f e i arranged p d (tables p d seat) (tabled p d seat (inl now))
 
 -- the pool with what contents say stands alone
-pub says_stands : (f : Found) (bound : ℕ) (s : State) (e : Identities) (i : Image) → IsArranged f → SaysAlone f bound (λ d. ⊥) s i
+pub says_stands : (f : Found) (bound : ℕ) (s : State) (e : Identities) (i : Image) → IsArranged f → SaysNoImpostor f bound (λ d. ⊥) s i
     → ((p d : ℕ) → f.seats p ≡ Some d → the_table (f.disks.sectors d) (i d) ≡ (e d).table)
     → ((d : ℕ) → ((p : ℕ) → f.seats p ≡ Some d → ⊥) → d < f.disks.count → identities_of f.disks i d ≡ e d)
     → StandsAlone (record f { identities = e })
@@ -153,10 +153,10 @@ stranger_attached : (f : Found) (bound : ℕ) (disks : Disks) (z : Identity) →
 stranger_attached f bound disks z is = record { apart = record { stands = is.apart.stands; pool = is.apart.pool }; ungiven = is.ungiven }
 
 -- so it is after a line that laid nothing on the disk that it named: disks that came are strangers
-pub alone_attached : (f : Found) (bound : ℕ) (Out : ℕ → Type 0) (s : State) (t : Slices) (x z : Seen) → IsArranged f → f.disks.count ≤ z.disks
-    → ((d : ℕ) → d < f.disks.count → z.sectors d ≡ f.disks.sectors d) → ((i : Image) → IsPickOff t z i → IsPickOff t x i)
-    → ((i : Image) → IsPickOff t z i → (d : ℕ) → f.disks.count ≤ d → d < z.disks → (Out d → ⊥) → IsStranger f bound (identities_of (disks_of z) i d))
-    → HoldAlone f bound Out s t x → HoldAlone (attached f (disks_of z)) bound Out s t z
+pub alone_attached : (f : Found) (bound : ℕ) (Out : ℕ → Type 0) (s : State) (t : Slices) (x z : RackView) → IsArranged f → f.disks.count ≤ z.disks
+    → ((d : ℕ) → d < f.disks.count → z.sectors d ≡ f.disks.sectors d) → ((i : Image) → IsPickOutsideSlices t z i → IsPickOutsideSlices t x i)
+    → ((i : Image) → IsPickOutsideSlices t z i → (d : ℕ) → f.disks.count ≤ d → d < z.disks → (Out d → ⊥) → IsStranger f bound (identities_of (disks_of z) i d))
+    → NoImpostor f bound Out s t x → NoImpostor (attached f (disks_of z)) bound Out s t z
 alone_attached f bound Out s t x z arranged more sectors before came alone i off = record {
   tables = tables_attached f Out s (disks_of z) i arranged more sectors (alone i (before i off)).tables;
   others = λ d never stays low. stranger_attached f bound (disks_of z) (identities_of (disks_of z) i d) (other d never stays low);
@@ -170,7 +170,7 @@ alone_attached f bound Out s t x z arranged more sectors before came alone i off
 
 -- ---- a drive that was taken in
 
-module _ (f : Found) (t u : Slices) (v : Raid) (x z : Seen) (place disk units : ℕ) (plan : Plan) (is : InService f t v x)
+module _ (f : Found) (t u : Slices) (v : Raid) (x z : RackView) (place disk units : ℕ) (plan : Plan) (is : RunInvariant f t v x)
     (new : SeatsNew f t u v place disk (z.sectors disk)) (keeps : KeepsRest f t u v place disk x z) where
   abbrev next : State
   next = enlisted place units plan v.state
@@ -184,7 +184,7 @@ module _ (f : Found) (t u : Slices) (v : Raid) (x z : Seen) (place disk units : 
   here : h.seats place ≡ Some disk
   here = seat_here f t u v (disks_of z) place disk units plan new known keeps.sectors
 
-  module _ (i : Image) (off : IsPickOff u z i) where
+  module _ (i : Image) (off : IsPickOutsideSlices u z i) where
     fewer : (d s : ℕ) (w : List ℕ) → d ≢ disk → IsSliced u d s w → IsSliced t d s w
     fewer d s w apart at = sliced_taken f t u v x z place disk units plan new known keeps is.held d s w apart at
 
@@ -194,7 +194,7 @@ module _ (f : Found) (t u : Slices) (v : Raid) (x z : Seen) (place disk units : 
     was_other : (d : ℕ) → d ≢ disk → was d ≡ i d
     was_other d apart = image_other t u disk x z keeps.outside fewer i off d apart
 
-    was_off : IsPickOff t x was
+    was_off : IsPickOutsideSlices t x was
     was_off = off_before t u disk x z keeps.outside fewer i off
 
     -- the new drive has its table, and the others have those that they had
@@ -211,7 +211,7 @@ module _ (f : Found) (t u : Slices) (v : Raid) (x z : Seen) (place disk units : 
           (subst (λ k. IsTabled f p k (was d)) (sym (keeps.sectors d (is.arranged.seated p d before).1)) (tables p d before (inl (new.others p d other before).0)))))
     ]
 
-  pub tabled_taken : (r : State) → ((i : Image) → IsPickOff u z i → IsTabled h place (z.sectors disk) (i disk)) → HoldTabled f v.state t x → HoldTabled h r u z
+  pub tabled_taken : (r : State) → ((i : Image) → IsPickOutsideSlices u z i → IsTabled h place (z.sectors disk) (i disk)) → HoldTabled f v.state t x → HoldTabled h r u z
   tabled_taken r own tabled i off = tables_taken i off (λ d. Unit {0}) r (own i off) (tabled (was i off) (was_off i off))
 
   module _ (bound : ℕ) (below : f.state.serial < bound) where
@@ -300,10 +300,10 @@ module _ (f : Found) (t u : Slices) (v : Raid) (x z : Seen) (place disk units : 
             (some_same own.0 (drive_id f.state.pool.0 serial) (sym names ∙ same ∙ ap (λ (k : Id). Some (drive_id k.0 serial)) is.after.same.pool));
       }
 
-    pub alone_taken : (Out : ℕ → Type 0) (r : State) → TakesAlone f h bound Out u place disk z → HoldAlone f bound Out v.state t x → HoldAlone h bound Out r u z
+    pub alone_taken : (Out : ℕ → Type 0) (r : State) → TakesAlone f h bound Out u place disk z → NoImpostor f bound Out v.state t x → NoImpostor h bound Out r u z
     alone_taken Out r takes alone i off = record { tables = tables_taken i off Out r (takes.own i off) says.tables; others = other }
       where
-        says : SaysAlone f bound Out v.state (was i off)
+        says : SaysNoImpostor f bound Out v.state (was i off)
         says = alone (was i off) (was_off i off)
 
         -- a disk that is no drive of f was none of other places

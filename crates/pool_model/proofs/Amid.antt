@@ -1,7 +1,7 @@
 -- What a stop inside a call of a pool in service leaves holds the pool still.
 --
--- `service_amid` says it of a call that writes slices alone, from what the call tells of its moments (`KeepsMoments`); `vacant_amid` says it where a place
--- whose drive is missing gave its disk up before. Beside `InService` they ask that the drives' tables in these contents have the members' slices
+-- `service_amid` says it of a call that writes slices alone, from what the call tells of its moments (`CrashInvariant`); `vacant_amid` says it where a place
+-- whose drive is missing gave its disk up before. Beside `RunInvariant` they ask that the drives' tables in these contents have the members' slices
 -- (`LieByTables`): they have where the pool was found with such tables (`tables_begin`), and calls that write slices alone leave them so (`tables_calls`,
 -- `tables_amid`; for drives that were declined or taken in see proofs/Tables.antt).
 use Rattle.std.proofs.Common.{◌≡◌, ◌⊎◌, ℕ, ◌+◌, ◌-◌, ◌<◌, ◌≤◌, ◌^◌, ◌&&◌, Bool, true, false, nat_lt, if◌then◌else◌, List, [], Option, Some, None, unwrap_or, refl, sym, ap, ap₂, subst, ◌∙◌, inl, inr, add-one, le-ltb, ltb-true, arith}
@@ -9,7 +9,7 @@ use Rattle.std.proofs.lemmas.Bool.{and_parts, cases_Bool, cases_eq}
 use Rattle.std.proofs.lemmas.Option.{none-some}
 use Rattle.rack.specs.Joins.{leaves_weaker}
 use Rattle.rack.specs.Moments.{Leaves}
-use Rattle.rack.specs.Seen.{Image, Seen}
+use Rattle.rack.specs.Seen.{Image, RackView}
 use Rattle.rack.specs.Sequences.{WritesOnly}
 use Rattle.slice_rack.specs.Runs.{IsSliced}
 use Rattle.slice_rack.specs.Slices.{IsOrderly, Slices, disk_of, first_of as slice_first, seat_of as slice_seat, sectors_of}
@@ -25,11 +25,11 @@ use Rattle.array_image.specs.Places.{log_slice, place_of}
 use Rattle.array_image.specs.States.{is_current}
 use Rattle.array_model.specs.View.{HasGeometry}
 use Rattle.log_laws.proofs.Kept.{live_on}
-use Rattle.raid_laws.specs.Book.{IsAfter, after_same}
+use Rattle.raid_laws.specs.Book.{OnlyMarksSince, after_same}
 use Rattle.raid_laws.specs.Frames.{HasFrame, frame_of}
 use Rattle.raid_laws.specs.Logs.{LogsBetween}
-use Rattle.raid_laws.specs.Raid.{IsTold, Raid, is_over}
-use Rattle.raid_laws.specs.Runs.{IsBetween, KeepsMoments}
+use Rattle.raid_laws.specs.Raid.{IsTracked, Raid, is_failed}
+use Rattle.raid_laws.specs.Runs.{IsBetween, CrashInvariant}
 use Rattle.raid_laws.specs.Since.{AreSince, KeepsSince}
 use Rattle.raid_laws.proofs.Noted.{current_few}
 use Rattle.raid_laws.proofs.Over.{number_room, someone_left}
@@ -38,11 +38,11 @@ use Rattle.pool_image.specs.Disks.{Disks, Identities, disks_of, identities_of, s
 use Rattle.pool_image.specs.Drives.{Found, extent_of}
 use Rattle.pool_image.specs.Meaning.{is_member, truth_of}
 use Rattle.pool_image.specs.Replay.{extent_by}
-use Rattle.pool_model.specs.InService.{InService, IsArranged, IsOutset, IsSaid}
-use Rattle.pool_model.specs.Left.{AreAloneBy, AreElsewhere, HoldRest, IsPickOff}
+use Rattle.pool_model.specs.InService.{RunInvariant, IsArranged, IsOutset, IsSaid}
+use Rattle.pool_model.specs.Left.{NoStraySuperblockBy, AreElsewhere, HoldRest, IsPickOutsideSlices}
 use Rattle.pool_model.specs.Pools.{AreSlicesOf, extent_in}
 use Rattle.pool_model.specs.Laid.{IsCalledBy, ShowsStop}
-use Rattle.pool_model.specs.Stopped.{AreSlicesNow, HaveTables, HoldAmid, HoldBetween, HoldTables, LieByTables, TellsStops}
+use Rattle.pool_model.specs.Stopped.{AreSlicesNow, HaveTables, RecoversInCall, RecoversBetween, HoldTables, LieByTables, TellsStops}
 use Rattle.pool_model.specs.Taken.{LacksDrive}
 use Rattle.pool_model.proofs.Again.{off_later}
 use Rattle.pool_model.proofs.Alike.{slices_said}
@@ -56,7 +56,7 @@ use Rattle.pool_model.proofs.Vacant.{logs_other, seat_other, sliced_before, slic
 -- ---- tables
 
 -- the drives' tables have the members' slices where they had them, and outside the slices they are as they were
-pub tables_lie : (f : Found) (t : Slices) (s : State) (x : Seen) → HaveTables f → AreSlicesOf f t → ((i : Image) → IsPickOff t x i → AreElsewhere f i) → HoldTables f t s x
+pub tables_lie : (f : Found) (t : Slices) (s : State) (x : RackView) → HaveTables f → AreSlicesOf f t → ((i : Image) → IsPickOutsideSlices t x i → AreElsewhere f i) → HoldTables f t s x
 tables_lie f t s x have slices elsewhere i off p d now seat n few some =
     let at : f.seats p ≡ Some d = sym (slices.seats p) ∙ seat in
     elim (cases_Bool (nat_lt n f.state.made && is_member f n p)) [
@@ -69,20 +69,20 @@ tables_lie f t s x have slices elsewhere i off p d now seat n few some =
     ]
 
 -- a pool that was found with the members' slices by its drives' tables
-pub tables_begin : (f : Found) (t : Slices) (s : State) (x : Seen) → HaveTables f → AreSlicesOf f t → HoldRest f t x → HoldTables f t s x
+pub tables_begin : (f : Found) (t : Slices) (s : State) (x : RackView) → HaveTables f → AreSlicesOf f t → HoldRest f t x → HoldTables f t s x
 tables_begin f t s x have slices rest = tables_lie f t s x have slices rest.elsewhere
 
 -- calls that write slices alone
-pub tables_calls : (f : Found) (t : Slices) (s r : State) (x y : Seen) → x.lasting → WritesOnly x y (IsSliced t) → IsAfter s r → HoldTables f t s x → HoldTables f t r y
+pub tables_calls : (f : Found) (t : Slices) (s r : State) (x y : RackView) → x.lasting → WritesOnly x y (IsSliced t) → OnlyMarksSince s r → HoldTables f t s x → HoldTables f t r y
 tables_calls f t s r x y lasting only after tables i off p d now = tables i (off_later t x y i lasting only off) p d (after.current p now)
 
 -- outside the slices a stop inside calls that write these alone leaves what the disks held
-pub off_amid : (t : Slices) (x y : Seen) → x.lasting → WritesOnly x y (IsSliced t) → x.traced → (k : ℕ) (i : Image) → x.clock < k → k ≤ y.clock → y.stops k i → IsPickOff t x i
+pub off_amid : (t : Slices) (x y : RackView) → x.lasting → WritesOnly x y (IsSliced t) → x.traced → (k : ℕ) (i : Image) → x.clock < k → k ≤ y.clock → y.stops k i → IsPickOutsideSlices t x i
 off_amid t x y lasting only traced k i late early stop d u live never =
     elim ((only.stops traced).new k i late early stop d u (live_on lasting only.stays live)) [ inl may ↦ may | inr slice ↦ absurd (never (i d u) slice) ]
 
 -- so the tables have them at each stop inside such calls
-pub tables_amid : (f : Found) (t : Slices) (s : State) (x y : Seen) → x.lasting → WritesOnly x y (IsSliced t) → HoldTables f t s x → x.traced → Leaves x y (LieByTables f t s)
+pub tables_amid : (f : Found) (t : Slices) (s : State) (x y : RackView) → x.lasting → WritesOnly x y (IsSliced t) → HoldTables f t s x → x.traced → Leaves x y (LieByTables f t s)
 tables_amid f t s x y lasting only tables traced =
     let stops = only.stops traced in
     record { later = stops.later; kept = stops.kept; past = stops.past; new = λ k i late early stop. tables i (off_amid t x y lasting only traced k i late early stop) }
@@ -92,13 +92,13 @@ pub nothing_past : (t : Slices) (i : Image) → HasNothing (sectors_of t) (slice
 nothing_past t i d u past = ap (λ (b : Bool). if b then i (disk_of t d) (slice_first t d + u) else []) (le-ltb u (sectors_of t d) past)
 
 -- outside the slices of fewer places
-pub off_more : (t u : Slices) (x : Seen) → ((d s : ℕ) (w : List ℕ) → IsSliced u d s w → IsSliced t d s w) → (i : Image) → IsPickOff u x i → IsPickOff t x i
+pub off_more : (t u : Slices) (x : RackView) → ((d s : ℕ) (w : List ℕ) → IsSliced u d s w → IsSliced t d s w) → (i : Image) → IsPickOutsideSlices u x i → IsPickOutsideSlices t x i
 off_more t u x before i off d s live never = off d s live (λ w is. never w (before d s w is))
 
 -- ---- a call
 
 -- slices lie inside the pool's disks
-pub inside_of : (f : Found) (t : Slices) (x : Seen) → f.disks ≡ disks_of x → IsInside t x → AreInside f t
+pub inside_of : (f : Found) (t : Slices) (x : RackView) → f.disks ≡ disks_of x → IsInside t x → AreInside f t
 inside_of f t x disks inside j d seat some =
     let disk : disk_of t j ≡ d = ap (λ o. unwrap_or o 0) seat in
     let sectors : x.sectors d ≡ f.disks.sectors d = ap (λ (z : Disks). z.sectors d) (sym disks) in
@@ -107,24 +107,24 @@ inside_of f t x disks inside j d seat some =
     omega (arith, low, sectors, here)
 
 -- What a call finds of a pool in service, by slices t that lie as those of its current places: no other drive says the book's state or a later one.
-record IsCalled (f : Found) (t : Slices) (v : Raid) (x : Seen) : Type 0 where
+record IsCalled (f : Found) (t : Slices) (v : Raid) (x : RackView) : Type 0 where
   disks : f.disks ≡ disks_of x
   arranged : IsArranged f
-  after : IsAfter f.state v.state
+  after : OnlyMarksSince f.state v.state
   joined : f.state.joined ≡ f.state.made
   geometry : (n : ℕ) (u : Super) → n < f.state.made → truth_of f n ≡ Some u → HasGeometry u (v.arrays n).truth
-  said : (i : Image) → IsPickOff t x i → IsSaid f i
+  said : (i : Image) → IsPickOutsideSlices t x i → IsSaid f i
   slices : (e : Identities) → AreSlicesNow (record f { identities = e }) t v.state
   former :
       (p d : ℕ) → f.seats p ≡ Some d → is_current v.state p ≡ false
       → ((slice_seat t p ≡ Some d) × (extent_of f 0 ≡ Some (extent_in t (log_slice p))))
-      ⊎ ((i : Image) → IsPickOff t x i → (copy : Copied) → (identities_of (disks_of x) i d).copied ≡ Some copy → copy.state.epoch < v.state.epoch)
+      ⊎ ((i : Image) → IsPickOutsideSlices t x i → (copy : Copied) → (identities_of (disks_of x) i d).copied ≡ Some copy → copy.state.epoch < v.state.epoch)
 
-module _ (f : Found) (t : Slices) (v w : Raid) (x y : Seen) (is : IsCalled f t v x) (orderly : IsOrderly t) (inside : IsInside t x)
+module _ (f : Found) (t : Slices) (v w : Raid) (x y : RackView) (is : IsCalled f t v x) (orderly : IsOrderly t) (inside : IsInside t x)
     (lasting : x.lasting) (only : WritesOnly x y (IsSliced t)) (tells : x.traced → TellsStops f.state.made v w (slices_of t x) (slices_of t y))
-    (absent : (i : Image) → IsPickOff t x i → AreSince v.state (sectors_of t) (sliced t i) → (p d : ℕ) → is_current v.state p ≡ true → f.seats p ≡ None → d < f.disks.count
+    (absent : (i : Image) → IsPickOutsideSlices t x i → AreSince v.state (sectors_of t) (sliced t i) → (p d : ℕ) → is_current v.state p ≡ true → f.seats p ≡ None → d < f.disks.count
     → stands_for v.state (identities_of f.disks i d) ≡ Some p → ⊥)
-    (enough : w.state.epoch < 2 ^ 63 - 1) (someone : (s : State) → IsAfter v.state s → IsAfter s w.state → (p d : ℕ) × (is_current s p ≡ true) × (f.seats p ≡ Some d)) where
+    (enough : w.state.epoch < 2 ^ 63 - 1) (someone : (s : State) → OnlyMarksSince v.state s → OnlyMarksSince s w.state → (p d : ℕ) × (is_current s p ≡ true) × (f.seats p ≡ Some d)) where
   within : AreInside f t
   within = inside_of f t x is.disks inside
 
@@ -132,7 +132,7 @@ module _ (f : Found) (t : Slices) (v w : Raid) (x y : Seen) (is : IsCalled f t v
   by = record { arranged = is.arranged; after = is.after; joined = is.joined; geometry = is.geometry; slices = is.slices; orderly = orderly; inside = within }
 
   module _ (traced : x.traced) (k : ℕ) (i : Image) (late : x.clock < k) (early : k ≤ y.clock) (stop : y.stops k i)
-      (tables : LieByTables f t v.state i) (alone : AreAloneBy v.state f i) where
+      (tables : LieByTables f t v.state i) (alone : NoStraySuperblockBy v.state f i) where
     abbrev c : Image
     c = sliced t i
 
@@ -145,7 +145,7 @@ module _ (f : Found) (t : Slices) (v w : Raid) (x y : Seen) (is : IsCalled f t v
     since : AreSince v.state (sectors_of t) c
     since = (tells traced).since.new k c late early shown nothing
 
-    off : IsPickOff t x i
+    off : IsPickOutsideSlices t x i
     off = off_amid t x y lasting only traced k i late early stop
 
     -- a drive whose place wasn't current
@@ -172,10 +172,10 @@ module _ (f : Found) (t : Slices) (v w : Raid) (x y : Seen) (is : IsCalled f t v
       since = since;
     }
 
-    amid : HoldBetween f t v.state w.state i
+    amid : RecoversBetween f t v.state w.state i
     amid = shown_between f t v w i by shows enough someone
 
-  called_amid : x.traced → Leaves x y (λ i. LieByTables f t v.state i → AreAloneBy v.state f i → HoldBetween f t v.state w.state i)
+  called_amid : x.traced → Leaves x y (λ i. LieByTables f t v.state i → NoStraySuperblockBy v.state f i → RecoversBetween f t v.state w.state i)
   called_amid traced =
       let stops = only.stops traced in
       record { later = stops.later; kept = stops.kept; past = stops.past; new = amid traced }
@@ -183,14 +183,14 @@ module _ (f : Found) (t : Slices) (v w : Raid) (x y : Seen) (is : IsCalled f t v
 -- ---- calls of a rack of arrays
 
 -- copies stay such as calls leave that began with the book
-pub moments_since : (v w : Raid) (a b : Seen) → KeepsMoments v w a b → IsTold v a 0 → is_over w 0 ≡ false → KeepsSince v.state a b
+pub moments_since : (v w : Raid) (a b : RackView) → CrashInvariant v w a b → IsTracked v a 0 → is_failed w 0 ≡ false → KeepsSince v.state a b
 moments_since v w a b keeps told lasts =
     keeps.since 0 v.state told lasts (after_same v.state) (kept_since v.state v.number a (told.stood (keeps.still 0 lasts)).log)
 
 -- Where the arrays are told when calls begin, and none is over when they end, the calls tell of their stops; each place that is current has its log slice, so it
 -- has a drive.
-module _ (f : Found) (t : Slices) (v w : Raid) (x y : Seen) (is : IsCalled f t v x) (keeps : KeepsMoments v w (slices_of t x) (slices_of t y))
-    (told : (n : ℕ) → n < f.state.made → IsTold v (slices_of t x) n) (lasts : (n : ℕ) → n < f.state.made → is_over w n ≡ false) where
+module _ (f : Found) (t : Slices) (v w : Raid) (x y : RackView) (is : IsCalled f t v x) (keeps : CrashInvariant v w (slices_of t x) (slices_of t y))
+    (told : (n : ℕ) → n < f.state.made → IsTracked v (slices_of t x) n) (lasts : (n : ℕ) → n < f.state.made → is_failed w n ≡ false) where
   first : 0 < f.state.made
   first = (let made = is.arranged.made.0 in omega (arith, made))
 
@@ -222,10 +222,10 @@ module _ (f : Found) (t : Slices) (v w : Raid) (x y : Seen) (is : IsCalled f t v
           absurd (omega (arith, nothing, some))
 
   told_amid : IsOrderly t → IsInside t x → x.lasting → WritesOnly x y (IsSliced t) → x.traced
-      → Leaves x y (λ i. LieByTables f t v.state i → AreAloneBy v.state f i → HoldAmid f t v.state w.state i)
+      → Leaves x y (λ i. LieByTables f t v.state i → NoStraySuperblockBy v.state f i → RecoversInCall f t v.state w.state i)
   told_amid orderly inside lasting only traced =
-      leaves_weaker (λ i. LieByTables f t v.state i → AreAloneBy v.state f i → HoldBetween f t v.state w.state i)
-      (λ i. LieByTables f t v.state i → AreAloneBy v.state f i → HoldAmid f t v.state w.state i)
+      leaves_weaker (λ i. LieByTables f t v.state i → NoStraySuperblockBy v.state f i → RecoversBetween f t v.state w.state i)
+      (λ i. LieByTables f t v.state i → NoStraySuperblockBy v.state f i → RecoversInCall f t v.state w.state i)
       (λ i holds lie alone.
       let between = holds lie alone in
       record {
@@ -242,8 +242,8 @@ module _ (f : Found) (t : Slices) (v w : Raid) (x y : Seen) (is : IsCalled f t v
       traced)
 
 -- where outside the slices no superblock stands where none is to be, stops inside calls that write these alone leave none there
-alone_amid : (f : Found) (t : Slices) (s r : State) (x y : Seen) → x.lasting → WritesOnly x y (IsSliced t) → x.traced → ((i : Image) → IsPickOff t x i → AreAloneBy s f i)
-    → Leaves x y (λ i. LieByTables f t s i → AreAloneBy s f i → HoldAmid f t s r i) → Leaves x y (λ i. LieByTables f t s i → HoldAmid f t s r i)
+alone_amid : (f : Found) (t : Slices) (s r : State) (x y : RackView) → x.lasting → WritesOnly x y (IsSliced t) → x.traced → ((i : Image) → IsPickOutsideSlices t x i → NoStraySuperblockBy s f i)
+    → Leaves x y (λ i. LieByTables f t s i → NoStraySuperblockBy s f i → RecoversInCall f t s r i) → Leaves x y (λ i. LieByTables f t s i → RecoversInCall f t s r i)
 alone_amid f t s r x y lasting only traced alone stops = record {
   later = stops.later;
   kept = stops.kept;
@@ -255,17 +255,17 @@ alone_amid f t s r x y lasting only traced alone stops = record {
 
 -- A pool that was found on the disks: its arrays stand by the book over slices that lie as it has them, with the members and the sizes that they had, and outside
 -- the slices its disks say what they said.
-pub record IsReady (f : Found) (t : Slices) (v : Raid) (x : Seen) : Type 0 where
+pub record IsReady (f : Found) (t : Slices) (v : Raid) (x : RackView) : Type 0 where
   pub disks : f.disks ≡ disks_of x
   pub outset : IsOutset f
   pub slices : AreSlicesOf f t
-  pub after : IsAfter f.state v.state
+  pub after : OnlyMarksSince f.state v.state
   pub joined : f.state.joined ≡ f.state.made
   pub geometry : (n : ℕ) (u : Super) → n < f.state.made → truth_of f n ≡ Some u → HasGeometry u (v.arrays n).truth
-  pub elsewhere : (i : Image) → IsPickOff t x i → AreElsewhere f i
+  pub elsewhere : (i : Image) → IsPickOutsideSlices t x i → AreElsewhere f i
 
 -- what a call finds of it
-ready_called : (f : Found) (t : Slices) (v : Raid) (x : Seen) → IsReady f t v x → IsCalled f t v x
+ready_called : (f : Found) (t : Slices) (v : Raid) (x : RackView) → IsReady f t v x → IsCalled f t v x
 ready_called f t v x is =
     let arranged = arranged_of f is.outset in
     record {
@@ -281,27 +281,27 @@ ready_called f t v x is =
 
 -- Where calls tell of their stops, and no disk stands for a current place without a drive, each stop inside them that leaves no superblock where none is to
 -- be leaves contents that hold the pool still.
-pub found_tells : (f : Found) (t : Slices) (v w : Raid) (x y : Seen) → IsReady f t v x → IsOrderly t → IsInside t x → x.lasting → WritesOnly x y (IsSliced t)
+pub found_tells : (f : Found) (t : Slices) (v w : Raid) (x y : RackView) → IsReady f t v x → IsOrderly t → IsInside t x → x.lasting → WritesOnly x y (IsSliced t)
     → (x.traced → TellsStops f.state.made v w (slices_of t x) (slices_of t y))
-    → (AreInside f t → (i : Image) → IsPickOff t x i → AreSince v.state (sectors_of t) (sliced t i) → (p d : ℕ) → is_current v.state p ≡ true → f.seats p ≡ None
+    → (AreInside f t → (i : Image) → IsPickOutsideSlices t x i → AreSince v.state (sectors_of t) (sliced t i) → (p d : ℕ) → is_current v.state p ≡ true → f.seats p ≡ None
     → d < f.disks.count → stands_for v.state (identities_of f.disks i d) ≡ Some p → ⊥)
-    → w.state.epoch < 2 ^ 63 - 1 → ((s : State) → IsAfter v.state s → IsAfter s w.state → (p d : ℕ) × (is_current s p ≡ true) × (f.seats p ≡ Some d))
-    → x.traced → Leaves x y (λ i. LieByTables f t v.state i → AreAloneBy v.state f i → HoldBetween f t v.state w.state i)
+    → w.state.epoch < 2 ^ 63 - 1 → ((s : State) → OnlyMarksSince v.state s → OnlyMarksSince s w.state → (p d : ℕ) × (is_current s p ≡ true) × (f.seats p ≡ Some d))
+    → x.traced → Leaves x y (λ i. LieByTables f t v.state i → NoStraySuperblockBy v.state f i → RecoversBetween f t v.state w.state i)
 found_tells f t v w x y is orderly inside lasting only tells absent enough someone =
     called_amid f t v w x y (ready_called f t v x is) orderly inside lasting only tells (absent (inside_of f t x is.disks inside)) enough someone
 
 -- So it is where the arrays are told when calls begin, and none is over when they end.
-pub ready_amid : (f : Found) (t : Slices) (v w : Raid) (x y : Seen) → IsReady f t v x → IsOrderly t → IsInside t x
-    → x.lasting → WritesOnly x y (IsSliced t) → KeepsMoments v w (slices_of t x) (slices_of t y)
-    → ((n : ℕ) → n < f.state.made → IsTold v (slices_of t x) n) → ((n : ℕ) → n < f.state.made → is_over w n ≡ false)
-    → x.traced → Leaves x y (λ i. LieByTables f t v.state i → AreAloneBy v.state f i → HoldAmid f t v.state w.state i)
+pub ready_amid : (f : Found) (t : Slices) (v w : Raid) (x y : RackView) → IsReady f t v x → IsOrderly t → IsInside t x
+    → x.lasting → WritesOnly x y (IsSliced t) → CrashInvariant v w (slices_of t x) (slices_of t y)
+    → ((n : ℕ) → n < f.state.made → IsTracked v (slices_of t x) n) → ((n : ℕ) → n < f.state.made → is_failed w n ≡ false)
+    → x.traced → Leaves x y (λ i. LieByTables f t v.state i → NoStraySuperblockBy v.state f i → RecoversInCall f t v.state w.state i)
 ready_amid f t v w x y is orderly inside lasting only keeps told lasts =
     told_amid f t v w x y (ready_called f t v x is) keeps told lasts orderly inside lasting only
 
 -- ---- a pool in service
 
 -- what a call finds of it
-service_called : (f : Found) (t : Slices) (v : Raid) (x : Seen) → InService f t v x → IsCalled f t v x
+service_called : (f : Found) (t : Slices) (v : Raid) (x : RackView) → RunInvariant f t v x → IsCalled f t v x
 service_called f t v x is = record {
   disks = is.disks;
   arranged = is.arranged;
@@ -314,20 +314,20 @@ service_called f t v x is = record {
 }
 
 -- Where the arrays are told when a call begins, and none is over when it ends, each stop inside it leaves contents that hold the pool still.
-pub service_amid : (f : Found) (t : Slices) (v w : Raid) (x y : Seen) → InService f t v x → IsOrderly t → IsInside t x
-    → x.lasting → WritesOnly x y (IsSliced t) → KeepsMoments v w (slices_of t x) (slices_of t y)
-    → ((n : ℕ) → n < f.state.made → IsTold v (slices_of t x) n) → ((n : ℕ) → n < f.state.made → is_over w n ≡ false)
-    → x.traced → Leaves x y (λ i. LieByTables f t v.state i → HoldAmid f t v.state w.state i)
+pub service_amid : (f : Found) (t : Slices) (v w : Raid) (x y : RackView) → RunInvariant f t v x → IsOrderly t → IsInside t x
+    → x.lasting → WritesOnly x y (IsSliced t) → CrashInvariant v w (slices_of t x) (slices_of t y)
+    → ((n : ℕ) → n < f.state.made → IsTracked v (slices_of t x) n) → ((n : ℕ) → n < f.state.made → is_failed w n ≡ false)
+    → x.traced → Leaves x y (λ i. LieByTables f t v.state i → RecoversInCall f t v.state w.state i)
 service_amid f t v w x y is orderly inside lasting only keeps told lasts traced =
     alone_amid f t v.state w.state x y lasting only traced is.held.alone
     (told_amid f t v w x y (service_called f t v x is) keeps told lasts orderly inside lasting only traced)
 
 -- So it is where a place whose drive is missing has no disk any more.
-pub vacant_amid : (f : Found) (t u : Slices) (v w : Raid) (x y : Seen) (place : ℕ) → InService f t v x → LacksDrive f t u v place x
+pub vacant_amid : (f : Found) (t u : Slices) (v w : Raid) (x y : RackView) (place : ℕ) → RunInvariant f t v x → LacksDrive f t u v place x
     → IsOrderly u → IsInside u x
-    → x.lasting → WritesOnly x y (IsSliced u) → KeepsMoments v w (slices_of u x) (slices_of u y)
-    → ((n : ℕ) → n < f.state.made → IsTold v (slices_of u x) n) → ((n : ℕ) → n < f.state.made → is_over w n ≡ false)
-    → x.traced → Leaves x y (λ i. LieByTables f u v.state i → HoldAmid f u v.state w.state i)
+    → x.lasting → WritesOnly x y (IsSliced u) → CrashInvariant v w (slices_of u x) (slices_of u y)
+    → ((n : ℕ) → n < f.state.made → IsTracked v (slices_of u x) n) → ((n : ℕ) → n < f.state.made → is_failed w n ≡ false)
+    → x.traced → Leaves x y (λ i. LieByTables f u v.state i → RecoversInCall f u v.state w.state i)
 vacant_amid f t u v w x y place is lacks orderly inside lasting only keeps told lasts traced =
     let few = is.arranged.made.1 in
     let more = off_more t u x (sliced_before t u place lacks.vacated) in

@@ -2,14 +2,14 @@
 use Rattle.std.proofs.Common.{◌≡◌, ◌≢◌, ℕ, ◌==◌, if◌then◌else◌, Bool, List, refl, sym, ap, subst, inl, inr, eq-eqb}
 use Rattle.std.proofs.lemmas.Bool.{cases_eq, ne_eqb}
 use Rattle.rack.specs.Values.{MayLeave}
-use Rattle.rack.specs.Seen.{Image, Seen}
+use Rattle.rack.specs.Seen.{Image, RackView}
 use Rattle.slice_rack.specs.Runs.{IsSliced}
 use Rattle.slice_rack.specs.Slices.{Slices}
-use Rattle.pool_model.specs.Left.{IsPickOff}
-use Rattle.pool_model.specs.Taken.{KeepsOff}
+use Rattle.pool_model.specs.Left.{IsPickOutsideSlices}
+use Rattle.pool_model.specs.Taken.{KeepsOutsideSlices}
 
-module _ (t u : Slices) (disk : ℕ) (x z : Seen) (keeps : KeepsOff t disk x z)
-    (fewer : (d s : ℕ) (w : List ℕ) → d ≢ disk → IsSliced u d s w → IsSliced t d s w) (i : Image) (off : IsPickOff u z i) where
+module _ (t u : Slices) (disk : ℕ) (x z : RackView) (keeps : KeepsOutsideSlices t disk x z)
+    (fewer : (d s : ℕ) (w : List ℕ) → d ≢ disk → IsSliced u d s w → IsSliced t d s w) (i : Image) (off : IsPickOutsideSlices u z i) where
   -- contents before, the same ones but for that disk
   abbrev pub was : Image
   was = λ d s. if d == disk then (x.held d s).current else i d s
@@ -17,7 +17,7 @@ module _ (t u : Slices) (disk : ℕ) (x z : Seen) (keeps : KeepsOff t disk x z)
   pub was_other : (d : ℕ) → d ≢ disk → was d ≡ i d
   was_other d other = let read : Bool → ℕ → List ℕ = λ b s. if b then (x.held d s).current else i d s in ap read (ne_eqb d disk other)
 
-  pub off_before : IsPickOff t x was
+  pub off_before : IsPickOutsideSlices t x was
   off_before d s live never = elim (cases_eq d disk) [
     | inl same ↦ subst (λ c. MayLeave (x.held d s) c) (sym (ap (λ (b : Bool). if b then (x.held d s).current else i d s) (eq-eqb d disk same))) (inl refl)
     | inr other ↦

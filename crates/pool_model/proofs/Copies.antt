@@ -4,7 +4,7 @@ use Rattle.std.specs.Option.{option_map_or}
 use Rattle.std.specs.Result.{result_ok}
 use Rattle.std.proofs.lemmas.Bool.{both_ways, cases_Bool}
 use Rattle.std.proofs.lemmas.Option.{none-some}
-use Rattle.rack.specs.Seen.{Image, Seen}
+use Rattle.rack.specs.Seen.{Image, RackView}
 use Rattle.rack.specs.Values.{MayLeave}
 use Rattle.slice_rack.specs.Slices.{Slices, seat_of as slice_seat, sectors_of}
 use Rattle.slice_rack.specs.Sliced.{sliced}
@@ -17,12 +17,12 @@ use Rattle.array_image.specs.Record.{pending}
 use Rattle.array_image.specs.States.{epoch_of, is_current, state_in}
 use Rattle.array_core.proofs.Stripped.{some_same}
 use Rattle.log_laws.specs.Commits.{Stands}
-use Rattle.log_laws.specs.Kept.{IsCopyOf, IsNoLater, LogKept}
+use Rattle.log_laws.specs.Kept.{IsCopyOf, IsNoLater, LogInvariant}
 use Rattle.log_laws.specs.Standing.{LogsStand, deciding}
 use Rattle.log_laws.proofs.Kept.{kept_state}
 use Rattle.md_super.specs.declared.superblock.Super.{Super}
-use Rattle.raid_laws.specs.Book.{IsAfter}
-use Rattle.raid_laws.specs.Raid.{IsTold, Raid, Stood, held_in, is_over, spent_of}
+use Rattle.raid_laws.specs.Book.{OnlyMarksSince}
+use Rattle.raid_laws.specs.Raid.{IsTracked, Raid, InvariantInCall, held_in, is_failed, spent_of}
 use Rattle.raid_laws.proofs.Over.{number_room}
 use Rattle.raid_laws.proofs.Noted.{current_few}
 use Rattle.array_model.specs.View.{HasGeometry, shape_of}
@@ -39,15 +39,15 @@ use Rattle.pool_model.proofs.Found.{newest_latest, ok_of, seated_below}
 use Rattle.pool_model.proofs.Logs.{copied_in, many_in, reads_in, room_in, there_in}
 
 -- a served pool, of which no more is told than the slices of current places
-pub record IsServedNow (f : Found) (t : Slices) (v : Raid) (y : Seen) : Type 0 where
+pub record IsServedNow (f : Found) (t : Slices) (v : Raid) (y : RackView) : Type 0 where
   pub slices : AreSlicesNow f t v.state
-  pub after : IsAfter f.state v.state
+  pub after : OnlyMarksSince f.state v.state
   pub joined : f.state.joined ≡ f.state.made
-  pub told : (n : ℕ) → n < f.state.made → IsTold v y n
-  pub lasts : (n : ℕ) → n < f.state.made → is_over v n ≡ false
+  pub told : (n : ℕ) → n < f.state.made → IsTracked v y n
+  pub lasts : (n : ℕ) → n < f.state.made → is_failed v n ≡ false
   pub geometry : (n : ℕ) (u : Super) → n < f.state.made → truth_of f n ≡ Some u → HasGeometry u (v.arrays n).truth
 
-pub served_now : (f : Found) (t : Slices) (v : Raid) (y : Seen) → IsServed f t v y → IsServedNow f t v y
+pub served_now : (f : Found) (t : Slices) (v : Raid) (y : RackView) → IsServed f t v y → IsServedNow f t v y
 served_now f t v y served = record {
   slices = slices_by f t v.state served.slices;
   after = served.after;
@@ -58,7 +58,7 @@ served_now f t v y served = record {
 }
 
 -- All that is known of a served pool and of the contents that it leaves. The drives that were marked say earlier states.
-pub record IsKnown (f : Found) (t : Slices) (v : Raid) (y : Seen) (i : Image) : Type 0 where
+pub record IsKnown (f : Found) (t : Slices) (v : Raid) (y : RackView) (i : Image) : Type 0 where
   pub is : IsOutset f
   pub served : IsServedNow f t v y
   pub left : IsLeftBy f t v.state y i
@@ -67,7 +67,7 @@ pub record IsKnown (f : Found) (t : Slices) (v : Raid) (y : Seen) (i : Image) : 
       → copy.state.epoch < v.state.epoch
 
 -- those that still have their log slices do
-pub known_of : (f : Found) (t : Slices) (v : Raid) (y : Seen) (i : Image) → IsOutset f → IsServed f t v y → IsLeftBy f t v.state y i → IsKnown f t v y i
+pub known_of : (f : Found) (t : Slices) (v : Raid) (y : RackView) (i : Image) → IsOutset f → IsServed f t v y → IsLeftBy f t v.state y i → IsKnown f t v y i
 known_of f t v y i is served left = record {
   is = is;
   served = served_now f t v y served;
@@ -84,7 +84,7 @@ known_of f t v y i is served left = record {
       (ok_of (decoded (sliced t i (log_slice p) 0)) copy (sym (copied_in f t i left.inside p d on lies) ∙ here));
 }
 
-module _ (f : Found) (t : Slices) (v : Raid) (y : Seen) (i : Image) (known : IsKnown f t v y i) where
+module _ (f : Found) (t : Slices) (v : Raid) (y : RackView) (i : Image) (known : IsKnown f t v y i) where
   abbrev pub s : State
   s = v.state
 
@@ -95,13 +95,13 @@ module _ (f : Found) (t : Slices) (v : Raid) (y : Seen) (i : Image) (known : IsK
   abbrev pub c : Image
   c = sliced t i
 
-  pub stood : (n : ℕ) → n < f.state.made → Stood s (shape_of (v.arrays n)) (held_in v y n) (spent_of v n) (λ place. false) v y n
+  pub stood : (n : ℕ) → n < f.state.made → InvariantInCall s (shape_of (v.arrays n)) (held_in v y n) (spent_of v n) (λ place. false) v y n
   stood n low = (known.served.told n low).stood (known.served.lasts n low)
 
   abbrev first_array : 0 < f.state.made
   first_array = let made = known.is.made.0 in omega (arith, made)
 
-  pub kept : LogKept s v.number (λ place. false) y
+  pub kept : LogInvariant s v.number (λ place. false) y
   kept = (stood 0 first_array).log
 
   pub logs : LogsStand y c

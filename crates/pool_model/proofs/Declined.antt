@@ -3,7 +3,7 @@ use Rattle.std.proofs.Common.{◌≡◌, ◌≢◌, ◌⊎◌, ℕ, ◌<◌, ◌
 use Rattle.std.specs.Option.{option_map_or}
 use Rattle.std.specs.Result.{result_ok}
 use Rattle.std.proofs.lemmas.Bool.{cases_eq, cases_lt, ne_eqb}
-use Rattle.rack.specs.Seen.{Image, Seen}
+use Rattle.rack.specs.Seen.{Image, RackView}
 use Rattle.rack.specs.Values.{MayLeave}
 use Rattle.slice_rack.specs.Slices.{Slices}
 use Rattle.gpt_table.specs.declared.Table.{Table}
@@ -19,7 +19,7 @@ use Rattle.pool_image.specs.Disks.{Disks, Identities, Identity, disks_of, identi
 use Rattle.pool_image.specs.Drives.{Found, drive_sector, first_of, slices_from}
 use Rattle.pool_image.specs.Meaning.{is_member}
 use Rattle.pool_model.specs.InService.{HasSeat, HoldSaid, IsArranged, IsSaid, epoch_at}
-use Rattle.pool_model.specs.Left.{AreAloneBy, HasNoSuper, IsPickOff}
+use Rattle.pool_model.specs.Left.{NoStraySuperblockBy, HasNoSuper, IsPickOutsideSlices}
 use Rattle.pool_model.specs.Taken.{KeepsOthers, attached}
 use Rattle.pool_model.proofs.Alike.{HasTruths, first_same, member_same, outset_said, truth_same}
 use Rattle.pool_model.proofs.Before.{off_before, was as image_before, was_other as image_other}
@@ -60,11 +60,11 @@ module _ (f : Found) (disks : Disks) (arranged : IsArranged f) (more : f.disks.c
     own = λ n u low truth. arranged.own n u low (sym (truth_same f g arranged.made.1 arranged.truths truths_attached n low) ∙ truth);
   }
 
-module _ (f : Found) (t : Slices) (s : State) (disk : ℕ) (x z : Seen) (arranged : IsArranged f) (keeps : KeepsOthers f t s disk x z) (held : HoldSaid f t s x) where
+module _ (f : Found) (t : Slices) (s : State) (disk : ℕ) (x z : RackView) (arranged : IsArranged f) (keeps : KeepsOthers f t s disk x z) (held : HoldSaid f t s x) where
   abbrev h : Found
   h = attached f (disks_of z)
 
-  module _ (i : Image) (off : IsPickOff t z i) where
+  module _ (i : Image) (off : IsPickOutsideSlices t z i) where
     -- contents before
     abbrev was : Image
     was = image_before t t disk x z keeps.outside (λ d s w other is. is) i off
@@ -72,7 +72,7 @@ module _ (f : Found) (t : Slices) (s : State) (disk : ℕ) (x z : Seen) (arrange
     was_other : (d : ℕ) → d ≢ disk → was d ≡ i d
     was_other d other = image_other t t disk x z keeps.outside (λ d s w other is. is) i off d other
 
-    pub off_was : IsPickOff t x was
+    pub off_was : IsPickOutsideSlices t x was
     off_was = off_before t t disk x z keeps.outside (λ d s w other is. is) i off
 
     abbrev said : IsSaid f was
@@ -161,7 +161,7 @@ module _ (f : Found) (t : Slices) (s : State) (disk : ℕ) (x z : Seen) (arrange
       off_by d s true false one two left = left
       off_by d s false b one two left = left
 
-      off_former : IsPickOff t x former
+      off_former : IsPickOutsideSlices t x former
       off_former d s live never = off_by d s (d == disk) (s == state_sector) refl refl (off_was d s live never)
 
       said_former : IsSaid f former
@@ -266,7 +266,7 @@ module _ (f : Found) (t : Slices) (s : State) (disk : ℕ) (x z : Seen) (arrange
       };
     }
 
-    pub alone_now : AreAloneBy s h i
+    pub alone_now : NoStraySuperblockBy s h i
     alone_now n p d first low counts seat none begins within =
         let truths = truths_attached f (disks_of z) arranged keeps.disks keeps.sectors in
         let member : is_member f n p ≡ false = sym (member_same f h arranged.made.1 arranged.truths truths n low p) ∙ none in

@@ -3,7 +3,7 @@ use Rattle.std.proofs.Common.{◌≡◌, ℕ, ◌<◌, ◌^◌, Bool, false, nat
 use Rattle.std.specs.Option.{option_map_or}
 use Rattle.std.proofs.lemmas.Bool.{cases_Bool, cases_lt}
 use Rattle.std.proofs.lemmas.Option.{none-some}
-use Rattle.rack.specs.Seen.{Image, IsPick, Seen}
+use Rattle.rack.specs.Seen.{Image, IsPick, RackView}
 use Rattle.slice_rack.specs.Slices.{Slices}
 use Rattle.slice_rack.specs.Sliced.{IsInside, slices_of as slices_shown}
 use Rattle.pool_state.specs.declared.contents.State.{State}
@@ -35,7 +35,7 @@ use Rattle.pool_model.proofs.Unrefused.{no_damages, not_refused, other_pool}
 use Rattle.pool_model.proofs.Absent.{find_none, safe_in_absence}
 use Rattle.pool_model.proofs.Ended.{closed_now, done, enough, in_sync, level_now, low_before, none_gone, only_now, w}
 
-module _ (f : Found) (t : Slices) (v : Raid) (y : Seen) (i : Image) (known : IsKnown f t v y i) (ends : EndsWhole f v y) where
+module _ (f : Found) (t : Slices) (v : Raid) (y : RackView) (i : Image) (known : IsKnown f t v y i) (ends : EndsWhole f v y) where
   abbrev book : State
   book = s f t v y i known
 
@@ -118,7 +118,7 @@ module _ (f : Found) (t : Slices) (v : Raid) (y : Seen) (i : Image) (known : IsK
     }
 
 -- Of what a pool that has ended whole leaves, and whose arrays hold a volume's group, the meaning without any one drive is the meaning with it.
-unfoldable pub known_absent : {l : Linear} (f : Found) (t : Slices) (v : Raid) (y : Seen) (i : Image) → IsKnown f t v y i → EndsWhole f v y
+unfoldable pub known_absent : {l : Linear} (f : Found) (t : Slices) (v : Raid) (y : RackView) (i : Image) → IsKnown f t v y i → EndsWhole f v y
     → ((d k : ℕ) → d < f.disks.count → k < f.disks.sectors d → length (i d k) ≡ 512)
     → ((d : ℕ) → d < f.disks.count → f.disks.sectors d < 2 ^ 48)
     → HoldGroup v l y
@@ -136,7 +136,7 @@ known_absent {l} f t v y i known ends sectors small group alive = record {
 
 -- Disks of a served pool that has ended whole, which outside its slices are as they were, and whose arrays hold a volume's group: of what they may be
 -- left with the meaning without any one drive is the meaning with it.
-pub left_absent : {l : Linear} (f : Found) (t : Slices) (x : Seen) (v : Raid) → IsServed f t v (slices_shown t x) → IsInside t x
+pub left_absent : {l : Linear} (f : Found) (t : Slices) (x : RackView) (v : Raid) → IsServed f t v (slices_shown t x) → IsInside t x
     → (disks : Disks) (before i : Image) → found disks before ≡ Some f → disks ≡ disks_of x → IsSoundPool f → HoldRest f t x → IsPick x x x.held i
     → EndsWhole f v (slices_shown t x)
     → ((d k : ℕ) → d < f.disks.count → k < f.disks.sectors d → length (i d k) ≡ 512)

@@ -4,7 +4,7 @@ use Rattle.std.proofs.Common.{◌≡◌, ◌≢◌, ℕ, ◌+◌, ◌<◌, ◌�
 use Rattle.std.specs.Option.{option_and_then, option_map_or}
 use Rattle.std.specs.Result.{result_ok}
 use Rattle.std.proofs.lemmas.Bool.{cases_eq}
-use Rattle.rack.specs.Seen.{Image, IsLive, Seen}
+use Rattle.rack.specs.Seen.{Image, IsLive, RackView}
 use Rattle.rack.specs.Joins.{keeps_same}
 use Rattle.rack.specs.Values.{MayLeave}
 use Rattle.slice_rack.specs.Laws.{live_below}
@@ -20,20 +20,20 @@ use Rattle.array_image.specs.Places.{arrays_first, log_sectors, log_slice, slice
 use Rattle.array_image.specs.Record.{GateAt, gate_sector, pending_at}
 use Rattle.array_image.specs.States.{current_places, epoch_of, is_current, id_of}
 use Rattle.array_core.proofs.Stripped.{some_same}
-use Rattle.log_laws.specs.Kept.{IsCopyOf, LogKept}
+use Rattle.log_laws.specs.Kept.{IsCopyOf, LogInvariant}
 use Rattle.raid_laws.specs.Book.{after_same}
 use Rattle.raid_laws.specs.Enlisting.{enlisted, next_drive}
 use Rattle.raid_laws.specs.Missing.{raised}
-use Rattle.raid_laws.specs.Raid.{IsTold, Raid, is_over}
+use Rattle.raid_laws.specs.Raid.{IsTracked, Raid, is_failed}
 use Rattle.raid_laws.specs.Since.{AreTakenSince}
 use Rattle.raid_laws.proofs.Apart.{seat_is}
 use Rattle.pool_image.specs.Disks.{Disks, Identity, disks_of, id_by, identities_of, seat_of, stands_for}
 use Rattle.pool_image.specs.Drives.{Found}
 use Rattle.pool_image.specs.Replay.{Extent, log_extent, logs_of}
 use Rattle.pool_rest.specs.Moments.{IsGateBelow}
-use Rattle.pool_model.specs.InService.{InService, epoch_at}
-use Rattle.pool_model.specs.Laid.{IsFormerYet, IsJoinedOff, SaysFormerly}
-use Rattle.pool_model.specs.Left.{IsPickOff}
+use Rattle.pool_model.specs.InService.{RunInvariant, epoch_at}
+use Rattle.pool_model.specs.Laid.{IsFormerYet, IsJoinedOutsideSlices, SaysFormerly}
+use Rattle.pool_model.specs.Left.{IsPickOutsideSlices}
 use Rattle.pool_model.specs.Taken.{SeatsNew}
 use Rattle.pool_model.proofs.Amid.{inside_of}
 use Rattle.pool_model.proofs.Joined.{current_here, id_here}
@@ -59,9 +59,9 @@ former_free f t u v place disk sectors new orderly orderly_now d seat other k w 
     ]
 
 -- Its copy is of no later state than the book's, so it is earlier than the one that has the new drive.
-pub former_below : (f : Found) (t u : Slices) (v : Raid) (place disk : ℕ) (x : Seen) → InService f t v x → SeatsNew f t u v place disk (x.sectors disk) → IsOrderly t → IsOrderly u
-    → IsInside t x → is_current v.state place ≡ true → IsTold v (slices_of t x) 0 → is_over v 0 ≡ false → (d : ℕ) → d ≢ disk → f.seats place ≡ Some d
-    → (j : Image) → IsPickOff u x j → (copy : Copied) → (identities_of (disks_of x) j d).copied ≡ Some copy → copy.state.epoch < raised v.state.epoch
+pub former_below : (f : Found) (t u : Slices) (v : Raid) (place disk : ℕ) (x : RackView) → RunInvariant f t v x → SeatsNew f t u v place disk (x.sectors disk) → IsOrderly t → IsOrderly u
+    → IsInside t x → is_current v.state place ≡ true → IsTracked v (slices_of t x) 0 → is_failed v 0 ≡ false → (d : ℕ) → d ≢ disk → f.seats place ≡ Some d
+    → (j : Image) → IsPickOutsideSlices u x j → (copy : Copied) → (identities_of (disks_of x) j d).copied ≡ Some copy → copy.state.epoch < raised v.state.epoch
 former_below f t u v place disk x is new orderly orderly_now inside was told lasts d other seat =
     let log = (told.stood lasts).log in
     let lies = log_lies f t x place d is.slices seat in
@@ -74,10 +74,10 @@ former_below f t u v place disk x is new orderly orderly_now inside was told las
     (former_free f t u v place disk (x.sectors disk) new orderly orderly_now d (is.slices.seats place ∙ seat) other state_sector)
 
 -- t are the tables by which the pool goes, and u those with the new drive. Off the slices of these the other disks have what they may have had.
-module _ (f : Found) (t u : Slices) (v : Raid) (place disk : ℕ) (x : Seen) (i : Image) (is : InService f t v x) (new : SeatsNew f t u v place disk (x.sectors disk))
+module _ (f : Found) (t u : Slices) (v : Raid) (place disk : ℕ) (x : RackView) (i : Image) (is : RunInvariant f t v x) (new : SeatsNew f t u v place disk (x.sectors disk))
     (others : (q k : ℕ) → q ≢ disk → IsLive x x q k → ((w : List ℕ) → IsSliced u q k w → ⊥) → MayLeave (x.held q k) (i q k))
     (orderly : IsOrderly t) (orderly_now : IsOrderly u) (inside : IsInside t x)
-    (log : LogKept v.state v.number (λ p. false) (slices_of t x)) (was : is_current v.state place ≡ true) (d : ℕ) (seat : f.seats place ≡ Some d) (other : d ≢ disk) where
+    (log : LogInvariant v.state v.number (λ p. false) (slices_of t x)) (was : is_current v.state place ≡ true) (d : ℕ) (seat : f.seats place ≡ Some d) (other : d ≢ disk) where
   within : AreInside f t
   within = inside_of f t x is.disks inside
 
@@ -124,7 +124,7 @@ module _ (f : Found) (t u : Slices) (v : Raid) (place disk : ℕ) (x : Seen) (i 
 
   -- ---- whose place it is
 
-  module _ (joined : IsJoinedOff f u v place disk x i) (units : ℕ) (plan : Plan)
+  module _ (joined : IsJoinedOutsideSlices f u v place disk x i) (units : ℕ) (plan : Plan)
       (formerly : (q : ℕ) (copy : Copied) → f.seats place ≡ Some q → q ≢ disk → (identities_of (disks_of x) i q).copied ≡ Some copy → SaysFormerly v.state place copy)
       (now_inside : AreInside (h f t u v place disk units plan x i is new joined formerly) u)
       (since : AreTakenSince (λ p. p == place) v.state (enlisted place units plan v.state) (sectors_of u) (sliced u i))

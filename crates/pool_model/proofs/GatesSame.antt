@@ -19,8 +19,8 @@ use Rattle.pool_image.proofs.Identities.{agree_identities, newest_same, seat_ins
 use Rattle.pool_image.proofs.Rested.{gate_block}
 use Rattle.pool_rest.specs.SoundLogs.{HasSoundLogs}
 use Rattle.pool_rest.proofs.SameLogs.{logs_same}
-use Rattle.pool_model.specs.Left.{AreAlone}
-use Rattle.pool_model.specs.Openings.{HadOnePool, HoldOpened, IsIdleIn}
+use Rattle.pool_model.specs.Left.{NoStraySuperblock}
+use Rattle.pool_model.specs.Openings.{HadOnePool, RecoversInOpening, IsIdleIn}
 use Rattle.pool_model.specs.Pools.{IsSoundPool}
 use Rattle.pool_model.specs.Stopped.{LieApart}
 use Rattle.pool_model.proofs.Rereading.{same_holds, same_sound}
@@ -118,7 +118,7 @@ idle_holds disks c i f is sound long same none whole =
     (λ sound long. gates_hold disks c i is.state is.newest_is is.whole long sound same none whole) sound long
 
 -- and an opening that was stopped there holds it
-pub gates_opened : (disks : Disks) (i : Image) (f : Found) → f.disks ≡ disks → IsSoundPool f → LieApart f → AreAlone f f.contents → HoldButGates disks f i → HoldOpened f 0 i
+pub gates_opened : (disks : Disks) (i : Image) (f : Found) → f.disks ≡ disks → IsSoundPool f → LieApart f → NoStraySuperblock f f.contents → HoldButGates disks f i → RecoversInOpening f 0 i
 gates_opened disks i f on sound apart alone holds = same_holds disks i f holds.now on holds.found_is holds.same sound holds.logs apart alone (inl holds.idle) holds.one_pool
 
 -- ---- contents that agree

@@ -3,7 +3,7 @@ use Rattle.std.proofs.Common.{◌≡◌, ℕ, zero, suc, ◌+◌, ◌/◌, ◌<�
 use Rattle.std.proofs.lemmas.Bool.{and_parts}
 use Rattle.std.specs.Option.{option_map_or}
 use Rattle.std.specs.List.{range_with_len}
-use Rattle.rack.specs.Seen.{Image, Seen}
+use Rattle.rack.specs.Seen.{Image, RackView}
 use Rattle.rack.specs.Values.{MayLeave}
 use Rattle.md_super.specs.declared.superblock.Super.{Super}
 use Rattle.md_super.specs.Profile.{is_height_of, profiled, rules}
@@ -75,7 +75,7 @@ means_below pool joined sectors l seqno m c areas means same = record {
     parts n low = part_below (m n) (c n) (sectors n) (areas n low) (λ s first. same n s low first)
 
 -- Arrays that before their first extents hold just what contents have there which mean a volume.
-pub group_left : (v : Raid) (x : Seen) (l : Linear) (seqno : ℕ) (after : Image)
+pub group_left : (v : Raid) (x : RackView) (l : Linear) (seqno : ℕ) (after : Image)
     → ((n : ℕ) → n < v.state.joined → data_start ≤ sectors_of (v.arrays n))
     → ((n : ℕ) → n < v.state.joined → HasOwnArea (after n))
     → ((n s : ℕ) (u : List ℕ) → n < v.state.joined → s < data_start → MayLeave (held_in v x n s) u → u ≡ after n s)

@@ -1,6 +1,6 @@
 -- A pool in service opens again, also once it took new drives in.
 --
--- `InService f t v x` holds from the opening of the pool f to its end: `in_service` at the opening, `service_calls` after calls that write slices
+-- `RunInvariant f t v x` holds from the opening of the pool f to its end: `in_service` at the opening, `service_calls` after calls that write slices
 -- alone, `service_attached` after a drive was declined, `service_taken` after one was taken in. From then on f is `taken f ..`: its disks are those
 -- of the bay, the place has the new disk, its state is the one that has the drive, and all else is as it was. At the end `service_again` says that
 -- whatever the disks may be left with holds that pool again, `vacant_again` says it where a place whose drive is missing gave its disk up. They go by what
@@ -22,7 +22,7 @@
 -- the tables from before that. What is laid on a new drive says no state and is no superblock: proofs/Unsliced.antt.
 use Rattle.std.proofs.Common.{◌≡◌, ℕ, ◌<◌, Bool, false, Some, refl, sym, ap₂, ◌∙◌, inl, arith}
 use Rattle.array_core.proofs.Stripped.{some_same}
-use Rattle.rack.specs.Seen.{Image, IsPick, Seen}
+use Rattle.rack.specs.Seen.{Image, IsPick, RackView}
 use Rattle.rack.specs.Sequences.{WritesOnly}
 use Rattle.slice_rack.specs.Runs.{IsSliced}
 use Rattle.slice_rack.specs.Slices.{Slices}
@@ -34,14 +34,14 @@ use Rattle.array_model.specs.View.{HasGeometry}
 use Rattle.pool_image.specs.Disks.{Identities, disks_of}
 use Rattle.pool_image.specs.Drives.{Found, found}
 use Rattle.pool_image.specs.Meaning.{truth_of}
-use Rattle.raid_laws.specs.Book.{IsAfter, after_then}
+use Rattle.raid_laws.specs.Book.{OnlyMarksSince, after_then}
 use Rattle.raid_laws.specs.Enlisting.{enlisted}
 use Rattle.raid_laws.specs.Moves.{KeepsArrays}
-use Rattle.raid_laws.specs.Raid.{Raid, IsTold, is_over}
-use Rattle.pool_model.specs.InService.{HoldSaid, InService}
-use Rattle.pool_model.specs.Left.{HoldAgain, HoldRest, HoldStill, IsServed}
+use Rattle.raid_laws.specs.Raid.{Raid, IsTracked, is_failed}
+use Rattle.pool_model.specs.InService.{HoldSaid, RunInvariant}
+use Rattle.pool_model.specs.Left.{RecoversIdle, HoldRest, Recovers, IsServed}
 use Rattle.pool_model.specs.Pools.{AreSlicesOf, IsSoundPool}
-use Rattle.pool_model.specs.Stopped.{HoldLanding, HoldTables}
+use Rattle.pool_model.specs.Stopped.{RecoversLanding, HoldTables}
 use Rattle.pool_model.specs.Taken.{JoinsBook, KeepsOthers, KeepsRest, LacksDrive, SeatsNew, attached, taken}
 use Rattle.pool_model.proofs.Again.{known_again, left_by, left_known_by, off_later, pick_in}
 use Rattle.pool_model.proofs.Alike.{alone_said, has_truths, sectors_said, served_said, slices_like, slices_said, truth_same}
@@ -56,10 +56,10 @@ use Rattle.pool_model.proofs.TakenSlices.{geometry_taken, geometry_then, slices_
 use Rattle.pool_model.proofs.Vacant.{known_vacant, on_disks, slices_now}
 
 -- a sound pool that was found on the disks
-pub in_service : (before : Image) (f : Found) (t : Slices) (v : Raid) (x : Seen)
-    → found (disks_of x) before ≡ Some f → IsSoundPool f → AreSlicesOf f t → IsAfter f.state v.state → f.state.joined ≡ f.state.made
+pub in_service : (before : Image) (f : Found) (t : Slices) (v : Raid) (x : RackView)
+    → found (disks_of x) before ≡ Some f → IsSoundPool f → AreSlicesOf f t → OnlyMarksSince f.state v.state → f.state.joined ≡ f.state.made
     → ((n : ℕ) (u : Super) → n < f.state.made → truth_of f n ≡ Some u → HasGeometry u (v.arrays n).truth)
-    → HoldRest f t x → InService f t v x
+    → HoldRest f t x → RunInvariant f t v x
 in_service before f t v x found_before sound slices after joined geometry rest =
     let at = found_is (disks_of x) before f found_before in
     let outset = outset_of f at.0 sound in
@@ -77,14 +77,14 @@ in_service before f t v x found_before sound slices after joined geometry rest =
     }
 
 -- each disk is one place's
-pub one_seat : (f : Found) (t : Slices) (v : Raid) (x : Seen) → InService f t v x → (p q d : ℕ) → f.seats p ≡ Some d → f.seats q ≡ Some d → p ≡ q
+pub one_seat : (f : Found) (t : Slices) (v : Raid) (x : RackView) → RunInvariant f t v x → (p q d : ℕ) → f.seats p ≡ Some d → f.seats q ≡ Some d → p ≡ q
 one_seat f t v x is p q d one two =
     let said = is.held.said (λ e s. (x.held e s).current) (λ e s live never. inl refl) in
     some_same p q (sym (said.outset.seated p d one).stands ∙ (said.outset.seated q d two).stands)
 
 -- calls that write slices alone, and by which marks alone come to the book
-pub service_calls : (f : Found) (t : Slices) (v w : Raid) (x y : Seen) → InService f t v x → x.lasting → WritesOnly x y (IsSliced t)
-    → IsAfter v.state w.state → ((n : ℕ) → n < v.state.made → HasGeometry (v.arrays n).truth (w.arrays n).truth) → InService f t w y
+pub service_calls : (f : Found) (t : Slices) (v w : Raid) (x y : RackView) → RunInvariant f t v x → x.lasting → WritesOnly x y (IsSliced t)
+    → OnlyMarksSince v.state w.state → ((n : ℕ) → n < v.state.made → HasGeometry (v.arrays n).truth (w.arrays n).truth) → RunInvariant f t w y
 service_calls f t v w x y is lasting only after arrays = record {
   disks = is.disks ∙ ap₂ (λ n (m : ℕ → ℕ). record { count = n; sectors = m }) (sym only.stays.disks) (λ j d. sym (only.stays.sectors d) j);
   arranged = is.arranged;
@@ -101,16 +101,16 @@ service_calls f t v w x y is lasting only after arrays = record {
 }
 
 -- marks make no place current
-said_after : (f : Found) (t : Slices) (s r : State) (x : Seen) → IsAfter s r → HoldSaid f t s x → HoldSaid f t r x
+said_after : (f : Found) (t : Slices) (s r : State) (x : RackView) → OnlyMarksSince s r → HoldSaid f t s x → HoldSaid f t r x
 said_after f t s r x after held = record {
   said = held.said;
   alone = λ i off n p d first low counts. held.alone i off n p d first low (after.current p counts);
 }
 
 -- a place got a new drive
-pub service_taken : (f : Found) (t u : Slices) (v w : Raid) (x z : Seen) (place disk units : ℕ) (plan : Plan) (joining : ℕ → Bool)
-    → InService f t v x → SeatsNew f t u v place disk (z.sectors disk) → KeepsRest f t u v place disk x z → JoinsBook v w place units plan joining
-    → InService (taken f (disks_of z) place disk (enlisted place units plan v.state)) u w z
+pub service_taken : (f : Found) (t u : Slices) (v w : Raid) (x z : RackView) (place disk units : ℕ) (plan : Plan) (joining : ℕ → Bool)
+    → RunInvariant f t v x → SeatsNew f t u v place disk (z.sectors disk) → KeepsRest f t u v place disk x z → JoinsBook v w place units plan joining
+    → RunInvariant (taken f (disks_of z) place disk (enlisted place units plan v.state)) u w z
 service_taken f t u v w x z place disk units plan joining is new keeps joins =
     let known : IsKnownBefore f v = record { outset = is.arranged; after = is.after; geometry = is.geometry } in
     record {
@@ -126,8 +126,8 @@ service_taken f t u v w x z place disk units plan joining is new keeps joins =
     }
 
 -- disks were attached, or one that is no drive of the pool was written
-pub service_attached : (f : Found) (t : Slices) (v w : Raid) (disk : ℕ) (x z : Seen) → InService f t v x → KeepsOthers f t v.state disk x z
-    → IsAfter v.state w.state → KeepsArrays v w → InService (attached f (disks_of z)) t w z
+pub service_attached : (f : Found) (t : Slices) (v w : Raid) (disk : ℕ) (x z : RackView) → RunInvariant f t v x → KeepsOthers f t v.state disk x z
+    → OnlyMarksSince v.state w.state → KeepsArrays v w → RunInvariant (attached f (disks_of z)) t w z
 service_attached f t v w disk x z is keeps after arrays =
     let truths = truths_attached f (disks_of z) is.arranged keeps.disks keeps.sectors in
     let few = is.arranged.made.1 in
@@ -148,7 +148,7 @@ service_attached f t v w disk x z is keeps after arrays =
 -- ---- what it is left as
 
 -- what disks say is no part of what it is to hold a pool
-unfoldable pub still_said : (f : Found) (e : Identities) (t : Slices) (s : State) (i : Image) → HoldStill (record f { identities = e }) t s i → HoldStill f t s i
+unfoldable pub still_said : (f : Found) (e : Identities) (t : Slices) (s : State) (i : Image) → Recovers (record f { identities = e }) t s i → Recovers f t s i
 still_said f e t s i is = record {
   now = is.now;
   found_is = is.found_is;
@@ -166,13 +166,13 @@ still_said f e t s i is = record {
   values = is.values;
 }
 
-unfoldable pub again_said : (f : Found) (e : Identities) (t : Slices) (s : State) (i : Image) → HoldAgain (record f { identities = e }) t s i → HoldAgain f t s i
+unfoldable pub again_said : (f : Found) (e : Identities) (t : Slices) (s : State) (i : Image) → RecoversIdle (record f { identities = e }) t s i → RecoversIdle f t s i
 unfolding still_said
 again_said f e t s i is = record { still = still_said f e t s i is.still; present = is.present; idle = is.idle }
 
 -- Where its arrays are told and none is over, all is known of it and of what the disks may be left with, by what these say of it.
-pub service_known : (f : Found) (t : Slices) (v : Raid) (x : Seen) → InService f t v x → IsInside t x
-    → ((n : ℕ) → n < f.state.made → IsTold v (slices_of t x) n) → ((n : ℕ) → n < f.state.made → is_over v n ≡ false)
+pub service_known : (f : Found) (t : Slices) (v : Raid) (x : RackView) → RunInvariant f t v x → IsInside t x
+    → ((n : ℕ) → n < f.state.made → IsTracked v (slices_of t x) n) → ((n : ℕ) → n < f.state.made → is_failed v n ≡ false)
     → (i : Image) → IsPick x x x.held i → (e : Identities) × IsKnown (record f { identities = e }) t v (slices_of t x) i
 service_known f t v x is inside told lasts i pick =
     let said = is.held.said i (λ d s live never. pick d s live) in
@@ -186,8 +186,8 @@ service_known f t v x is inside told lasts i pick =
     )
 
 -- So it is where a place whose drive is missing has no disk any more.
-pub vacant_known : (f : Found) (t u : Slices) (v : Raid) (x : Seen) (place : ℕ) → InService f t v x → LacksDrive f t u v place x → IsInside u x
-    → ((n : ℕ) → n < f.state.made → IsTold v (slices_of u x) n) → ((n : ℕ) → n < f.state.made → is_over v n ≡ false)
+pub vacant_known : (f : Found) (t u : Slices) (v : Raid) (x : RackView) (place : ℕ) → RunInvariant f t v x → LacksDrive f t u v place x → IsInside u x
+    → ((n : ℕ) → n < f.state.made → IsTracked v (slices_of u x) n) → ((n : ℕ) → n < f.state.made → is_failed v n ≡ false)
     → (i : Image) → IsPick x x x.held i → (e : Identities) × IsKnown (record f { identities = e }) u v (slices_of u x) i
 vacant_known f t u v x place is lacks inside told lasts i pick =
     let said = is.held.said i (λ d s live never. pick d s live) in
@@ -212,32 +212,32 @@ vacant_known f t u v x place is lacks inside told lasts i pick =
     (e, known_vacant g t u v x place i said.outset is.disks slices still served left (λ d s live never. pick d s live))
 
 -- what is known of it by what disks say holds it again
-known_said : (f : Found) (t : Slices) (v : Raid) (y : Seen) (i : Image) → (e : Identities) × IsKnown (record f { identities = e }) t v y i → HoldAgain f t v.state i
+known_said : (f : Found) (t : Slices) (v : Raid) (y : RackView) (i : Image) → (e : Identities) × IsKnown (record f { identities = e }) t v y i → RecoversIdle f t v.state i
 known_said f t v y i one = again_said f one.0 t v.state i (known_again (record f { identities = one.0 }) t v y i one.1)
 
 -- So whatever the disks may be left with holds it again.
-pub service_again : (f : Found) (t : Slices) (v : Raid) (x : Seen) → InService f t v x → IsInside t x
-    → ((n : ℕ) → n < f.state.made → IsTold v (slices_of t x) n) → ((n : ℕ) → n < f.state.made → is_over v n ≡ false)
-    → (i : Image) → IsPick x x x.held i → HoldAgain f t v.state i
+pub service_again : (f : Found) (t : Slices) (v : Raid) (x : RackView) → RunInvariant f t v x → IsInside t x
+    → ((n : ℕ) → n < f.state.made → IsTracked v (slices_of t x) n) → ((n : ℕ) → n < f.state.made → is_failed v n ≡ false)
+    → (i : Image) → IsPick x x x.held i → RecoversIdle f t v.state i
 service_again f t v x is inside told lasts i pick = known_said f t v (slices_of t x) i (service_known f t v x is inside told lasts i pick)
 
-pub vacant_again : (f : Found) (t u : Slices) (v : Raid) (x : Seen) (place : ℕ) → InService f t v x → LacksDrive f t u v place x → IsInside u x
-    → ((n : ℕ) → n < f.state.made → IsTold v (slices_of u x) n) → ((n : ℕ) → n < f.state.made → is_over v n ≡ false)
-    → (i : Image) → IsPick x x x.held i → HoldAgain f u v.state i
+pub vacant_again : (f : Found) (t u : Slices) (v : Raid) (x : RackView) (place : ℕ) → RunInvariant f t v x → LacksDrive f t u v place x → IsInside u x
+    → ((n : ℕ) → n < f.state.made → IsTracked v (slices_of u x) n) → ((n : ℕ) → n < f.state.made → is_failed v n ≡ false)
+    → (i : Image) → IsPick x x x.held i → RecoversIdle f u v.state i
 vacant_again f t u v x place is lacks inside told lasts i pick =
     known_said f u v (slices_of u x) i (vacant_known f t u v x place is lacks inside told lasts i pick)
 
 -- ---- where the drives' tables have the members' slices
 
 -- Then targets land in the pool that it is left with.
-pub service_landing : (f : Found) (t : Slices) (v : Raid) (x : Seen) → InService f t v x → HoldTables f t v.state x → IsInside t x
-    → ((n : ℕ) → n < f.state.made → IsTold v (slices_of t x) n) → ((n : ℕ) → n < f.state.made → is_over v n ≡ false)
-    → (i : Image) → IsPick x x x.held i → HoldLanding f t v.state i
+pub service_landing : (f : Found) (t : Slices) (v : Raid) (x : RackView) → RunInvariant f t v x → HoldTables f t v.state x → IsInside t x
+    → ((n : ℕ) → n < f.state.made → IsTracked v (slices_of t x) n) → ((n : ℕ) → n < f.state.made → is_failed v n ≡ false)
+    → (i : Image) → IsPick x x x.held i → RecoversLanding f t v.state i
 service_landing f t v x is tables inside told lasts i pick =
     landing_again f t v.state x tables i pick (service_again f t v x is inside told lasts i pick)
 
-pub vacant_landing : (f : Found) (t u : Slices) (v : Raid) (x : Seen) (place : ℕ) → InService f t v x → HoldTables f u v.state x → LacksDrive f t u v place x → IsInside u x
-    → ((n : ℕ) → n < f.state.made → IsTold v (slices_of u x) n) → ((n : ℕ) → n < f.state.made → is_over v n ≡ false)
-    → (i : Image) → IsPick x x x.held i → HoldLanding f u v.state i
+pub vacant_landing : (f : Found) (t u : Slices) (v : Raid) (x : RackView) (place : ℕ) → RunInvariant f t v x → HoldTables f u v.state x → LacksDrive f t u v place x → IsInside u x
+    → ((n : ℕ) → n < f.state.made → IsTracked v (slices_of u x) n) → ((n : ℕ) → n < f.state.made → is_failed v n ≡ false)
+    → (i : Image) → IsPick x x x.held i → RecoversLanding f u v.state i
 vacant_landing f t u v x place is tables lacks inside told lasts i pick =
     landing_again f u v.state x tables i pick (vacant_again f t u v x place is lacks inside told lasts i pick)

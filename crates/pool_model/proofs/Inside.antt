@@ -33,7 +33,7 @@ use Rattle.pool_image.proofs.Truths.{extent_found}
 use Rattle.pool_rest.proofs.BroughtCopies.{tables}
 use Rattle.pool_rest.proofs.Landings.{where_landed}
 use Rattle.pool_model.specs.InService.{epoch_at}
-use Rattle.pool_model.specs.Left.{AreAloneBy, HasNoSuper, HoldStill}
+use Rattle.pool_model.specs.Left.{NoStraySuperblockBy, HasNoSuper, Recovers}
 use Rattle.pool_model.specs.Pools.{extent_in}
 use Rattle.pool_model.specs.Stopped.{SaysArray, SaysStopped, StandFor}
 use Rattle.pool_model.proofs.Brought.{apart, e, e_is, e_none, lands_as, replays, ys, zs}
@@ -292,7 +292,7 @@ module _ (f : Found) (t : Slices) (base s : State) (i : Image) (stop : SaysStopp
   ]
 
   -- so no target lands there
-  pub alone_now_written : AreAloneBy s f after
+  pub alone_now_written : NoStraySuperblockBy s f after
   alone_now_written n p d first low now seat none begins within =
       subst (HasNoSuper f.state.pool.0 n)
       (sym (e_none f t base s i stop st d (first + super_sector)
@@ -372,7 +372,7 @@ module _ (f : Found) (t : Slices) (base s : State) (i : Image) (stop : SaysStopp
       })) newest_now
 
   -- Contents that say so hold the pool still, by the state that is brought.
-  unfoldable pub stopped_still : HoldStill f t s i
+  unfoldable pub stopped_still : Recovers f t s i
   stopped_still = record {
     now = now;
     found_is = found_now;

@@ -2,7 +2,7 @@
 -- current have the slices that they had, and the new drive says no state.
 use Rattle.std.proofs.Common.{◌≡◌, ◌≢◌, ℕ, ◌<◌, ◌≤◌, ◌&&◌, nat_lt, if◌then◌else◌, Bool, true, false, Some, sym, ap, ap₂, subst, ◌∙◌, inl, inr, le-ltb, arith}
 use Rattle.std.proofs.lemmas.Bool.{both_ways, cases_eq, cases_lt, ne_eqb}
-use Rattle.rack.specs.Seen.{Image, Seen}
+use Rattle.rack.specs.Seen.{Image, RackView}
 use Rattle.slice_rack.specs.Slices.{IsOrderly, Slices, place_of, seat_of as slice_seat, sectors_of}
 use Rattle.slice_rack.specs.Sliced.{IsInside}
 use Rattle.array_image.specs.Places.{log_slice, member_slice}
@@ -11,11 +11,11 @@ use Rattle.raid_laws.specs.Raid.{Raid}
 use Rattle.pool_image.specs.Disks.{Disks, Identities, disks_of, identities_of}
 use Rattle.pool_image.specs.Drives.{Found}
 use Rattle.pool_image.specs.Meaning.{is_member}
-use Rattle.pool_model.specs.InService.{HoldSaid, InService}
-use Rattle.pool_model.specs.Laid.{IsCalledBy, IsLaidOff, SaysBooks}
+use Rattle.pool_model.specs.InService.{HoldSaid, RunInvariant}
+use Rattle.pool_model.specs.Laid.{IsCalledBy, IsLaidOutsideSlices, SaysBooks}
 use Rattle.pool_model.specs.Left.{HavePlaces}
 use Rattle.pool_model.specs.Pools.{AreSlicesOf, extent_in}
-use Rattle.pool_model.specs.Stopped.{AreSlicesNow, HoldAmid, HoldTables, LieByTables}
+use Rattle.pool_model.specs.Stopped.{AreSlicesNow, RecoversInCall, HoldTables, LieByTables}
 use Rattle.pool_model.specs.Taken.{LacksDrive, SeatsNew, views_of}
 use Rattle.pool_model.proofs.Alike.{has_truths, member_same, slices_said}
 use Rattle.pool_model.proofs.Amid.{inside_of}
@@ -25,7 +25,7 @@ use Rattle.pool_model.proofs.Taken.{IsKnownBefore}
 use Rattle.pool_model.proofs.TakenSlices.{none_here}
 use Rattle.pool_model.proofs.Vacant.{seats_from}
 
-module _ (f : Found) (t u : Slices) (v : Raid) (place disk : ℕ) (x : Seen) (is : InService f t v x) (new : SeatsNew f t u v place disk (x.sectors disk))
+module _ (f : Found) (t u : Slices) (v : Raid) (place disk : ℕ) (x : RackView) (is : RunInvariant f t v x) (new : SeatsNew f t u v place disk (x.sectors disk))
     (missing : is_current v.state place ≡ false) where
   few : f.state.made ≤ 16
   few = is.arranged.made.1
@@ -79,7 +79,7 @@ module _ (f : Found) (t u : Slices) (v : Raid) (place disk : ℕ) (x : Seen) (is
   -- Contents that say the book by the slices with the new drive, once the place gave its disk up: r are the slices then.
   pub joining_early : (r : Slices) (i : Image) → LacksDrive f t r v place x → IsOrderly r → IsInside r x → IsOrderly u → IsInside u x → HoldTables f t v.state x
       → HavePlaces v.state f → (p : ℕ) → is_current v.state p ≡ true
-      → IsLaidOff f r v.state disk x i → SaysBooks f.state.made u v v i → HoldAmid f u v.state v.state i
+      → IsLaidOutsideSlices f r v.state disk x i → SaysBooks f.state.made u v v i → RecoversInCall f u v.state v.state i
   joining_early r i lacks orderly inside orderly_now inside_now tables present someone now laid says =
       let by : IsCalledBy f u v =
       record {

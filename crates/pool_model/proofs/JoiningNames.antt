@@ -5,7 +5,7 @@ use Rattle.std.specs.Option.{option_and_then, option_map_or}
 use Rattle.std.specs.Result.{result_ok}
 use Rattle.std.proofs.lemmas.Bool.{cases_eq, ne_eqb}
 use Rattle.std.proofs.lemmas.Option.{none-some}
-use Rattle.rack.specs.Seen.{Image, Seen}
+use Rattle.rack.specs.Seen.{Image, RackView}
 use Rattle.rack.specs.Values.{MayLeave}
 use Rattle.slice_rack.specs.Runs.{IsSliced}
 use Rattle.slice_rack.specs.Slices.{Slices, sectors_of}
@@ -21,16 +21,16 @@ use Rattle.array_image.specs.Places.{log_slice}
 use Rattle.array_image.specs.States.{epoch_of, is_current, id_of}
 use Rattle.array_core.proofs.Stripped.{some_same}
 use Rattle.log_laws.specs.Kept.{IsNoLater}
-use Rattle.raid_laws.specs.Book.{IsAfter}
+use Rattle.raid_laws.specs.Book.{OnlyMarksSince}
 use Rattle.raid_laws.specs.Enlisting.{enlisted, next_drive}
 use Rattle.raid_laws.specs.Raid.{Raid}
 use Rattle.raid_laws.specs.Since.{AreTakenSince}
 use Rattle.raid_laws.proofs.Noted.{current_few}
 use Rattle.pool_image.specs.Disks.{Disks, Identities, Identity, disks_of, id_by, identities_of, stands_for}
 use Rattle.pool_image.specs.Drives.{Found}
-use Rattle.pool_model.specs.InService.{HasSeat, InService, IsArranged, IsSaid, epoch_at}
-use Rattle.pool_model.specs.Laid.{GoesBy, HaveOtherIds, IsJoinedOff, NamesJoining, SaysFormerly}
-use Rattle.pool_model.specs.Left.{IsPickOff}
+use Rattle.pool_model.specs.InService.{HasSeat, RunInvariant, IsArranged, IsSaid, epoch_at}
+use Rattle.pool_model.specs.Laid.{GoesBy, HaveOtherIds, IsJoinedOutsideSlices, NamesJoining, SaysFormerly}
+use Rattle.pool_model.specs.Left.{IsPickOutsideSlices}
 use Rattle.pool_model.specs.Pools.{AreSlicesOf}
 use Rattle.pool_model.specs.Taken.{SeatsNew, taken, views_of}
 use Rattle.pool_model.proofs.Found.{ok_of}
@@ -44,8 +44,8 @@ use Rattle.pool_model.proofs.Taken.{IsKnownBefore, arranged_taken, seat_here, se
 use Rattle.pool_model.proofs.TakenSlices.{slices_taken}
 
 -- s are the tables by which the pool goes, and u those with the new drive. The drive that the place had says a state from before, or its own of the book's state.
-module _ (f : Found) (s u : Slices) (v : Raid) (place disk units : ℕ) (plan : Plan) (x : Seen) (i : Image) (is : InService f s v x)
-    (new : SeatsNew f s u v place disk (x.sectors disk)) (joined : IsJoinedOff f u v place disk x i)
+module _ (f : Found) (s u : Slices) (v : Raid) (place disk units : ℕ) (plan : Plan) (x : RackView) (i : Image) (is : RunInvariant f s v x)
+    (new : SeatsNew f s u v place disk (x.sectors disk)) (joined : IsJoinedOutsideSlices f u v place disk x i)
     (formerly : (d : ℕ) (copy : Copied) → f.seats place ≡ Some d → d ≢ disk → (identities_of (disks_of x) i d).copied ≡ Some copy → SaysFormerly v.state place copy) where
   pub known : IsKnownBefore f v
   known = record { outset = is.arranged; after = is.after; geometry = is.geometry }
@@ -92,7 +92,7 @@ module _ (f : Found) (s u : Slices) (v : Raid) (place disk units : ℕ) (plan : 
   pub was_other : (d : ℕ) → d ≢ disk → was d ≡ i d
   was_other d other = let read : Bool → ℕ → List ℕ = λ b k. if b then (x.held d k).current else i d k in ap read (ne_eqb d disk other)
 
-  pub off_by : (r : Slices) → ((d k : ℕ) (w : List ℕ) → d ≢ disk → IsSliced u d k w → IsSliced r d k w) → IsPickOff r x was
+  pub off_by : (r : Slices) → ((d k : ℕ) (w : List ℕ) → d ≢ disk → IsSliced u d k w → IsSliced r d k w) → IsPickOutsideSlices r x was
   off_by r fewer d k live never = elim (cases_eq d disk) [
     | inl same ↦ subst (λ c. MayLeave (x.held d k) c) (sym (ap (λ (b : Bool). if b then (x.held d k).current else i d k) (eq-eqb d disk same))) (inl refl)
     | inr other ↦
@@ -100,7 +100,7 @@ module _ (f : Found) (s u : Slices) (v : Raid) (place disk units : ℕ) (plan : 
         (joined.others d k other live (λ w at. never w (fewer d k w other at)))
   ]
 
-  pub off_was : IsPickOff s x was
+  pub off_was : IsPickOutsideSlices s x was
   off_was = off_by s (sliced_seated (views_of v) place disk (x.sectors disk) s u new.seats)
 
   pub said : IsSaid f was
@@ -190,7 +190,7 @@ module _ (f : Found) (s u : Slices) (v : Raid) (place disk units : ℕ) (plan : 
     abbrev own_id : List ℕ
     own_id = (named p d seat).id
 
-    module _ (r : State) (after : IsAfter v.state r ⊎ IsAfter next r) where
+    module _ (r : State) (after : OnlyMarksSince v.state r ⊎ OnlyMarksSince next r) where
       id_now : id_of r p ≡ Some own_id
       id_now = elim after [
         | inl of ↦ id_same v.state r of.same p ∙ id_before p d seat
@@ -277,7 +277,7 @@ module _ (f : Found) (s u : Slices) (v : Raid) (place disk units : ℕ) (plan : 
         let same : epoch_at (ids d) ≡ one.copy.state.epoch = ap (λ (o : Option Copied). option_map_or epoch_of o 0) one.says in
         omega (arith, from, same)
 
-    pub own_stands : (r : State) (p d : ℕ) → IsAfter v.state r ⊎ IsAfter next r → p ≢ place → f.seats p ≡ Some d → stands_for r (ids d) ≡ Some p
+    pub own_stands : (r : State) (p d : ℕ) → OnlyMarksSince v.state r ⊎ OnlyMarksSince next r → p ≢ place → f.seats p ≡ Some d → stands_for r (ids d) ≡ Some p
     own_stands r p d after other seat =
         let one = own_copy p d other seat in
         ap (λ (o : Option Copied). stands_for r (record { copied = o; table = (ids d).table })) one.says
@@ -298,17 +298,17 @@ module _ (f : Found) (s u : Slices) (v : Raid) (place disk units : ℕ) (plan : 
               let same : one.copy ≡ copy = some_same one.copy copy (sym (ap result_ok one.is) ∙ ap result_ok block) in
               ap (λ (k : Copied). id_of k.state k.own) (sym same) ∙ one.drive ∙ id_here place units plan v.state new.listed
 
-      new_stands : (r : State) → IsAfter next r → stands_for r (ids disk) ≡ Some place
+      new_stands : (r : State) → OnlyMarksSince next r → stands_for r (ids disk) ≡ Some place
       new_stands r after =
           ap (option_and_then (λ id. position (λ (k : Drive). bytes_eq k.id.0 id) r.drives.items)) new_id
           ∙ same_position (next_drive v.state).0 r.drives.items next.drives.items after.same.drives
           ∙ names_here place units plan v.state new.listed new.fresh
 
       -- by states since it joined alone its place is to have it
-      since_joined : (r : State) (p : ℕ) → GoesBy v.state next place r p → p ≡ place → IsAfter next r
+      since_joined : (r : State) (p : ℕ) → GoesBy v.state next place r p → p ≡ place → OnlyMarksSince next r
       since_joined r p goes same = elim goes [ inl of ↦ absurd (of.1 same) | inr of ↦ of ]
 
-      either : (r : State) (p : ℕ) → GoesBy v.state next place r p → IsAfter v.state r ⊎ IsAfter next r
+      either : (r : State) (p : ℕ) → GoesBy v.state next place r p → OnlyMarksSince v.state r ⊎ OnlyMarksSince next r
       either r p goes = elim goes [ inl of ↦ inl of.0 | inr of ↦ inr of ]
 
       at_place : (d : ℕ) → h.seats place ≡ Some d → d ≡ disk
@@ -339,7 +339,7 @@ module _ (f : Found) (s u : Slices) (v : Raid) (place disk units : ℕ) (plan : 
           ]
 
       module _ (ids_other : HaveOtherIds f v.state place disk i) where
-        none_stands : (r : State) (d : ℕ) → IsAfter next r → ((k : ℕ) → h.seats k ≡ Some d → ⊥) → d < x.disks → stands_for r (ids d) ≡ Some place → ⊥
+        none_stands : (r : State) (d : ℕ) → OnlyMarksSince next r → ((k : ℕ) → h.seats k ≡ Some d → ⊥) → d < x.disks → stands_for r (ids d) ≡ Some place → ⊥
         none_stands r d after never low stands =
             let one = stands_named r (ids d) place stands in
             ids_other d (let same = count in omega (arith, low, same)) (none_new d never) (λ p other seat. never p (seat_old p other ∙ seat))

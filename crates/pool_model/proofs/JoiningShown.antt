@@ -2,7 +2,7 @@
 use Rattle.std.proofs.Common.{◌≡◌, ◌≢◌, ◌⊎◌, ℕ, ◌-◌, ◌<◌, ◌^◌, ◌==◌, if◌then◌else◌, Bool, true, Some, refl, sym, ap, ap₂, subst, ◌∙◌, inl, inr, eq-eqb, arith}
 use Rattle.std.proofs.lemmas.Bool.{cases_eq, ne_eqb}
 use Rattle.std.proofs.lemmas.Option.{none-some}
-use Rattle.rack.specs.Seen.{Image, Seen}
+use Rattle.rack.specs.Seen.{Image, RackView}
 use Rattle.slice_rack.specs.Slices.{IsOrderly, Slices, seat_of, sectors_of}
 use Rattle.slice_rack.specs.Sliced.{IsInside, sliced}
 use Rattle.gpt_table.specs.declared.Table.{Table}
@@ -14,7 +14,7 @@ use Rattle.array_image.specs.Arrays.{replayed}
 use Rattle.array_image.specs.Places.{member_slice}
 use Rattle.array_image.specs.States.{is_current, state_in}
 use Rattle.array_core.proofs.Stripped.{some_same}
-use Rattle.raid_laws.specs.Book.{IsAfter, after_same}
+use Rattle.raid_laws.specs.Book.{OnlyMarksSince, after_same}
 use Rattle.raid_laws.specs.Enlisting.{next_drive}
 use Rattle.raid_laws.specs.Frames.{HasFrame, frame_of}
 use Rattle.raid_laws.specs.Logs.{LogsBetween}
@@ -23,9 +23,9 @@ use Rattle.raid_laws.specs.Runs.{IsBetween}
 use Rattle.raid_laws.specs.Since.{AreTakenSince}
 use Rattle.pool_image.specs.Disks.{disks_of, identities_of}
 use Rattle.pool_image.specs.Drives.{Found}
-use Rattle.pool_model.specs.InService.{InService}
-use Rattle.pool_model.specs.Laid.{HaveOtherIds, IsCalledBy, IsFormerYet, IsJoinedOff, NamesJoining, SaysFormerly, ShowsJoining, ShowsParts}
-use Rattle.pool_model.specs.Stopped.{HoldAmid, HoldTables, LieByTables, LieOn}
+use Rattle.pool_model.specs.InService.{RunInvariant}
+use Rattle.pool_model.specs.Laid.{HaveOtherIds, IsCalledBy, IsFormerYet, IsJoinedOutsideSlices, NamesJoining, SaysFormerly, ShowsJoining, ShowsParts}
+use Rattle.pool_model.specs.Stopped.{RecoversInCall, HoldTables, LieByTables, LieOn}
 use Rattle.pool_model.specs.Taken.{SeatsNew}
 use Rattle.pool_model.proofs.Alike.{slices_said, truth_same}
 use Rattle.pool_model.proofs.Amid.{inside_of}
@@ -39,8 +39,8 @@ use Rattle.pool_model.proofs.Tables.{lie_same, slice_apart}
 use Rattle.pool_model.proofs.Taken.{IsKnownBefore, has_truths}
 
 -- s are the tables by which the pool goes, and u those with the new drive. The drive that the place had says a state from before, or its own of the book's state.
-module _ (f : Found) (s u : Slices) (v : Raid) (place disk units : ℕ) (plan : Plan) (x : Seen) (i : Image) (is : InService f s v x)
-    (new : SeatsNew f s u v place disk (x.sectors disk)) (joined : IsJoinedOff f u v place disk x i)
+module _ (f : Found) (s u : Slices) (v : Raid) (place disk units : ℕ) (plan : Plan) (x : RackView) (i : Image) (is : RunInvariant f s v x)
+    (new : SeatsNew f s u v place disk (x.sectors disk)) (joined : IsJoinedOutsideSlices f u v place disk x i)
     (formerly : (d : ℕ) (copy : Copied) → f.seats place ≡ Some d → d ≢ disk → (identities_of (disks_of x) i d).copied ≡ Some copy → SaysFormerly v.state place copy) where
   abbrev coming : State
   coming = next f s u v place disk units plan x i is new joined formerly
@@ -133,11 +133,11 @@ module _ (f : Found) (s u : Slices) (v : Raid) (place disk units : ℕ) (plan : 
       → (table : Table) → table.disk_id.0 ≡ (next_drive v.state).0 → the_table (x.sectors disk) (i disk) ≡ Some table → LieOn u place (x.sectors disk) (i disk)
       → HaveOtherIds f v.state place disk i → AreTakenSince (λ p. p == place) v.state coming (sectors_of u) (sliced u i)
       → (logs : LogsBetween coming w.state (sectors_of u) (sliced u i))
-      → ((q : State) → state_in (sliced u i) ≡ Some q → IsAfter v.state q → is_current q place ≡ true
-      → IsAfter coming q ⊎ IsFormerYet (disks_of x) u q logs.state place i)
+      → ((q : State) → state_in (sliced u i) ≡ Some q → OnlyMarksSince v.state q → is_current q place ≡ true
+      → OnlyMarksSince coming q ⊎ IsFormerYet (disks_of x) u q logs.state place i)
       → ((n : ℕ) → n < f.state.made → IsBetween coming w.state n (replayed (sectors_of u) (sliced u i)))
       → ((n : ℕ) → n < f.state.made → HasFrame (frame_of (v.arrays n).truth) n (replayed (sectors_of u) (sliced u i)))
-      → HoldAmid pool u coming w.state i
+      → RecoversInCall pool u coming w.state i
   joining_amid w orderly inside tables present left enough table drive tabled own ids since logs former arrays frames =
       let made = is.after.same.made in
       let parts : ShowsParts pool u book w i =

@@ -23,7 +23,7 @@ use Rattle.log_laws.specs.Kept.{IsNoLater}
 use Rattle.log_laws.specs.Saying.{PlaceJoins}
 use Rattle.log_laws.specs.Standing.{deciding}
 use Rattle.log_laws.proofs.Places.{stays_apart}
-use Rattle.raid_laws.specs.Book.{IsAfter}
+use Rattle.raid_laws.specs.Book.{OnlyMarksSince}
 use Rattle.pool_scan.proofs.Seated.{foremost_from}
 use Rattle.pool_image.specs.Disks.{Identities, identities_of, newest, seat_of, stands_for}
 use Rattle.pool_image.specs.Drives.{Found}
@@ -85,7 +85,7 @@ module _ (h : Found) (u : Slices) (v next s : State) (place : ℕ) (i : Image) (
     seat : h.seats k ≡ Some disk
     current : is_current next k ≡ true
     is : (ids disk).copied ≡ Some copy
-    after : IsAfter v copy.state ⊎ IsAfter next copy.state
+    after : OnlyMarksSince v copy.state ⊎ OnlyMarksSince next copy.state
 
   leads : (k : ℕ) (copy : Copied) → k < 16 → copy_in held k ≡ Some copy → copy.state ≡ q → Leads k copy
   leads k copy low here state = elim (cases_lt 0 (sectors_of u (log_slice k))) [
@@ -95,16 +95,16 @@ module _ (h : Found) (u : Slices) (v next s : State) (place : ℕ) (i : Image) (
         | inl new ↦
             let now = shows.current k was in
             let one = (shows.joining k low has).joins copy (inl new) now block in
-            of now (inr (subst (λ (z : Copied). IsAfter next z.state) (same one.copy one.is) one.after))
+            of now (inr (subst (λ (z : Copied). OnlyMarksSince next z.state) (same one.copy one.is) one.after))
         | inr other ↦ elim ((shows.joining k low has).own other was) [
-          | inl one ↦ of (shows.current k was) (inl (subst (λ (z : Copied). IsAfter v z.state) (same one.copy one.is) one.after))
-          | inr one ↦ of (shows.current k was) (inr (subst (λ (z : Copied). IsAfter next z.state) (same one.copy one.is) one.after))
+          | inl one ↦ of (shows.current k was) (inl (subst (λ (z : Copied). OnlyMarksSince v z.state) (same one.copy one.is) one.after))
+          | inr one ↦ of (shows.current k was) (inr (subst (λ (z : Copied). OnlyMarksSince next z.state) (same one.copy one.is) one.after))
         ]
       ]
       | inr old ↦ elim (cases_Bool (is_current next k)) [
         | inl now ↦
             let one = (shows.joining k low has).joins copy (inr old) now block in
-            of now (inr (subst (λ (z : Copied). IsAfter next z.state) (same one.copy one.is) one.after))
+            of now (inr (subst (λ (z : Copied). OnlyMarksSince next z.state) (same one.copy one.is) one.after))
         | inr past ↦
             let less = (shows.joining k low has).former copy old past block in
             let epoch : copy.state.epoch ≡ q.epoch = ap (λ (z : State). z.epoch) state in
@@ -120,7 +120,7 @@ module _ (h : Found) (u : Slices) (v next s : State) (place : ℕ) (i : Image) (
       same : (other : Copied) → decoded (held (log_slice k) 0) ≡ Ok other → other ≡ copy
       same other is = some_same other copy (sym (ap result_ok is) ∙ ap result_ok block)
 
-      of : is_current next k ≡ true → IsAfter v copy.state ⊎ IsAfter next copy.state → Leads k copy
+      of : is_current next k ≡ true → OnlyMarksSince v copy.state ⊎ OnlyMarksSince next copy.state → Leads k copy
       of now after =
           let drive = shows.present k now in
           record {
@@ -144,8 +144,8 @@ module _ (h : Found) (u : Slices) (v next s : State) (place : ℕ) (i : Image) (
           let state : copy.state ≡ q = some_same copy.state q at in
           (from.0, copy, low, state, leads from.0 copy low from.2 state)
 
-  stood_after : IsAfter v q ⊎ IsAfter next q
-  stood_after = subst (λ (z : State). IsAfter v z ⊎ IsAfter next z) leader.3 leader.4.after
+  stood_after : OnlyMarksSince v q ⊎ OnlyMarksSince next q
+  stood_after = subst (λ (z : State). OnlyMarksSince v z ⊎ OnlyMarksSince next z) leader.3 leader.4.after
 
   -- a place that is current by it is so by the state with the drive
   stood_current : (p : ℕ) → is_current q p ≡ true → is_current next p ≡ true

@@ -1,11 +1,11 @@
 -- What contents between calls say of the pool that is served.
 use Rattle.std.proofs.Common.{◌≡◌, ℕ, ◌<◌, Some, refl, sym, ap, subst, ◌∙◌}
-use Rattle.rack.specs.Seen.{Image, Seen}
+use Rattle.rack.specs.Seen.{Image, RackView}
 use Rattle.slice_rack.specs.Slices.{Slices}
 use Rattle.md_super.specs.declared.superblock.Super.{Super}
 use Rattle.array_image.specs.Left.{IsLeft}
 use Rattle.array_image.specs.Supers.{is_named, truth_in}
-use Rattle.array_model.specs.Says.{IsEarlier, Says}
+use Rattle.array_model.specs.Says.{IsEarlier, ImageShowsArray}
 use Rattle.array_model.specs.View.{shape_of}
 use Rattle.raid_laws.specs.Frames.{Frame, frame_of}
 use Rattle.raid_laws.specs.Raid.{Raid, held_in, spent_of}
@@ -17,7 +17,7 @@ use Rattle.pool_model.proofs.Copies.{IsKnown, c, copied_now, copy_now, kept, new
 use Rattle.pool_model.proofs.Current.{shape_truth}
 use Rattle.pool_model.proofs.Said.{SaysPool}
 
-module _ (f : Found) (t : Slices) (v : Raid) (y : Seen) (i : Image) (known : IsKnown f t v y i) where
+module _ (f : Found) (t : Slices) (v : Raid) (y : RackView) (i : Image) (known : IsKnown f t v y i) where
   abbrev held : Image
   held = c f t v y i known
 
@@ -26,9 +26,9 @@ module _ (f : Found) (t : Slices) (v : Raid) (y : Seen) (i : Image) (known : IsK
 
   module _ (n : ℕ) (low : n < f.state.made) where
     -- what the slices say of the array
-    pub says : Says v.state n (shape_of (v.arrays n)) (held_in v y n) (spent_of v n) held
+    pub says : ImageShowsArray v.state n (shape_of (v.arrays n)) (held_in v y n) (spent_of v n) held
     says =
-        subst (λ k. Says v.state k (shape_of (v.arrays n)) (held_in v y n) (spent_of v n) held) (stood f t v y i known n low).number
+        subst (λ k. ImageShowsArray v.state k (shape_of (v.arrays n)) (held_in v y n) (spent_of v n) held) (stood f t v y i known n low).number
         ((stood f t v y i known n low).holds.shape.says held left)
 
     pub earlier : (u : Super) → truth_in v.state held n ≡ Some u → IsEarlier u (v.arrays n).truth

@@ -2,7 +2,7 @@
 use Rattle.std.proofs.Common.{◌≡◌, ℕ, ◌<◌, ◌≤◌, ◌/◌, ◌&&◌, Bool, true, false, nat_lt, if◌then◌else◌, Option, Some, None, refl, sym, ap, ap₂, subst, ◌∙◌, inl, inr, ltb-true, arith}
 use Rattle.std.specs.Option.{option_map_or}
 use Rattle.std.proofs.lemmas.Bool.{and_parts, both_ways, cases_Bool}
-use Rattle.rack.specs.Seen.{Image, Seen}
+use Rattle.rack.specs.Seen.{Image, RackView}
 use Rattle.rack.specs.Values.{Values}
 use Rattle.slice_rack.specs.Slices.{Slices, sectors_of}
 use Rattle.slice_rack.specs.Sliced.{sliced}
@@ -25,13 +25,13 @@ use Rattle.pool_image.proofs.Founds.{shapes_same, truths_same}
 use Rattle.raid_laws.specs.Agreeing.{HasOwnRows, SayTruth}
 use Rattle.raid_laws.specs.Frames.{Frame, HasFrame, frame_of}
 use Rattle.raid_laws.specs.Laws.{stood_left}
-use Rattle.raid_laws.specs.Moves.{IsAmid}
+use Rattle.raid_laws.specs.Moves.{IsTrackedInCall}
 use Rattle.raid_laws.specs.Opening.{OpensRaid}
-use Rattle.raid_laws.specs.Raid.{IsTold, Raid, Stood, gone_in, held_in, is_over, spent_of}
+use Rattle.raid_laws.specs.Raid.{IsTracked, Raid, InvariantInCall, gone_in, held_in, is_failed, spent_of}
 use Rattle.raid_laws.specs.Rows.{LackingFrom, LeavesLacking}
 use Rattle.raid_laws.proofs.LackingRows.{whole_lacks}
 use Rattle.raid_laws.proofs.Opening.{opened_amid}
-use Rattle.pool_model.specs.Left.{HoldStill}
+use Rattle.pool_model.specs.Left.{Recovers}
 use Rattle.pool_model.specs.Openings.{IsUnsynced}
 
 -- ---- by the book
@@ -60,21 +60,21 @@ lacks_rows v u own fields unclean lacks young =
 -- ---- between calls
 
 -- what is left of slices on which an array stands has its state
-left_state : (s : State) (durable : Shape) (vals : ℕ → Values) (spent gone : ℕ → Bool) (v : Raid) (x : Seen) (n : ℕ) → Stood s durable vals spent gone v x n
+left_state : (s : State) (durable : Shape) (vals : ℕ → Values) (spent gone : ℕ → Bool) (v : Raid) (x : RackView) (n : ℕ) → InvariantInCall s durable vals spent gone v x n
     → (r : Image) → IsLeft x r → state_in r ≡ Some s
 left_state s durable vals spent gone v x n stood r left =
     state_same r (replayed x.sectors left.0) (λ place. left.2 (log_slice place) 0)
     ∙ (stood_left s durable vals spent gone v x n left.0 stood left.1).0
 
 -- So it is with whatever is left of an array that is told, by superblocks that say its truth.
-pub leaves_lacking : (v : Raid) (x : Seen) (n : ℕ) → IsTold v x n → is_over v n ≡ false → ((r : Image) → IsLeft x r → SayTruth (v.arrays n) v.state r n)
+pub leaves_lacking : (v : Raid) (x : RackView) (n : ℕ) → IsTracked v x n → is_failed v n ≡ false → ((r : Image) → IsLeft x r → SayTruth (v.arrays n) v.state r n)
     → HasOwnRows (v.arrays n) → (v.arrays n).young ≡ false → LeavesLacking v x n
 leaves_lacking v x n told goes truths own young = record { young = young; images = images }
   where
     book : Shape
     book = shape_by_book (v.arrays n)
 
-    stood : Stood v.state (shape_by_book (v.arrays n)) (held_in v x n) (spent_of v n) (λ place. false) v x n
+    stood : InvariantInCall v.state (shape_by_book (v.arrays n)) (held_in v x n) (spent_of v n) (λ place. false) v x n
     stood = told.stood goes
 
     images : (r : Image) → IsLeft x r → LackingFrom (v.arrays n).resync n r
@@ -87,10 +87,10 @@ leaves_lacking v x n told goes truths own young = record { young = young; images
         omega (arith, rows)
 
 -- Also of arrays as they are opened on slices at rest.
-pub opened_lacking : (v : Raid) (x : Seen) (n : ℕ) → OpensRaid v x → n < v.state.joined → (v.arrays n).young ≡ false → LeavesLacking v x n
+pub opened_lacking : (v : Raid) (x : RackView) (n : ℕ) → OpensRaid v x → n < v.state.joined → (v.arrays n).young ≡ false → LeavesLacking v x n
 opened_lacking v x n opens joined young = record { young = young; images = images }
   where
-    amid : IsAmid v x n (held_in v x n) (λ y. true)
+    amid : IsTrackedInCall v x n (held_in v x n) (λ y. true)
     amid = opened_amid v x n (λ y. true) opens joined
 
     images : (r : Image) → IsLeft x r → LackingFrom (v.arrays n).resync n r
@@ -123,7 +123,7 @@ pub record HasOwnLeft (v : Raid) (n : ℕ) (r : Image) : Type 0 where
   pub from : (v.arrays n).young ≡ false → LackingFrom (v.arrays n).resync n r
 
 -- So where such contents hold a pool still, in which the array is dirty-degraded, there are rows left in it.
-pub dirty_rows : (f : Found) (t : Slices) (s : State) (i : Image) (still : HoldStill f t s i) (v : Raid) (n : ℕ) → n < f.state.made
+pub dirty_rows : (f : Found) (t : Slices) (s : State) (i : Image) (still : Recovers f t s i) (v : Raid) (n : ℕ) → n < f.state.made
     → HasOwnLeft v n (replayed (sectors_of t) (sliced t i)) → is_dirty_degraded still.now n ≡ true → (v.arrays n).young ≡ false → (v.arrays n).resync < rows_of (v.arrays n)
 dirty_rows f t s i still v n low own dirty young =
     of (shape_in s r n) refl (truth_in s r n) refl
@@ -147,7 +147,7 @@ dirty_rows f t s i still v n low own dirty young =
         (own.from young s shape u still.is_state shape_is (ltb-true 0 (lacking_of shape) lacks) truth_is)
 
 -- Where the book's rows are those that the truth of the pool leaves, this leaves such ones.
-pub dirty_before : (f : Found) (t : Slices) (s : State) (i : Image) (still : HoldStill f t s i) (v : Raid) (n : ℕ) → n < f.state.made
+pub dirty_before : (f : Found) (t : Slices) (s : State) (i : Image) (still : Recovers f t s i) (v : Raid) (n : ℕ) → n < f.state.made
     → (u : Super) → truth_of f n ≡ Some u → (v.arrays n).truth.size ≡ u.size → (v.arrays n).resync ≡ first_unsynced u → (v.arrays n).young ≡ false
     → HasOwnLeft v n (replayed (sectors_of t) (sliced t i)) → is_dirty_degraded still.now n ≡ true → IsUnsynced f n
 dirty_before f t s i still v n low u truth size rows young own dirty = ap (λ (o : Option Super). option_map_or is_unclean o false) truth ∙ of (is_unclean u) refl

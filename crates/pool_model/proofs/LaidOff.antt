@@ -3,7 +3,7 @@ use Rattle.std.proofs.Common.{◌≡◌, ◌≢◌, ℕ, ◌+◌, ◌<◌, ◌�
 use Rattle.std.specs.Result.{result_ok}
 use Rattle.std.proofs.lemmas.Bool.{cases_lt}
 use Rattle.std.proofs.lemmas.Option.{none-some}
-use Rattle.rack.specs.Seen.{Image, Seen, Stays}
+use Rattle.rack.specs.Seen.{Image, RackView, SameRack}
 use Rattle.rack.specs.Sequences.{IsMix}
 use Rattle.rack.specs.Values.{MayLeave, Values}
 use Rattle.slice_rack.specs.Runs.{IsSliced}
@@ -19,16 +19,16 @@ use Rattle.array_image.specs.Places.{log_sectors, log_slice, place_of, slice_of,
 use Rattle.array_image.specs.States.{is_current}
 use Rattle.array_core.proofs.Stripped.{some_same}
 use Rattle.array_model.specs.View.{View}
-use Rattle.log_laws.specs.Saying.{SaysState}
+use Rattle.log_laws.specs.Saying.{RecoversTo}
 use Rattle.log_laws.proofs.Kept.{live_on}
 use Rattle.raid_laws.specs.Book.{after_same}
 use Rattle.raid_laws.specs.Enlisting.{HoldsLaid, IsOpenDisk, IsWrittenBy, SaysBy, SaysFormer, SaysJoining, SaysLaying}
 use Rattle.raid_laws.specs.NewDrive.{SeatsDrive, first_laid, sectors_laid}
-use Rattle.raid_laws.specs.Raid.{IsTold, Raid, is_over, spent_of}
-use Rattle.raid_laws.specs.Runs.{IsBetween, KeepsMoments}
+use Rattle.raid_laws.specs.Raid.{IsTracked, Raid, is_failed, spent_of}
+use Rattle.raid_laws.specs.Runs.{IsBetween, CrashInvariant}
 use Rattle.raid_laws.proofs.Since.{joining_before, kept_since}
 use Rattle.pool_image.specs.Drives.{Found}
-use Rattle.pool_model.specs.Laid.{IsLaidOff, SaysBooks}
+use Rattle.pool_model.specs.Laid.{IsLaidOutsideSlices, SaysBooks}
 use Rattle.pool_model.proofs.Found.{ok_of}
 use Rattle.pool_model.proofs.Unsliced.{laid_state}
 
@@ -45,11 +45,11 @@ says_between v n vals spent r one = record {
 }
 
 -- Contents in which the disk, where they say a state on it, holds one there that it may have held. The others are written in slices alone, which were slices before.
-pub laid_off : (f : Found) (t u : Slices) (s : State) (disk : ℕ) (table : Table) (x y : Seen) (i : Image) → ((p : ℕ) → f.seats p ≡ Some disk → is_current s p ≡ false)
-    → ((k : ℕ) (w : List ℕ) → IsSliced t disk k w → ⊥) → IsOpenDisk x disk → x.lasting → Stays x y
+pub laid_off : (f : Found) (t u : Slices) (s : State) (disk : ℕ) (table : Table) (x y : RackView) (i : Image) → ((p : ℕ) → f.seats p ≡ Some disk → is_current s p ≡ false)
+    → ((k : ℕ) (w : List ℕ) → IsSliced t disk k w → ⊥) → IsOpenDisk x disk → x.lasting → SameRack x y
     → ((d k : ℕ) (w : List ℕ) → d ≢ disk → IsSliced u d k w → IsSliced t d k w) → IsMix x y (IsWrittenBy u disk table) i
     → ((copy : Copied) → state_sector < x.sectors disk → decoded (i disk state_sector) ≡ Ok copy → MayLeave (x.held disk state_sector) (i disk state_sector))
-    → IsLaidOff f t s disk x i
+    → IsLaidOutsideSlices f t s disk x i
 laid_off f t u s disk table x y i vacant free opened lasting stays fewer mix says = record {
   vacant = vacant;
   free = free;
@@ -69,7 +69,7 @@ laid_off f t u s disk table x y i vacant free opened lasting stays fewer mix say
 }
 
 -- So it is where it holds what it held, or what is laid on it.
-pub laid_says : (x : Seen) (disk : ℕ) (table : Table) (i : Image) → 10273 ≤ table.sectors → HoldsLaid x disk table i → (copy : Copied) → state_sector < x.sectors disk
+pub laid_says : (x : RackView) (disk : ℕ) (table : Table) (i : Image) → 10273 ≤ table.sectors → HoldsLaid x disk table i → (copy : Copied) → state_sector < x.sectors disk
     → decoded (i disk state_sector) ≡ Ok copy → MayLeave (x.held disk state_sector) (i disk state_sector)
 laid_says x disk table i room laid copy low says = elim (laid state_sector low) [
   | inl may ↦ may
@@ -77,7 +77,7 @@ laid_says x disk table i room laid copy low says = elim (laid state_sector low) 
 ]
 
 -- They say the book by the slices.
-pub laying_book : (made : ℕ) (t : Slices) (disk : ℕ) (table : Table) (v w : Raid) (a : Seen) (vals : (n : ℕ) → ℕ → Values) (i : Image) → 0 < made
+pub laying_book : (made : ℕ) (t : Slices) (disk : ℕ) (table : Table) (v w : Raid) (a : RackView) (vals : (n : ℕ) → ℕ → Values) (i : Image) → 0 < made
     → ((n : ℕ) → n < made → SaysLaying t disk table v w a n (vals n) i) → SaysBooks made t v v i
 laying_book made t disk table v w a vals i first each = record {
   logs = record { state = v.state; later = after_same v.state; sooner = after_same v.state; says = (each 0 first).logs };
@@ -87,8 +87,8 @@ laying_book made t disk table v w a vals i first each = record {
 }
 
 -- So they do once the disk has its slices, while the log slices say the state before: the new drive has no state then.
-pub joining_book : (made : ℕ) (t u : Slices) (disk : ℕ) (table : Table) (next : State) (v w : Raid) (a : Seen) (vals : (n : ℕ) → ℕ → Values) (i : Image) → 0 < made
-    → v.state.epoch < next.epoch → SaysState v.state (sectors_of u) (sliced u i)
+pub joining_book : (made : ℕ) (t u : Slices) (disk : ℕ) (table : Table) (next : State) (v w : Raid) (a : RackView) (vals : (n : ℕ) → ℕ → Values) (i : Image) → 0 < made
+    → v.state.epoch < next.epoch → RecoversTo v.state (sectors_of u) (sliced u i)
     → ((n : ℕ) → n < made → SaysJoining t u disk table next v w a n (vals n) i) → SaysBooks made u v v i
 joining_book made t u disk table next v w a vals i first up says each = record {
   logs = record { state = v.state; later = after_same v.state; sooner = after_same v.state; says = says };
@@ -105,7 +105,7 @@ joining_book made t u disk table next v w a vals i first up says each = record {
 }
 
 -- Where it has them and a current place keeps its drive yet, they say the book by the slices before.
-pub former_book : (made : ℕ) (t : Slices) (v w : Raid) (x : Seen) (vals : (n : ℕ) → ℕ → Values) (i : Image) → 0 < made
+pub former_book : (made : ℕ) (t : Slices) (v w : Raid) (x : RackView) (vals : (n : ℕ) → ℕ → Values) (i : Image) → 0 < made
     → ((n : ℕ) → n < made → SaysFormer v x n (vals n) (spent_of w n) (sectors_of t) (sliced t i)) → SaysBooks made t v v i
 former_book made t v w x vals i first each = record {
   logs = record { state = v.state; later = after_same v.state; sooner = after_same v.state; says = (each 0 first).logs };
@@ -132,9 +132,9 @@ new_sector arrays place disk sectors t u seats i =
 -- ---- a drive that is declined
 
 -- The disk holds what it held, or what is laid on it, and the others are written in slices alone.
-pub declined_off : (f : Found) (t : Slices) (v : Raid) (disk : ℕ) (table : Table) (a : Seen) → ((p : ℕ) → f.seats p ≡ Some disk → is_current v.state p ≡ false)
-    → ((k : ℕ) (w : List ℕ) → IsSliced t disk k w → ⊥) → IsOpenDisk a disk → 10273 ≤ table.sectors → a.lasting → (b : Seen) → Stays a b
-    → (i : Image) → IsMix a b (IsWrittenBy t disk table) i → IsLaidOff f t v.state disk a i
+pub declined_off : (f : Found) (t : Slices) (v : Raid) (disk : ℕ) (table : Table) (a : RackView) → ((p : ℕ) → f.seats p ≡ Some disk → is_current v.state p ≡ false)
+    → ((k : ℕ) (w : List ℕ) → IsSliced t disk k w → ⊥) → IsOpenDisk a disk → 10273 ≤ table.sectors → a.lasting → (b : RackView) → SameRack a b
+    → (i : Image) → IsMix a b (IsWrittenBy t disk table) i → IsLaidOutsideSlices f t v.state disk a i
 declined_off f t v disk table a vacant free opened room lasting b stays i mix =
     let laid : HoldsLaid a disk table i =
     λ c low. elim (mix disk c (live_on lasting stays (opened c low))) [
@@ -144,8 +144,8 @@ declined_off f t v disk table a vacant free opened room lasting b stays i mix =
     laid_off f t t v.state disk table a b i vacant free opened lasting stays (λ d k w other at. at) mix (laid_says a disk table i room laid)
 
 -- By the slices contents say a state of the call, and the arrays by it.
-pub declined_book : (made : ℕ) (t : Slices) (v w : Raid) (a b : Seen) → a.traced → KeepsMoments v w (slices_of t a) (slices_of t b)
-    → ((n : ℕ) → n < made → IsTold v (slices_of t a) n) → ((n : ℕ) → n < made → is_over w n ≡ false) → 0 < made
+pub declined_book : (made : ℕ) (t : Slices) (v w : Raid) (a b : RackView) → a.traced → CrashInvariant v w (slices_of t a) (slices_of t b)
+    → ((n : ℕ) → n < made → IsTracked v (slices_of t a) n) → ((n : ℕ) → n < made → is_failed w n ≡ false) → 0 < made
     → (k : ℕ) (i : Image) → a.clock < k → k ≤ b.clock → b.stops k i → SaysBooks made t v w i
 declined_book made t v w a b traced keeps told lasts first k i since until stopped =
     let shown : (slices_of t b).stops k (sliced t i) = (i, stopped, λ d c. refl) in

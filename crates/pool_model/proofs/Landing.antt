@@ -6,7 +6,7 @@ use Rattle.std.proofs.Common.{◌≡◌, ℕ, zero, suc, ◌+◌, ◌<◌, ◌�
 use Rattle.std.specs.Option.{option_and_then, option_map_or}
 use Rattle.std.proofs.lemmas.Bool.{both_ways, cases_Bool, cases_eq}
 use Rattle.std.proofs.lemmas.Option.{none-some}
-use Rattle.rack.specs.Seen.{Image, IsPick, Seen}
+use Rattle.rack.specs.Seen.{Image, IsPick, RackView}
 use Rattle.slice_rack.specs.Slices.{Slices, sectors_of}
 use Rattle.gpt_table.specs.declared.Table.{Table}
 use Rattle.gpt_table.specs.Changes.{the_table}
@@ -25,9 +25,9 @@ use Rattle.pool_image.specs.Sound.{HasSoundPlan, HasToJoin, IsSoundList, drive_a
 use Rattle.pool_image.proofs.Founds.{first_behind}
 use Rattle.pool_image.proofs.Truths.{extent_found}
 use Rattle.pool_rest.proofs.Extents.{extent_by_is, extents_apart, free_entry}
-use Rattle.pool_model.specs.Left.{HoldAgain}
+use Rattle.pool_model.specs.Left.{RecoversIdle}
 use Rattle.pool_model.specs.Openings.{HaveGoodTables}
-use Rattle.pool_model.specs.Stopped.{HaveTables, HoldLanding, HoldTables, LieApart, LieByTables}
+use Rattle.pool_model.specs.Stopped.{HaveTables, RecoversLanding, HoldTables, LieApart, LieByTables}
 use Rattle.pool_model.proofs.Entries.{ascending, no_share, replays_entry, table_entry}
 use Rattle.pool_model.proofs.Found.{IsFound, found_is, some_made}
 use Rattle.pool_model.proofs.Layers.{IsLaid, laid}
@@ -206,7 +206,7 @@ extent_there : (f : Found) (n : ℕ) (u : Super) → n < 16 → truth_of f n ≡
 extent_there f n u few truth = let lie : IsLaid f n u = laid f n u few truth in (lie.first, extent_found f n lie.first u lie.begins lie.is)
 
 -- Contents that hold a pool again, by whose tables the drives have the members' slices, have one whose slices lie apart.
-pub again_apart : (f : Found) (t : Slices) (s : State) (i : Image) → (again : HoldAgain f t s i) → LieByTables f t s i → LieApart again.still.now
+pub again_apart : (f : Found) (t : Slices) (s : State) (i : Image) → (again : RecoversIdle f t s i) → LieByTables f t s i → LieApart again.still.now
 again_apart f t s i again lie =
     let still = again.still in
     let g = still.now in
@@ -226,6 +226,6 @@ again_apart f t s i again lie =
     ∙ lie p d counts (still.slices.seats p d seat) n few (omega (arith, size)) ∙ sym lies)
 
 -- So it is of whatever the disks may be left with.
-pub landing_again : (f : Found) (t : Slices) (s : State) (x : Seen) → HoldTables f t s x → (i : Image) → IsPick x x x.held i → HoldAgain f t s i → HoldLanding f t s i
+pub landing_again : (f : Found) (t : Slices) (s : State) (x : RackView) → HoldTables f t s x → (i : Image) → IsPick x x x.held i → RecoversIdle f t s i → RecoversLanding f t s i
 landing_again f t s x tables i pick again =
     record { again = again; apart = again_apart f t s i again (tables i (λ d u live never. pick d u live)) }

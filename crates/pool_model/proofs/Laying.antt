@@ -6,7 +6,7 @@ use Rattle.std.proofs.lemmas.Bool.{both_ways, cases_eq, cases_lt, ne_eqb}
 use Rattle.std.proofs.lemmas.Option.{none-some}
 use Rattle.rack.specs.Joins.{keeps_same}
 use Rattle.rack.specs.Values.{Keeps, MayLeave, only}
-use Rattle.rack.specs.Seen.{Image, IsLive, Seen}
+use Rattle.rack.specs.Seen.{Image, IsLive, RackView}
 use Rattle.slice_rack.specs.Runs.{IsSliced}
 use Rattle.slice_rack.specs.Slices.{IsOrderly, Slices, seat_of as slice_seat}
 use Rattle.slice_rack.specs.Sliced.{IsInside, sliced}
@@ -19,11 +19,11 @@ use Rattle.raid_laws.specs.Raid.{Raid}
 use Rattle.raid_laws.proofs.Noted.{current_few}
 use Rattle.pool_image.specs.Disks.{Disks, disks_of, identities_of}
 use Rattle.pool_image.specs.Drives.{Found}
-use Rattle.pool_model.specs.InService.{HoldSaid, InService, IsArranged, IsSaid}
-use Rattle.pool_model.specs.Laid.{IsCalledBy, IsLaidOff, SaysBooks, ShowsStop}
-use Rattle.pool_model.specs.Left.{AreAloneBy, HavePlaces, IsPickOff}
-use Rattle.pool_model.specs.Stopped.{HoldAmid, HoldTables, LieByTables, LieOn}
-use Rattle.pool_model.specs.Taken.{KeepsOff, KeepsOthers, LacksDrive}
+use Rattle.pool_model.specs.InService.{HoldSaid, RunInvariant, IsArranged, IsSaid}
+use Rattle.pool_model.specs.Laid.{IsCalledBy, IsLaidOutsideSlices, SaysBooks, ShowsStop}
+use Rattle.pool_model.specs.Left.{NoStraySuperblockBy, HavePlaces, IsPickOutsideSlices}
+use Rattle.pool_model.specs.Stopped.{RecoversInCall, HoldTables, LieByTables, LieOn}
+use Rattle.pool_model.specs.Taken.{KeepsOutsideSlices, KeepsOthers, LacksDrive}
 use Rattle.pool_model.proofs.Alike.{slices_said}
 use Rattle.pool_model.proofs.Amid.{inside_of, off_more}
 use Rattle.pool_model.proofs.Before.{off_before, was as image_before, was_other as image_other}
@@ -37,9 +37,9 @@ use Rattle.pool_model.proofs.Vacant.{logs_other, seat_other, slices_now, sliced_
 
 -- ---- the disks outside the slices
 
-module _ (f : Found) (t : Slices) (s : State) (disk : ℕ) (x : Seen) (i : Image) (laid : IsLaidOff f t s disk x i) where
+module _ (f : Found) (t : Slices) (s : State) (disk : ℕ) (x : RackView) (i : Image) (laid : IsLaidOutsideSlices f t s disk x i) where
   -- the disks as they were, but that this one has the contents
-  abbrev z : Seen
+  abbrev z : RackView
   z = record x { held = λ d k. if d == disk then only (i disk k) else x.held d k }
 
   held_other : (d k : ℕ) → d ≢ disk → z.held d k ≡ x.held d k
@@ -54,24 +54,24 @@ module _ (f : Found) (t : Slices) (s : State) (disk : ℕ) (x : Seen) (i : Image
   live_now : (d k : ℕ) → IsLive x x d k → IsLive z z d k
   live_now d k live = record { disk = live.disk; sector = live.sector; is_told = live.is_told; unspent = live.unspent }
 
-  off_now : IsPickOff t z i
+  off_now : IsPickOutsideSlices t z i
   off_now d k live never = elim (cases_eq d disk) [
     | inl same ↦ subst (λ e. MayLeave (z.held e k) (i e k)) (sym same) (subst (λ h. MayLeave h (i disk k)) (sym (held_here k)) (inl refl))
     | inr other ↦ subst (λ h. MayLeave h (i d k)) (sym (held_other d k other)) (laid.others d k other (live_was d k live) never)
   ]
 
-  keeps_off : KeepsOff t disk x z
+  keeps_off : KeepsOutsideSlices t disk x z
   keeps_off d k other live never = (live_now d k live, subst (λ h. Keeps (x.held d k) h) (sym (held_other d k other)) (keeps_same (x.held d k)))
 
   -- whatever it may be left with then, that disk says what it says in the contents
-  on_disk : (j : Image) → IsPickOff t z j → (k : ℕ) → k < x.sectors disk → j disk k ≡ i disk k
+  on_disk : (j : Image) → IsPickOutsideSlices t z j → (k : ℕ) → k < x.sectors disk → j disk k ≡ i disk k
   on_disk j off k low = of (subst (λ h. MayLeave h (j disk k)) (held_here k) (off disk k (live_now disk k (laid.opened k low)) (laid.free k)))
     where
       of : MayLeave (only (i disk k)) (j disk k) → j disk k ≡ i disk k
       of (inl same) = same
       of (inr never) = absurd never
 
-  stranger : (j : Image) → IsPickOff t z j → (copy : Copied) → (identities_of (disks_of z) j disk).copied ≡ Some copy → MayLeave (x.held disk state_sector) (j disk state_sector)
+  stranger : (j : Image) → IsPickOutsideSlices t z j → (copy : Copied) → (identities_of (disks_of z) j disk).copied ≡ Some copy → MayLeave (x.held disk state_sector) (j disk state_sector)
   stranger j off copy here = elim (cases_lt state_sector (x.sectors disk)) [
     | inl low ↦
         let same = on_disk j off state_sector low in
@@ -111,9 +111,9 @@ module _ (f : Found) (t : Slices) (s : State) (disk : ℕ) (x : Seen) (i : Image
           let is : IsSaid (record f { disks = f.disks }) i = subst (λ (q : Disks). IsSaid (record f { disks = q }) i) (sym disks) said_on in
           record { identities = is.identities; outset = is.outset; elsewhere = is.elsewhere }
 
-      pub laid_alone : AreAloneBy s f i
+      pub laid_alone : NoStraySuperblockBy s f i
       laid_alone =
-          subst (λ (q : Disks). AreAloneBy s (record f { disks = q }) i) (sym disks) ((held_attached f t s disk x z arranged keeps held).alone i off_now)
+          subst (λ (q : Disks). NoStraySuperblockBy s (record f { disks = q }) i) (sym disks) ((held_attached f t s disk x z arranged keeps held).alone i off_now)
 
   -- ---- what they had, where the disk isn't asked
 
@@ -145,10 +145,10 @@ module _ (f : Found) (t : Slices) (s : State) (disk : ℕ) (x : Seen) (i : Image
     off_by same e k true false one two left = left
     off_by same e k false b one two left = left
 
-    off_was : IsPickOff t x was
+    off_was : IsPickOutsideSlices t x was
     off_was = off_before t t disk x z keeps_off fewer i off_now
 
-    pub said_before : (j : Image) × IsPickOff t x j × ((identities_of (disks_of x) j d).copied ≡ Some copy)
+    pub said_before : (j : Image) × IsPickOutsideSlices t x j × ((identities_of (disks_of x) j d).copied ≡ Some copy)
     said_before = elim (cases_eq d disk) [
       | inl same ↦ (
         former,
@@ -168,9 +168,9 @@ module _ (f : Found) (t : Slices) (s : State) (disk : ℕ) (x : Seen) (i : Image
 -- ---- the pool
 
 -- Contents that show of a stop inside a call what the call tells of it hold the pool that the disks have outside the slices, where each current place has a drive.
-pub shown_amid : (f : Found) (t : Slices) (v w : Raid) (i : Image) → IsCalledBy f t v → IsSaid f i → AreAloneBy v.state f i → LieByTables f t v.state i → HavePlaces v.state f
+pub shown_amid : (f : Found) (t : Slices) (v w : Raid) (i : Image) → IsCalledBy f t v → IsSaid f i → NoStraySuperblockBy v.state f i → LieByTables f t v.state i → HavePlaces v.state f
     → ((p d : ℕ) (copy : Copied) → f.seats p ≡ Some d → is_current v.state p ≡ false → (identities_of f.disks i d).copied ≡ Some copy → copy.state.epoch < v.state.epoch)
-    → SaysBooks f.state.made t v w i → w.state.epoch < 2 ^ 63 - 1 → (p : ℕ) → is_current w.state p ≡ true → HoldAmid f t v.state w.state i
+    → SaysBooks f.state.made t v w i → w.state.epoch < 2 ^ 63 - 1 → (p : ℕ) → is_current w.state p ≡ true → RecoversInCall f t v.state w.state i
 shown_amid f t v w i is said alone tables present former says room someone now =
     let shows : ShowsStop f t v w i =
     record {
@@ -197,7 +197,7 @@ shown_amid f t v w i is said alone tables present former says room someone now =
 -- ---- a place gave its disk up
 
 -- A disk is written outside the slices that is none of a current place, and calls go by the slices that are left.
-module _ (f : Found) (t u : Slices) (v : Raid) (place : ℕ) (x : Seen) (is : InService f t v x) (lacks : LacksDrive f t u v place x) (orderly : IsOrderly u)
+module _ (f : Found) (t u : Slices) (v : Raid) (place : ℕ) (x : RackView) (is : RunInvariant f t v x) (lacks : LacksDrive f t u v place x) (orderly : IsOrderly u)
     (inside : IsInside u x) where
   few : f.state.made ≤ 16
   few = is.arranged.made.1
@@ -221,7 +221,7 @@ module _ (f : Found) (t u : Slices) (v : Raid) (place : ℕ) (x : Seen) (is : In
       let more = off_more t u x (sliced_before t u place lacks.vacated) in
       record { said = λ j off. is.held.said j (more j off); alone = λ j off. is.held.alone j (more j off) }
 
-  module _ (disk : ℕ) (i : Image) (laid : IsLaidOff f u v.state disk x i) where
+  module _ (disk : ℕ) (i : Image) (laid : IsLaidOutsideSlices f u v.state disk x i) where
     -- a current place has another disk
     pub vacant_apart : (p d : ℕ) → is_current v.state p ≡ true → slice_seat u p ≡ Some d → d ≢ disk
     vacant_apart p d now seat same =
@@ -231,7 +231,7 @@ module _ (f : Found) (t u : Slices) (v : Raid) (place : ℕ) (x : Seen) (is : In
 
     -- So stops inside calls leave what holds the pool still.
     pub laid_amid : (w : Raid) → HoldTables f t v.state x → HavePlaces v.state f → SaysBooks f.state.made u v w i → w.state.epoch < 2 ^ 63 - 1
-        → (p : ℕ) → is_current w.state p ≡ true → HoldAmid f u v.state w.state i
+        → (p : ℕ) → is_current w.state p ≡ true → RecoversInCall f u v.state w.state i
     laid_amid w tables present says room someone now =
         shown_amid f u v w i vacant_called (laid_said f u v.state disk x i laid is.arranged is.disks vacant_said)
         (laid_alone f u v.state disk x i laid is.arranged is.disks vacant_said)
@@ -252,8 +252,8 @@ module _ (f : Found) (t u : Slices) (v : Raid) (place : ℕ) (x : Seen) (is : In
 -- ---- all places have theirs
 
 -- A disk is written outside the slices that is none of a place.
-module _ (f : Found) (t : Slices) (v : Raid) (x : Seen) (is : InService f t v x) (orderly : IsOrderly t) (inside : IsInside t x) (disk : ℕ) (apart : (p : ℕ) → f.seats p ≡ Some disk → ⊥)
-    (i : Image) (laid : IsLaidOff f t v.state disk x i) where
+module _ (f : Found) (t : Slices) (v : Raid) (x : RackView) (is : RunInvariant f t v x) (orderly : IsOrderly t) (inside : IsInside t x) (disk : ℕ) (apart : (p : ℕ) → f.seats p ≡ Some disk → ⊥)
+    (i : Image) (laid : IsLaidOutsideSlices f t v.state disk x i) where
   all_within : AreInside f t
   all_within = inside_of f t x is.disks inside
 
@@ -269,7 +269,7 @@ module _ (f : Found) (t : Slices) (v : Raid) (x : Seen) (is : InService f t v x)
   }
 
   pub service_laid : (w : Raid) → HoldTables f t v.state x → HavePlaces v.state f → SaysBooks f.state.made t v w i → w.state.epoch < 2 ^ 63 - 1
-      → (p : ℕ) → is_current w.state p ≡ true → HoldAmid f t v.state w.state i
+      → (p : ℕ) → is_current w.state p ≡ true → RecoversInCall f t v.state w.state i
   service_laid w tables present says room someone now =
       shown_amid f t v w i all_called (laid_said f t v.state disk x i laid is.arranged is.disks is.held)
       (laid_alone f t v.state disk x i laid is.arranged is.disks is.held)

@@ -14,9 +14,9 @@ use Rattle.array_image.specs.States.{is_current}
 use Rattle.log_laws.specs.Kept.{IsNoLater}
 use Rattle.pool_image.specs.Disks.{Identities, Identity, id_by, identities_of, stands_for}
 use Rattle.pool_image.specs.Drives.{Found}
-use Rattle.pool_model.specs.Alone.{IsSilent, IsStranger, IsTabled, LeaveOut, SaysAlone}
+use Rattle.pool_model.specs.Alone.{IsSilent, IsStranger, IsTabled, LeaveOut, SaysNoImpostor}
 use Rattle.pool_model.specs.InService.{HasSeat, IsArranged, IsSaid, epoch_at}
-use Rattle.pool_model.specs.Left.{AreAloneBy, HasNoSuper}
+use Rattle.pool_model.specs.Left.{NoStraySuperblockBy, HasNoSuper}
 use Rattle.pool_model.proofs.Alike.{outset_said}
 
 -- a disk that says nothing stands for no place
@@ -47,12 +47,12 @@ module _ (f : Found) (Out : ℕ → Type 0) (i j : Image) (leave : LeaveOut f Ou
   pub stays : (p d : ℕ) → f.seats p ≡ Some d → j d ≡ i d
   stays p d seat = elim (leave d) [ inl same ↦ same.1 | inr out ↦ absurd (out.0 p seat) ]
 
-  pub alone_out : (s : State) → AreAloneBy s f i → AreAloneBy s f j
+  pub alone_out : (s : State) → NoStraySuperblockBy s f i → NoStraySuperblockBy s f j
   alone_out s alone n p d first low counts seat none begins within =
       subst (λ (c : Contents). HasNoSuper f.state.pool.0 n (c (first + super_sector))) (sym (stays p d seat)) (alone n p d first low counts seat none begins within)
 
   -- where all drives are current none of those that stay is one of `Out`
-  pub says_out : (bound : ℕ) (s : State) → ((p d : ℕ) → f.seats p ≡ Some d → is_current s p ≡ true) → SaysAlone f bound Out s i → SaysAlone f bound (λ d. ⊥) s j
+  pub says_out : (bound : ℕ) (s : State) → ((p d : ℕ) → f.seats p ≡ Some d → is_current s p ≡ true) → SaysNoImpostor f bound Out s i → SaysNoImpostor f bound (λ d. ⊥) s j
   says_out bound s all says = record {
     tables = λ p d seat why. subst (IsTabled f p (f.disks.sectors d)) (sym (stays p d seat)) (says.tables p d seat (inl (all p d seat)));
     others = λ d never none low. elim (leave d) [

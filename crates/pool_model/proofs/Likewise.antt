@@ -3,17 +3,17 @@ use Rattle.std.proofs.Common.{◌≡◌, ℕ, ◌<◌, Option, sym, ap, subst, �
 use Rattle.rack.specs.Seen.{Image}
 use Rattle.slice_rack.specs.Slices.{Slices}
 use Rattle.pool_state.specs.declared.contents.State.{State}
-use Rattle.raid_laws.specs.Book.{IsAfter, after_then}
+use Rattle.raid_laws.specs.Book.{OnlyMarksSince, after_then}
 use Rattle.pool_image.specs.Disks.{Disks}
 use Rattle.pool_image.specs.Drives.{Found, found}
 use Rattle.pool_image.specs.Meaning.{array_sectors}
 use Rattle.pool_rest.specs.Moments.{TakesLowerIn}
 use Rattle.pool_rest.specs.SoundLogs.{HasSoundLogs}
-use Rattle.pool_model.specs.Stopped.{HoldAmid}
+use Rattle.pool_model.specs.Stopped.{RecoversInCall}
 
 -- They hold another one that has the same ones, by a state between wider bounds.
 pub amid_likewise : (f g : Found) (t : Slices) (s u r w : State) (i : Image) → g.disks ≡ f.disks → g.seats ≡ f.seats → g.state.made ≡ f.state.made
-    → ((n : ℕ) → n < f.state.made → array_sectors g n ≡ array_sectors f n) → IsAfter r s → IsAfter u w → HoldAmid f t s u i → HoldAmid g t r w i
+    → ((n : ℕ) → n < f.state.made → array_sectors g n ≡ array_sectors f n) → OnlyMarksSince r s → OnlyMarksSince u w → RecoversInCall f t s u i → RecoversInCall g t r w i
 amid_likewise f g t s u r w i disks seats made sectors from until amid = record {
   between = record {
     state = amid.between.state;

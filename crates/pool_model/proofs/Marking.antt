@@ -6,7 +6,7 @@ use Rattle.std.specs.Result.{result_ok}
 use Rattle.std.proofs.lemmas.Option.{none-some}
 use Rattle.rack.specs.Joins.{leaves_weaker}
 use Rattle.rack.specs.Moments.{Leaves}
-use Rattle.rack.specs.Seen.{Image, Seen}
+use Rattle.rack.specs.Seen.{Image, RackView}
 use Rattle.rack.specs.Sequences.{WritesOnly}
 use Rattle.rack.specs.Values.{Values}
 use Rattle.slice_rack.specs.Runs.{IsSliced}
@@ -20,10 +20,10 @@ use Rattle.array_image.specs.States.{epoch_of, is_current}
 use Rattle.array_core.proofs.Leading.{none_leads}
 use Rattle.array_core.proofs.Stripped.{some_same}
 use Rattle.log_laws.specs.Saying.{HoldsCopies}
-use Rattle.raid_laws.specs.Book.{IsAfter, after_same}
+use Rattle.raid_laws.specs.Book.{OnlyMarksSince, after_same}
 use Rattle.raid_laws.specs.Frames.{frame_of}
 use Rattle.raid_laws.specs.Marking.{SaysBetween}
-use Rattle.raid_laws.specs.Moves.{IsAmid, PartOf}
+use Rattle.raid_laws.specs.Moves.{IsTrackedInCall, SubCall}
 use Rattle.raid_laws.specs.Raid.{Raid}
 use Rattle.raid_laws.specs.Runs.{IsBetween}
 use Rattle.raid_laws.specs.Since.{AreSince, HoldsSince}
@@ -32,9 +32,9 @@ use Rattle.raid_laws.proofs.Noted.{current_few}
 use Rattle.pool_image.specs.Disks.{Candidate, candidate, identities_of, seat_of, stands_for}
 use Rattle.pool_image.specs.Drives.{Found}
 use Rattle.pool_model.specs.InService.{IsOutset}
-use Rattle.pool_model.specs.Left.{AreAloneBy, AreElsewhere}
+use Rattle.pool_model.specs.Left.{NoStraySuperblockBy, AreElsewhere}
 use Rattle.pool_model.specs.Pools.{AreSlicesOf}
-use Rattle.pool_model.specs.Stopped.{HoldBetween, LieByTables, TellsStops}
+use Rattle.pool_model.specs.Stopped.{RecoversBetween, LieByTables, TellsStops}
 use Rattle.pool_model.proofs.Amid.{IsReady, found_tells}
 use Rattle.pool_model.proofs.Found.{IsFound, seated_below}
 use Rattle.pool_model.proofs.Logs.{copied_in, there_in}
@@ -44,8 +44,8 @@ use Rattle.pool_model.proofs.Said.{AreInside}
 -- ---- what the commit tells
 
 -- Parts of a call tell of their stops, where the log slices hold all copies of the state before it.
-pub parts_tell : (made : ℕ) (v w : Raid) (a b : Seen) (vals : ℕ → ℕ → Values) (spent : ℕ → ℕ → Bool) → 0 < made
-    → ((n : ℕ) → n < made → PartOf v w a b n (vals n) (vals n) (spent n)) → ((n : ℕ) → n < made → IsAmid v a n (vals n) (spent n))
+pub parts_tell : (made : ℕ) (v w : Raid) (a b : RackView) (vals : ℕ → ℕ → Values) (spent : ℕ → ℕ → Bool) → 0 < made
+    → ((n : ℕ) → n < made → SubCall v w a b n (vals n) (vals n) (spent n)) → ((n : ℕ) → n < made → IsTrackedInCall v a n (vals n) (spent n))
     → HoldsCopies v.state a → HoldsSince v.state a → a.traced → TellsStops made v w a b
 parts_tell made v w a b vals spent some parts amid copies since traced =
     let logs = (parts 0 some).logs copies (amid 0 some) in
@@ -53,7 +53,7 @@ parts_tell made v w a b vals spent some parts amid copies since traced =
       logs = logs.leaves traced;
       since = (logs.since v.state (after_same v.state) since).leaves traced;
       arrays = λ n low.
-          leaves_weaker (λ c. HasNothing a.sectors c → IsAmid v a n (vals n) (spent n) → SaysBetween v.state w.state n (vals n) (spent n) (replayed a.sectors c))
+          leaves_weaker (λ c. HasNothing a.sectors c → IsTrackedInCall v a n (vals n) (spent n) → SaysBetween v.state w.state n (vals n) (spent n) (replayed a.sectors c))
           (λ c. HasNothing a.sectors c → IsBetween v.state w.state n (replayed a.sectors c))
           (λ c says none.
           let at = says none (amid n low) in
@@ -74,7 +74,7 @@ parts_tell made v w a b vals spent some parts amid copies since traced =
 
 -- No disk stands for it, where the pool's drives have copies since its state that name them, and other disks say what they said.
 module _ (f : Found) (found : IsFound f) (t : Slices) (s : State) (i : Image) (outset : IsOutset f) (slices : AreSlicesOf f t) (within : AreInside f t)
-    (same : s ≡ f.state) (after : IsAfter f.state s) (elsewhere : AreElsewhere f i) (since : AreSince s (sectors_of t) (sliced t i)) where
+    (same : s ≡ f.state) (after : OnlyMarksSince f.state s) (elsewhere : AreElsewhere f i) (since : AreSince s (sectors_of t) (sliced t i)) where
   -- a drive stands for its own place
   own_stands : (q d : ℕ) → f.seats q ≡ Some d → stands_for s (identities_of f.disks i d) ≡ Some q
   own_stands q d seat =
@@ -119,10 +119,10 @@ module _ (f : Found) (found : IsFound f) (t : Slices) (s : State) (i : Image) (o
 
 -- Where the book's state is the pool's, each stop inside calls that tell of their stops, which leaves no superblock where none is to be, leaves contents that
 -- hold the pool still.
-pub marking_amid : (f : Found) (t : Slices) (v w : Raid) (x y : Seen) → IsFound f → IsReady f t v x → v.state ≡ f.state
+pub marking_amid : (f : Found) (t : Slices) (v w : Raid) (x y : RackView) → IsFound f → IsReady f t v x → v.state ≡ f.state
     → IsOrderly t → IsInside t x → x.lasting → WritesOnly x y (IsSliced t) → (x.traced → TellsStops f.state.made v w (slices_of t x) (slices_of t y))
-    → w.state.epoch < 2 ^ 63 - 1 → ((s : State) → IsAfter v.state s → IsAfter s w.state → (p d : ℕ) × (is_current s p ≡ true) × (f.seats p ≡ Some d))
-    → x.traced → Leaves x y (λ i. LieByTables f t v.state i → AreAloneBy v.state f i → HoldBetween f t v.state w.state i)
+    → w.state.epoch < 2 ^ 63 - 1 → ((s : State) → OnlyMarksSince v.state s → OnlyMarksSince s w.state → (p d : ℕ) × (is_current s p ≡ true) × (f.seats p ≡ Some d))
+    → x.traced → Leaves x y (λ i. LieByTables f t v.state i → NoStraySuperblockBy v.state f i → RecoversBetween f t v.state w.state i)
 marking_amid f t v w x y found is same orderly inside lasting only tells enough someone =
     found_tells f t v w x y is orderly inside lasting only tells
     (λ within i off since.

@@ -9,7 +9,7 @@ use Rattle.array_image.specs.Arrays.{place_with}
 use Rattle.md_super.specs.Profile.{is_mirror}
 use Rattle.array_image.specs.Supers.{is_named}
 use Rattle.pool_state.specs.declared.contents.State.{State}
-use Rattle.rack.specs.Seen.{Seen}
+use Rattle.rack.specs.Seen.{RackView}
 use Rattle.raid_laws.specs.Moves.{IsSeated}
 use Rattle.pool_model.proofs.Roles.{named_position}
 use Rattle.array_core.specs.Seats.{seat_of, slot_at}
@@ -73,7 +73,7 @@ pub record HasPositions (u : View) : Type 0 where
   pub named : (p : ℕ) → is_named u.truth p ≡ true → (k : ℕ) × (k < u.truth.raid_disks) × (place_with u.truth.roles.items k ≡ Some p)
 
 -- so has each array of a book whose arrays are seated
-pub positions_of : (s : State) (n : ℕ) (u : View) (x : Seen) → IsSeated s n u x → HasPositions u
+pub positions_of : (s : State) (n : ℕ) (u : View) (x : RackView) → IsSeated s n u x → HasPositions u
 positions_of s n u x is =
     let few : u.truth.raid_disks ≤ 16 = by (is_mirror u.truth) is.is_array.most in
     record {

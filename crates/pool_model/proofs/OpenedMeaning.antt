@@ -26,8 +26,8 @@ use Rattle.pool_image.specs.Volumes.{Arrays, first_bad}
 use Rattle.pool_image.proofs.Groups.{AreWholeArrays}
 use Rattle.pool_image.proofs.Joined.{AreAlike}
 use Rattle.pool_image.proofs.Parts.{held_in}
-use Rattle.raid_laws.specs.Book.{IsAfter, drive_of}
-use Rattle.pool_model.specs.Openings.{HadOnePool, HoldOpened}
+use Rattle.raid_laws.specs.Book.{OnlyMarksSince, drive_of}
+use Rattle.pool_model.specs.Openings.{HadOnePool, RecoversInOpening}
 use Rattle.pool_model.specs.Reopening.{HoldMeaning, HoldVolumeBy}
 use Rattle.pool_model.proofs.ArraysMeant.{arrays_volume}
 use Rattle.pool_model.proofs.Current.{shape_truth}
@@ -74,7 +74,7 @@ fewer p c q d each (x ∷ xs) = of (c x) (p x) refl refl (fewer p c q d each xs)
         omega (arith, left, right, rest)
 
 -- no more drives are absent than were
-absent_fewer : (f g : Found) → IsAfter f.state g.state → ((p : ℕ) → is_current g.state p ≡ true → g.seats p ≡ f.seats p) → absent_count g ≤ absent_count f
+absent_fewer : (f g : Found) → OnlyMarksSince f.state g.state → ((p : ℕ) → is_current g.state p ≡ true → g.seats p ≡ f.seats p) → absent_count g ≤ absent_count f
 unfolding current_places
 absent_fewer f g after seats =
     let drives = sym (length-map g.state.drives.items drive_of) ∙ ap length after.same.drives ∙ length-map f.state.drives.items drive_of in
@@ -133,7 +133,7 @@ fewer_lack (m ∷ xs) (o ∷ ys) long whole =
     of false true keeps rest = omega (arith, rest)
     of false false keeps rest = omega (arith, rest)
 
-module _ (f : Found) (from : ℕ) (i : Image) (holds : HoldOpened f from i) (none : refused_by f ≡ None) (good : first_bad (joined_arrays holds.now) ≡ None) where
+module _ (f : Found) (from : ℕ) (i : Image) (holds : RecoversInOpening f from i) (none : refused_by f ≡ None) (good : first_bad (joined_arrays holds.now) ≡ None) where
   abbrev g : Found
   g = holds.now
 
@@ -242,7 +242,7 @@ module _ (f : Found) (from : ℕ) (i : Image) (holds : HoldOpened f from i) (non
 -- ---- the volume
 
 -- They mean the volume whose group their arrays have before the first extents, with what the pool's arrays hold.
-module _ (f : Found) (l : Linear) (i : Image) (holds : HoldOpened f data_start i) (all : f.state.joined ≡ f.state.made)
+module _ (f : Found) (l : Linear) (i : Image) (holds : RecoversInOpening f data_start i) (all : f.state.joined ≡ f.state.made)
     (sectors : ℕ → ℕ) (sized : (n : ℕ) → n < f.state.joined → sectors n ≡ array_sectors f n) (room : (n : ℕ) → n < f.state.joined → data_start ≤ sectors n)
     (whole : (n x : ℕ) → n < f.state.joined → length (arrays_held f n x) ≡ 512) (extent : l.extent ≡ f.state.extent) (arrays : l.arrays ≡ f.state.joined)
     (heads : Image) (lies : (seqno : ℕ) × IsVolume f.state.pool.0 f.state.joined l seqno sectors heads)

@@ -10,7 +10,7 @@ use Rattle.pool_state.specs.declared.contents.State.{State}
 use Rattle.array_image.specs.Arrays.{Member, Shape, arrays_in, member_by, member_in, place_with, replayed, shape_by, shape_in}
 use Rattle.array_image.specs.Held.{Among}
 use Rattle.array_image.specs.States.{is_current, state_in}
-use Rattle.raid_laws.specs.Book.{IsAfter, after_then, plan_between}
+use Rattle.raid_laws.specs.Book.{OnlyMarksSince, after_then, plan_between}
 use Rattle.raid_laws.specs.Reach.{KeepsReach}
 use Rattle.array_image.specs.Supers.{is_named, is_unclean}
 use Rattle.raid_laws.specs.Since.{AreSince}
@@ -24,9 +24,9 @@ use Rattle.pool_image.proofs.Founds.{damage_same, joined_same, shapes_same, trut
 use Rattle.pool_rest.specs.SoundLogs.{HasSoundLogs}
 use Rattle.pool_model.specs.InService.{IsOutset}
 use Rattle.pool_model.specs.Left.{AreElsewhere}
-use Rattle.pool_model.specs.Openings.{HadOnePool, HaveOnePool, HoldOpened, IsUnsynced, MayReplay}
+use Rattle.pool_model.specs.Openings.{HadOnePool, HaveOnePool, RecoversInOpening, IsUnsynced, MayReplay}
 use Rattle.pool_model.specs.Pools.{AreSlicesOf}
-use Rattle.pool_model.specs.Stopped.{HoldBetween}
+use Rattle.pool_model.specs.Stopped.{RecoversBetween}
 use Rattle.pool_model.proofs.Found.{found_is, seated_below}
 use Rattle.pool_model.proofs.Members.{among_range}
 use Rattle.pool_model.proofs.OnePool.{stood_as}
@@ -37,7 +37,7 @@ use Rattle.pool_model.proofs.Unrefused.{no_drive, undamaged}
 use Rattle.pool_model.proofs.WereThere.{HadThere}
 
 -- from a later sector on
-unfoldable pub opened_from : (f : Found) (from later : ℕ) (i : Image) → from ≤ later → HoldOpened f from i → HoldOpened f later i
+unfoldable pub opened_from : (f : Found) (from later : ℕ) (i : Image) → from ≤ later → RecoversInOpening f from i → RecoversInOpening f later i
 opened_from f from later i before holds = record {
   now = holds.now;
   found_is = holds.found_is;
@@ -59,13 +59,13 @@ opened_from f from later i before holds = record {
 }
 
 -- of the same pool, but for gates of its log, where no other pool stood if none did
-pub opened_same : (e f : Found) (from : ℕ) (i : Image) → IsSamePool e f → (HadOnePool e → HadOnePool f) → HoldOpened f from i → HoldOpened e from i
+pub opened_same : (e f : Found) (from : ℕ) (i : Image) → IsSamePool e f → (HadOnePool e → HadOnePool f) → RecoversInOpening f from i → RecoversInOpening e from i
 opened_same e f from i same one holds = record {
   now = holds.now;
   found_is = ap (λ (d : Disks). found d i) (sym same.disks) ∙ holds.found_is;
   sound = holds.sound;
   logs = subst (λ (d : Disks). HasSoundLogs d i) same.disks holds.logs;
-  after = subst (λ (s : State). IsAfter s holds.now.state) same.state holds.after;
+  after = subst (λ (s : State). OnlyMarksSince s holds.now.state) same.state holds.after;
   plan = holds.plan ∙ ap (λ (s : State). s.plan) same.state;
   marks = λ p counts past. sym (same.seats p) ∙ holds.marks p (ap (λ (s : State). is_current s p) same.state ∙ counts) past;
   seats = λ p counts. holds.seats p counts ∙ same.seats p;
@@ -103,13 +103,13 @@ member_there f n p t current has m among place =
 -- What a stop inside a call of a pool in service leaves does so, where just the places without a disk are marked by the call's end, and the replayed slices
 -- give what the pool's arrays held, with members that count as far as they did. Its disks have the drives' tables, and copies since the pool's state, and an array lacks a member and has
 -- rows left to resync only where the pool's truth leaves such ones. No disk had another pool's state once the pool's record was replayed, if none did before.
-pub amid_opened : (f : Found) (t : Slices) (s u : State) (from : ℕ) (i : Image) → IsAfter f.state s → u.plan ≡ f.state.plan
+pub amid_opened : (f : Found) (t : Slices) (s u : State) (from : ℕ) (i : Image) → OnlyMarksSince f.state s → u.plan ≡ f.state.plan
     → ((p : ℕ) → is_current u p ≡ (is_current f.state p && is_some (f.seats p)))
     → ((n x : ℕ) → n < f.state.made → from ≤ x → x < array_sectors f n → arrays_in (replayed (sectors_of t) (sliced t i)) n x ≡ arrays_held f n x)
     → CountFrom f (replayed (sectors_of t) (sliced t i)) → AreSlicesOf f t → AreInside f t → AreElsewhere f i → AreSince s (sectors_of t) (sliced t i)
     → IsOutset f → (HadOnePool f → HaveOnePool f)
-    → (amid : HoldBetween f t s u i) → ((n : ℕ) → n < f.state.made → is_dirty_degraded amid.still.now n ≡ true → IsUnsynced f n)
-    → (holds : HoldOpened f from i) × (holds.now ≡ amid.still.now)
+    → (amid : RecoversBetween f t s u i) → ((n : ℕ) → n < f.state.made → is_dirty_degraded amid.still.now n ≡ true → IsUnsynced f n)
+    → (holds : RecoversInOpening f from i) × (holds.now ≡ amid.still.now)
 amid_opened f t s u from i begun plan marks values counted slices inside elsewhere since outset one amid unsynced =
     let still = amid.still in (
       record {
@@ -117,7 +117,7 @@ amid_opened f t s u from i begun plan marks values counted slices inside elsewhe
         found_is = still.found_is;
         sound = still.sound;
         logs = still.logs;
-        after = subst (λ (z : State). IsAfter f.state z) (sym still.state) (after_then f.state s amid.state begun amid.later);
+        after = subst (λ (z : State). OnlyMarksSince f.state z) (sym still.state) (after_then f.state s amid.state begun amid.later);
         plan = ap (λ (z : State). z.plan) still.state ∙ plan_between f.state amid.state u (after_then f.state s amid.state begun amid.later) amid.sooner plan;
         marks = λ p counts past. none p counts (sym (ap (λ (z : State). is_current z p) still.state) ∙ past) (f.seats p) refl;
         seats = λ p counts. still.seats p (current_now p counts);

@@ -5,7 +5,7 @@ use Rattle.std.specs.Option.{option_and_then, option_map_or, option_or}
 use Rattle.std.proofs.lemmas.Bool.{both_ways, cases_Bool}
 use Rattle.std.proofs.lemmas.Slice.Eq.{bytes_eq-Decides}
 use Rattle.std.proofs.lemmas.Option.{none-some}
-use Rattle.rack.specs.Seen.{Image, Seen}
+use Rattle.rack.specs.Seen.{Image, RackView}
 use Rattle.shr_base.specs.declared.Id.{Id}
 use Rattle.slice_rack.specs.Slices.{Slices}
 use Rattle.md_super.specs.declared.superblock.Super.{Super}
@@ -158,7 +158,7 @@ module _ (f : Found) (passes : refused_by f ≡ option_map bad_volume (first_bad
 
 -- Each current member of an array that is ready for the volume has a superblock, in whatever a stop leaves of the slices, and its truth leaves no row to
 -- resync where that of the pool leaves none.
-pub record HoldSupers (f : Found) (v : Raid) (y : Seen) : Type 0 where
+pub record HoldSupers (f : Found) (v : Raid) (y : RackView) : Type 0 where
   pub there : (n p : ℕ) (r : Image) → n < f.state.joined → is_current v.state p ≡ true → is_member f n p ≡ true → IsLeft y r → is_some (super_in v.state r n p) ≡ true
   pub clean : (n : ℕ) (r : Image) → n < f.state.joined → IsLeft y r → LeavesClean f v.state n r
 
@@ -166,7 +166,7 @@ pub record HoldSupers (f : Found) (v : Raid) (y : Seen) : Type 0 where
 abbrev pub IsOnlyPool : Found → Type 0
 IsOnlyPool f = (d : ℕ) (copy : Copied) → d < f.disks.count → (f.identities d).copied ≡ Some copy → bytes_eq copy.state.pool.0 f.state.pool.0 ≡ true
 
-module _ (f : Found) (t : Slices) (v : Raid) (y : Seen) (i : Image) (known : IsKnown f t v y i) (holds : HoldValues f v y) (supers : HoldSupers f v y)
+module _ (f : Found) (t : Slices) (v : Raid) (y : RackView) (i : Image) (known : IsKnown f t v y i) (holds : HoldValues f v y) (supers : HoldSupers f v y)
     (all : f.state.joined ≡ f.state.made) (passes : refused_by f ≡ option_map bad_volume (first_bad (joined_arrays f))) where
   abbrev book : State
   book = s f t v y i known

@@ -3,7 +3,7 @@ use Rattle.std.proofs.Common.{◌≡◌, ℕ, ◌<◌, ◌≤◌, ◌^◌, Bool,
 use Rattle.std.specs.Option.{option_map_or}
 use Rattle.std.proofs.lemmas.Bool.{and_parts, cases_Bool}
 use Rattle.std.proofs.lemmas.Option.{none-some}
-use Rattle.rack.specs.Seen.{Image, IsPick, Seen}
+use Rattle.rack.specs.Seen.{Image, IsPick, RackView}
 use Rattle.rack.specs.Values.{MayLeave}
 use Rattle.shr_base.specs.declared.Id.{Id}
 use Rattle.slice_rack.specs.Slices.{Slices, sectors_of}
@@ -27,14 +27,14 @@ use Rattle.pool_image.specs.Volumes.{Arrays, first_bad}
 use Rattle.pool_image.proofs.Groups.{AreWholeArrays}
 use Rattle.pool_image.proofs.Joined.{AreAlike}
 use Rattle.raid_laws.specs.Agreeing.{HasOwnRows, SayTruth, SupersAgree}
-use Rattle.raid_laws.specs.Book.{IsAfter, after_same}
-use Rattle.raid_laws.specs.Raid.{IsTold, Raid, held_in as raid_held, is_over, spent_of}
+use Rattle.raid_laws.specs.Book.{OnlyMarksSince, after_same}
+use Rattle.raid_laws.specs.Raid.{IsTracked, Raid, held_in as raid_held, is_failed, spent_of}
 use Rattle.pool_model.specs.Absent.{volume_arrays}
 use Rattle.pool_model.specs.Alone.{AreTabled, HoldTabled}
 use Rattle.pool_model.specs.Grouped.{AreHeadsLive, HoldGroup}
-use Rattle.pool_model.specs.InService.{InService, IsArranged}
-use Rattle.pool_model.specs.Left.{HoldStill}
-use Rattle.pool_model.specs.Reopening.{AreWholeSectors, HoldVolume, MayRefuseBy, Reopens}
+use Rattle.pool_model.specs.InService.{RunInvariant, IsArranged}
+use Rattle.pool_model.specs.Left.{Recovers}
+use Rattle.pool_model.specs.Reopening.{AreWholeSectors, HoldVolume, MayRefuseBy, NextOpen}
 use Rattle.pool_model.specs.Taken.{LacksDrive}
 use Rattle.pool_model.proofs.ArraysMeant.{arrays_volume}
 use Rattle.pool_model.proofs.Again.{known_again, value_known}
@@ -58,7 +58,7 @@ use Rattle.pool_model.proofs.Unrefused.{no_damage, no_damages, refused_so}
 -- ---- the volume
 
 -- Contents that hold a pool whose slices hold the group of a volume mean it, where they aren't refused.
-module _ (f : Found) (t : Slices) (s : State) (i : Image) (still : HoldStill f t s i) (inside : AreInside f t)
+module _ (f : Found) (t : Slices) (s : State) (i : Image) (still : Recovers f t s i) (inside : AreInside f t)
     (small : (d : ℕ) → d < f.disks.count → f.disks.sectors d < 2 ^ 48) (whole : AreWholeSectors f.disks i) (few : s.joined ≤ f.state.made)
     (l : Linear) (extent : l.extent ≡ s.extent) (arrays : l.arrays ≡ s.joined) (sectors : ℕ → ℕ) (sized : (n : ℕ) → n < s.joined → sectors n ≡ array_sectors f n)
     (lies : (seqno : ℕ) × IsVolume s.pool.0 s.joined l seqno sectors (λ n x. if nat_lt x (sectors n) then arrays_in (replayed (sectors_of t) (sliced t i)) n x else [])) where
@@ -105,9 +105,9 @@ module _ (f : Found) (t : Slices) (s : State) (i : Image) (still : HoldStill f t
   still_volume = arrays_volume f i h still.found_is b alike are room l extent arrays lies
 
 -- So they do where a run's book from before their state holds the group, and what they have before the first extents may be left by it.
-pub amid_volume : (f : Found) (t : Slices) (s : State) (i : Image) → HoldStill f t s i → AreInside f t
+pub amid_volume : (f : Found) (t : Slices) (s : State) (i : Image) → Recovers f t s i → AreInside f t
     → ((d : ℕ) → d < f.disks.count → f.disks.sectors d < 2 ^ 48) → AreWholeSectors f.disks i
-    → (v : Raid) (y : Seen) (l : Linear) → IsAfter v.state s → v.state.joined ≤ f.state.made → HoldGroup v l y
+    → (v : Raid) (y : RackView) (l : Linear) → OnlyMarksSince v.state s → v.state.joined ≤ f.state.made → HoldGroup v l y
     → ((n : ℕ) → n < v.state.joined → sectors_in (v.arrays n) ≡ array_sectors f n)
     → ((n x : ℕ) → n < v.state.joined → x < sectors_in (v.arrays n) → x < data_start → MayLeave (raid_held v y n x) (arrays_in (replayed (sectors_of t) (sliced t i)) n x))
     → HoldVolume f t l i
@@ -127,7 +127,7 @@ amid_volume f t s i still inside small whole v y l after few group sized may =
 
 -- ---- why it is refused
 
-module _ (f : Found) (t : Slices) (v : Raid) (y : Seen) (i : Image) (known : IsKnown f t v y i) (small : (d : ℕ) → d < f.disks.count → f.disks.sectors d < 2 ^ 48) where
+module _ (f : Found) (t : Slices) (v : Raid) (y : RackView) (i : Image) (known : IsKnown f t v y i) (small : (d : ℕ) → d < f.disks.count → f.disks.sectors d < 2 ^ 48) where
   abbrev book : State
   book = s f t v y i known
 
@@ -263,7 +263,7 @@ module _ (f : Found) (t : Slices) (v : Raid) (y : Seen) (i : Image) (known : IsK
           | inr wants ↦ absurd (none-some why (sym (no_damages g (undamaged_known (λ n r low left. (truths n r low left).agree) tables)) ∙ wants))
         ]
 
-    pub known_reopens : (l : Linear) → HoldGroup v l y → AreHeadsLive v → AreWholeSectors f.disks i → Reopens f t l v i
+    pub known_reopens : (l : Linear) → HoldGroup v l y → AreHeadsLive v → AreWholeSectors f.disks i → NextOpen f t l v i
     unfolding known_again volume_known amid_volume still_volume arrays_volume
     known_reopens l holds heads whole = record {
       volume = volume_known l holds heads whole;
@@ -277,7 +277,7 @@ module _ (f : Found) (t : Slices) (v : Raid) (y : Seen) (i : Image) (known : IsK
 -- ---- a pool in service
 
 -- what disks say is no part of it
-reopens_said : (f : Found) (e : Identities) (t : Slices) (l : Linear) (v : Raid) (i : Image) → Reopens (record f { identities = e }) t l v i → Reopens f t l v i
+reopens_said : (f : Found) (e : Identities) (t : Slices) (l : Linear) (v : Raid) (i : Image) → NextOpen (record f { identities = e }) t l v i → NextOpen f t l v i
 reopens_said f e t l v i is = record {
   volume = record { now = is.volume.now; found_is = is.volume.found_is; lies = is.volume.lies; areas = is.volume.areas; means = is.volume.means };
   state = is.state;
@@ -287,10 +287,10 @@ reopens_said f e t l v i is = record {
   excused = is.excused;
 }
 
-said_reopens : (f : Found) (t : Slices) (v : Raid) (l : Linear) (y : Seen) (i : Image) → IsArranged f → ((e : Identities) × IsKnown (record f { identities = e }) t v y i)
+said_reopens : (f : Found) (t : Slices) (v : Raid) (l : Linear) (y : RackView) (i : Image) → IsArranged f → ((e : Identities) × IsKnown (record f { identities = e }) t v y i)
     → ((d : ℕ) → d < f.disks.count → f.disks.sectors d < 2 ^ 48) → AreTabled f (λ d. Unit {0}) v.state i
     → ((n : ℕ) (r : Image) → n < f.state.made → IsLeft y r → SayTruth (v.arrays n) v.state r n) → ((n : ℕ) → n < f.state.made → HasOwnRows (v.arrays n))
-    → HoldGroup v l y → AreHeadsLive v → AreWholeSectors f.disks i → Reopens f t l v i
+    → HoldGroup v l y → AreHeadsLive v → AreWholeSectors f.disks i → NextOpen f t l v i
 said_reopens f t v l y i arranged one small tabled truths own group heads whole =
     let e = one.0 in
     reopens_said f e t l v i
@@ -298,19 +298,19 @@ said_reopens f t v l y i arranged one small tabled truths own group heads whole 
 
 -- Where its arrays are told and none is over, its drives have their tables, its superblocks say the book's truths, whose rows are the arrays' own, and its arrays hold a volume's group, so
 -- it is with whatever the disks may be left with.
-pub service_reopens : (f : Found) (t : Slices) (v : Raid) (l : Linear) (x : Seen) → InService f t v x → IsInside t x
-    → ((n : ℕ) → n < f.state.made → IsTold v (slices_shown t x) n) → ((n : ℕ) → n < f.state.made → is_over v n ≡ false) → HoldTabled f v.state t x
+pub service_reopens : (f : Found) (t : Slices) (v : Raid) (l : Linear) (x : RackView) → RunInvariant f t v x → IsInside t x
+    → ((n : ℕ) → n < f.state.made → IsTracked v (slices_shown t x) n) → ((n : ℕ) → n < f.state.made → is_failed v n ≡ false) → HoldTabled f v.state t x
     → ((n : ℕ) (r : Image) → n < f.state.made → IsLeft (slices_shown t x) r → SayTruth (v.arrays n) v.state r n) → ((n : ℕ) → n < f.state.made → HasOwnRows (v.arrays n))
-    → HoldGroup v l (slices_shown t x) → AreHeadsLive v → (i : Image) → IsPick x x x.held i → AreWholeSectors f.disks i → Reopens f t l v i
+    → HoldGroup v l (slices_shown t x) → AreHeadsLive v → (i : Image) → IsPick x x x.held i → AreWholeSectors f.disks i → NextOpen f t l v i
 service_reopens f t v l x is inside told lasts tabled truths own group heads i pick whole =
     said_reopens f t v l (slices_shown t x) i is.arranged (service_known f t v x is inside told lasts i pick)
     (subst (λ (k : Disks). (d : ℕ) → d < k.count → k.sectors d < 2 ^ 48) (sym is.disks) inside.small) (tabled i (λ d s live never. pick d s live)) truths own group heads whole
 
 -- also where a place whose drive is missing has no disk any more
-pub vacant_reopens : (f : Found) (t u : Slices) (v : Raid) (l : Linear) (x : Seen) (place : ℕ) → InService f t v x → LacksDrive f t u v place x → IsInside u x
-    → ((n : ℕ) → n < f.state.made → IsTold v (slices_shown u x) n) → ((n : ℕ) → n < f.state.made → is_over v n ≡ false) → HoldTabled f v.state t x
+pub vacant_reopens : (f : Found) (t u : Slices) (v : Raid) (l : Linear) (x : RackView) (place : ℕ) → RunInvariant f t v x → LacksDrive f t u v place x → IsInside u x
+    → ((n : ℕ) → n < f.state.made → IsTracked v (slices_shown u x) n) → ((n : ℕ) → n < f.state.made → is_failed v n ≡ false) → HoldTabled f v.state t x
     → ((n : ℕ) (r : Image) → n < f.state.made → IsLeft (slices_shown u x) r → SayTruth (v.arrays n) v.state r n) → ((n : ℕ) → n < f.state.made → HasOwnRows (v.arrays n))
-    → HoldGroup v l (slices_shown u x) → AreHeadsLive v → (i : Image) → IsPick x x x.held i → AreWholeSectors f.disks i → Reopens f u l v i
+    → HoldGroup v l (slices_shown u x) → AreHeadsLive v → (i : Image) → IsPick x x x.held i → AreWholeSectors f.disks i → NextOpen f u l v i
 vacant_reopens f t u v l x place is lacks inside told lasts tabled truths own group heads i pick whole =
     said_reopens f u v l (slices_shown u x) i is.arranged (vacant_known f t u v x place is lacks inside told lasts i pick)
     (subst (λ (k : Disks). (d : ℕ) → d < k.count → k.sectors d < 2 ^ 48) (sym is.disks) inside.small) (tabled i (λ d s live never. pick d s live)) truths own group heads whole

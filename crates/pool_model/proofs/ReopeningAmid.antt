@@ -7,7 +7,7 @@ use Rattle.std.specs.Option.{option_and_then, option_map_or}
 use Rattle.std.specs.Result.{result_ok}
 use Rattle.std.proofs.lemmas.Bool.{both_ways, cases_Bool}
 use Rattle.std.proofs.lemmas.Option.{none-some}
-use Rattle.rack.specs.Seen.{Image, Seen}
+use Rattle.rack.specs.Seen.{Image, RackView}
 use Rattle.rack.specs.Sequences.{WritesOnly}
 use Rattle.rack.specs.Targets.{look}
 use Rattle.slice_rack.specs.Runs.{IsSliced}
@@ -42,17 +42,17 @@ use Rattle.pool_rest.proofs.Midway.{still_stands}
 use Rattle.pool_rest.proofs.MidwayDisks.{copied_or, seats_written, tables_now, written_gate}
 use Rattle.pool_rest.proofs.MidwayPool.{found_was, gates_early, was, whole_early}
 use Rattle.raid_laws.specs.Agreeing.{HasOwnRows, SayTruth}
-use Rattle.raid_laws.specs.Book.{IsAfter, after_then}
-use Rattle.raid_laws.specs.Raid.{HasMarkedSeats, IsTold, Raid, is_over}
+use Rattle.raid_laws.specs.Book.{OnlyMarksSince, after_then}
+use Rattle.raid_laws.specs.Raid.{HasMarkedSeats, IsTracked, Raid, is_failed}
 use Rattle.raid_laws.specs.Reach.{KeepsReach, ReachBetween}
-use Rattle.raid_laws.specs.Runs.{KeepsMoments}
+use Rattle.raid_laws.specs.Runs.{CrashInvariant}
 use Rattle.raid_laws.specs.Since.{AreSince, HasOwnSince}
 use Rattle.pool_model.specs.Alone.{AreTabled, HoldTabled, IsTabled}
-use Rattle.pool_model.specs.InService.{InService}
+use Rattle.pool_model.specs.InService.{RunInvariant}
 use Rattle.pool_model.specs.Left.{HavePlaces, HaveSlices}
 use Rattle.pool_model.specs.Pools.{extent_in}
-use Rattle.pool_model.specs.Reopening.{HoldVolume, MayRefuse, ReopensAmid}
-use Rattle.pool_model.specs.Stopped.{AreSlicesNow, HoldAmid, HoldBetween}
+use Rattle.pool_model.specs.Reopening.{HoldVolume, MayRefuse, NextOpenInCall}
+use Rattle.pool_model.specs.Stopped.{AreSlicesNow, RecoversInCall, RecoversBetween}
 use Rattle.pool_model.specs.Taken.{LacksDrive}
 use Rattle.pool_model.proofs.Amid.{moments_since, nothing_past, off_amid, off_more}
 use Rattle.pool_model.proofs.Found.{IsFound, few_places, found_is, some_made}
@@ -70,7 +70,7 @@ use Rattle.pool_model.proofs.WereThere.{HadThere, book_there, supers_there}
 
 -- The pool that contents have: its state came of another, and each of its current places has the drive that it had, by slices.
 record IsNow (f : Found) (t : Slices) (v : State) (g : Found) : Type 0 where
-  after : IsAfter v g.state
+  after : OnlyMarksSince v g.state
   seats : (p : ℕ) → is_current g.state p ≡ true → g.seats p ≡ f.seats p
   slices : HaveSlices g t
 
@@ -89,7 +89,7 @@ some_sectors g n e is = of (first_of g n) is
     of None at = absurd (none-some e at)
     of (Some first) at = by first (truth_from g n first) at
 
-module _ (f : Found) (t : Slices) (v : State) (i : Image) (begun : IsAfter f.state v) (had : AreSlicesNow f t v) (inside : AreInside f t)
+module _ (f : Found) (t : Slices) (v : State) (i : Image) (begun : OnlyMarksSince f.state v) (had : AreSlicesNow f t v) (inside : AreInside f t)
     (since : AreSince v (sectors_of t) (sliced t i))
     (s0 : State) (stands : standing f.disks i ≡ Some (standing_by f.disks i s0)) (newest_is : newest f.disks (identities_of f.disks i) ≡ Some s0)
     (log : IsSoundLog f.disks i (standing_by f.disks i s0) (seated_state (standing_by f.disks i s0).targets s0)) where
@@ -269,8 +269,8 @@ module _ (f : Found) (t : Slices) (v : State) (i : Image) (begun : IsAfter f.sta
 -- ---- a stop inside calls
 
 -- Contents that hold a pool still, between two states, have one by which the record that is pending is written, so what follows of that is so of it.
-between_by : (f : Found) (t : Slices) (v u : State) (i : Image) (begun : IsAfter f.state v) (had : AreSlicesNow f t v) (inside : AreInside f t) (since : AreSince v (sectors_of t) (sliced t i))
-    → (between : HoldBetween f t v u i) (P : Found → Type 0)
+between_by : (f : Found) (t : Slices) (v u : State) (i : Image) (begun : OnlyMarksSince f.state v) (had : AreSlicesNow f t v) (inside : AreInside f t) (since : AreSince v (sectors_of t) (sliced t i))
+    → (between : RecoversBetween f t v u i) (P : Found → Type 0)
     → ((s0 : State) (stands : standing f.disks i ≡ Some (standing_by f.disks i s0)) (newest_is : newest f.disks (identities_of f.disks i) ≡ Some s0)
     (log : IsSoundLog f.disks i (standing_by f.disks i s0) (seated_state (standing_by f.disks i s0).targets s0))
     → IsNow f t v (g f t v i begun had inside since s0 stands newest_is log) → P (g f t v i begun had inside since s0 stands newest_is log))
@@ -284,15 +284,15 @@ between_by f t v u i begun had inside since between P each =
     let here : g f t v i begun had inside since by.0 stands by.1 log ≡ still.now =
     some_same (g f t v i begun had inside since by.0 stands by.1 log) still.now (sym (found_now f t v i begun had inside since by.0 stands by.1 log) ∙ still.found_is) in
     let is : IsNow f t v still.now = record {
-      after = subst (IsAfter v) (sym still.state) between.later;
+      after = subst (OnlyMarksSince v) (sym still.state) between.later;
       seats = λ q now. still.seats q (subst (λ (z : State). is_current z q ≡ true) still.state now);
       slices = still.slices;
     } in
     subst P here (each by.0 stands by.1 log (subst (IsNow f t v) (sym here) is))
 
 -- Then the drive of a current place that has its table keeps all its parts, if the members on its place were there.
-pub between_whole : (f : Found) (t : Slices) (v u : State) (i : Image) → IsAfter f.state v → AreSlicesNow f t v → AreInside f t → AreSince v (sectors_of t) (sliced t i)
-    → (between : HoldBetween f t v u i) → (p d : ℕ) → is_current between.state p ≡ true → f.seats p ≡ Some d → IsTabled f p (f.disks.sectors d) (i d)
+pub between_whole : (f : Found) (t : Slices) (v u : State) (i : Image) → OnlyMarksSince f.state v → AreSlicesNow f t v → AreInside f t → AreSince v (sectors_of t) (sliced t i)
+    → (between : RecoversBetween f t v u i) → (p d : ℕ) → is_current between.state p ≡ true → f.seats p ≡ Some d → IsTabled f p (f.disks.sectors d) (i d)
     → ((n : ℕ) → n < f.state.made → is_member f n p ≡ true → HadThere between.still.now p n) → damage_of between.still.now p ≡ None
 between_whole f t v u i begun had inside since between p d counts seat tabled stood =
     between_by f t v u i begun had inside since between
@@ -301,8 +301,8 @@ between_whole f t v u i begun had inside since between p d counts seat tabled st
     (ap (λ (z : State). is_current z p) between.still.state ∙ counts) (between.still.seats p counts ∙ seat) stood
 
 -- And its copy is of the pool, before the record is replayed.
-pub between_own : (f : Found) (t : Slices) (v u : State) (i : Image) → IsAfter f.state v → AreSlicesNow f t v → AreInside f t → AreSince v (sectors_of t) (sliced t i)
-    → (between : HoldBetween f t v u i) → (p d : ℕ) (copy : Copied) → is_current between.state p ≡ true → f.seats p ≡ Some d → (identities_of f.disks i d).copied ≡ Some copy
+pub between_own : (f : Found) (t : Slices) (v u : State) (i : Image) → OnlyMarksSince f.state v → AreSlicesNow f t v → AreInside f t → AreSince v (sectors_of t) (sliced t i)
+    → (between : RecoversBetween f t v u i) → (p d : ℕ) (copy : Copied) → is_current between.state p ≡ true → f.seats p ≡ Some d → (identities_of f.disks i d).copied ≡ Some copy
     → copy.state.pool ≡ between.still.now.state.pool
 between_own f t v u i begun had inside since between p d copy counts seat here =
     between_by f t v u i begun had inside since between (λ k. k.seats p ≡ Some d → copy.state.pool ≡ k.state.pool)
@@ -317,10 +317,10 @@ CountsBetween v w g =
 
 -- Contents that hold the pool still and mean a volume where they aren't refused, with copies since the calls began, members that count as far as between the books, no rows to resync
 -- but the first book's where a member is lacking, and the tables of current places' drives.
-pub amid_reopens : (f : Found) (t : Slices) (v w : Raid) (l : Linear) (i : Image) → IsAfter f.state v.state → HasMarkedSeats v → AreSlicesNow f t v.state → AreInside f t
+pub amid_reopens : (f : Found) (t : Slices) (v w : Raid) (l : Linear) (i : Image) → OnlyMarksSince f.state v.state → HasMarkedSeats v → AreSlicesNow f t v.state → AreInside f t
     → AreTabled f (λ d. Unit {0}) v.state i → AreSince v.state (sectors_of t) (sliced t i)
     → ((n : ℕ) → n < f.state.made → ReachBetween v w n (replayed (sectors_of t) (sliced t i))) → ((n : ℕ) → n < f.state.made → HasOwnLeft v n (replayed (sectors_of t) (sliced t i)))
-    → HoldAmid f t v.state w.state i → HoldVolume f t l i → ReopensAmid f t l v w i
+    → RecoversInCall f t v.state w.state i → HoldVolume f t l i → NextOpenInCall f t l v w i
 amid_reopens f t v w l i begun marked had inside tabled since reach left amid volume =
     let still = amid.between.still in
     let by = stood_by f.disks i still.logs.before still.logs.stands in
@@ -331,7 +331,7 @@ amid_reopens f t v w l i begun marked had inside tabled since reach left amid vo
     let found_g : found f.disks i ≡ Some g = found_now f t v.state i begun had inside since by.0 stands by.1 log in
     let here : still.now ≡ g = some_same still.now g (sym still.found_is ∙ found_g) in
     let is : IsNow f t v.state still.now = record {
-      after = subst (IsAfter v.state) (sym still.state) amid.between.later;
+      after = subst (OnlyMarksSince v.state) (sym still.state) amid.between.later;
       seats = λ p now. still.seats p (subst (λ (z : State). is_current z p ≡ true) still.state now);
       slices = still.slices;
     } in
@@ -375,11 +375,11 @@ amid_reopens f t v w l i begun marked had inside tabled since reach left amid vo
 
 -- So it is with stops inside calls that write slices alone, of a pool by slices that lie as those of its current places, where the arrays are told when calls begin, its superblocks say
 -- the book's truths then, whose rows are the arrays' own, and none is over when they end.
-pub calls_reopen : (f : Found) (t : Slices) (v w : Raid) (x y : Seen) (l : Linear) → IsAfter f.state v.state → HasMarkedSeats v → AreSlicesNow f t v.state → AreInside f t
-    → HoldTabled f v.state t x → x.lasting → WritesOnly x y (IsSliced t) → KeepsMoments v w (slices_shown t x) (slices_shown t y)
-    → ((n : ℕ) → n < f.state.made → IsTold v (slices_shown t x) n) → ((n : ℕ) → n < f.state.made → is_over w n ≡ false)
+pub calls_reopen : (f : Found) (t : Slices) (v w : Raid) (x y : RackView) (l : Linear) → OnlyMarksSince f.state v.state → HasMarkedSeats v → AreSlicesNow f t v.state → AreInside f t
+    → HoldTabled f v.state t x → x.lasting → WritesOnly x y (IsSliced t) → CrashInvariant v w (slices_shown t x) (slices_shown t y)
+    → ((n : ℕ) → n < f.state.made → IsTracked v (slices_shown t x) n) → ((n : ℕ) → n < f.state.made → is_failed w n ≡ false)
     → ((n : ℕ) (r : Image) → n < f.state.made → IsLeft (slices_shown t x) r → SayTruth (v.arrays n) v.state r n) → ((n : ℕ) → n < f.state.made → HasOwnRows (v.arrays n))
-    → x.traced → (k : ℕ) (i : Image) → x.clock < k → k ≤ y.clock → y.stops k i → HoldAmid f t v.state w.state i → HoldVolume f t l i → ReopensAmid f t l v w i
+    → x.traced → (k : ℕ) (i : Image) → x.clock < k → k ≤ y.clock → y.stops k i → RecoversInCall f t v.state w.state i → HoldVolume f t l i → NextOpenInCall f t l v w i
 calls_reopen f t v w x y l begun marked had inside tabled lasting only keeps told lasts truths own traced k i late early stop amid volume =
     amid_reopens f t v w l i begun marked had inside (tabled i (off_amid t x y lasting only traced k i late early stop))
     (((moments_since v w (slices_shown t x) (slices_shown t y) keeps (told 0 first) (lasts 0 first)).leaves traced).new k (sliced t i) late early (i, stop, λ d s. refl) (nothing_past t i))
@@ -405,7 +405,7 @@ calls_reopen f t v w x y l begun marked had inside tabled lasting only keeps tol
         omega (arith, some, now, later, made)
 
 -- its slices and tables, where a place whose drive is missing has no disk any more
-pub vacant_lies : (f : Found) (t u : Slices) (v : Raid) (x : Seen) (place : ℕ) → InService f t v x → LacksDrive f t u v place x → HoldTabled f v.state t x
+pub vacant_lies : (f : Found) (t u : Slices) (v : Raid) (x : RackView) (place : ℕ) → RunInvariant f t v x → LacksDrive f t u v place x → HoldTabled f v.state t x
     → AreSlicesNow f u v.state × HoldTabled f v.state u x
 vacant_lies f t u v x place is lacks tabled = (
   slices_now t u place lacks.vacated f is.slices v.state lacks.missing is.arranged.made.1,

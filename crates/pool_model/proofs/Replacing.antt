@@ -1,7 +1,7 @@
 -- Each stop inside a call of a rack of arrays that gives a current place another drive leaves contents that hold the pool with the drive that it had, or with the new one.
 use Rattle.std.proofs.Common.{◌≡◌, ◌≢◌, ◌⊎◌, ℕ, ◌+◌, ◌-◌, ◌<◌, ◌≤◌, ◌^◌, if◌then◌else◌, Bool, true, false, List, Some, refl, sym, ap, subst, ◌∙◌, inl, inr, lt-ltb, arith}
 use Rattle.std.proofs.lemmas.Bool.{cases_lt}
-use Rattle.rack.specs.Seen.{Image, Seen}
+use Rattle.rack.specs.Seen.{Image, RackView}
 use Rattle.rack.specs.Sequences.{IsMix}
 use Rattle.slice_rack.specs.Slices.{IsOrderly, Slices, sectors_of}
 use Rattle.slice_rack.specs.Sliced.{IsInside, sliced, slices_of}
@@ -15,17 +15,17 @@ use Rattle.array_image.specs.Arrays.{replayed}
 use Rattle.array_image.specs.States.{is_current, id_of}
 use Rattle.array_core.proofs.Stripped.{some_same}
 use Rattle.array_model.specs.View.{View}
-use Rattle.log_laws.specs.Kept.{LogKept}
+use Rattle.log_laws.specs.Kept.{LogInvariant}
 use Rattle.raid_laws.specs.Enlisting.{Enlists, IsWrittenBy, KeepsTold, SaysLatter, SaysReplacing, enlisted, new_table, next_drive}
 use Rattle.raid_laws.specs.Frames.{frame_of}
 use Rattle.raid_laws.specs.Losses.{has_other}
 use Rattle.raid_laws.specs.Missing.{raised}
-use Rattle.raid_laws.specs.Raid.{IsTold, Raid, held_in, is_over, spent_of}
+use Rattle.raid_laws.specs.Raid.{IsTracked, Raid, held_in, is_failed, spent_of}
 use Rattle.raid_laws.proofs.Over.{number_room}
 use Rattle.pool_image.specs.Disks.{disks_of, identities_of}
 use Rattle.pool_image.specs.Drives.{Found}
-use Rattle.pool_model.specs.Laid.{HaveOtherIds, IsFormerYet, IsJoinedOff, SaysFormerly}
-use Rattle.pool_model.specs.Stopped.{HoldAmid}
+use Rattle.pool_model.specs.Laid.{HaveOtherIds, IsFormerYet, IsJoinedOutsideSlices, SaysFormerly}
+use Rattle.pool_model.specs.Stopped.{RecoversInCall}
 use Rattle.pool_model.specs.Taken.{taken, views_of}
 use Rattle.pool_model.proofs.Amid.{inside_of}
 use Rattle.pool_model.proofs.FormerDrive.{former_below, former_own, former_yet}
@@ -34,7 +34,7 @@ use Rattle.pool_model.proofs.TakingLate.{IsEntering, between_says, entering_late
 
 -- What is known of a pool and of the disk when it takes the place of a drive that is there: t are the tables by which the pool goes, and u those with the new one. The disk is none of the
 -- pool's drives, and the drive that goes has another id.
-pub record IsReplacing (f : Found) (t u : Slices) (arrays : List View) (v : Raid) (place disk : ℕ) (x : Seen) : Type 0 where
+pub record IsReplacing (f : Found) (t u : Slices) (arrays : List View) (v : Raid) (place disk : ℕ) (x : RackView) : Type 0 where
   pub enters : IsEntering f t u arrays v place disk x
   pub was : is_current v.state place ≡ true
   pub orderly : IsOrderly t
@@ -44,9 +44,9 @@ pub record IsReplacing (f : Found) (t u : Slices) (arrays : List View) (v : Raid
   pub room : 10273 ≤ x.sectors disk
 
 -- The arrays are told when the call begins, and none is over when it ends; a drive is left that the pool had.
-module _ (f : Found) (t u : Slices) (v w : Raid) (place disk units : ℕ) (plan : Plan) (a b : Seen) (is : IsReplacing f t u (views_of v) v place disk a)
-    (enlists : Enlists t u (views_of v) place disk units plan v w a b) (told : (n : ℕ) → n < f.state.made → IsTold v (slices_of t a) n)
-    (lasts : (n : ℕ) → n < f.state.made → is_over w n ≡ false) (left : has_other w.state place ≡ true) (traced : a.traced) where
+module _ (f : Found) (t u : Slices) (v w : Raid) (place disk units : ℕ) (plan : Plan) (a b : RackView) (is : IsReplacing f t u (views_of v) v place disk a)
+    (enlists : Enlists t u (views_of v) place disk units plan v w a b) (told : (n : ℕ) → n < f.state.made → IsTracked v (slices_of t a) n)
+    (lasts : (n : ℕ) → n < f.state.made → is_failed w n ≡ false) (left : has_other w.state place ≡ true) (traced : a.traced) where
   abbrev next : State
   next = enlisted place units plan v.state
 
@@ -62,10 +62,10 @@ module _ (f : Found) (t u : Slices) (v w : Raid) (place disk units : ℕ) (plan 
   tells : (n : ℕ) → n < f.state.made → KeepsTold t u place disk units plan table v w a b enlists.mid n
   tells n low = enlists.told n (listed n low) (told n low) is.enters.opened left
 
-  still : is_over v 0 ≡ false
+  still : is_failed v 0 ≡ false
   still = enlists.is.still 0 (listed 0 first) left (lasts 0 first)
 
-  log : LogKept v.state v.number (λ p. false) (slices_of t a)
+  log : LogInvariant v.state v.number (λ p. false) (slices_of t a)
   log = ((told 0 first).stood still).log
 
   -- the drive that goes
@@ -75,12 +75,12 @@ module _ (f : Found) (t u : Slices) (v w : Raid) (place disk units : ℕ) (plan 
   apart_former : former.0 ≢ disk
   apart_former same = is.apart place (former.1 ∙ ap Some same)
 
-  joined_off : (i : Image) → IsMix a b (IsWrittenBy u disk table) i → IsJoinedOff f u v place disk a i
+  joined_off : (i : Image) → IsMix a b (IsWrittenBy u disk table) i → IsJoinedOutsideSlices f u v place disk a i
   joined_off =
       entering_off f t u (views_of v) v place disk a b is.enters enlists.only
       (former_below f t u v place disk a is.enters.service is.enters.new is.orderly is.enters.orderly is.inside is.was (told 0 first) still)
 
-  module _ (i : Image) (joined : IsJoinedOff f u v place disk a i) where
+  module _ (i : Image) (joined : IsJoinedOutsideSlices f u v place disk a i) where
     formerly : (d : ℕ) (copy : Copied) → f.seats place ≡ Some d → d ≢ disk → (identities_of (disks_of a) i d).copied ≡ Some copy → SaysFormerly v.state place copy
     formerly d copy seat other here =
         former_own f t u v place disk a i is.enters.service is.enters.new joined.others is.orderly is.enters.orderly is.inside log is.was d seat other copy here
@@ -116,7 +116,7 @@ module _ (f : Found) (t u : Slices) (v w : Raid) (place disk units : ℕ) (plan 
           absurd (omega (arith, epoch, from, more))
     ]
 
-    pub replacing_late : HaveOtherIds f v.state place disk i → Latter 0 → HoldAmid (taken f (disks_of a) place disk next) u next w.state i
+    pub replacing_late : HaveOtherIds f v.state place disk i → Latter 0 → RecoversInCall (taken f (disks_of a) place disk next) u next w.state i
     replacing_late ids one =
         let joined = joined_off i ((enlists.only.stops traced).new k i begun until stopped) in
         let here = each 0 first in
@@ -137,7 +137,7 @@ module _ (f : Found) (t u : Slices) (v w : Raid) (place disk units : ℕ) (plan 
 
   -- What it holds after a stop: the pool that there was, with the drive that the place had, or the pool with the new one.
   pub replacing_amid : (k : ℕ) (i : Image) → a.clock < k → k ≤ b.clock → b.stops k i → (enlists.mid < k → HaveOtherIds f v.state place disk i)
-      → HoldAmid f t v.state v.state i ⊎ HoldAmid (taken f (disks_of a) place disk next) u next w.state i
+      → RecoversInCall f t v.state v.state i ⊎ RecoversInCall (taken f (disks_of a) place disk next) u next w.state i
   replacing_amid k i since until stopped ids = elim (cases_lt enlists.mid k) [
     | inr early ↦
         inl (replacing_laid f t v place disk a is.enters.service is.apart is.orderly is.inside is.enters.tables is.enters.opened is.room is.enters.lasting traced u units plan table refl w b

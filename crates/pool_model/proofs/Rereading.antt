@@ -11,7 +11,7 @@ use Rattle.array_image.specs.States.{is_current}
 use Rattle.array_image.specs.Supers.{is_named, is_unclean}
 use Rattle.array_core.proofs.Stripped.{some_same}
 use Rattle.log_laws.specs.Kept.{IsNoLater}
-use Rattle.raid_laws.specs.Book.{IsAfter, after_same}
+use Rattle.raid_laws.specs.Book.{OnlyMarksSince, after_same}
 use Rattle.raid_laws.specs.Reach.{KeepsReach, reach_same}
 use Rattle.pool_image.specs.Alike.{Agree, IsSamePool}
 use Rattle.pool_image.specs.Disks.{Disks, Identities, Identity, identities_of, newest}
@@ -30,8 +30,8 @@ use Rattle.pool_rest.proofs.LaterCopies.{IsCopied, newest_latest}
 use Rattle.pool_rest.proofs.Midway.{still_stands}
 use Rattle.pool_rest.proofs.MidwayDisks.{copy_room, new_copy, seats_written}
 use Rattle.pool_rest.proofs.MidwayPool.{copied_or, early, early_found, early_ids, early_logs, early_lower, early_pool, found_was, late, late_found, late_logs, late_lower, late_pool, stands_late, stands_so, targets_late, was}
-use Rattle.pool_model.specs.Left.{AreAlone}
-use Rattle.pool_model.specs.Openings.{HadOnePool, HoldOpened, IsIdleIn, MayReplay}
+use Rattle.pool_model.specs.Left.{NoStraySuperblock}
+use Rattle.pool_model.specs.Openings.{HadOnePool, RecoversInOpening, IsIdleIn, MayReplay}
 use Rattle.pool_model.specs.Pools.{IsSoundPool}
 use Rattle.pool_model.specs.Stopped.{LieApart, StoodInLog}
 use Rattle.pool_model.proofs.Found.{found_is, some_made}
@@ -56,15 +56,15 @@ same_apart f g same apart m n p d a b less low seat none member lies there =
     (sym (lies_same f g same (suc n)) ∙ there)
 
 -- contents that have it hold the pool, where their logs are sound and what is pending there may be replayed, and no disk has another pool's state
-pub same_holds : (disks : Disks) (i : Image) (f g : Found) → f.disks ≡ disks → found disks i ≡ Some g → IsSamePool f g → IsSoundPool f → HasSoundLogs disks i → LieApart f → AreAlone f f.contents
+pub same_holds : (disks : Disks) (i : Image) (f g : Found) → f.disks ≡ disks → found disks i ≡ Some g → IsSamePool f g → IsSoundPool f → HasSoundLogs disks i → LieApart f → NoStraySuperblock f f.contents
     → MayReplay disks i g → (HadOnePool f → HadOnePool g)
-    → HoldOpened f 0 i
+    → RecoversInOpening f 0 i
 same_holds disks i f g on found_now same sound logs apart alone may one = record {
   now = g;
   found_is = ap (λ (d : Disks). found d i) on ∙ found_now;
   sound = same_sound f g same sound;
   logs = subst (λ (d : Disks). HasSoundLogs d i) (sym on) logs;
-  after = subst (λ (s : State). IsAfter f.state s) (sym same.state) (after_same f.state);
+  after = subst (λ (s : State). OnlyMarksSince f.state s) (sym same.state) (after_same f.state);
   plan = ap (λ (s : State). s.plan) same.state;
   marks = λ p counts past. absurd (both_ways (is_current f.state p) (sym (ap (λ (s : State). is_current s p) same.state) ∙ past) counts);
   seats = λ p counts. same.seats p;
@@ -89,7 +89,7 @@ module _ (disks : Disks) (c i : Image) (s0 : State) (newest_before : newest disk
     (log : IsSoundLog disks c (standing_by disks c s0) (seated_state (standing_by disks c s0).targets s0))
     (mid : StandsReplaying disks s0 (seated_state (standing_by disks c s0).targets s0) (standing_by disks c s0).targets c i)
     (sound : IsSoundPool (was disks c i s0 newest_before log mid)) (apart : LieApart (was disks c i s0 newest_before log mid))
-    (alone : AreAlone (was disks c i s0 newest_before log mid) (was disks c i s0 newest_before log mid).contents)
+    (alone : NoStraySuperblock (was disks c i s0 newest_before log mid) (was disks c i s0 newest_before log mid).contents)
     (may : MayReplay disks c (was disks c i s0 newest_before log mid)) where
   abbrev s : State
   s = seated_state (standing_by disks c s0).targets s0
@@ -147,7 +147,7 @@ module _ (disks : Disks) (c i : Image) (s0 : State) (newest_before : newest disk
       | inr amid ↦ inr (stood_early amid.0, early_lower disks c i s0 newest_before log mid states kept stands amid.1)
     ]
 
-    holds_early : HoldOpened f 0 i
+    holds_early : RecoversInOpening f 0 i
     holds_early =
         same_holds disks i f e refl (early_found disks c i s0 newest_before log mid states kept) same_early sound
         (early_logs disks c i s0 newest_before log mid states kept) apart alone may_early one_now
@@ -237,18 +237,18 @@ module _ (disks : Disks) (c i : Image) (s0 : State) (newest_before : newest disk
       ]
     ]
 
-    holds_late : HoldOpened f 0 i
+    holds_late : RecoversInOpening f 0 i
     holds_late =
         same_holds disks i f g refl (late_found disks c i s0 newest_before log mid brought) same_late sound (late_logs disks c i s0 newest_before log mid brought) apart alone may_late
         one_now
 
-  holds_replaying : HoldOpened f 0 i
+  holds_replaying : RecoversInOpening f 0 i
   holds_replaying = elim mid.says [ inl kept ↦ holds_early kept.0 kept.1 | inr brought ↦ holds_late brought ]
 
 -- what a stop in the replay of the pending record leaves
-pub midway_holds : (disks : Disks) (c i : Image) (f : Found) → found disks c ≡ Some f → IsSoundPool f → HasSoundLogs disks c → LieApart f → AreAlone f f.contents
+pub midway_holds : (disks : Disks) (c i : Image) (f : Found) → found disks c ≡ Some f → IsSoundPool f → HasSoundLogs disks c → LieApart f → NoStraySuperblock f f.contents
     → MayReplay disks c f → StandsMidway disks c i
-    → HoldOpened f 0 i
+    → RecoversInOpening f 0 i
 midway_holds disks c i f found_before sound logs apart alone may midway =
     let by = stood_by disks c logs.before logs.stands in
     let stands : standing disks c ≡ Some (standing_by disks c by.0) = logs.stands ∙ ap Some by.2 in
@@ -258,13 +258,13 @@ midway_holds disks c i f found_before sound logs apart alone may midway =
     subst (λ (x : Standing). StandsReplaying disks x.state (seated_state x.targets x.state) x.targets c i)
     (some_same midway.before (standing_by disks c by.0) (sym midway.stands ∙ stands)) midway.is in
     let same : was disks c i by.0 by.1 log mid ≡ f = some_same (was disks c i by.0 by.1 log mid) f (sym (found_was disks c i by.0 by.1 log mid stands) ∙ found_before) in
-    subst (λ (h : Found). IsSoundPool h → LieApart h → AreAlone h h.contents → MayReplay disks c h → HoldOpened h 0 i) same
+    subst (λ (h : Found). IsSoundPool h → LieApart h → NoStraySuperblock h h.contents → MayReplay disks c h → RecoversInOpening h 0 i) same
     (λ sound apart alone may. holds_replaying disks c i by.0 by.1 stands log mid sound apart alone may) sound apart alone may
 
 -- contents that agree inside the disks
-pub agree_holds : (disks : Disks) (c i : Image) (f : Found) → found disks c ≡ Some f → IsSoundPool f → HasSoundLogs disks c → LieApart f → AreAlone f f.contents
+pub agree_holds : (disks : Disks) (c i : Image) (f : Found) → found disks c ≡ Some f → IsSoundPool f → HasSoundLogs disks c → LieApart f → NoStraySuperblock f f.contents
     → MayReplay disks c f → Agree disks i c
-    → HoldOpened f 0 i
+    → RecoversInOpening f 0 i
 agree_holds disks c i f found_before sound logs apart alone may agree =
     midway_holds disks c i f found_before sound logs apart alone may (record {
       before = logs.before;

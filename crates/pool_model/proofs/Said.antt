@@ -7,12 +7,12 @@ use Rattle.pool_state.specs.declared.contents.Copied.{Copied}
 use Rattle.pool_state.specs.declared.contents.State.{State}
 use Rattle.array_image.specs.States.{is_current, id_of}
 use Rattle.log_laws.specs.Kept.{IsNoLater}
-use Rattle.raid_laws.specs.Book.{IsAfter}
+use Rattle.raid_laws.specs.Book.{OnlyMarksSince}
 use Rattle.pool_image.specs.Disks.{Identity, identities_of, newest, seat_of, stands_for}
 use Rattle.pool_image.specs.Drives.{Found}
 use Rattle.pool_image.specs.Replay.{Standing}
 use Rattle.pool_model.specs.InService.{IsOutset, epoch_at}
-use Rattle.pool_model.specs.Left.{AreAloneBy}
+use Rattle.pool_model.specs.Left.{NoStraySuperblockBy}
 use Rattle.pool_model.specs.Pools.{AreSlicesOf}
 use Rattle.pool_model.specs.Stopped.{AreSlicesNow, SaysArray}
 
@@ -43,7 +43,7 @@ pub record HasCopyOf (f : Found) (u : State) (p : ℕ) (z : Identity) : Type 0 w
 -- a place that was current says an earlier state than a drive for which it stands too, and other disks say what they said.
 pub record SaysSeats (f : Found) (u : State) (i : Image) : Type 0 where
   pub is : IsOutset f
-  pub after : IsAfter f.state u
+  pub after : OnlyMarksSince f.state u
   pub absent : (p d : ℕ) → is_current u p ≡ true → f.seats p ≡ None → d < f.disks.count → stands_for u (identities_of f.disks i d) ≡ Some p → ⊥
   pub copies : (p d : ℕ) → is_current u p ≡ true → f.seats p ≡ Some d → HasCopyOf f u p (identities_of f.disks i d)
   pub former :
@@ -55,7 +55,7 @@ pub record SaysSeats (f : Found) (u : State) (i : Image) : Type 0 where
 -- it had one, with a copy of s, no disk has a later one or another one of its epoch, and all arrays are said soundly by the slices t.
 pub record SaysPool (f : Found) (t : Slices) (s : State) (e : Image) : Type 0 where
   pub is : IsOutset f
-  pub after : IsAfter f.state s
+  pub after : OnlyMarksSince f.state s
   pub joined : f.state.joined ≡ f.state.made
   pub slices : AreSlicesNow f t s
   pub inside : AreInside f t
@@ -64,7 +64,7 @@ pub record SaysPool (f : Found) (t : Slices) (s : State) (e : Image) : Type 0 wh
   pub own : (p d : ℕ) → is_current s p ≡ true → f.seats p ≡ Some d → (k : ℕ) × ((identities_of f.disks e d).copied ≡ Some (record { state = s; own = k }))
   pub latest : (d : ℕ) (copy : Copied) → d < f.disks.count → (identities_of f.disks e d).copied ≡ Some copy → IsNoLater s copy
   pub arrays : (n : ℕ) → n < f.state.made → SaysArray f s (sliced t e) n
-  pub alone : AreAloneBy s f e
+  pub alone : NoStraySuperblockBy s f e
 
 -- the pool that contents have where they are so
 abbrev pub pool_of : Found → State → Image → Standing → Found

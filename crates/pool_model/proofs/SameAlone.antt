@@ -17,7 +17,7 @@ use Rattle.pool_image.specs.Meaning.{has_slice, has_table, is_member, kind_of, t
 use Rattle.pool_image.specs.Replay.{Extent, extent_by}
 use Rattle.pool_image.proofs.Founds.{first_behind, lies_same, truths_same}
 use Rattle.pool_image.proofs.Truths.{extent_found}
-use Rattle.pool_model.specs.Left.{AreAlone, HasNoSuper}
+use Rattle.pool_model.specs.Left.{NoStraySuperblock, HasNoSuper}
 use Rattle.pool_model.specs.Openings.{HaveGoodTables}
 use Rattle.pool_model.specs.Stopped.{HaveTables}
 use Rattle.pool_model.proofs.Layers.{laid}
@@ -72,7 +72,7 @@ module _ (f g : Found) (same : IsSamePool f g) where
     made_same = ap (λ (s : State). s.made) same.state
 
     -- in any contents
-    pub alone_same : (i : Image) → AreAlone f i → AreAlone g i
+    pub alone_same : (i : Image) → NoStraySuperblock f i → NoStraySuperblock g i
     alone_same i alone n p d first low seat none begins within =
         let less : n < f.state.made = subst (λ k. n < k) made_same low in
         subst (λ (s : State). HasNoSuper s.pool.0 n (i d (first + super_sector))) (sym same.state)
@@ -80,7 +80,7 @@ module _ (f g : Found) (same : IsSamePool f g) where
         (subst (λ (k : Disks). first + super_sector < k.sectors d) same.disks within))
 
     -- and in the pools' own
-    pub own_alone : AreAlone f f.contents → AreAlone g g.contents
+    pub own_alone : NoStraySuperblock f f.contents → NoStraySuperblock g g.contents
     own_alone alone n p d first low seat none begins within =
         let less : n < f.state.made = subst (λ k. n < k) made_same low in
         let was : f.seats p ≡ Some d = sym (same.seats p) ∙ seat in
@@ -96,7 +96,7 @@ module _ (f g : Found) (same : IsSamePool f g) where
 -- Contents in which each sector of the drives is as it was, or has no superblock of any array.
 pub alone_but : (f : Found) (c i : Image)
     → ((p d u : ℕ) → f.seats p ≡ Some d → u < f.disks.sectors d → (i d u ≡ c d u) ⊎ ((n : ℕ) → HasNoSuper f.state.pool.0 n (i d u)))
-    → AreAlone f c → AreAlone f i
+    → NoStraySuperblock f c → NoStraySuperblock f i
 alone_but f c i each alone n p d first low seat none begins within = elim (each p d (first + super_sector) seat within) [
   | inl same ↦ subst (HasNoSuper f.state.pool.0 n) (sym same) (alone n p d first low seat none begins within)
   | inr bare ↦ bare n

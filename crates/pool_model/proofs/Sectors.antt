@@ -21,7 +21,7 @@ use Rattle.pool_image.proofs.Identities.{seat_inside}
 use Rattle.pool_image.proofs.Truths.{extent_found, slice_of_member, slice_sector}
 use Rattle.pool_image.proofs.Wholes.{value_sized}
 use Rattle.pool_rest.proofs.Payloads.{written_sized}
-use Rattle.pool_model.specs.Left.{HasNoSuper, HoldStill}
+use Rattle.pool_model.specs.Left.{HasNoSuper, Recovers}
 use Rattle.pool_model.specs.Reopening.{AreWholeSectors}
 use Rattle.pool_model.proofs.Found.{IsFound, found_is, some_made}
 use Rattle.pool_model.proofs.Layers.{IsLaid, laid, none_there, nothing_super}
@@ -42,7 +42,7 @@ found_sized disks c g is sized =
 
 -- ---- one array
 
-module _ (f : Found) (t : Slices) (s : State) (i : Image) (still : HoldStill f t s i)
+module _ (f : Found) (t : Slices) (s : State) (i : Image) (still : Recovers f t s i)
     (inside : (k d : ℕ) → slice_seat t (slice_place k) ≡ Some d → 0 < sectors_of t k → slice_first t k + sectors_of t k ≤ f.disks.sectors d)
     (sized : AreWholeSectors f.disks i) (n : ℕ) (low : n < still.now.state.made) where
   abbrev g : Found

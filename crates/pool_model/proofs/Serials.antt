@@ -10,7 +10,7 @@ use Rattle.array_image.specs.Places.{drive_id}
 use Rattle.array_core.proofs.Stripped.{some_same}
 use Rattle.pool_image.specs.Drives.{Found}
 use Rattle.pool_image.specs.Sound.{IsSoundList}
-use Rattle.raid_laws.specs.Book.{IsAfter}
+use Rattle.raid_laws.specs.Book.{OnlyMarksSince}
 use Rattle.raid_laws.specs.Enlisting.{enlisted, next_drive}
 use Rattle.pool_model.specs.Taken.{AreDistinct, AreSerial}
 use Rattle.pool_model.proofs.Joined.{id_here, id_other}
@@ -26,7 +26,7 @@ serial_found f list = record { serial = list.serial; ids = λ p id is. by p id (
     by p id (Some drive) at is = (let one = list.ids p drive at in (one.0, sym (some_same drive.id.0 id is) ∙ one.1))
 
 -- marks change none
-pub serial_after : (s t : State) → IsAfter s t → AreSerial s → AreSerial t
+pub serial_after : (s t : State) → OnlyMarksSince s t → AreSerial s → AreSerial t
 serial_after s t after serials = record {
   serial = serials.serial;
   ids = λ p id is.

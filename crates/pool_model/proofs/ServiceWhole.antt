@@ -1,6 +1,6 @@
 -- A pool in service that has ended whole, also once it took new drives in: any one of its drives may be absent.
 use Rattle.std.proofs.Common.{◌≡◌, ℕ, ◌<◌, ◌^◌, false, not, length, sym, subst, ◌∙◌, arith}
-use Rattle.rack.specs.Seen.{Image, IsPick, Seen}
+use Rattle.rack.specs.Seen.{Image, IsPick, RackView}
 use Rattle.rack.specs.Values.{MayLeave}
 use Rattle.gpt_table.specs.Disk.{Contents}
 use Rattle.slice_rack.specs.Slices.{Slices}
@@ -12,12 +12,12 @@ use Rattle.log_laws.proofs.Counting.{is_listed}
 use Rattle.pool_image.specs.Disks.{Identities}
 use Rattle.pool_image.specs.Drives.{Found}
 use Rattle.raid_laws.specs.Agreeing.{AgreeLeaving}
-use Rattle.raid_laws.specs.Raid.{Raid, IsTold, is_over, spent_of}
+use Rattle.raid_laws.specs.Raid.{Raid, IsTracked, is_failed, spent_of}
 use Rattle.pool_model.specs.Absent.{EndsWhole, HoldAbsent, IsWholeRaid}
-use Rattle.pool_model.specs.Alone.{HoldAlone, LeaveOut}
+use Rattle.pool_model.specs.Alone.{NoImpostor, LeaveOut}
 use Rattle.pool_model.specs.Grouped.{HoldGroup}
-use Rattle.pool_model.specs.InService.{InService, IsSaid}
-use Rattle.pool_model.specs.Left.{IsPickOff, IsServed}
+use Rattle.pool_model.specs.InService.{RunInvariant, IsSaid}
+use Rattle.pool_model.specs.Left.{IsPickOutsideSlices, IsServed}
 use Rattle.pool_model.proofs.Again.{left_known_by}
 use Rattle.pool_model.proofs.Alike.{alone_said, served_said}
 use Rattle.pool_model.proofs.Alone.{says_stands}
@@ -37,8 +37,8 @@ absent_said f e t v i is = record {
 
 -- Where its arrays are told and none is over, its book is whole, its superblocks agree, its arrays hold a volume's group and it stands alone on its disks, what
 -- these may be left with, without disks that are left out, holds it again, and means without any one drive what it means with it.
-pub service_absent : {l : Linear} (f : Found) (bound : ℕ) (Out : ℕ → Type 0) (t : Slices) (v : Raid) (x : Seen) → InService f t v x → HoldAlone f bound Out v.state t x → IsInside t x
-    → ((n : ℕ) → n < f.state.made → IsTold v (slices_of t x) n) → ((n : ℕ) → n < f.state.made → is_over v n ≡ false)
+pub service_absent : {l : Linear} (f : Found) (bound : ℕ) (Out : ℕ → Type 0) (t : Slices) (v : Raid) (x : RackView) → RunInvariant f t v x → NoImpostor f bound Out v.state t x → IsInside t x
+    → ((n : ℕ) → n < f.state.made → IsTracked v (slices_of t x) n) → ((n : ℕ) → n < f.state.made → is_failed v n ≡ false)
     → IsWholeRaid f.state.made v
     → ((n : ℕ) (r : Image) → n < f.state.made → IsLeft (slices_of t x) r → AgreeLeaving (v.arrays n) v.state r n)
     → HoldGroup v l (slices_of t x)
@@ -48,7 +48,7 @@ pub service_absent : {l : Linear} (f : Found) (bound : ℕ) (Out : ℕ → Type 
     → ((d : ℕ) → d < f.disks.count → f.disks.sectors d < 2 ^ 48)
     → HoldAbsent f t v.state j
 service_absent f bound Out t v x is alone inside told lasts whole agree group alive i j pick leave sectors small =
-    let off : IsPickOff t x i = λ d s live never. pick d s live in
+    let off : IsPickOutsideSlices t x i = λ d s live never. pick d s live in
     let said : IsSaid f j = said_out f Out i j leave (is.held.said i off) is.arranged in
     let e = said.identities in
     let few = is.arranged.made.1 in

@@ -33,8 +33,8 @@ use Rattle.pool_image.proofs.Rested.{gate_block, stood_by, written_none}
 use Rattle.pool_image.proofs.Truths.{extent_found, slice_of_member, slice_sector}
 use Rattle.pool_rest.specs.Resting.{seated_state}
 use Rattle.pool_rest.specs.SoundLogs.{HasSoundLogs, IsSoundLog}
-use Rattle.pool_model.specs.Left.{AreAlone, HasNoSuper}
-use Rattle.pool_model.specs.Openings.{HaveGoodTables, HoldOpened, IsButTables, IsIdleIn}
+use Rattle.pool_model.specs.Left.{NoStraySuperblock, HasNoSuper}
+use Rattle.pool_model.specs.Openings.{HaveGoodTables, RecoversInOpening, IsButTables, IsIdleIn}
 use Rattle.pool_model.specs.Pools.{IsSoundPool}
 use Rattle.pool_model.specs.Stopped.{LieApart}
 use Rattle.pool_model.proofs.Alike.{HasTruths, extent_same, first_same, member_same, truth_same}
@@ -98,7 +98,7 @@ idle_logs disks c s newest_is none whole =
 
 module _ (disks : Disks) (c i : Image) (s : State) (newest_is : newest disks (identities_of disks c) ≡ Some s) (idle : (standing_by disks c s).targets ≡ [])
     (whole : damaged_log (current_places s) (standing_by disks c s).logs ≡ None) (sound : IsSoundPool (pool_at disks c s)) (tables : HaveGoodTables (pool_at disks c s))
-    (but : IsButTables (pool_at disks c s) c i) (alone : AreAlone (pool_at disks c s) c) (alone_now : AreAlone (pool_at disks c s) i)
+    (but : IsButTables (pool_at disks c s) c i) (alone : NoStraySuperblock (pool_at disks c s) c) (alone_now : NoStraySuperblock (pool_at disks c s) i)
     (apart : LieApart (pool_at disks c s)) where
   abbrev f : Found
   f = pool_at disks c s
@@ -202,7 +202,7 @@ module _ (disks : Disks) (c i : Image) (s : State) (newest_is : newest disks (id
     room p d member seat = member_room f p d (tables p d seat) n (record { first = first; sectors = data_sector + truth.size }) low member extent_before
 
     -- a place that is no member has no superblock of the array there
-    none_on : (j : Image) → AreAlone f j → (p : ℕ) → is_member f n p ≡ false
+    none_on : (j : Image) → NoStraySuperblock f j → (p : ℕ) → is_member f n p ≡ false
         → HasNoSuper s.pool.0 n (option_map_or (λ d. if nat_lt (first + super_sector) (disks.sectors d) then j d (first + super_sector) else []) (f.seats p) [])
     none_on j is p none = of (f.seats p) refl
       where
@@ -328,7 +328,7 @@ module _ (disks : Disks) (c i : Image) (s : State) (newest_is : newest disks (id
       (ap (λ (z : Identity). extent_by (disks.sectors d) z.table (suc m)) (sym (ids d (below p d was))) ∙ lies)
       (extent_before n low ∙ sym (extent_now n low) ∙ there)
 
-  alone_kept : AreAlone g i
+  alone_kept : NoStraySuperblock g i
   alone_kept n p d first low seat none begins within =
       alone_now n p d first low (sym (seats_kept p) ∙ seat) (sym (member_kept n p low) ∙ none) (sym (first_same f g few has has_truths n (omega (arith, low))) ∙ begins) within
 
@@ -367,7 +367,7 @@ module _ (disks : Disks) (c i : Image) (s : State) (newest_is : newest disks (id
   parts_kept p counts none None free = no_drive g p (seats_kept p ∙ free)
   parts_kept p counts none (Some d) seat = whole_kept p d counts seat none
 
-  pub tables_hold : HoldOpened f 0 i
+  pub tables_hold : RecoversInOpening f 0 i
   tables_hold = record {
     now = g;
     found_is = idle_found disks i s newest_now none_now;
@@ -410,9 +410,9 @@ idle_pool disks c f found_before idle logs =
 
 -- So it is of a pool that was found on the disks, with nothing pending.
 pub settled_holds : (disks : Disks) (c i : Image) (f : Found) → found disks c ≡ Some f → IsIdleIn disks c → IsSoundPool f → HasSoundLogs disks c → HaveGoodTables f
-    → LieApart f → IsButTables f c i → AreAlone f c → AreAlone f i → HoldOpened f 0 i
+    → LieApart f → IsButTables f c i → NoStraySuperblock f c → NoStraySuperblock f i → RecoversInOpening f 0 i
 settled_holds disks c i f found_before idle sound logs tables apart but alone alone_now =
     let is = idle_pool disks c f found_before idle logs in
-    subst (λ (h : Found). IsSoundPool h → HaveGoodTables h → LieApart h → IsButTables h c i → AreAlone h c → AreAlone h i → HoldOpened h 0 i) is.same
+    subst (λ (h : Found). IsSoundPool h → HaveGoodTables h → LieApart h → IsButTables h c i → NoStraySuperblock h c → NoStraySuperblock h i → RecoversInOpening h 0 i) is.same
     (λ sound tables apart but alone alone_now. tables_hold disks c i is.state is.newest_is is.none is.whole sound tables but alone alone_now apart)
     sound tables apart but alone alone_now

@@ -10,7 +10,7 @@ use Rattle.array_image.specs.SoundArray.{IsSoundArray}
 use Rattle.array_image.specs.States.{is_current}
 use Rattle.array_image.specs.Supers.{truth_in}
 use Rattle.array_core.proofs.Stripped.{some_same}
-use Rattle.raid_laws.specs.Book.{IsAfter, after_then}
+use Rattle.raid_laws.specs.Book.{OnlyMarksSince, after_then}
 use Rattle.raid_laws.specs.Frames.{Frame, frame_of}
 use Rattle.raid_laws.specs.Raid.{Raid}
 use Rattle.raid_laws.proofs.Frames.{geometry_frame}
@@ -18,7 +18,7 @@ use Rattle.pool_image.specs.Disks.{Identities}
 use Rattle.pool_image.specs.Drives.{Found, slices_of as found_slices}
 use Rattle.pool_image.specs.Meaning.{truth_of}
 use Rattle.pool_model.specs.Laid.{IsCalledBy, ShowsParts, ShowsStop}
-use Rattle.pool_model.specs.Stopped.{HoldBetween, SaysArray, SaysStopped, StandFor}
+use Rattle.pool_model.specs.Stopped.{RecoversBetween, SaysArray, SaysStopped, StandFor}
 use Rattle.pool_model.proofs.Alike.{alone_said, has_truths, truth_same}
 use Rattle.pool_model.proofs.Current.{shape_truth}
 use Rattle.pool_model.proofs.Framed.{named_same, truth_placed}
@@ -29,7 +29,7 @@ use Rattle.pool_model.proofs.Pending.{apart_now, lower_now, stood_in_log}
 use Rattle.pool_model.proofs.Stopped.{stopped_stands}
 
 module _ (f : Found) (t : Slices) (v w : Raid) (i : Image) (is : IsCalledBy f t v) (shows : ShowsParts f t v w i)
-    (someone : (s : State) → IsAfter v.state s → IsAfter s w.state → (p d : ℕ) × (is_current s p ≡ true) × (f.seats p ≡ Some d)) where
+    (someone : (s : State) → OnlyMarksSince v.state s → OnlyMarksSince s w.state → (p d : ℕ) × (is_current s p ≡ true) × (f.seats p ≡ Some d)) where
   few : f.state.made ≤ 16
   few = is.arranged.made.1
 
@@ -100,7 +100,7 @@ module _ (f : Found) (t : Slices) (v w : Raid) (i : Image) (is : IsCalledBy f t 
   }
 
   -- So it is where they stand for the state.
-  pub stood_between : StandFor said t s i → HoldBetween f t v.state w.state i
+  pub stood_between : StandFor said t s i → RecoversBetween f t v.state w.state i
   unfolding stopped_still still_said
   stood_between st = record {
     state = s;
@@ -114,7 +114,7 @@ module _ (f : Found) (t : Slices) (v w : Raid) (i : Image) (is : IsCalledBy f t 
 
 -- With copies since the book they do.
 pub shown_between : (f : Found) (t : Slices) (v w : Raid) (i : Image) → IsCalledBy f t v → ShowsStop f t v w i → w.state.epoch < 2 ^ 63 - 1
-    → ((s : State) → IsAfter v.state s → IsAfter s w.state → (p d : ℕ) × (is_current s p ≡ true) × (f.seats p ≡ Some d)) → HoldBetween f t v.state w.state i
+    → ((s : State) → OnlyMarksSince v.state s → OnlyMarksSince s w.state → (p d : ℕ) × (is_current s p ≡ true) × (f.seats p ≡ Some d)) → RecoversBetween f t v.state w.state i
 shown_between f t v w i is shows enough someone =
     let parts = shows.parts in
     let said : Found = record f { identities = parts.said.identities } in

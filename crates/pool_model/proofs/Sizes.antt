@@ -2,7 +2,7 @@
 use Rattle.std.proofs.Common.{◌≡◌, ℕ, ◌+◌, ◌<◌, ◌≤◌, ◌^◌, true, false, nat_lt, if◌then◌else◌, [], Option, Some, None, refl, sym, ap, subst, ◌∙◌, arith}
 use Rattle.std.specs.Option.{option_map_or}
 use Rattle.std.proofs.lemmas.Option.{none-some}
-use Rattle.rack.specs.Seen.{Image, Seen}
+use Rattle.rack.specs.Seen.{Image, RackView}
 use Rattle.slice_rack.specs.Slices.{Slices, seat_of as slice_seat, sectors_of}
 use Rattle.md_super.specs.declared.superblock.Super.{Super}
 use Rattle.array_image.specs.Arrays.{first_layout}
@@ -111,7 +111,7 @@ module _ (f : Found) (i : Image) (g : Found) (t : Slices) (found_at : found f.di
 
 -- ---- a pool that is served
 
-module _ (f : Found) (t : Slices) (v : Raid) (y : Seen) (i : Image) (known : IsKnown f t v y i) (small : (d : ℕ) → d < f.disks.count → f.disks.sectors d < 2 ^ 48)
+module _ (f : Found) (t : Slices) (v : Raid) (y : RackView) (i : Image) (known : IsKnown f t v y i) (small : (d : ℕ) → d < f.disks.count → f.disks.sectors d < 2 ^ 48)
     (n : ℕ) (low : n < f.state.made) where
   abbrev rest : Standing
   rest = stood f t v y i known

@@ -3,7 +3,7 @@ use Rattle.std.proofs.Common.{◌≡◌, ◌≢◌, ◌⊎◌, ℕ, ◌+◌, ◌
 use Rattle.std.specs.Option.{option_and_then, option_map_or}
 use Rattle.std.proofs.lemmas.Bool.{cases_eq, cases_lt, ne_eqb}
 use Rattle.std.proofs.lemmas.Option.{none-some}
-use Rattle.rack.specs.Seen.{Image, Seen}
+use Rattle.rack.specs.Seen.{Image, RackView}
 use Rattle.slice_rack.specs.Runs.{IsSliced}
 use Rattle.slice_rack.specs.Slices.{Slices, place_of, seat_of}
 use Rattle.gpt_table.specs.Changes.{the_table}
@@ -24,7 +24,7 @@ use Rattle.raid_laws.specs.NewDrive.{SeatsDrive}
 use Rattle.raid_laws.specs.Raid.{Raid}
 use Rattle.raid_laws.proofs.Noted.{current_few}
 use Rattle.pool_model.specs.InService.{HasSeat, HoldSaid, IsArranged, IsOutset, IsSaid, epoch_at}
-use Rattle.pool_model.specs.Left.{AreAloneBy, HasNoSuper, IsPickOff}
+use Rattle.pool_model.specs.Left.{NoStraySuperblockBy, HasNoSuper, IsPickOutsideSlices}
 use Rattle.pool_model.specs.Taken.{KeepsRest, SeatsNew, views_of}
 use Rattle.pool_model.proofs.Alike.{first_same, member_same, outset_said}
 use Rattle.pool_model.proofs.Before.{off_before, was as image_before, was_other as image_other}
@@ -55,7 +55,7 @@ sliced_seated arrays place disk sectors t u seats d s w other is = elim (cases_e
   }
 ]
 
-module _ (f : Found) (t u : Slices) (v : Raid) (x z : Seen) (place disk units : ℕ) (plan : Plan)
+module _ (f : Found) (t u : Slices) (v : Raid) (x z : RackView) (place disk units : ℕ) (plan : Plan)
     (new : SeatsNew f t u v place disk (z.sectors disk)) (known : IsKnownBefore f v) (keeps : KeepsRest f t u v place disk x z) (held : HoldSaid f t v.state x) where
   abbrev pub disks : Disks
   disks = disks_of z
@@ -69,7 +69,7 @@ module _ (f : Found) (t u : Slices) (v : Raid) (x z : Seen) (place disk units : 
   pub sliced_before : (d s : ℕ) (w : List ℕ) → d ≢ disk → IsSliced u d s w → IsSliced t d s w
   sliced_before d s w other is = sliced_seated (views_of v) place disk (z.sectors disk) t u new.seats d s w other is
 
-  module _ (i : Image) (off : IsPickOff u z i) where
+  module _ (i : Image) (off : IsPickOutsideSlices u z i) where
     -- contents before
     abbrev was : Image
     was = image_before t u disk x z keeps.outside sliced_before i off
@@ -77,7 +77,7 @@ module _ (f : Found) (t u : Slices) (v : Raid) (x z : Seen) (place disk units : 
     was_other : (d : ℕ) → d ≢ disk → was d ≡ i d
     was_other d other = image_other t u disk x z keeps.outside sliced_before i off d other
 
-    pub off_was : IsPickOff t x was
+    pub off_was : IsPickOutsideSlices t x was
     off_was = off_before t u disk x z keeps.outside sliced_before i off
 
     abbrev said : IsSaid f was
@@ -270,7 +270,7 @@ module _ (f : Found) (t u : Slices) (v : Raid) (x z : Seen) (place disk units : 
       elsewhere = record { tables = table_now; others = λ d never low. sym (says_unseated d never) };
     }
 
-    pub alone_now : AreAloneBy fresh_state h i
+    pub alone_now : NoStraySuperblockBy fresh_state h i
     alone_now n p d first low counts seat none begins within =
         let less : n < f.state.made = omega (arith, low, made_same f t u v disks place disk units plan new known keeps.sectors) in
         let truths = has_truths f t u v disks place disk units plan new known keeps.sectors in

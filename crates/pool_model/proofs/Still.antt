@@ -26,7 +26,7 @@ use Rattle.pool_image.specs.Sound.{IsSoundState}
 use Rattle.pool_image.proofs.Composed.{same_slices, seated}
 use Rattle.pool_image.proofs.Truths.{extent_found, slice_of_member, slice_sector}
 use Rattle.pool_model.specs.Pools.{IsSoundPool}
-use Rattle.pool_model.specs.Left.{AreAlone, AreAloneBy, HasNoSuper, HaveSlices}
+use Rattle.pool_model.specs.Left.{NoStraySuperblock, NoStraySuperblockBy, HasNoSuper, HaveSlices}
 use Rattle.pool_model.proofs.Current.{SameCurrent, SameMembers, array_current, sound_current}
 use Rattle.pool_model.proofs.Extents.{alone as alone_there, begins_now, disk_is, few, is, is_is, lies, lies_now, made_same, member_same, named_same, no_slice, place_is, reads_absent, reads_nothing, room, truth_is, truth_now, was_is}
 use Rattle.pool_model.proofs.Layers.{nothing_super}
@@ -178,7 +178,7 @@ module _ (f : Found) (t : Slices) (book : State) (e : Image) (before : Standing)
     others = λ n p low none. let less = low_before n low in no_slice f t book e before said n less p (sym (member_same f t book e before said n less p) ∙ none);
   }
 
-  pub alone_now : (i : Image) → AreAloneBy book f i → AreAlone g i
+  pub alone_now : (i : Image) → NoStraySuperblockBy book f i → NoStraySuperblock g i
   alone_now i alone n p d first low seat none begins within =
       let less = low_before n low in
       let was = seat_before p d seat in

@@ -21,7 +21,7 @@ use Rattle.array_image.specs.States.{copy_in, epoch_of, is_current, state_in}
 use Rattle.array_core.proofs.Stripped.{some_same}
 use Rattle.log_laws.specs.Kept.{IsNoLater}
 use Rattle.log_laws.specs.Standing.{deciding}
-use Rattle.raid_laws.specs.Book.{IsAfter, after_then}
+use Rattle.raid_laws.specs.Book.{OnlyMarksSince, after_then}
 use Rattle.raid_laws.specs.Since.{AreSince, HasOwnSince}
 use Rattle.raid_laws.proofs.Noted.{current_few}
 use Rattle.pool_scan.proofs.Seated.{foremost_from}
@@ -63,7 +63,7 @@ module _ (f : Found) (t : Slices) (base s : State) (i : Image) (stop : SaysStopp
   pub few : (p d : ℕ) → f.seats p ≡ Some d → p < 16
   few p d seat = current_few f.state p stop.is.places (ahead_of p d seat).current
 
-  pub later_base : IsAfter f.state s
+  pub later_base : OnlyMarksSince f.state s
   later_base = after_then f.state base s stop.begun stop.after
 
   -- a current place that has a slice has a drive
@@ -134,7 +134,7 @@ module _ (f : Found) (t : Slices) (base s : State) (i : Image) (stop : SaysStopp
       own_copied = copied_is p d seat now i ∙ ap result_ok own.is
 
       -- so it stands for its place by states that came of the pool's
-      names : (v : State) → IsAfter base v → stands_for v (ids d) ≡ Some p
+      names : (v : State) → OnlyMarksSince base v → stands_for v (ids d) ≡ Some p
       names v after =
           let named : IsNamed f.state (f.identities d) p = stands_named f.state (f.identities d) p (ahead_of p d seat).stands in
           ap (λ o. stands_for v (record { copied = o; table = (ids d).table })) own_copied
@@ -142,7 +142,7 @@ module _ (f : Found) (t : Slices) (base s : State) (i : Image) (stop : SaysStopp
           ∙ same_position named.id v.drives.items f.state.drives.items (after_then f.state base v stop.begun after).same.drives ∙ named.first
 
     -- a drive whose place was marked says an earlier state than one for whose place it stands
-    former_low : (v : State) → IsAfter base v → (r q p d : ℕ) → f.seats r ≡ Some q → is_current v r ≡ false → f.seats p ≡ Some d → is_current v p ≡ true
+    former_low : (v : State) → OnlyMarksSince base v → (r q p d : ℕ) → f.seats r ≡ Some q → is_current v r ≡ false → f.seats p ≡ Some d → is_current v p ≡ true
         → stands_for v (ids q) ≡ Some p → epoch_at (ids q) < epoch_at (ids d)
     former_low v after r q p d other past seat now stands =
         let was = after.current p now in
@@ -164,7 +164,7 @@ module _ (f : Found) (t : Slices) (base s : State) (i : Image) (stop : SaysStopp
         of old first (Some copy) some = former r q copy other old some
 
     -- so contents say who is seated
-    says_seats : (v : State) → IsAfter base v → SaysSeats f v i
+    says_seats : (v : State) → OnlyMarksSince base v → SaysSeats f v i
     says_seats v after = record {
       is = stop.is;
       after = after_then f.state base v stop.begun after;
@@ -190,7 +190,7 @@ module _ (f : Found) (t : Slices) (base s : State) (i : Image) (stop : SaysStopp
       current : is_current base k ≡ true
       is : (ids q).copied ≡ Some copy
       state : copy.state ≡ u
-      after : IsAfter base copy.state
+      after : OnlyMarksSince base copy.state
 
     -- one of the places that are current once the record is written: the state that stands is no earlier than its copy's
     stands_late : base.epoch ≤ u.epoch
@@ -229,7 +229,7 @@ module _ (f : Found) (t : Slices) (base s : State) (i : Image) (stop : SaysStopp
               current = now;
               is = own_copied k drive.0 drive.1 now ∙ ap Some same;
               state = state;
-              after = subst (λ (z : Copied). IsAfter base z.state) same one.after;
+              after = subst (λ (z : Copied). OnlyMarksSince base z.state) same one.after;
             },
           )
     ]
@@ -250,8 +250,8 @@ module _ (f : Found) (t : Slices) (base s : State) (i : Image) (stop : SaysStopp
             (from.0, one.0, copy, one.1)
 
     -- it came of the state with which the call began
-    stood_after : IsAfter base u
-    stood_after = subst (IsAfter base) leader.3.state leader.3.after
+    stood_after : OnlyMarksSince base u
+    stood_after = subst (OnlyMarksSince base) leader.3.state leader.3.after
 
     -- and no later than the one that is brought
     stood_early : (s ≡ u) ⊎ (u.epoch < s.epoch)
@@ -291,7 +291,7 @@ module _ (f : Found) (t : Slices) (base s : State) (i : Image) (stop : SaysStopp
 
     -- ---- logs
 
-    seats_by : (v : State) → IsAfter base v → (p : ℕ) → is_current v p ≡ true → seat_of v f.disks ids p ≡ f.seats p
+    seats_by : (v : State) → OnlyMarksSince base v → (p : ℕ) → is_current v p ≡ true → seat_of v f.disks ids p ≡ f.seats p
     seats_by v after p now = seats_now f v i (says_seats v after) p now
 
     -- the log slices of current places are those of the tables

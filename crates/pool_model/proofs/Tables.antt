@@ -4,7 +4,7 @@
 -- was taken in whose table has them (`tables_taken`). Calls that write slices alone are in proofs/Amid.antt.
 use Rattle.std.proofs.Common.{◌≡◌, ◌≢◌, ℕ, ◌<◌, if◌then◌else◌, Bool, true, false, List, Some, None, refl, sym, ap, ap₂, subst, ◌∙◌, inl, inr, eq-eqb, ne_eqb, arith}
 use Rattle.std.proofs.lemmas.Bool.{both_ways, cases_eq}
-use Rattle.rack.specs.Seen.{Image, Seen}
+use Rattle.rack.specs.Seen.{Image, RackView}
 use Rattle.slice_rack.specs.Changes.{Seats}
 use Rattle.slice_rack.specs.Runs.{IsSliced}
 use Rattle.slice_rack.specs.Slices.{Slices, place_of, seat_of, sectors_of}
@@ -14,15 +14,15 @@ use Rattle.pool_state.specs.declared.contents.State.{State}
 use Rattle.array_image.specs.Places.{member_slice}
 use Rattle.array_image.specs.States.{is_current}
 use Rattle.array_core.proofs.Stripped.{some_same}
-use Rattle.raid_laws.specs.Book.{IsAfter}
+use Rattle.raid_laws.specs.Book.{OnlyMarksSince}
 use Rattle.raid_laws.specs.Enlisting.{enlisted}
 use Rattle.raid_laws.specs.Raid.{Raid}
 use Rattle.pool_image.specs.Disks.{disks_of}
 use Rattle.pool_image.specs.Drives.{Found}
 use Rattle.pool_image.specs.Replay.{Extent}
 use Rattle.pool_model.specs.Alone.{HoldTabled, IsTabled}
-use Rattle.pool_model.specs.InService.{InService, IsArranged}
-use Rattle.pool_model.specs.Left.{IsPickOff}
+use Rattle.pool_model.specs.InService.{RunInvariant, IsArranged}
+use Rattle.pool_model.specs.Left.{IsPickOutsideSlices}
 use Rattle.pool_model.specs.Pools.{AreSlicesOf, extent_in}
 use Rattle.pool_model.specs.Stopped.{HoldTables, LieOn}
 use Rattle.pool_model.specs.Taken.{KeepsOthers, KeepsRest, SeatsNew, attached, taken}
@@ -47,7 +47,7 @@ lie_same t u p sectors disk same lie n few some =
 pub slice_apart : (p place n : ℕ) → p ≢ place → n < 16 → place_of (member_slice p n) ≢ place
 slice_apart p place n other few same = other (let e : p ≡ place = omega (arith, same, few) in e)
 
-pub tables_vacant : (f : Found) (t u : Slices) (place : ℕ) (s : State) (x : Seen) → Seats t u place None → is_current s place ≡ false → HoldTables f t s x → HoldTables f u s x
+pub tables_vacant : (f : Found) (t u : Slices) (place : ℕ) (s : State) (x : RackView) → Seats t u place None → is_current s place ≡ false → HoldTables f t s x → HoldTables f u s x
 tables_vacant f t u place s x vacated missing tables i off p d now seat =
     let other : p ≢ place = λ same. both_ways (is_current s p) (subst (λ q. is_current s q ≡ false) (sym same) missing) now in
     lie_same t u p (f.disks.sectors d) (i d)
@@ -59,8 +59,8 @@ tables_vacant f t u place s x vacated missing tables i off p d now seat =
 -- ---- a drive that was declined
 
 -- The disk that may have been written has the slices by its table, where it is a current place's.
-pub tables_attached : (f : Found) (t : Slices) (s : State) (disk : ℕ) (x z : Seen) → IsArranged f → AreSlicesOf f t → KeepsOthers f t s disk x z
-    → ((i : Image) → IsPickOff t z i → (p : ℕ) → is_current s p ≡ true → f.seats p ≡ Some disk → LieOn t p (z.sectors disk) (i disk))
+pub tables_attached : (f : Found) (t : Slices) (s : State) (disk : ℕ) (x z : RackView) → IsArranged f → AreSlicesOf f t → KeepsOthers f t s disk x z
+    → ((i : Image) → IsPickOutsideSlices t z i → (p : ℕ) → is_current s p ≡ true → f.seats p ≡ Some disk → LieOn t p (z.sectors disk) (i disk))
     → HoldTables f t s x → HoldTables (attached f (disks_of z)) t s z
 tables_attached f t s disk x z arranged slices keeps own tables i off p d now seat =
     let at : f.seats p ≡ Some d = sym (slices.seats p) ∙ seat in
@@ -75,8 +75,8 @@ tables_attached f t s disk x z arranged slices keeps own tables i off p d now se
     ]
 
 -- So have the drives of current places their tables, where that disk has the one of its place.
-pub tabled_declined : (f : Found) (t : Slices) (s : State) (disk : ℕ) (x z : Seen) → IsArranged f → KeepsOthers f t s disk x z
-    → ((i : Image) → IsPickOff t z i → (p : ℕ) → is_current s p ≡ true → f.seats p ≡ Some disk → IsTabled f p (z.sectors disk) (i disk))
+pub tabled_declined : (f : Found) (t : Slices) (s : State) (disk : ℕ) (x z : RackView) → IsArranged f → KeepsOthers f t s disk x z
+    → ((i : Image) → IsPickOutsideSlices t z i → (p : ℕ) → is_current s p ≡ true → f.seats p ≡ Some disk → IsTabled f p (z.sectors disk) (i disk))
     → HoldTabled f s t x → HoldTabled (attached f (disks_of z)) s t z
 tabled_declined f t s disk x z arranged keeps own tabled i off p d seat why =
     tabled_same f (attached f (disks_of z)) arranged.made.1 arranged.truths (truths_attached f (disks_of z) arranged keeps.disks keeps.sectors) refl p refl (z.sectors d) (i d)
@@ -93,9 +93,9 @@ tabled_declined f t s disk x z arranged keeps own tabled i off p d seat why =
 -- ---- a drive that was taken in
 
 -- The new drive has the slices by its table.
-pub tables_taken : (f : Found) (t u : Slices) (v : Raid) (r : State) (x z : Seen) (place disk units : ℕ) (plan : Plan) → InService f t v x
-    → SeatsNew f t u v place disk (z.sectors disk) → KeepsRest f t u v place disk x z → IsAfter (enlisted place units plan v.state) r
-    → ((i : Image) → IsPickOff u z i → LieOn u place (z.sectors disk) (i disk))
+pub tables_taken : (f : Found) (t u : Slices) (v : Raid) (r : State) (x z : RackView) (place disk units : ℕ) (plan : Plan) → RunInvariant f t v x
+    → SeatsNew f t u v place disk (z.sectors disk) → KeepsRest f t u v place disk x z → OnlyMarksSince (enlisted place units plan v.state) r
+    → ((i : Image) → IsPickOutsideSlices u z i → LieOn u place (z.sectors disk) (i disk))
     → HoldTables f t v.state x → HoldTables (taken f (disks_of z) place disk (enlisted place units plan v.state)) u r z
 tables_taken f t u v r x z place disk units plan is new keeps after own tables i off p d now seat = elim (cases_eq p place) [
   | inl same ↦

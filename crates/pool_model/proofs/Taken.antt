@@ -22,7 +22,7 @@ use Rattle.pool_image.specs.Disks.{Disks}
 use Rattle.pool_image.specs.Drives.{Found, drive_sector, first_of, slices_from, truth_from}
 use Rattle.pool_image.specs.Meaning.{array_sectors, is_member, truth_of}
 use Rattle.pool_image.proofs.Truths.{truth_found}
-use Rattle.raid_laws.specs.Book.{IsAfter}
+use Rattle.raid_laws.specs.Book.{OnlyMarksSince}
 use Rattle.raid_laws.specs.Enlisting.{enlisted}
 use Rattle.raid_laws.specs.NewDrive.{first_in, joins, slice_length}
 use Rattle.raid_laws.specs.Raid.{Raid}
@@ -37,7 +37,7 @@ use Rattle.pool_model.proofs.Named.{same_length}
 -- what is known of the pool before
 pub record IsKnownBefore (f : Found) (v : Raid) : Type 0 where
   pub outset : IsArranged f
-  pub after : IsAfter f.state v.state
+  pub after : OnlyMarksSince f.state v.state
   pub geometry : (n : ℕ) (u : Super) → n < f.state.made → truth_of f n ≡ Some u → HasGeometry u (v.arrays n).truth
 
 module _ (f : Found) (t u : Slices) (v : Raid) (disks : Disks) (place disk units : ℕ) (plan : Plan)

@@ -3,7 +3,7 @@
 use Rattle.std.proofs.Common.{◌≡◌, ◌≢◌, ◌⊎◌, ℕ, ◌+◌, ◌-◌, ◌<◌, ◌≤◌, ◌^◌, if◌then◌else◌, Bool, true, false, List, Ok, Some, refl, sym, ap, subst, ◌∙◌, inl, inr, lt-ltb, arith}
 use Rattle.std.proofs.lemmas.Bool.{cases_eq, cases_lt}
 use Rattle.rack.specs.Moments.{Leaves}
-use Rattle.rack.specs.Seen.{Image, Seen}
+use Rattle.rack.specs.Seen.{Image, RackView}
 use Rattle.rack.specs.Sequences.{IsMix, WritesOnly}
 use Rattle.rack.proofs.Writing.{only_weaker}
 use Rattle.slice_rack.specs.Runs.{IsSliced}
@@ -16,21 +16,21 @@ use Rattle.pool_state.specs.declared.contents.State.{State}
 use Rattle.pool_state.specs.Sector.{decoded}
 use Rattle.array_image.specs.Places.{log_sectors, log_slice, place_of, slice_of, state_sector}
 use Rattle.array_image.specs.States.{is_current}
-use Rattle.log_laws.specs.Saying.{SaysState}
+use Rattle.log_laws.specs.Saying.{RecoversTo}
 use Rattle.raid_laws.specs.Enlisting.{Enlists, IsNotWhole, IsOpenDisk, IsRefused, IsWrittenBy, KeepsTold, SaysJoining, enlisted, new_table}
 use Rattle.raid_laws.specs.Missing.{raised}
 use Rattle.raid_laws.specs.Logs.{LogsBetween}
 use Rattle.raid_laws.specs.Losses.{has_other}
 use Rattle.raid_laws.specs.NewDrive.{IsOfDrive, SeatsDrive, sectors_laid}
-use Rattle.raid_laws.specs.Raid.{IsTold, Raid, held_in, is_over}
-use Rattle.raid_laws.specs.Runs.{KeepsMoments}
+use Rattle.raid_laws.specs.Raid.{IsTracked, Raid, held_in, is_failed}
+use Rattle.raid_laws.specs.Runs.{CrashInvariant}
 use Rattle.raid_laws.proofs.Over.{number_room, someone_left}
 use Rattle.raid_laws.proofs.Since.{joining_none}
 use Rattle.pool_image.specs.Drives.{Found}
-use Rattle.pool_model.specs.InService.{InService}
-use Rattle.pool_model.specs.Laid.{IsLaidOff}
+use Rattle.pool_model.specs.InService.{RunInvariant}
+use Rattle.pool_model.specs.Laid.{IsLaidOutsideSlices}
 use Rattle.pool_model.specs.Left.{HavePlaces}
-use Rattle.pool_model.specs.Stopped.{HoldAmid, HoldTables}
+use Rattle.pool_model.specs.Stopped.{RecoversInCall, HoldTables}
 use Rattle.pool_model.specs.Taken.{LacksDrive, SeatsNew, views_of}
 use Rattle.pool_model.proofs.Joined.{current_here}
 use Rattle.pool_model.proofs.JoiningEarly.{joining_early}
@@ -41,7 +41,7 @@ use Rattle.pool_model.proofs.Staying.{sliced_seated}
 use Rattle.pool_model.proofs.TakingLate.{present_of}
 use Rattle.pool_model.proofs.Vacant.{seats_from, vacant_free}
 
-module _ (f : Found) (s t : Slices) (v : Raid) (place disk : ℕ) (a : Seen) (is : InService f s v a) (lacks : LacksDrive f s t v place a)
+module _ (f : Found) (s t : Slices) (v : Raid) (place disk : ℕ) (a : RackView) (is : RunInvariant f s v a) (lacks : LacksDrive f s t v place a)
     (apart : (p : ℕ) → p ≢ place → f.seats p ≡ Some disk → ⊥) (orderly : IsOrderly t) (inside : IsInside t a) (tables : HoldTables f s v.state a)
     (opened : IsOpenDisk a disk) (room : 10273 ≤ a.sectors disk) (lasting : a.lasting) (traced : a.traced) where
   first : 0 < f.state.made
@@ -64,17 +64,17 @@ module _ (f : Found) (s t : Slices) (v : Raid) (place disk : ℕ) (a : Seen) (is
   -- ---- a drive that is declined
 
   -- The drive may have refused a call, or another one was found gone and is marked, by the book w.
-  pub declined_amid : (table : Table) → table.sectors ≡ a.sectors disk → (w : Raid) (b : Seen) → WritesOnly a b (IsWrittenBy t disk table) → KeepsMoments v w (slices_of t a) (slices_of t b)
-      → ((n : ℕ) → n < f.state.made → IsTold v (slices_of t a) n) → ((n : ℕ) → n < f.state.made → is_over w n ≡ false)
-      → Leaves a b (HoldAmid f t v.state w.state)
+  pub declined_amid : (table : Table) → table.sectors ≡ a.sectors disk → (w : Raid) (b : RackView) → WritesOnly a b (IsWrittenBy t disk table) → CrashInvariant v w (slices_of t a) (slices_of t b)
+      → ((n : ℕ) → n < f.state.made → IsTracked v (slices_of t a) n) → ((n : ℕ) → n < f.state.made → is_failed w n ≡ false)
+      → Leaves a b (RecoversInCall f t v.state w.state)
   declined_amid table sized w b only keeps told lasts =
       let stops = only.stops traced in
       record { later = stops.later; kept = stops.kept; past = stops.past; new = λ k i since until stopped. amid k i since until stopped (stops.new k i since until stopped) }
     where
-      still : is_over v 0 ≡ false
+      still : is_failed v 0 ≡ false
       still = keeps.still 0 (lasts 0 first)
 
-      amid : (k : ℕ) (i : Image) → a.clock < k → k ≤ b.clock → b.stops k i → IsMix a b (IsWrittenBy t disk table) i → HoldAmid f t v.state w.state i
+      amid : (k : ℕ) (i : Image) → a.clock < k → k ≤ b.clock → b.stops k i → IsMix a b (IsWrittenBy t disk table) i → RecoversInCall f t v.state w.state i
       amid k i since until stopped mix =
           let one = someone_left w 0 (lasts 0 first) in
           laid_amid f s t v place a is lacks orderly inside disk i (declined_off f t v disk table a vacant free opened (omega (arith, room, sized)) lasting b only.stays i mix) w tables
@@ -82,21 +82,21 @@ module _ (f : Found) (s t : Slices) (v : Raid) (place disk : ℕ) (a : Seen) (is
           (let most = (number_room w 0 (lasts 0 first)).1 in omega (arith, most)) one.0 one.1
 
   -- So it is where the drive refused a call, and where another one was found gone.
-  pub refused_amid : (table : Table) → table.sectors ≡ a.sectors disk → (b : Seen) → IsRefused t disk table v a b → ((n : ℕ) → n < f.state.made → IsTold v (slices_of t a) n)
-      → ((n : ℕ) → n < f.state.made → is_over v n ≡ false) → Leaves a b (HoldAmid f t v.state v.state)
+  pub refused_amid : (table : Table) → table.sectors ≡ a.sectors disk → (b : RackView) → IsRefused t disk table v a b → ((n : ℕ) → n < f.state.made → IsTracked v (slices_of t a) n)
+      → ((n : ℕ) → n < f.state.made → is_failed v n ≡ false) → Leaves a b (RecoversInCall f t v.state v.state)
   refused_amid table sized b refused told lasts =
       declined_amid table sized v b (only_weaker (IsOfDrive disk table) (IsWrittenBy t disk table) (λ d k c own. inl own) refused.only) refused.moments told lasts
 
-  pub not_whole_amid : (table : Table) → table.sectors ≡ a.sectors disk → (w : Raid) (b : Seen) → IsNotWhole t disk table v w a b → ((n : ℕ) → n < f.state.made → IsTold v (slices_of t a) n)
-      → ((n : ℕ) → n < f.state.made → is_over w n ≡ false) → Leaves a b (HoldAmid f t v.state w.state)
+  pub not_whole_amid : (table : Table) → table.sectors ≡ a.sectors disk → (w : Raid) (b : RackView) → IsNotWhole t disk table v w a b → ((n : ℕ) → n < f.state.made → IsTracked v (slices_of t a) n)
+      → ((n : ℕ) → n < f.state.made → is_failed w n ≡ false) → Leaves a b (RecoversInCall f t v.state w.state)
   not_whole_amid table sized w b declined told lasts = declined_amid table sized w b declined.only declined.moments told lasts
 
   -- ---- a drive that is taken in
 
   -- `mid` is the time when its slices were added.
-  module _ (u : Slices) (units : ℕ) (plan : Plan) (table : Table) (sized : table.sectors ≡ a.sectors disk) (w : Raid) (b : Seen) (mid : ℕ) (new : SeatsNew f s u v place disk (a.sectors disk))
+  module _ (u : Slices) (units : ℕ) (plan : Plan) (table : Table) (sized : table.sectors ≡ a.sectors disk) (w : Raid) (b : RackView) (mid : ℕ) (new : SeatsNew f s u v place disk (a.sectors disk))
       (only : WritesOnly a b (IsWrittenBy u disk table)) (told : (n : ℕ) → n < f.state.made → KeepsTold t u place disk units plan table v w a b mid n)
-      (lasts : (n : ℕ) → n < f.state.made → is_over w n ≡ false) (present : HavePlaces v.state f) (someone : ℕ) (now : is_current v.state someone ≡ true) where
+      (lasts : (n : ℕ) → n < f.state.made → is_failed w n ≡ false) (present : HavePlaces v.state f) (someone : ℕ) (now : is_current v.state someone ≡ true) where
     abbrev next : State
     next = enlisted place units plan v.state
 
@@ -108,10 +108,10 @@ module _ (f : Found) (s t : Slices) (v : Raid) (place disk : ℕ) (a : Seen) (is
     fewer d k c = sliced_seated (views_of v) place disk (a.sectors disk) t u seats d k c
 
     -- While it is laid.
-    pub laying_early : (k : ℕ) (i : Image) → a.clock < k → k ≤ b.clock → b.stops k i → k ≤ mid → HoldAmid f t v.state v.state i
+    pub laying_early : (k : ℕ) (i : Image) → a.clock < k → k ≤ b.clock → b.stops k i → k ≤ mid → RecoversInCall f t v.state v.state i
     laying_early k i since until stopped early =
         let each = λ (n : ℕ) (low : n < f.state.made). (told n low).before traced (lasts n low) k i since early stopped in
-        let off : IsLaidOff f t v.state disk a i =
+        let off : IsLaidOutsideSlices f t v.state disk a i =
         laid_off f t u v.state disk table a b i vacant free opened lasting only.stays fewer ((only.stops traced).new k i since until stopped)
         (laid_says a disk table i (omega (arith, room, sized)) (each 0 first).laid) in
         laid_amid f s t v place a is lacks orderly inside disk i off v tables present
@@ -119,10 +119,10 @@ module _ (f : Found) (s t : Slices) (v : Raid) (place disk : ℕ) (a : Seen) (is
 
     -- Once it has its slices, where they say the state before.
     pub taking_early : IsOrderly u → IsInside u a → (k : ℕ) (i : Image) → a.clock < k → k ≤ b.clock → b.stops k i → mid < k
-        → SaysState v.state (sectors_of u) (sliced u i) → HoldAmid f u v.state v.state i
+        → RecoversTo v.state (sectors_of u) (sliced u i) → RecoversInCall f u v.state v.state i
     taking_early orderly_now inside_now k i since until stopped late says =
         let each = λ (n : ℕ) (low : n < f.state.made). (told n low).after lacks.missing traced (lasts n low) k i late until stopped in
-        let off : IsLaidOff f t v.state disk a i =
+        let off : IsLaidOutsideSlices f t v.state disk a i =
         laid_off f t u v.state disk table a b i vacant free opened lasting only.stays fewer ((only.stops traced).new k i since until stopped)
         (λ copy low here. absurd (says_none (each 0 first) copy here)) in
         joining_early f s u v place disk a is new lacks.missing t i lacks orderly inside orderly_now inside_now tables present someone now off
@@ -153,16 +153,16 @@ module _ (f : Found) (s t : Slices) (v : Raid) (place disk : ℕ) (a : Seen) (is
             (current_here place units plan v.state new.listed) (ap decoded (new_sector (views_of v) place disk (a.sectors disk) t u seats i) ∙ here)
 
   -- By what the rack of arrays says of the call.
-  module _ (u : Slices) (units : ℕ) (plan : Plan) (w : Raid) (b : Seen) (new : SeatsNew f s u v place disk (a.sectors disk))
-      (enlists : Enlists t u (views_of v) place disk units plan v w a b) (told : (n : ℕ) → n < f.state.made → IsTold v (slices_of t a) n)
-      (lasts : (n : ℕ) → n < f.state.made → is_over w n ≡ false) (left : has_other w.state place ≡ true) where
+  module _ (u : Slices) (units : ℕ) (plan : Plan) (w : Raid) (b : RackView) (new : SeatsNew f s u v place disk (a.sectors disk))
+      (enlists : Enlists t u (views_of v) place disk units plan v w a b) (told : (n : ℕ) → n < f.state.made → IsTracked v (slices_of t a) n)
+      (lasts : (n : ℕ) → n < f.state.made → is_failed w n ≡ false) (left : has_other w.state place ≡ true) where
     listed : (n : ℕ) → n < f.state.made → n < v.state.made
     listed n low = let made = is.after.same.made in omega (arith, low, made)
 
     pub entering_told : (n : ℕ) → n < f.state.made → KeepsTold t u place disk units plan (new_table v.state (views_of v) place (a.sectors disk)) v w a b enlists.mid n
     entering_told n low = enlists.told n (listed n low) (told n low) opened left
 
-    still : is_over v 0 ≡ false
+    still : is_failed v 0 ≡ false
     still = enlists.is.still 0 (listed 0 first) left (lasts 0 first)
 
     -- each current place has a drive, and one is current
@@ -174,7 +174,7 @@ module _ (f : Found) (s t : Slices) (v : Raid) (place disk : ℕ) (a : Seen) (is
 
     -- A stop holds the pool that there was, or it is one at which the log slices say a state with the drive.
     pub entering_early : IsOrderly u → IsInside u a → (k : ℕ) (i : Image) → a.clock < k → k ≤ b.clock → b.stops k i
-        → (HoldAmid f t v.state v.state i ⊎ HoldAmid f u v.state v.state i)
+        → (RecoversInCall f t v.state v.state i ⊎ RecoversInCall f u v.state v.state i)
         ⊎ ((enlists.mid < k) × LogsBetween (enlisted place units plan v.state) w.state (sectors_of u) (sliced u i))
     entering_early orderly_now inside_now k i since until stopped =
         let table = new_table v.state (views_of v) place (a.sectors disk) in

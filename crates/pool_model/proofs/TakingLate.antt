@@ -1,7 +1,7 @@
 -- A stop while a pool takes a new drive in, from the moment on when the record counts that brings the state with it: what it leaves holds the pool with the drive.
 use Rattle.std.proofs.Common.{◌≡◌, ◌≢◌, ◌⊎◌, ℕ, ◌+◌, ◌-◌, ◌<◌, ◌≤◌, ◌^◌, ◌==◌, if◌then◌else◌, Bool, true, false, List, Option, Some, None, refl, sym, ap, subst, ◌∙◌, inl, inr, eqb-true, lt-ltb, arith}
 use Rattle.std.proofs.lemmas.Bool.{both_ways}
-use Rattle.rack.specs.Seen.{Image, Seen}
+use Rattle.rack.specs.Seen.{Image, RackView}
 use Rattle.rack.specs.Sequences.{IsMix, WritesOnly}
 use Rattle.rack.specs.Joins.{keeps_same}
 use Rattle.rack.specs.Values.{MayLeave, Values}
@@ -22,14 +22,14 @@ use Rattle.array_image.specs.States.{is_current, state_in}
 use Rattle.array_core.proofs.Stripped.{some_same}
 use Rattle.array_model.specs.View.{View}
 use Rattle.log_laws.proofs.Kept.{live_on}
-use Rattle.raid_laws.specs.Book.{IsAfter, after_then}
+use Rattle.raid_laws.specs.Book.{OnlyMarksSince, after_then}
 use Rattle.raid_laws.specs.Enlisting.{HoldsTable, IsOpenDisk, IsWrittenBy, KeepsTold, SaysBy, enlisted, new_table}
 use Rattle.raid_laws.specs.Frames.{HasFrame, frame_of}
 use Rattle.raid_laws.specs.Logs.{LogsBetween}
 use Rattle.raid_laws.specs.Losses.{has_other}
 use Rattle.raid_laws.specs.Marking.{SaysBetween}
 use Rattle.raid_laws.specs.Missing.{raised}
-use Rattle.raid_laws.specs.Raid.{IsTold, Raid, held_in, is_over, spent_of}
+use Rattle.raid_laws.specs.Raid.{IsTracked, Raid, held_in, is_failed, spent_of}
 use Rattle.raid_laws.specs.Runs.{IsBetween}
 use Rattle.raid_laws.specs.Since.{AreJoinSince, AreTakenSince}
 use Rattle.raid_laws.proofs.Others.{some_other}
@@ -37,11 +37,11 @@ use Rattle.raid_laws.proofs.Over.{number_room}
 use Rattle.pool_image.specs.Disks.{disks_of, identities_of}
 use Rattle.pool_image.specs.Drives.{Found, first_of as first_in_pool}
 use Rattle.pool_image.specs.Meaning.{is_member}
-use Rattle.pool_model.specs.InService.{InService}
-use Rattle.pool_model.specs.Laid.{HaveOtherIds, IsFormerYet, IsJoinedOff, SaysFormerly}
-use Rattle.pool_model.specs.Left.{HasNoSuper, IsPickOff}
-use Rattle.pool_model.specs.Stopped.{HoldAmid, HoldTables, LieOn}
-use Rattle.pool_model.specs.Taken.{KeepsOff, LacksDrive, SeatsNew, taken, views_of}
+use Rattle.pool_model.specs.InService.{RunInvariant}
+use Rattle.pool_model.specs.Laid.{HaveOtherIds, IsFormerYet, IsJoinedOutsideSlices, SaysFormerly}
+use Rattle.pool_model.specs.Left.{HasNoSuper, IsPickOutsideSlices}
+use Rattle.pool_model.specs.Stopped.{RecoversInCall, HoldTables, LieOn}
+use Rattle.pool_model.specs.Taken.{KeepsOutsideSlices, LacksDrive, SeatsNew, taken, views_of}
 use Rattle.pool_model.proofs.Joined.{current_other}
 use Rattle.pool_model.proofs.JoiningSaid.{keeps_off, off_now, z}
 use Rattle.pool_model.proofs.JoiningShown.{joining_amid}
@@ -53,8 +53,8 @@ use Rattle.pool_model.proofs.Vacant.{lacks_still, seats_from}
 -- What is known of a pool and of the disk when it is taken in at a place: s are the tables by which the pool goes, t those in which the place has no disk, and u those with the new one,
 -- whose table of these arrays has its slices there. Each place that is current has its drive. No superblock of an array stands on the disk where the slice of one would begin that the
 -- place is no member of.
-pub record IsTaking (f : Found) (s t u : Slices) (arrays : List View) (v : Raid) (place disk : ℕ) (x : Seen) : Type 0 where
-  pub service : InService f s v x
+pub record IsTaking (f : Found) (s t u : Slices) (arrays : List View) (v : Raid) (place disk : ℕ) (x : RackView) : Type 0 where
+  pub service : RunInvariant f s v x
   pub new : SeatsNew f s u v place disk (x.sectors disk)
   pub lacks : LacksDrive f s t v place x
   pub present : (p : ℕ) → is_current v.state p ≡ true → (d : ℕ) × (f.seats p ≡ Some d)
@@ -70,8 +70,8 @@ pub record IsTaking (f : Found) (s t u : Slices) (arrays : List View) (v : Raid)
       → (w : List ℕ) → MayLeave (x.held disk (first + super_sector)) w → HasNoSuper f.state.pool.0 n w
 
 -- So it is of any place that gets another disk, u being the tables with it.
-pub record IsEntering (f : Found) (s u : Slices) (arrays : List View) (v : Raid) (place disk : ℕ) (x : Seen) : Type 0 where
-  pub service : InService f s v x
+pub record IsEntering (f : Found) (s u : Slices) (arrays : List View) (v : Raid) (place disk : ℕ) (x : RackView) : Type 0 where
+  pub service : RunInvariant f s v x
   pub new : SeatsNew f s u v place disk (x.sectors disk)
   pub present : (p : ℕ) → is_current v.state p ≡ true → (d : ℕ) × (f.seats p ≡ Some d)
   pub low : disk < x.disks
@@ -85,7 +85,7 @@ pub record IsEntering (f : Found) (s u : Slices) (arrays : List View) (v : Raid)
       (n first : ℕ) → n < f.state.made → is_member f n place ≡ false → first_in_pool f n ≡ Some first → first + super_sector < x.sectors disk
       → (w : List ℕ) → MayLeave (x.held disk (first + super_sector)) w → HasNoSuper f.state.pool.0 n w
 
-taking_enters : (f : Found) (s t u : Slices) (arrays : List View) (v : Raid) (place disk : ℕ) (x : Seen) → IsTaking f s t u arrays v place disk x → IsEntering f s u arrays v place disk x
+taking_enters : (f : Found) (s t u : Slices) (arrays : List View) (v : Raid) (place disk : ℕ) (x : RackView) → IsTaking f s t u arrays v place disk x → IsEntering f s u arrays v place disk x
 taking_enters f s t u arrays v place disk x is = record {
   service = is.service;
   new = is.new;
@@ -101,7 +101,7 @@ taking_enters f s t u arrays v place disk x is = record {
 }
 
 -- Each place that is current has its drive, where an array is told by the tables without the place's disk: it has its log slice then.
-pub present_of : (f : Found) (s t : Slices) (v : Raid) (place : ℕ) (x : Seen) → InService f s v x → LacksDrive f s t v place x → IsTold v (slices_of t x) 0 → is_over v 0 ≡ false
+pub present_of : (f : Found) (s t : Slices) (v : Raid) (place : ℕ) (x : RackView) → RunInvariant f s v x → LacksDrive f s t v place x → IsTracked v (slices_of t x) 0 → is_failed v 0 ≡ false
     → (p : ℕ) → is_current v.state p ≡ true → (d : ℕ) × (f.seats p ≡ Some d)
 present_of f s t v place x is lacks told lasts p now = by (f.seats p) refl
   where
@@ -116,7 +116,7 @@ present_of f s t v place x is lacks told lasts p now = by (f.seats p) refl
         let some = (told.stood lasts).log.there p now refl in
         absurd (omega (arith, nothing, many, some))
 
-module _ (f : Found) (s u : Slices) (arrays : List View) (v : Raid) (place disk : ℕ) (x y : Seen) (is : IsEntering f s u arrays v place disk x)
+module _ (f : Found) (s u : Slices) (arrays : List View) (v : Raid) (place disk : ℕ) (x y : RackView) (is : IsEntering f s u arrays v place disk x)
     (only : WritesOnly x y (IsWrittenBy u disk (new_table v.state arrays place (x.sectors disk)))) where
   known : IsKnownBefore f v
   known = record { outset = is.service.arranged; after = is.service.after; geometry = is.service.geometry }
@@ -125,9 +125,9 @@ module _ (f : Found) (s u : Slices) (arrays : List View) (v : Raid) (place disk 
   table = new_table v.state arrays place (x.sectors disk)
 
   -- What contents have outside the slices in which the live sectors have what they had, or what the call may write. The drive that the place had says no later state.
-  pub entering_off : ((d : ℕ) → d ≢ disk → f.seats place ≡ Some d → (j : Image) → IsPickOff u x j → (copy : Copied)
+  pub entering_off : ((d : ℕ) → d ≢ disk → f.seats place ≡ Some d → (j : Image) → IsPickOutsideSlices u x j → (copy : Copied)
       → (identities_of (disks_of x) j d).copied ≡ Some copy → copy.state.epoch < raised v.state.epoch)
-      → (i : Image) → IsMix x y (IsWrittenBy u disk table) i → IsJoinedOff f u v place disk x i
+      → (i : Image) → IsMix x y (IsWrittenBy u disk table) i → IsJoinedOutsideSlices f u v place disk x i
   entering_off earlier i mix = record {
     low = is.low;
     opened = is.opened;
@@ -152,18 +152,18 @@ module _ (f : Found) (s u : Slices) (arrays : List View) (v : Raid) (place disk 
   coming units plan = enlisted place units plan v.state
 
   -- A stop whose log slices say a state that has the drive, where no other disk has the id of the next one, leaves contents that hold the pool with it.
-  pub entering_late : (units : ℕ) (plan : Plan) (w : Raid) (i : Image) (joined : IsJoinedOff f u v place disk x i)
+  pub entering_late : (units : ℕ) (plan : Plan) (w : Raid) (i : Image) (joined : IsJoinedOutsideSlices f u v place disk x i)
       → ((d : ℕ) (copy : Copied) → f.seats place ≡ Some d → d ≢ disk → (identities_of (disks_of x) i d).copied ≡ Some copy → SaysFormerly v.state place copy)
       → has_other w.state place ≡ true → w.state.epoch < 2 ^ 63 - 1 → HoldsTable disk table i → HaveOtherIds f v.state place disk i
       → AreTakenSince (λ p. p == place) v.state (coming units plan) (sectors_of u) (sliced u i) → (logs : LogsBetween (coming units plan) w.state (sectors_of u) (sliced u i))
-      → ((q : State) → state_in (sliced u i) ≡ Some q → IsAfter v.state q → is_current q place ≡ true
-      → IsAfter (coming units plan) q ⊎ IsFormerYet (disks_of x) u q logs.state place i)
+      → ((q : State) → state_in (sliced u i) ≡ Some q → OnlyMarksSince v.state q → is_current q place ≡ true
+      → OnlyMarksSince (coming units plan) q ⊎ IsFormerYet (disks_of x) u q logs.state place i)
       → ((n : ℕ) → n < f.state.made → IsBetween (coming units plan) w.state n (replayed (sectors_of u) (sliced u i)))
       → ((n : ℕ) → n < f.state.made → HasFrame (frame_of (v.arrays n).truth) n (replayed (sectors_of u) (sliced u i)))
-      → HoldAmid (taken f (disks_of x) place disk (coming units plan)) u (coming units plan) w.state i
+      → RecoversInCall (taken f (disks_of x) place disk (coming units plan)) u (coming units plan) w.state i
   entering_late units plan w i joined formerly other enough holds ids since logs former arrays frames =
       let tabled : the_table (x.sectors disk) (i disk) ≡ Some table = first_says (x.sectors disk) (i disk) table (holds Primary).says in
-      let marks : IsAfter (coming units plan) w.state = after_then (coming units plan) logs.state w.state logs.later logs.sooner in
+      let marks : OnlyMarksSince (coming units plan) w.state = after_then (coming units plan) logs.state w.state logs.later logs.sooner in
       let left = some_other w.state place other in
       joining_amid f s u v place disk units plan x i is.service is.new joined formerly w is.orderly is.inside is.tables is.present
       (left.0, left.2, sym (current_other place units plan v.state is.new.listed left.0 left.2) ∙ marks.current left.0 left.1, left.1)
@@ -183,7 +183,7 @@ between_says s w n vals spent r at = record {
 
 -- ---- a place that gave its disk up
 
-module _ (f : Found) (s t u : Slices) (arrays : List View) (v : Raid) (place disk : ℕ) (x y : Seen) (is : IsTaking f s t u arrays v place disk x)
+module _ (f : Found) (s t u : Slices) (arrays : List View) (v : Raid) (place disk : ℕ) (x y : RackView) (is : IsTaking f s t u arrays v place disk x)
     (only : WritesOnly x y (IsWrittenBy u disk (new_table v.state arrays place (x.sectors disk)))) where
   abbrev enters : IsEntering f s u arrays v place disk x
   enters = taking_enters f s t u arrays v place disk x is
@@ -194,10 +194,10 @@ module _ (f : Found) (s t u : Slices) (arrays : List View) (v : Raid) (place dis
       let from = seats_from s t place is.lacks.vacated (views_of v) disk (x.sectors disk) u is.new.seats in
       sliced_seated (views_of v) place disk (x.sectors disk) t u from d k w other at
 
-  keeps_same_off : KeepsOff t disk x x
+  keeps_same_off : KeepsOutsideSlices t disk x x
   keeps_same_off d k other live never = (live, keeps_same (x.held d k))
 
-  pub taking_off : (i : Image) → IsMix x y (IsWrittenBy u disk (new_table v.state arrays place (x.sectors disk))) i → IsJoinedOff f u v place disk x i
+  pub taking_off : (i : Image) → IsMix x y (IsWrittenBy u disk (new_table v.state arrays place (x.sectors disk))) i → IsJoinedOutsideSlices f u v place disk x i
   taking_off =
       entering_off f s u arrays v place disk x y enters only
       (λ d other seat j off copy here.
@@ -206,14 +206,14 @@ module _ (f : Found) (s t u : Slices) (arrays : List View) (v : Raid) (place dis
       omega (arith, less, up))
 
   -- the drive that the place had says a state from before
-  formerly : (i : Image) → IsJoinedOff f u v place disk x i → (d : ℕ) (copy : Copied) → f.seats place ≡ Some d → d ≢ disk
+  formerly : (i : Image) → IsJoinedOutsideSlices f u v place disk x i → (d : ℕ) (copy : Copied) → f.seats place ≡ Some d → d ≢ disk
       → (identities_of (disks_of x) i d).copied ≡ Some copy → SaysFormerly v.state place copy
   formerly i joined d copy seat other here =
       inl (lacks_still f s t u v place disk x (z f s u v place disk 0 v.state.plan x i is.service is.new joined) is.lacks
       (keeps_off f s u v place disk 0 v.state.plan x i is.service is.new joined t) fewer d seat other refl i
       (off_now f s u v place disk 0 v.state.plan x i is.service is.new joined) copy here)
 
-  module _ (w : Raid) (units mid : ℕ) (plan : Plan) (traced : x.traced) (other : has_other w.state place ≡ true) (lasts : (n : ℕ) → n < f.state.made → is_over w n ≡ false)
+  module _ (w : Raid) (units mid : ℕ) (plan : Plan) (traced : x.traced) (other : has_other w.state place ≡ true) (lasts : (n : ℕ) → n < f.state.made → is_failed w n ≡ false)
       (tells : (n : ℕ) → n < f.state.made → KeepsTold t u place disk units plan (new_table v.state arrays place (x.sectors disk)) v w x y mid n) (begun : x.clock ≤ mid) where
     abbrev next : State
     next = enlisted place units plan v.state
@@ -233,7 +233,7 @@ module _ (f : Found) (s t u : Slices) (arrays : List View) (v : Raid) (place dis
 
     -- A stop from then on whose log slices say a state that has the drive, where no other disk has the id of the next one, leaves contents that hold the pool with it.
     pub taking_late : (k : ℕ) (i : Image) → mid < k → k ≤ y.clock → y.stops k i → HaveOtherIds f v.state place disk i
-        → LogsBetween next w.state (sectors_of u) (sliced u i) → HoldAmid (taken f (disks_of x) place disk next) u next w.state i
+        → LogsBetween next w.state (sectors_of u) (sliced u i) → RecoversInCall (taken f (disks_of x) place disk next) u next w.state i
     taking_late k i late early stop ids logs =
         let mix = (only.stops traced).new k i (omega (arith, begun, late)) early stop in
         let joined = taking_off i mix in

@@ -2,7 +2,7 @@
 use Rattle.std.proofs.Common.{◌≡◌, ◌≢◌, ℕ, ◌+◌, ◌<◌, ◌≤◌, unwrap_or, ◌==◌, ◌&&◌, if◌then◌else◌, Bool, true, false, List, Option, Some, None, refl, sym, ap, ap₂, subst, ◌∙◌, inl, inr, eq-eqb, eqb-true, lt-ltb, Ok, arith}
 use Rattle.std.specs.Result.{result_ok}
 use Rattle.std.proofs.lemmas.Bool.{both_ways, cases_Bool, cases_eq, ne_eqb}
-use Rattle.rack.specs.Seen.{Image, Seen}
+use Rattle.rack.specs.Seen.{Image, RackView}
 use Rattle.rack.specs.Sequences.{WritesOnly}
 use Rattle.rack.specs.Values.{MayLeave}
 use Rattle.slice_rack.specs.Changes.{Seats}
@@ -17,15 +17,15 @@ use Rattle.array_image.specs.States.{is_current}
 use Rattle.array_model.specs.View.{View}
 use Rattle.pool_image.specs.Disks.{disks_of, identities_of}
 use Rattle.pool_image.specs.Drives.{Found, extent_of}
-use Rattle.raid_laws.specs.Book.{IsAfter}
+use Rattle.raid_laws.specs.Book.{OnlyMarksSince}
 use Rattle.raid_laws.specs.NewDrive.{SeatsDrive}
 use Rattle.raid_laws.specs.Raid.{Raid}
 use Rattle.raid_laws.proofs.Noted.{current_few}
 use Rattle.pool_model.specs.InService.{IsOutset}
-use Rattle.pool_model.specs.Left.{IsLeftBy, IsPickOff}
+use Rattle.pool_model.specs.Left.{IsLeftBy, IsPickOutsideSlices}
 use Rattle.pool_model.specs.Pools.{AreSlicesOf, extent_in}
 use Rattle.pool_model.specs.Stopped.{AreSlicesNow}
-use Rattle.pool_model.specs.Taken.{KeepsOff, LacksDrive}
+use Rattle.pool_model.specs.Taken.{KeepsOutsideSlices, LacksDrive}
 use Rattle.pool_model.proofs.Again.{AreOnDisks, off_later}
 use Rattle.pool_model.proofs.Before.{off_before, was as image_before, was_other as image_other}
 use Rattle.pool_model.proofs.Copies.{IsKnown, IsServedNow}
@@ -130,8 +130,8 @@ module _ (t u : Slices) (place : ℕ) (vacated : Seats t u place None) where
       }
 
 -- what is known of it then
-pub known_vacant : (f : Found) (t u : Slices) (v : Raid) (x : Seen) (place : ℕ) (i : Image) → IsOutset f → f.disks ≡ disks_of x → AreSlicesOf f t
-    → LacksDrive f t u v place x → IsServedNow f u v (slices_of u x) → IsLeftBy f u v.state (slices_of u x) i → IsPickOff u x i → IsKnown f u v (slices_of u x) i
+pub known_vacant : (f : Found) (t u : Slices) (v : Raid) (x : RackView) (place : ℕ) (i : Image) → IsOutset f → f.disks ≡ disks_of x → AreSlicesOf f t
+    → LacksDrive f t u v place x → IsServedNow f u v (slices_of u x) → IsLeftBy f u v.state (slices_of u x) i → IsPickOutsideSlices u x i → IsKnown f u v (slices_of u x) i
 known_vacant f t u v x place i outset same slices lacks served left off = record {
   is = outset;
   served = served;
@@ -152,7 +152,7 @@ known_vacant f t u v x place i outset same slices lacks served left off = record
 }
 
 -- what the drive that it had may say
-pub lacks_value : (f : Found) (t u : Slices) (v : Raid) (place : ℕ) (x : Seen) → LacksDrive f t u v place x → (d : ℕ) → f.seats place ≡ Some d
+pub lacks_value : (f : Found) (t u : Slices) (v : Raid) (place : ℕ) (x : RackView) → LacksDrive f t u v place x → (d : ℕ) → f.seats place ≡ Some d
     → (w : List ℕ) (copy : Copied) → state_sector < x.sectors d → MayLeave (x.held d state_sector) w → decoded w ≡ Ok copy → copy.state.epoch < v.state.epoch
 lacks_value f t u v place x lacks d seat w copy within left says = lacks.earlier d seat i pick copy here
   where
@@ -171,7 +171,7 @@ lacks_value f t u v place x lacks d seat w copy within left says = lacks.earlier
     by e s true false one two = inl refl
     by e s false b one two = inl refl
 
-    pick : IsPickOff u x i
+    pick : IsPickOutsideSlices u x i
     pick e s live never = by e s (e == d) (s == state_sector) refl refl
 
     here : (identities_of (disks_of x) i d).copied ≡ Some copy
@@ -180,7 +180,7 @@ lacks_value f t u v place x lacks d seat w copy within left says = lacks.earlier
         ∙ ap (λ block. result_ok (decoded block)) there ∙ ap result_ok says
 
 -- Calls that write slices alone leave that drive as it was.
-pub lacks_calls : (f : Found) (t u : Slices) (v w : Raid) (place : ℕ) (x y : Seen) → x.lasting → WritesOnly x y (IsSliced u) → IsAfter v.state w.state
+pub lacks_calls : (f : Found) (t u : Slices) (v w : Raid) (place : ℕ) (x y : RackView) → x.lasting → WritesOnly x y (IsSliced u) → OnlyMarksSince v.state w.state
     → LacksDrive f t u v place x → LacksDrive f t u w place y
 lacks_calls f t u v w place x y lasting only after lacks = record {
   vacated = lacks.vacated;
@@ -197,10 +197,10 @@ lacks_calls f t u v w place x y lasting only after lacks = record {
 }
 
 -- So do calls that write another disk outside them: `w` are the tables after, by which no sector of another disk becomes one of a slice.
-module _ (f : Found) (t u w : Slices) (v : Raid) (place disk : ℕ) (x z : Seen) (lacks : LacksDrive f t u v place x) (keeps : KeepsOff u disk x z)
+module _ (f : Found) (t u w : Slices) (v : Raid) (place disk : ℕ) (x z : RackView) (lacks : LacksDrive f t u v place x) (keeps : KeepsOutsideSlices u disk x z)
     (fewer : (d s : ℕ) (c : List ℕ) → d ≢ disk → IsSliced w d s c → IsSliced u d s c) (lost : ℕ) (seat : f.seats place ≡ Some lost) (other : lost ≢ disk)
     (same : z.sectors lost ≡ x.sectors lost) where
-  pub lacks_still : (i : Image) → IsPickOff w z i → (copy : Copied) → (identities_of (disks_of z) i lost).copied ≡ Some copy → copy.state.epoch < v.state.epoch
+  pub lacks_still : (i : Image) → IsPickOutsideSlices w z i → (copy : Copied) → (identities_of (disks_of z) i lost).copied ≡ Some copy → copy.state.epoch < v.state.epoch
   lacks_still i off copy here =
       let was = image_before u w disk x z keeps fewer i off in
       lacks.earlier lost seat was (off_before u w disk x z keeps fewer i off) copy

@@ -2,7 +2,7 @@
 use Rattle.std.proofs.Common.{◌≡◌, ℕ, ◌<◌, ◌≤◌, List, [], length, Option, Some, sym, ap, subst, ◌∙◌, arith}
 use Rattle.std.specs.Option.{option_map_or}
 use Rattle.rack.specs.Values.{MayLeave}
-use Rattle.rack.specs.Seen.{Image, Seen}
+use Rattle.rack.specs.Seen.{Image, RackView}
 use Rattle.shr_base.specs.declared.Id.{Id}
 use Rattle.slice_rack.specs.Slices.{Slices}
 use Rattle.pool_state.specs.declared.contents.State.{State}
@@ -15,7 +15,7 @@ use Rattle.pool_image.specs.Volumes.{Arrays, first_bad}
 use Rattle.pool_image.proofs.Groups.{AreWholeArrays}
 use Rattle.pool_image.proofs.Joined.{AreAlike, bad_kept, group_kept, volumes_kept}
 use Rattle.pool_image.specs.Replay.{Standing}
-use Rattle.pool_model.specs.Left.{HoldSame}
+use Rattle.pool_model.specs.Left.{RecoversSameVolume}
 use Rattle.pool_model.proofs.Again.{known_again}
 use Rattle.pool_model.proofs.Copies.{c, IsKnown, s}
 use Rattle.pool_model.proofs.Still.{members, same}
@@ -27,7 +27,7 @@ use Rattle.pool_model.proofs.Undamaged.{present_now, sound_parts}
 
 -- No sector of the arrays that are ready for the volume is spent, and they have the sectors and the contents of the pool's, whole sectors with
 -- room for a label. They have the shapes of the pool's.
-pub record HoldValues (f : Found) (v : Raid) (y : Seen) : Type 0 where
+pub record HoldValues (f : Found) (v : Raid) (y : RackView) : Type 0 where
   pub live : (n x : ℕ) → n < f.state.joined → x < sectors_in (v.arrays n) → live_of v n x
   pub sectors : (n : ℕ) → n < f.state.joined → sectors_in (v.arrays n) ≡ array_sectors f n
   pub values : (n x : ℕ) (u : List ℕ) → n < f.state.joined → x < array_sectors f n → live_of v n x → MayLeave (held_in v y n x) u → u ≡ arrays_held f n x
@@ -35,7 +35,7 @@ pub record HoldValues (f : Found) (v : Raid) (y : Seen) : Type 0 where
   pub room : (n : ℕ) → n < f.state.joined → 4 ≤ array_sectors f n
   pub shapes : (n : ℕ) → n < f.state.joined → shape_found f n ≡ Some (shape_of (v.arrays n))
 
-module _ (f : Found) (t : Slices) (v : Raid) (y : Seen) (i : Image) (known : IsKnown f t v y i) (holds : HoldValues f v y) where
+module _ (f : Found) (t : Slices) (v : Raid) (y : RackView) (i : Image) (known : IsKnown f t v y i) (holds : HoldValues f v y) where
   abbrev book : State
   book = s f t v y i known
 
@@ -99,7 +99,7 @@ module _ (f : Found) (t : Slices) (v : Raid) (y : Seen) (i : Image) (known : IsK
   pub bad_same : first_bad after ≡ first_bad before
   bad_same = bad_kept after before alike whole
 
-  pub same_again : HoldSame f t book i
+  pub same_again : RecoversSameVolume f t book i
   unfolding known_again
   same_again = record {
     again = known_again f t v y i known;

@@ -1,7 +1,7 @@
 -- A pool that any one of its drives may be taken from.
 use Rattle.std.specs.Prelude.{◌≡◌, ◌≢◌, ℕ, ◌<◌, ◌^◌, true, false, not, nat_lt, if◌then◌else◌, [], length, slice_get, Some, None}
 use Rattle.std.specs.List.{list_all}
-use Rattle.rack.specs.Seen.{Image, Seen}
+use Rattle.rack.specs.Seen.{Image, RackView}
 use Rattle.slice_rack.specs.Slices.{Slices, sectors_of}
 use Rattle.slice_rack.specs.Sliced.{sliced}
 use Rattle.md_super.specs.declared.superblock.Super.{Super}
@@ -20,7 +20,7 @@ use Rattle.pool_image.specs.Disks.{Disks, Identity, stands_for}
 use Rattle.pool_image.specs.Drives.{Found, found}
 use Rattle.pool_image.specs.Meaning.{absent_count, has_table, refusal_of, super_at, truth_of}
 use Rattle.pool_image.specs.Sound.{IsSafeInAbsence, IsSoundState}
-use Rattle.pool_model.specs.Left.{HoldAgain}
+use Rattle.pool_model.specs.Left.{RecoversIdle}
 
 -- A place's drive is the only disk that stands for the place.
 abbrev pub AreOnly : Found → Type 0
@@ -68,7 +68,7 @@ pub record IsWholeRaid (made : ℕ) (v : Raid) : Type 0 where
   pub synced : (n : ℕ) → n < made → (v.arrays n).resync ≡ rows_of (v.arrays n)
 
 -- A served pool that has ended whole, by its book v and the slices y: whatever a stop leaves, superblocks agree.
-pub record EndsWhole (f : Found) (v : Raid) (y : Seen) : Type 0 where
+pub record EndsWhole (f : Found) (v : Raid) (y : RackView) : Type 0 where
   pub alone : StandsAlone f
   pub book : IsWholeRaid f.state.made v
   pub agree : (n : ℕ) (r : Image) → n < f.state.made → IsLeft y r → AgreeLeaving (v.arrays n) v.state r n
@@ -79,5 +79,5 @@ volume_arrays t v i = λ n x. if nat_lt x (sectors_in (v.arrays n)) then arrays_
 
 -- Contents that such a pool leaves hold it again, and any one of its drives may be absent.
 pub record HoldAbsent (f : Found) (t : Slices) (s : State) (i : Image) : Type 0 where
-  pub again : HoldAgain f t s i
+  pub again : RecoversIdle f t s i
   pub safe : IsSafeInAbsence f.disks i again.still.now

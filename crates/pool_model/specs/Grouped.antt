@@ -1,6 +1,6 @@
 -- The volume group on the arrays of a pool, whatever these may be left with.
 use Rattle.std.specs.Prelude.{◌≡◌, ℕ, ◌<◌, ◌≤◌, false, [], Some, None}
-use Rattle.rack.specs.Seen.{Image, Seen}
+use Rattle.rack.specs.Seen.{Image, RackView}
 use Rattle.rack.specs.Values.{MayLeave}
 use Rattle.array_model.specs.View.{sectors_of}
 use Rattle.lvm_group.specs.Images.{HasOwnArea, IsVolume}
@@ -28,7 +28,7 @@ AreHeadsLive v = (n s : ℕ) → n < v.state.joined → s < sectors_of (v.arrays
 
 -- The arrays that are ready for the volume hold the group of this one: contents say it that before their first extents have what may be left there, and nothing
 -- past their ends, and there they have the pool's metadata areas.
-pub record HoldGroup (v : Raid) (l : Linear) (x : Seen) : Type 0 where
+pub record HoldGroup (v : Raid) (l : Linear) (x : RackView) : Type 0 where
   pub extent : l.extent ≡ v.state.extent
   pub arrays : l.arrays ≡ v.state.joined
   pub says :

@@ -1,7 +1,7 @@
 -- What later moments go by of a pool: disks had it, or it is one that took a new drive in.
 use Rattle.std.specs.Prelude.{◌≡◌, ℕ, ◌<◌, ◌≤◌, true, length, Some}
 use Rattle.std.specs.Option.{option_map_or}
-use Rattle.rack.specs.Seen.{Image, Seen}
+use Rattle.rack.specs.Seen.{Image, RackView}
 use Rattle.slice_rack.specs.Slices.{Slices}
 use Rattle.md_super.specs.declared.superblock.Super.{Super}
 use Rattle.pool_state.specs.declared.contents.Copied.{Copied}
@@ -13,9 +13,9 @@ use Rattle.log_laws.specs.Kept.{IsNoLater}
 use Rattle.pool_image.specs.Disks.{Identities, Identity, disks_of, stands_for}
 use Rattle.pool_image.specs.Drives.{Found}
 use Rattle.pool_image.specs.Meaning.{truth_of}
-use Rattle.raid_laws.specs.Book.{IsAfter}
+use Rattle.raid_laws.specs.Book.{OnlyMarksSince}
 use Rattle.raid_laws.specs.Raid.{Raid}
-use Rattle.pool_model.specs.Left.{AreAloneBy, AreElsewhere, IsPickOff}
+use Rattle.pool_model.specs.Left.{NoStraySuperblockBy, AreElsewhere, IsPickOutsideSlices}
 use Rattle.pool_model.specs.Pools.{AreSlicesOf}
 
 -- the epoch by which a disk is taken
@@ -60,17 +60,17 @@ pub record IsSaid (f : Found) (i : Image) : Type 0 where
 
 -- Outside the slices the disks are as the pool goes by, whatever they may be left with: no superblock stands where it isn't to, on the drives that
 -- are current by a state.
-pub record HoldSaid (f : Found) (t : Slices) (s : State) (x : Seen) : Type 0 where
-  pub said : (i : Image) → IsPickOff t x i → IsSaid f i
-  pub alone : (i : Image) → IsPickOff t x i → AreAloneBy s f i
+pub record HoldSaid (f : Found) (t : Slices) (s : State) (x : RackView) : Type 0 where
+  pub said : (i : Image) → IsPickOutsideSlices t x i → IsSaid f i
+  pub alone : (i : Image) → IsPickOutsideSlices t x i → NoStraySuperblockBy s f i
 
 -- A pool by which the disks x and the book v go. Its slices lie as t has them, marks alone have come to its state, all its arrays are ready for
 -- the volume, with the members and the sizes that they had, and outside the slices its disks say what it goes by.
-pub record InService (f : Found) (t : Slices) (v : Raid) (x : Seen) : Type 0 where
+pub record RunInvariant (f : Found) (t : Slices) (v : Raid) (x : RackView) : Type 0 where
   pub disks : f.disks ≡ disks_of x
   pub arranged : IsArranged f
   pub slices : AreSlicesOf f t
-  pub after : IsAfter f.state v.state
+  pub after : OnlyMarksSince f.state v.state
   pub joined : f.state.joined ≡ f.state.made
   pub geometry : (n : ℕ) (u : Super) → n < f.state.made → truth_of f n ≡ Some u → HasGeometry u (v.arrays n).truth
   pub held : HoldSaid f t v.state x

@@ -1,7 +1,7 @@
 -- What contents show of a stop inside a call of a pool, and what a stop leaves of its disks while a new drive is laid.
 use Rattle.std.specs.Prelude.{◌≡◌, ◌≢◌, ◌⊎◌, ℕ, ◌+◌, ◌-◌, ◌<◌, ◌≤◌, ◌^◌, ◌==◌, true, false, List, None, Some}
 use Rattle.rack.specs.Values.{MayLeave}
-use Rattle.rack.specs.Seen.{Image, IsLive, Seen}
+use Rattle.rack.specs.Seen.{Image, IsLive, RackView}
 use Rattle.slice_rack.specs.Runs.{IsSliced}
 use Rattle.slice_rack.specs.Slices.{IsOrderly, Slices, first_of, place_of as slice_place, seat_of, sectors_of}
 use Rattle.slice_rack.specs.Sliced.{sliced}
@@ -15,7 +15,7 @@ use Rattle.array_image.specs.States.{current_places, is_current, state_in, id_of
 use Rattle.array_model.specs.View.{HasGeometry}
 use Rattle.log_laws.specs.Kept.{IsNoLater}
 use Rattle.log_laws.specs.Saying.{PlaceJoins}
-use Rattle.raid_laws.specs.Book.{IsAfter}
+use Rattle.raid_laws.specs.Book.{OnlyMarksSince}
 use Rattle.raid_laws.specs.Enlisting.{next_drive}
 use Rattle.raid_laws.specs.Frames.{HasFrame, frame_of}
 use Rattle.raid_laws.specs.Logs.{LogsBetween}
@@ -29,14 +29,14 @@ use Rattle.pool_image.specs.Meaning.{is_member, truth_of}
 use Rattle.pool_image.specs.Replay.{logs_of}
 use Rattle.pool_rest.specs.Moments.{IsNoneOrBelow}
 use Rattle.pool_model.specs.InService.{IsArranged, IsSaid, epoch_at}
-use Rattle.pool_model.specs.Left.{AreAloneBy, HasNoSuper, IsPickOff}
+use Rattle.pool_model.specs.Left.{NoStraySuperblockBy, HasNoSuper, IsPickOutsideSlices}
 use Rattle.pool_model.specs.Stopped.{AreSlicesNow, LieByTables}
 
 -- A pool by which a call on slices t goes that begins with the book v: marks alone have come to its state, all its arrays are ready for the volume, with the
 -- members and the sizes that they had, and its slices, which lie inside its disks, are those of t, for the places that are current.
 pub record IsCalledBy (f : Found) (t : Slices) (v : Raid) : Type 0 where
   pub arranged : IsArranged f
-  pub after : IsAfter f.state v.state
+  pub after : OnlyMarksSince f.state v.state
   pub joined : f.state.joined ≡ f.state.made
   pub geometry : (n : ℕ) (u : Super) → n < f.state.made → truth_of f n ≡ Some u → HasGeometry u (v.arrays n).truth
   pub slices : (e : Identities) → AreSlicesNow (record f { identities = e }) t v.state
@@ -47,7 +47,7 @@ pub record IsCalledBy (f : Found) (t : Slices) (v : Raid) : Type 0 where
 pub record ShowsParts (f : Found) (t : Slices) (v w : Raid) (i : Image) : Type 0 where
   pub said : IsSaid f i
   pub tables : LieByTables f t v.state i
-  pub alone : AreAloneBy v.state f i
+  pub alone : NoStraySuperblockBy v.state f i
   -- no disk stands for a current place without a drive
   pub absent :
       (p d : ℕ) → is_current v.state p ≡ true → f.seats p ≡ None → d < f.disks.count → stands_for v.state (identities_of f.disks i d) ≡ Some p → ⊥
@@ -67,7 +67,7 @@ pub record ShowsStop (f : Found) (t : Slices) (v w : Raid) (i : Image) : Type 0 
 
 -- Outside the slices contents are as x may be left, but for one disk, which is no current place's and has no slice. A state that it says there it may have
 -- said before; its table may be any, also one that is half written, or that has the id of the pool's next drive.
-pub record IsLaidOff (f : Found) (t : Slices) (s : State) (disk : ℕ) (x : Seen) (i : Image) : Type 0 where
+pub record IsLaidOutsideSlices (f : Found) (t : Slices) (s : State) (disk : ℕ) (x : RackView) (i : Image) : Type 0 where
   pub vacant : (p : ℕ) → f.seats p ≡ Some disk → is_current s p ≡ false
   pub free : (k : ℕ) (w : List ℕ) → IsSliced t disk k w → ⊥
   pub opened : (k : ℕ) → k < x.sectors disk → IsLive x x disk k
@@ -86,7 +86,7 @@ pub record SaysBooks (made : ℕ) (t : Slices) (v w : Raid) (i : Image) : Type 0
 
 -- Outside the slices contents are as x may be left, but for a disk that gets the slices of a place. There no superblock stands where slices of arrays would begin that the
 -- place is no member of, and the drive that the place had says no later state than the book.
-pub record IsJoinedOff (f : Found) (u : Slices) (v : Raid) (place disk : ℕ) (x : Seen) (i : Image) : Type 0 where
+pub record IsJoinedOutsideSlices (f : Found) (u : Slices) (v : Raid) (place disk : ℕ) (x : RackView) (i : Image) : Type 0 where
   pub low : disk < x.disks
   pub opened : (k : ℕ) → k < x.sectors disk → IsLive x x disk k
   pub others : (d k : ℕ) → d ≢ disk → IsLive x x d k → ((w : List ℕ) → IsSliced u d k w → ⊥) → MayLeave (x.held d k) (i d k)
@@ -94,7 +94,7 @@ pub record IsJoinedOff (f : Found) (u : Slices) (v : Raid) (place disk : ℕ) (x
       (n first : ℕ) → n < f.state.made → is_member f n place ≡ false → first_in_pool f n ≡ Some first → first + super_sector < x.sectors disk
       → HasNoSuper f.state.pool.0 n (i disk (first + super_sector))
   pub earlier :
-      (d : ℕ) → d ≢ disk → f.seats place ≡ Some d → (j : Image) → IsPickOff u x j → (copy : Copied) → (identities_of (disks_of x) j d).copied ≡ Some copy
+      (d : ℕ) → d ≢ disk → f.seats place ≡ Some d → (j : Image) → IsPickOutsideSlices u x j → (copy : Copied) → (identities_of (disks_of x) j d).copied ≡ Some copy
       → copy.state.epoch < raised v.state.epoch
 
 -- A state that the drive which a place had says at such a stop: one from before the book's, or its own of the book's state at most.
@@ -104,7 +104,7 @@ SaysFormerly v place copy = (copy.state.epoch < v.epoch) ⊎ (IsNoLater v copy �
 -- A state r by which place p has the drive that it has once a new one has joined at a place: one since the state before, unless the place is this one, or one since the
 -- new drive joined.
 abbrev pub GoesBy : (v next : State) → (place : ℕ) → (r : State) → (p : ℕ) → Type 0
-GoesBy v next place r p = (IsAfter v r × (p ≢ place)) ⊎ IsAfter next r
+GoesBy v next place r p = (OnlyMarksSince v r × (p ≢ place)) ⊎ OnlyMarksSince next r
 
 -- A place has the drive that it had yet, by the state q that stands: the record that is pending brings the state s, by which it gets the new one. The gate on the drive that it
 -- had is of a lower number than the record's.
@@ -134,7 +134,7 @@ pub record ShowsJoining (h : Found) (u : Slices) (v next s : State) (place : ℕ
       → seat_in_disks r h.disks (identities_of h.disks i) p ≡ Some d
   -- but that the place may have the drive that it had
   pub former :
-      (q : State) → state_in (sliced u i) ≡ Some q → IsAfter v q → is_current q place ≡ true → IsAfter next q ⊎ IsFormerYet h.disks u q s place i
+      (q : State) → state_in (sliced u i) ≡ Some q → OnlyMarksSince v q → is_current q place ≡ true → OnlyMarksSince next q ⊎ IsFormerYet h.disks u q s place i
 
 -- Whom disks stand for at such a stop, by states since v and by those since `next`: each drive for its own place and for no other one that is current, and of the disks that
 -- are no drives those that stand for a drive's place say earlier states than the drive, or one of its epoch behind it. While the new drive says no state it has the epoch 0, so no

@@ -13,9 +13,9 @@ use Rattle.pool_image.specs.Meaning.{array_sectors, arrays_held, damage_of, has_
 use Rattle.pool_image.specs.Replay.{Standing, standing}
 use Rattle.pool_rest.specs.Moments.{TakesLowerIn}
 use Rattle.pool_rest.specs.SoundLogs.{HasSoundLogs}
-use Rattle.raid_laws.specs.Book.{IsAfter}
+use Rattle.raid_laws.specs.Book.{OnlyMarksSince}
 use Rattle.raid_laws.specs.Reach.{KeepsReach}
-use Rattle.pool_model.specs.Left.{AreAlone}
+use Rattle.pool_model.specs.Left.{NoStraySuperblock}
 use Rattle.pool_model.specs.Pools.{IsSoundPool}
 use Rattle.pool_model.specs.Stopped.{LieApart, StoodInLog}
 
@@ -67,18 +67,18 @@ IsUnsynced f n = option_map_or is_unclean (truth_of f n) false ≡ true
 -- as far as they did, so that no row that was rebuilt is left again, and where an array lacks a member and has rows left to resync, it had such rows in f. Targets land where its slices
 -- are by the drives' tables, no superblock of an array stands on a drive that is no member of it, and a record that is pending may be replayed. No disk has another pool's state, before
 -- that is replayed, where none had one in f.
-pub record HoldOpened (f : Found) (from : ℕ) (i : Image) : Type 0 where
+pub record RecoversInOpening (f : Found) (from : ℕ) (i : Image) : Type 0 where
   pub now : Found
   pub found_is : found f.disks i ≡ Some now
   pub sound : IsSoundPool now
   pub logs : HasSoundLogs f.disks i
-  pub after : IsAfter f.state now.state
+  pub after : OnlyMarksSince f.state now.state
   pub plan : now.state.plan ≡ f.state.plan
   pub marks : (p : ℕ) → is_current f.state p ≡ true → is_current now.state p ≡ false → f.seats p ≡ None
   pub seats : (p : ℕ) → is_current now.state p ≡ true → now.seats p ≡ f.seats p
   pub values : (n x : ℕ) → n < f.state.made → from ≤ x → x < array_sectors f n → arrays_held now n x ≡ arrays_held f n x
   pub apart : LieApart now
-  pub alone : AreAlone now now.contents
+  pub alone : NoStraySuperblock now now.contents
   pub stops : MayReplay f.disks i now
   pub sectors : (n : ℕ) → n < f.state.made → array_sectors now n ≡ array_sectors f n
   -- members on places that are current by its state count at least as far as they did

@@ -70,7 +70,7 @@ HoldVolume f t l i = HoldVolumeBy f (arrays_in (replayed (sectors_of t) (sliced 
 
 -- What a stop inside a call leaves of it, from the book v to the book w. Members on places that are current by it count at least as far as they did, and those on places that are
 -- current after the call no further than then. It is refused for such a reason by v alone.
-pub record ReopensAmid (f : Found) (t : Slices) (l : Linear) (v w : Raid) (i : Image) : Type 0 where
+pub record NextOpenInCall (f : Found) (t : Slices) (l : Linear) (v w : Raid) (i : Image) : Type 0 where
   pub volume : HoldVolume f t l i
   pub reach :
       (n : ℕ) (shape : Shape) → n < v.state.made → shape_of volume.now n ≡ Some shape
@@ -79,7 +79,7 @@ pub record ReopensAmid (f : Found) (t : Slices) (l : Linear) (v w : Raid) (i : I
 
 -- Between calls they stand as a book has them: each array has its members, as far as they are rebuilt, and its truth has the fields of the book's. Where an array isn't whole by the book,
 -- its truth leaves just the rows to resync that are left in it. They are refused for what the book says alone, or for another pool's disk.
-pub record Reopens (f : Found) (t : Slices) (l : Linear) (v : Raid) (i : Image) : Type 0 where
+pub record NextOpen (f : Found) (t : Slices) (l : Linear) (v : Raid) (i : Image) : Type 0 where
   pub volume : HoldVolume f t l i
   pub state : volume.now.state ≡ v.state
   pub shapes : (n : ℕ) → n < v.state.made → shape_of volume.now n ≡ Some (shape_by_book (v.arrays n))

@@ -1,7 +1,7 @@
 -- What a stop inside a call of a pool leaves on its disks.
 use Rattle.std.specs.Prelude.{◌≡◌, ◌⊎◌, ℕ, suc, ◌+◌, ◌-◌, ◌<◌, ◌≤◌, ◌^◌, ◌&&◌, true, false, nat_lt, None, Some}
 use Rattle.rack.specs.Moments.{Leaves}
-use Rattle.rack.specs.Seen.{Image, Seen}
+use Rattle.rack.specs.Seen.{Image, RackView}
 use Rattle.slice_rack.specs.Slices.{IsOrderly, Slices, first_of, place_of as slice_place, seat_of, sectors_of}
 use Rattle.slice_rack.specs.Sliced.{sliced}
 use Rattle.gpt_table.specs.Changes.{the_table}
@@ -17,9 +17,9 @@ use Rattle.array_image.specs.SoundArray.{IsSoundArray}
 use Rattle.array_image.specs.States.{is_current}
 use Rattle.array_image.specs.Supers.{is_named, truth_in}
 use Rattle.log_laws.specs.Kept.{IsNoLater}
-use Rattle.log_laws.specs.Saying.{SaysState}
+use Rattle.log_laws.specs.Saying.{RecoversTo}
 use Rattle.log_laws.specs.Standing.{deciding}
-use Rattle.raid_laws.specs.Book.{IsAfter}
+use Rattle.raid_laws.specs.Book.{OnlyMarksSince}
 use Rattle.raid_laws.specs.Frames.{HasFrame, frame_of}
 use Rattle.raid_laws.specs.Logs.{LogsBetween}
 use Rattle.raid_laws.specs.Raid.{Raid}
@@ -33,7 +33,7 @@ use Rattle.pool_rest.specs.Moments.{TakesLowerIn}
 use Rattle.pool_rest.specs.Resting.{seated_state}
 use Rattle.pool_rest.specs.SoundLogs.{HasSoundLogs}
 use Rattle.pool_model.specs.InService.{IsOutset, epoch_at}
-use Rattle.pool_model.specs.Left.{AreAloneBy, AreElsewhere, HavePlaces, HoldAgain, HoldStill, IsPickOff}
+use Rattle.pool_model.specs.Left.{NoStraySuperblockBy, AreElsewhere, HavePlaces, RecoversIdle, Recovers, IsPickOutsideSlices}
 use Rattle.pool_model.specs.Pools.{extent_in}
 
 -- Tables of slices are those of a pool's drives, for the places that are current by a state.
@@ -69,8 +69,8 @@ LieByTables f t s i = (p d : ℕ) → is_current s p ≡ true → seat_of t p �
 -- state s and all arrays soundly once the pending record is written, and outside the slices the disks are as the pool has them.
 pub record SaysStopped (f : Found) (t : Slices) (base s : State) (i : Image) : Type 0 where
   pub is : IsOutset f
-  pub begun : IsAfter f.state base
-  pub after : IsAfter base s
+  pub begun : OnlyMarksSince f.state base
+  pub after : OnlyMarksSince base s
   pub joined : f.state.joined ≡ f.state.made
   pub slices : AreSlicesNow f t base
   pub orderly : IsOrderly t
@@ -80,10 +80,10 @@ pub record SaysStopped (f : Found) (t : Slices) (base s : State) (i : Image) : T
       (p d : ℕ) → is_current base p ≡ true → f.seats p ≡ None → d < f.disks.count → stands_for base (identities_of f.disks i d) ≡ Some p → ⊥
   pub someone : (p d : ℕ) × (is_current s p ≡ true) × (f.seats p ≡ Some d)
   pub tables : LieByTables f t s i
-  pub says : SaysState s (sectors_of t) (sliced t i)
+  pub says : RecoversTo s (sectors_of t) (sliced t i)
   pub arrays : (n : ℕ) → n < f.state.made → SaysArray f s (replayed (sectors_of t) (sliced t i)) n
   pub elsewhere : AreElsewhere f i
-  pub alone : AreAloneBy s f i
+  pub alone : NoStraySuperblockBy s f i
 
 -- Of a call that began with the state base: copies and targets are such as it writes.
 pub record IsStopped (f : Found) (t : Slices) (base s : State) (i : Image) : Type 0 where
@@ -128,7 +128,7 @@ pub record StandFor (f : Found) (t : Slices) (s : State) (i : Image) : Type 0 wh
 -- What calls on the slices of a pool's drives tell of their stops, from the book v to the book w, of so many arrays: the log slices say a state between the two,
 -- with copies that are such as calls leave which began with v's; and by a state between each array's superblocks agree, with the size and the members'
 -- places that they had.
-pub record TellsStops (made : ℕ) (v w : Raid) (a b : Seen) : Type 0 where
+pub record TellsStops (made : ℕ) (v w : Raid) (a b : RackView) : Type 0 where
   pub logs : Leaves a b (λ c. HasNothing a.sectors c → LogsBetween v.state w.state a.sectors c)
   pub since : Leaves a b (λ c. HasNothing a.sectors c → AreSince v.state a.sectors c)
   pub arrays : (n : ℕ) → n < made → Leaves a b (λ c. HasNothing a.sectors c → IsBetween v.state w.state n (replayed a.sectors c))
@@ -141,8 +141,8 @@ HaveTables f =
     → extent_by (f.disks.sectors d) (f.identities d).table (suc n) ≡ extent_of f (suc n)
 
 -- so it is by the tables that the disks have, whatever they may be left with outside the slices, of the places that are current by a state
-abbrev pub HoldTables : Found → Slices → State → Seen → Type 0
-HoldTables f t s x = (i : Image) → IsPickOff t x i → LieByTables f t s i
+abbrev pub HoldTables : Found → Slices → State → RackView → Type 0
+HoldTables f t s x = (i : Image) → IsPickOutsideSlices t x i → LieByTables f t s i
 
 -- Of an array that a drive is no member of its table has no slice that shares a sector with that of a higher array which it is a member of:
 -- a replay passes over a slice that shares one with a lower one.
@@ -152,8 +152,8 @@ LieApart f =
     → extent_by (f.disks.sectors d) (f.identities d).table (suc m) ≡ Some a → extent_of f (suc n) ≡ Some b → share b a ≡ false
 
 -- Contents hold a pool again, and by its drives' tables its slices lie apart, so that the targets of a record that a later call leaves pending land there.
-pub record HoldLanding (f : Found) (t : Slices) (s : State) (i : Image) : Type 0 where
-  pub again : HoldAgain f t s i
+pub record RecoversLanding (f : Found) (t : Slices) (s : State) (i : Image) : Type 0 where
+  pub again : RecoversIdle f t s i
   pub apart : LieApart again.still.now
 
 -- Before a pool's record was replayed one of its drives had the state that stood, and none another one that isn't earlier.
@@ -172,16 +172,16 @@ pub record StoodInLog (f : Found) : Type 0 where
 
 -- Contents of disks hold the pool still, by a state between two. The record that is pending there lands where the slices are by the drives' tables; one of
 -- them, which has a log slice, has the state that stands, and those that are taken in have gates of lower numbers.
-pub record HoldBetween (f : Found) (t : Slices) (s u : State) (i : Image) : Type 0 where
+pub record RecoversBetween (f : Found) (t : Slices) (s u : State) (i : Image) : Type 0 where
   pub state : State
-  pub later : IsAfter s state
-  pub sooner : IsAfter state u
-  pub still : HoldStill f t state i
+  pub later : OnlyMarksSince s state
+  pub sooner : OnlyMarksSince state u
+  pub still : Recovers f t state i
   pub apart : LieApart still.now
   pub stood : StoodInLog still.now
   pub lower : TakesLowerIn f.disks i
 
 -- So it is of a pool in service, of which each place that is current by that state has its drive.
-pub record HoldAmid (f : Found) (t : Slices) (s u : State) (i : Image) : Type 0 where
-  pub between : HoldBetween f t s u i
+pub record RecoversInCall (f : Found) (t : Slices) (s u : State) (i : Image) : Type 0 where
+  pub between : RecoversBetween f t s u i
   pub present : HavePlaces between.state between.still.now

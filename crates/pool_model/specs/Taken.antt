@@ -2,7 +2,7 @@
 use Rattle.std.specs.Prelude.{◌≡◌, ◌≢◌, ◌⊎◌, ℕ, ◌+◌, ◌-◌, ◌<◌, ◌≤◌, ◌^◌, ◌==◌, if◌then◌else◌, Bool, true, false, List, length, map, Some, None}
 use Rattle.std.specs.List.{range_with_len}
 use Rattle.rack.specs.Values.{Keeps, MayLeave}
-use Rattle.rack.specs.Seen.{Image, IsLive, Seen}
+use Rattle.rack.specs.Seen.{Image, IsLive, RackView}
 use Rattle.slice_rack.specs.Runs.{IsSliced}
 use Rattle.slice_rack.specs.Changes.{Seats}
 use Rattle.slice_rack.specs.Slices.{Slices}
@@ -15,13 +15,13 @@ use Rattle.array_model.specs.View.{View}
 use Rattle.pool_image.specs.Disks.{Disks, disks_of, identities_of}
 use Rattle.pool_image.specs.Drives.{Found, drive_sector, first_of}
 use Rattle.pool_image.specs.Meaning.{is_member}
-use Rattle.raid_laws.specs.Book.{IsAfter}
+use Rattle.raid_laws.specs.Book.{OnlyMarksSince}
 use Rattle.raid_laws.specs.Enlisting.{enlisted, next_drive, with_drive}
 use Rattle.raid_laws.specs.Missing.{raised}
 use Rattle.raid_laws.specs.Moves.{KeepsArrays}
 use Rattle.raid_laws.specs.NewDrive.{SeatsDrive, joins}
 use Rattle.raid_laws.specs.Raid.{Raid}
-use Rattle.pool_model.specs.Left.{HasNoSuper, IsPickOff}
+use Rattle.pool_model.specs.Left.{HasNoSuper, IsPickOutsideSlices}
 
 -- The pool f on these disks once a place has a disk by the state s: all other places have the disks that they had. What is remembered of
 -- the disk are the superblocks that the place's drive had.
@@ -49,28 +49,28 @@ pub record SeatsNew (f : Found) (t u : Slices) (v : Raid) (place disk sectors : 
   pub members : (n : ℕ) → n < f.state.made → joins (views_of v) place sectors n ≡ is_member f n place
 
 -- outside the slices the disks but one show z after x as they did, and can still be read
-abbrev pub KeepsOff : Slices → ℕ → Seen → Seen → Type 0
-KeepsOff t disk x z =
+abbrev pub KeepsOutsideSlices : Slices → ℕ → RackView → RackView → Type 0
+KeepsOutsideSlices t disk x z =
     (d s : ℕ) → d ≢ disk → IsLive x x d s → ((w : List ℕ) → IsSliced t d s w → ⊥) → IsLive z z d s × Keeps (x.held d s) (z.held d s)
 
 -- Outside the slices the disks show z after x as they did, but for the new one. There no superblock stands where slices of arrays would begin
 -- that the place is no member of. The disks that came, and the one that the place had before, say states that are earlier than the new one: that one may say the
 -- state before.
-pub record KeepsRest (f : Found) (t u : Slices) (v : Raid) (place disk : ℕ) (x z : Seen) : Type 0 where
+pub record KeepsRest (f : Found) (t u : Slices) (v : Raid) (place disk : ℕ) (x z : RackView) : Type 0 where
   pub low : disk < z.disks
   pub disks : f.disks.count ≤ z.disks
   pub sectors : (d : ℕ) → d < f.disks.count → z.sectors d ≡ f.disks.sectors d
-  pub outside : KeepsOff t disk x z
+  pub outside : KeepsOutsideSlices t disk x z
   pub alone :
-      (i : Image) → IsPickOff u z i → (n first : ℕ) → n < f.state.made → is_member f n place ≡ false → first_of f n ≡ Some first
+      (i : Image) → IsPickOutsideSlices u z i → (n first : ℕ) → n < f.state.made → is_member f n place ≡ false → first_of f n ≡ Some first
       → first + super_sector < z.sectors disk → HasNoSuper f.state.pool.0 n (i disk (first + super_sector))
   pub earlier :
-      (i : Image) → IsPickOff u z i → (d : ℕ) → d < z.disks → d ≢ disk → (f.disks.count ≤ d) ⊎ (f.seats place ≡ Some d)
+      (i : Image) → IsPickOutsideSlices u z i → (d : ℕ) → d < z.disks → d ≢ disk → (f.disks.count ≤ d) ⊎ (f.seats place ≡ Some d)
       → (copy : Copied) → (identities_of (disks_of z) i d).copied ≡ Some copy → copy.state.epoch < raised v.state.epoch
 
 -- The drive of a place is a new one in the book: marks alone come to its state, and but for its members the arrays stay.
 pub record JoinsBook (v w : Raid) (place units : ℕ) (plan : Plan) (joining : ℕ → Bool) : Type 0 where
-  pub marks : IsAfter (enlisted place units plan v.state) w.state
+  pub marks : OnlyMarksSince (enlisted place units plan v.state) w.state
   pub arrays : KeepsArrays (with_drive place units plan joining v) w
 
 -- ---- where no drive was taken in
@@ -82,27 +82,27 @@ attached f disks = record f { disks = disks }
 -- A disk may have been written, which is no place's drive, or was one. The disks that came say states that are earlier than the pool's, and this
 -- one, where it was no drive, one that it may have said before, or none. Where its place is current by a state no superblock stands on it that isn't
 -- to. Outside the slices the others show z after x as they did.
-pub record KeepsOthers (f : Found) (t : Slices) (s : State) (disk : ℕ) (x z : Seen) : Type 0 where
+pub record KeepsOthers (f : Found) (t : Slices) (s : State) (disk : ℕ) (x z : RackView) : Type 0 where
   pub disks : f.disks.count ≤ z.disks
   pub sectors : (d : ℕ) → d < f.disks.count → z.sectors d ≡ f.disks.sectors d
   pub drive : ((p : ℕ) → f.seats p ≢ Some disk) ⊎ ((p : ℕ) × (f.seats p ≡ Some disk))
-  pub outside : KeepsOff t disk x z
+  pub outside : KeepsOutsideSlices t disk x z
   pub alone :
-      (i : Image) → IsPickOff t z i → (n p first : ℕ) → n < f.state.made → is_current s p ≡ true → f.seats p ≡ Some disk → is_member f n p ≡ false
+      (i : Image) → IsPickOutsideSlices t z i → (n p first : ℕ) → n < f.state.made → is_current s p ≡ true → f.seats p ≡ Some disk → is_member f n p ≡ false
       → first_of f n ≡ Some first → first + super_sector < z.sectors disk → HasNoSuper f.state.pool.0 n (i disk (first + super_sector))
   pub earlier :
-      (i : Image) → IsPickOff t z i → (d : ℕ) → d < z.disks → f.disks.count ≤ d
+      (i : Image) → IsPickOutsideSlices t z i → (d : ℕ) → d < z.disks → f.disks.count ≤ d
       → (copy : Copied) → (identities_of (disks_of z) i d).copied ≡ Some copy → copy.state.epoch < f.state.epoch
   pub stranger :
-      (i : Image) → IsPickOff t z i → ((p : ℕ) → f.seats p ≢ Some disk) → disk < f.disks.count
+      (i : Image) → IsPickOutsideSlices t z i → ((p : ℕ) → f.seats p ≢ Some disk) → disk < f.disks.count
       → (copy : Copied) → (identities_of (disks_of z) i disk).copied ≡ Some copy → MayLeave (x.held disk state_sector) (i disk state_sector)
 
 -- a place of the pool gave its disk up: the drive that it had says states that are earlier than the book's
-pub record LacksDrive (f : Found) (t u : Slices) (v : Raid) (place : ℕ) (x : Seen) : Type 0 where
+pub record LacksDrive (f : Found) (t u : Slices) (v : Raid) (place : ℕ) (x : RackView) : Type 0 where
   pub vacated : Seats t u place None
   pub missing : is_current v.state place ≡ false
   pub earlier :
-      (d : ℕ) → f.seats place ≡ Some d → (i : Image) → IsPickOff u x i
+      (d : ℕ) → f.seats place ≡ Some d → (i : Image) → IsPickOutsideSlices u x i
       → (copy : Copied) → (identities_of (disks_of x) i d).copied ≡ Some copy → copy.state.epoch < v.state.epoch
 
 -- ---- ids

@@ -3,7 +3,7 @@ use Rattle.std.proofs.Common.{◌≡◌, ℕ, ◌<◌, Bool, List, length, slice
 use Rattle.std.specs.Option.{option_and_then}
 use Rattle.std.specs.List.{list_all}
 use Rattle.std.proofs.lemmas.Option.{none-some, slice_get_cases}
-use Rattle.rack.specs.Seen.{Seen, Stays}
+use Rattle.rack.specs.Seen.{RackView, SameRack}
 use Rattle.rack.specs.Joins.{rose_early, rose_later}
 use Rattle.rack.specs.Sequences.{OnlyReads, WritesOnly}
 use Rattle.rack.specs.Targets.{Target}
@@ -33,7 +33,7 @@ use Rattle.pool_rest.proofs.Agreeing.{disks_same, reads_agree, told_later, lasti
 use Rattle.pool_rest.proofs.Laid.{sectors_seen}
 use Rattle.pool_rest.proofs.Stood.{found_still}
 
-module _ {R : Type 0} (seen : R → Seen) (r0 ri rd rb : R) (same : ri ≡ r0) (known : List Known) (before s s' : State) (seated : s ≡ s')
+module _ {R : Type 0} (seen : R → RackView) (r0 ri rd rb : R) (same : ri ≡ r0) (known : List Known) (before s s' : State) (seated : s ≡ s')
     (only : WritesOnly (seen ri) (seen rd) (IsOfDrive (seen ri) known s)) (reads : OnlyReads (seen rd) (seen rb)) where
   -- from where the replay began
   pub replay_only : WritesOnly (seen r0) (seen rd) (IsOfDrive (seen r0) known s')
@@ -92,7 +92,7 @@ module _ {R : Type 0} (seen : R → Seen) (r0 ri rd rb : R) (same : ri ≡ r0) (
           subst (λ z. AllTold (seen r0) → IsLasting (seen r0) → IsUnfaulted (seen r0) (seen rd) → AreShut (seen r0) (seen rd) known before z number) seated
           (subst (λ r. AllTold (seen r) → IsLasting (seen r) → IsUnfaulted (seen r) (seen rd) → AreShut (seen r) (seen rd) known before s number) same shut)
 
-pub laid_later : (x y : Seen) (known : List Known) (s : State) (t : Slices) (on : List ℕ) → Stays x y → IsLaid x known s t on → IsLaid y known s t on
+pub laid_later : (x y : RackView) (known : List Known) (s : State) (t : Slices) (on : List ℕ) → SameRack x y → IsLaid x known s t on → IsLaid y known s t on
 laid_later x y known s t on stays laid = record {
   seats = laid.seats;
   shows = λ c k u few. laid.shows c k u few ∙ ap (λ (disks : Disks). logs_of disks (seat_by s known) c k u) (sym (disks_same x y stays));
@@ -106,7 +106,7 @@ laid_later x y known s t on stays laid = record {
 
 -- ---- what was read of the disks is what they hold still
 
-module _ (a x b : Seen) (known : List Known) (stays : Stays a x) (reads : OnlyReads x b) (told : AllTold x) (lasts : IsLasting x) where
+module _ (a x b : RackView) (known : List Known) (stays : SameRack a x) (reads : OnlyReads x b) (told : AllTold x) (lasts : IsLasting x) where
   agree_later : Agree (disks_of x) (now_in b) (now_in x)
   agree_later = reads_agree x b reads told lasts
 
@@ -181,7 +181,7 @@ module _ (a x b : Seen) (known : List Known) (stays : Stays a x) (reads : OnlyRe
       → IsCause (since a b) b TwoPools
   two_since scan s is other = (known, scan_since scan, λ now. (s, sym newest_then ∙ is, sym (other_then s.pool.0) ∙ other))
 
-pub cause_since : (a x b : Seen) (why : FindFault) → Stays a x → OnlyReads x b → AllTold x → IsLasting x → IsCause x b why → IsCause (since a b) b why
+pub cause_since : (a x b : RackView) (why : FindFault) → SameRack a x → OnlyReads x b → AllTold x → IsLasting x → IsCause x b why → IsCause (since a b) b why
 cause_since a x b NoPool stays reads told lasts cause = none_since a x b cause.0 stays reads told lasts cause.1 (cause.2 told)
 cause_since a x b TwoPools stays reads told lasts cause =
     let two = cause.2 told in
@@ -189,7 +189,7 @@ cause_since a x b TwoPools stays reads told lasts cause =
 cause_since a x b Memory stays reads told lasts cause = tt
 
 -- the faults of an earlier time are no more
-scan_from : (a x b : Seen) (known : List Known) → Stays a x → IsScan (since x b) b known → IsScan (since a b) b known
+scan_from : (a x b : RackView) (known : List Known) → SameRack a x → IsScan (since x b) b known → IsScan (since a b) b known
 scan_from a x b known stays scan = record {
   count = scan.count;
   each = λ d k at.
@@ -209,19 +209,19 @@ scan_from a x b known stays scan = record {
     earlier d (inl same) = inl same
     earlier d (inr refused) = inr (refused.0, rose_later a x b d stays refused.1)
 
-pub newest_from : (a x b : Seen) (known : List Known) (s : State) → Stays a x → IsNewest (since x b) b known s → IsNewest (since a b) b known s
+pub newest_from : (a x b : RackView) (known : List Known) (s : State) → SameRack a x → IsNewest (since x b) b known s → IsNewest (since a b) b known s
 newest_from a x b known s stays is = record { scan = scan_from a x b known stays is.scan; newest = is.newest }
 
-pub cause_from : (a x b : Seen) (why : FindFault) → Stays a x → IsCause (since x b) b why → IsCause (since a b) b why
+pub cause_from : (a x b : RackView) (why : FindFault) → SameRack a x → IsCause (since x b) b why → IsCause (since a b) b why
 cause_from a x b NoPool stays cause = (cause.0, scan_from a x b cause.0 stays cause.1, cause.2)
 cause_from a x b TwoPools stays cause = (cause.0, scan_from a x b cause.0 stays cause.1, cause.2)
 cause_from a x b Memory stays cause = tt
 
 -- nothing was written since
-pub newest_still : (a b : Seen) (known : List Known) (s : State) → a.fit → OnlyReads a b → AllTold a → IsLasting a → IsNewest a b known s → IsNewest (since a b) b known s
+pub newest_still : (a b : RackView) (known : List Known) (s : State) → a.fit → OnlyReads a b → AllTold a → IsLasting a → IsNewest a b known s → IsNewest (since a b) b known s
 newest_still a b known s fit reads told lasts is = newest_since a a b known same reads told lasts s is
   where
-    same : Stays a a
+    same : SameRack a a
     same = record {
       fit = fit;
       disks = refl;
@@ -236,7 +236,7 @@ newest_still a b known s fit reads told lasts is = newest_since a a b known same
     }
 
 -- where no disk refused a call, no disk has another pool's state
-pub single_now : (a b : Seen) (known : List Known) (s : State) → IsNewest (since a b) b known s → AllTold b → IsUnfaulted a b → IsOnePool known s
+pub single_now : (a b : RackView) (known : List Known) (s : State) → IsNewest (since a b) b known s → AllTold b → IsUnfaulted a b → IsOnePool known s
     → has_other_pool (disks_of b) (standing_by (disks_of b) (now_in b) s) ≡ false
 single_now a b known s is told free one =
     sym (other_meant (since a b) b s.pool.0 known is.scan told free)

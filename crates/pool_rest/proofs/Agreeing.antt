@@ -4,7 +4,7 @@ use Rattle.std.specs.Option.{option_map_or, option_and_then}
 use Rattle.std.specs.List.{filter_map}
 use Rattle.std.proofs.lemmas.Bool.{and_parts}
 use Rattle.rack.specs.Values.{IsSector, IsSingle, Keeps}
-use Rattle.rack.specs.Seen.{Image, Seen, IsLive, Stays}
+use Rattle.rack.specs.Seen.{Image, RackView, IsLive, SameRack}
 use Rattle.rack.specs.Joins.{keeps_then}
 use Rattle.rack.specs.Sequences.{OnlyReads}
 use Rattle.rack.specs.Targets.{Target, look}
@@ -25,10 +25,10 @@ use Rattle.pool_rest.specs.Resting.{replayed_on, IsReplayed, Rests, StandsNow, s
 
 -- ---- the disks of a rack
 
-pub disks_same : (x y : Seen) → Stays x y → disks_of y ≡ disks_of x
+pub disks_same : (x y : RackView) → SameRack x y → disks_of y ≡ disks_of x
 disks_same x y stays = ap₂ (λ count sectors. record { count = count; sectors = sectors }) stays.disks (λ i d. stays.sectors d i)
 
-pub live_reads : (x y : Seen) → Stays x y → AllTold x → IsLasting x → (d t : ℕ) → d < x.disks → t < x.sectors d → IsLive x y d t
+pub live_reads : (x y : RackView) → SameRack x y → AllTold x → IsLasting x → (d t : ℕ) → d < x.disks → t < x.sectors d → IsLive x y d t
 live_reads x y stays told lasts d t disk sector = record {
   disk = subst (λ n. d < n) (sym stays.disks) disk;
   sector = subst (λ n. t < n) (sym (stays.sectors d)) sector;
@@ -36,13 +36,13 @@ live_reads x y stays told lasts d t disk sector = record {
   unspent = stays.lasts lasts.lasting d t (lasts.unspent d t);
 }
 
-pub told_later : (x y : Seen) → Stays x y → AllTold x → AllTold y
+pub told_later : (x y : RackView) → SameRack x y → AllTold x → AllTold y
 told_later x y stays told d there = stays.told d (told d (subst (λ n. d < n) stays.disks there))
 
-pub lasting_later : (x y : Seen) → Stays x y → IsLasting x → IsLasting y
+pub lasting_later : (x y : RackView) → SameRack x y → IsLasting x → IsLasting y
 lasting_later x y stays lasts = record { lasting = stays.lasting lasts.lasting; unspent = λ d t. stays.lasts lasts.lasting d t (lasts.unspent d t) }
 
-pub reads_agree : (x y : Seen) → OnlyReads x y → AllTold x → IsLasting x → Agree (disks_of x) (now_in y) (now_in x)
+pub reads_agree : (x y : RackView) → OnlyReads x y → AllTold x → IsLasting x → Agree (disks_of x) (now_in y) (now_in x)
 reads_agree x y reads told lasts d t disk sector = (reads.keeps.held d t (live_reads x y reads.stays told lasts d t disk sector)).current
 
 -- ---- what contents say that agree inside the disks
@@ -114,7 +114,7 @@ replayed_agree disks c e s xs agree d t disk sector =
 
 -- ---- reads after a step
 
-pub stands_now : (y b : Seen) (s : State) (t : Slices) (m : LogView) (is_pending : Bool) (damaged : Option ℕ) → OnlyReads y b → AllTold y → IsLasting y
+pub stands_now : (y b : RackView) (s : State) (t : Slices) (m : LogView) (is_pending : Bool) (damaged : Option ℕ) → OnlyReads y b → AllTold y → IsLasting y
     → StandsAs y s t m is_pending damaged → StandsNow b s m is_pending damaged
 stands_now y b s t m is_pending damaged reads told lasts stands =
     let agree : Agree (disks_of y) (now_in b) (now_in y) = reads_agree y b reads told lasts in
@@ -132,7 +132,7 @@ stands_now y b s t m is_pending damaged reads told lasts stands =
       damaged_is = stands.damaged_is lasts ∙ ap (damaged_log (current_places s)) (sym now);
     }
 
-pub replayed_later : (x y b : Seen) (before s : State) (xs : List Target) (number : ℕ) → Stays x y → OnlyReads y b → AllTold x → IsLasting x
+pub replayed_later : (x y b : RackView) (before s : State) (xs : List Target) (number : ℕ) → SameRack x y → OnlyReads y b → AllTold x → IsLasting x
     → IsReplayed x y before s xs number → IsReplayed x b before s xs number
 replayed_later x y b before s xs number stays reads told lasts is = record {
   contents = λ d t disk sector no_gate. (kept d t disk sector).current ∙ is.contents d t disk sector no_gate;
@@ -173,7 +173,7 @@ replayed_later x y b before s xs number stays reads told lasts is = record {
 
 -- ---- since the start
 
-pub rests_by : (a x b : Seen) (s : State) (xs : List Target) (number : ℕ) → OnlyReads a x → AllTold a → IsLasting a → IsReplayed x b s (seated_state xs s) xs number
+pub rests_by : (a x b : RackView) (s : State) (xs : List Target) (number : ℕ) → OnlyReads a x → AllTold a → IsLasting a → IsReplayed x b s (seated_state xs s) xs number
     → xs ≡ (standing_by (disks_of a) (now_in a) s).targets
     → (source : GateAt) → pending_at (current_places s) (standing_by (disks_of a) (now_in a) s).logs ≡ Some source → source.gate.number ≡ number
     → Rests a b (standing_by (disks_of a) (now_in a) s)
@@ -231,7 +231,7 @@ rests_by a x b s xs number reads told lasts is targets source pends same_number 
         ∙ ap (λ (ys : List Target). replayed_on (disks_of a) (seated_state ys s) ys (now_in a) d t) targets
 
 -- nothing was to be replayed
-pub rests_idle : (a b : Seen) (s : State) → OnlyReads a b → AllTold a → IsLasting a → (standing_by (disks_of a) (now_in a) s).targets ≡ []
+pub rests_idle : (a b : RackView) (s : State) → OnlyReads a b → AllTold a → IsLasting a → (standing_by (disks_of a) (now_in a) s).targets ≡ []
     → Rests a b (standing_by (disks_of a) (now_in a) s)
 rests_idle a b s reads told lasts none = record {
   contents = λ d t disk sector no_gate. agree d t disk sector ∙ same d t;

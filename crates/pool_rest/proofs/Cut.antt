@@ -3,7 +3,7 @@ use Rattle.std.proofs.Common.{◌≡◌, ◌≢◌, ◌⊎◌, ℕ, suc, ◌+◌
 use Rattle.std.specs.Option.{option_map_or, option_and_then}
 use Rattle.std.proofs.lemmas.Option.{none-some, cond_some}
 use Rattle.std.proofs.lemmas.Bool.{cases_Bool, cases_eq, cases_lt, both_ways, and_parts, and_from}
-use Rattle.rack.specs.Seen.{Seen}
+use Rattle.rack.specs.Seen.{RackView}
 use Rattle.gpt_table.specs.declared.Table.{Table}
 use Rattle.gpt_table.specs.declared.Entry.{Entry}
 use Rattle.gpt_table.specs.Format.{IsWritable, is_inside}
@@ -86,7 +86,7 @@ lies_same t u k o first sectors lies = record {
   first = λ some. first ∙ lies.first (subst (λ n. 0 < n) sectors some);
 }
 
-cut_more : (x : Seen) (t u : Slices) (table : Table) (place n : ℕ) → IsCutTo x t table place n → n < 16
+cut_more : (x : RackView) (t u : Slices) (table : Table) (place n : ℕ) → IsCutTo x t table place n → n < 16
     → ((p : ℕ) → seat_of u p ≡ seat_of t p)
     → ((k : ℕ) → k ≢ member_slice place n → first_of u k ≡ first_of t k)
     → ((k : ℕ) → k ≢ member_slice place n → sectors_of u k ≡ sectors_of t k)
@@ -118,14 +118,14 @@ none_lies : (t : Slices) (k : ℕ) (o : Option Extent) → o ≡ None → sector
 none_lies t k o is none = subst (Lies t k) (sym is) (record { sectors = none; first = λ some. absurd (omega (arith, some, none)) })
 
 -- the table has no such entry
-pub cut_none : (x : Seen) (t : Slices) (table : Table) (place n : ℕ) → IsCutTo x t table place n → n < 16 → entry_extent table.sectors table n ≡ None
+pub cut_none : (x : RackView) (t : Slices) (table : Table) (place n : ℕ) → IsCutTo x t table place n → n < 16 → entry_extent table.sectors table n ≡ None
     → IsCutTo x t table place (n + 1)
 cut_none x t table place n cut few none =
     cut_more x t t table place n cut few (λ p. refl) (λ k other. refl) (λ k other. refl)
     (none_lies t (member_slice place n) (extent_at table.sectors table n) (ap (free_of (extents_below table.sectors table n)) none) (cut.upper n (omega arith) few))
 
 -- the slice of a lower array that is there
-lower_there : (x : Seen) (t : Slices) (table : Table) (place many n : ℕ) (f : Extent) → IsWritable table → IsCutTo x t table place many → n < many
+lower_there : (x : RackView) (t : Slices) (table : Table) (place many n : ℕ) (f : Extent) → IsWritable table → IsCutTo x t table place many → n < many
     → extent_at table.sectors table n ≡ Some f → (sectors_of t (member_slice place n) ≡ f.sectors) × (first_of t (member_slice place n) ≡ f.first)
 lower_there x t table place many n f valid cut low is =
     let lies = subst (Lies t (member_slice place n)) (extent_by_is table.sectors table n ∙ is) (cut.lower n low) in
@@ -133,7 +133,7 @@ lower_there x t table place many n f valid cut low is =
     (lies.sectors, lies.first (subst (λ m. 0 < m) (sym lies.sectors) roomy.some))
 
 -- a slice that shares no sector with others has been added
-pub cut_added : (x : Seen) (t u : Slices) (table : Table) (place n at : ℕ) (e : Extent) → IsWritable table → IsCutTo x t table place n → n < 16
+pub cut_added : (x : RackView) (t u : Slices) (table : Table) (place n at : ℕ) (e : Extent) → IsWritable table → IsCutTo x t table place n → n < 16
     → at ≡ member_slice place n → entry_extent table.sectors table n ≡ Some e → Adds t u at e.first e.sectors → IsFree t at e.first e.sectors
     → IsCutTo x u table place (n + 1)
 cut_added x t u table place n at e valid cut few is_at is adds free =
@@ -180,7 +180,7 @@ cut_added x t u table place n at e valid cut few is_at is adds free =
         ]
 
 -- one that overlaps another one hasn't
-pub cut_refused : (x : Seen) (t : Slices) (table : Table) (place n at : ℕ) (e : Extent) → IsWritable table → IsCutTo x t table place n → n < 16
+pub cut_refused : (x : RackView) (t : Slices) (table : Table) (place n at : ℕ) (e : Extent) → IsWritable table → IsCutTo x t table place n → n < 16
     → at ≡ member_slice place n → entry_extent table.sectors table n ≡ Some e → Overlaps t at e.first e.sectors
     → IsCutTo x t table place (n + 1)
 cut_refused x t table place n at e valid cut few is_at is overlaps =
@@ -244,7 +244,7 @@ cut_refused x t table place n at e valid cut few is_at is overlaps =
         ]
 
 -- a member's slice isn't refused for another reason
-pub not_past : (x : Seen) (t : Slices) (table : Table) (place n : ℕ) (e : Extent) → IsWritable table → IsCutTo x t table place n
+pub not_past : (x : RackView) (t : Slices) (table : Table) (place n : ℕ) (e : Extent) → IsWritable table → IsCutTo x t table place n
     → entry_extent table.sectors table n ≡ Some e → IsPast t x place e.first e.sectors → ⊥
 not_past x t table place n e valid cut is past =
     let roomy = roomy_entry table n e valid is in
@@ -255,11 +255,11 @@ not_past x t table place n e valid cut is past =
     some_same : (m n : ℕ) → Some m ≡ Some n → m ≡ n
     some_same m n same = (cc)
 
-pub not_unseated : (x : Seen) (t : Slices) (table : Table) (place n : ℕ) → IsCutTo x t table place n → seat_of t place ≡ None → ⊥
+pub not_unseated : (x : RackView) (t : Slices) (table : Table) (place n : ℕ) → IsCutTo x t table place n → seat_of t place ≡ None → ⊥
 not_unseated x t table place n cut none = none-some cut.disk (sym none ∙ cut.seat)
 
 -- whatever the slices answered
-pub cut_by : (x : Seen) (t u : Slices) (table : Table) (place n at : ℕ) (e : Extent) (r : Result (Unit {0}) SliceFault) → IsWritable table → IsCutTo x t table place n → n < 16
+pub cut_by : (x : RackView) (t u : Slices) (table : Table) (place n at : ℕ) (e : Extent) (r : Result (Unit {0}) SliceFault) → IsWritable table → IsCutTo x t table place n → n < 16
     → at ≡ member_slice place n → entry_extent table.sectors table n ≡ Some e
     → (r ≡ Err Unseated → seat_of t place ≡ None)
     → (r ≡ Err Outside → IsPast t x place e.first e.sectors)

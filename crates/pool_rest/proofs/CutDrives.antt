@@ -2,7 +2,7 @@
 use Rattle.std.proofs.Common.{◌≡◌, ◌≢◌, ◌⊎◌, ℕ, suc, ◌+◌, ◌-◌, ◌<◌, ◌≤◌, ◌==◌, ◌||◌, Bool, true, false, if◌then◌else◌, List, [], ◌∷◌, ◌++◌, length, Option, Some, None, unwrap_or, refl, sym, ap, subst, ◌∙◌, inl, inr, arith, eq-eqb, eqb-true, option_map, add-one}
 use Rattle.std.proofs.lemmas.List.{length-append}
 use Rattle.std.proofs.lemmas.Bool.{cases_eq, both_ways}
-use Rattle.rack.specs.Seen.{Seen, Rose, Stays}
+use Rattle.rack.specs.Seen.{RackView, Rose, SameRack}
 use Rattle.rack.specs.Joins.{rose_later, rose_early}
 use Rattle.rack.specs.Sequences.{OnlyReads}
 use Rattle.gpt_table.specs.declared.Table.{Table}
@@ -24,7 +24,7 @@ some_same m n same = (cc)
 -- ---- one drive
 
 -- by a table that was read
-pub cut_read : (x w z : Seen) (t : Slices) (place disk : ℕ) (table : Table) → IsWritable table → table.sectors ≡ x.sectors disk → seat_of t place ≡ Some disk
+pub cut_read : (x w z : RackView) (t : Slices) (place disk : ℕ) (table : Table) → IsWritable table → table.sectors ≡ x.sectors disk → seat_of t place ≡ Some disk
     → (x.told disk → (contents : Contents) → AgreesUnspent x disk contents → the_table (x.sectors disk) contents ≡ Some table)
     → place < 16 → IsCutTo w t table place 16 → IsCut x z t place true
 cut_read x w z t place disk table valid size seat says few cut = record {
@@ -63,7 +63,7 @@ cut_read x w z t place disk table valid size seat says few cut = record {
         }
 
 -- a drive without a table, or a place without a drive
-pub cut_nothing : (x z : Seen) (t : Slices) (place : ℕ) → ((n : ℕ) → n < 16 → sectors_of t (member_slice place n) ≡ 0)
+pub cut_nothing : (x z : RackView) (t : Slices) (place : ℕ) → ((n : ℕ) → n < 16 → sectors_of t (member_slice place n) ≡ 0)
     → ((disk : ℕ) → seat_of t place ≡ Some disk → x.told disk → (contents : Contents) → AgreesUnspent x disk contents → the_table (x.sectors disk) contents ≡ None)
     → IsCut x z t place true
 unfolding extent_by
@@ -78,7 +78,7 @@ cut_nothing x z t place none says = record {
     nothing : (sectors n : ℕ) → sectors_of t (member_slice place n) ≡ 0 → Lies t (member_slice place n) (extent_by sectors None (suc n))
     nothing sectors n empty = record { sectors = empty; first = λ some. absurd (omega (arith, some, empty)) }
 
-pub cut_untabled : (x z : Seen) (t : Slices) (place disk : ℕ) → ((n : ℕ) → n < 16 → sectors_of t (member_slice place n) ≡ 0) → seat_of t place ≡ Some disk
+pub cut_untabled : (x z : RackView) (t : Slices) (place disk : ℕ) → ((n : ℕ) → n < 16 → sectors_of t (member_slice place n) ≡ 0) → seat_of t place ≡ Some disk
     → (x.told disk → (contents : Contents) → AgreesUnspent x disk contents → the_table (x.sectors disk) contents ≡ None)
     → IsCut x z t place true
 cut_untabled x z t place disk none seat says =
@@ -95,7 +95,7 @@ no_table sectors now contents is same = ap (λ (o : Option SeenTable). option_ma
 
 -- ---- one place after another
 
-pub cut_start : (x : Seen) (t : Slices) → ((k : ℕ) → 0 < slice_of k → sectors_of t k ≡ 0) → IsCutBelow x x 0 t t []
+pub cut_start : (x : RackView) (t : Slices) → ((k : ℕ) → 0 < slice_of k → sectors_of t k ≡ 0) → IsCutBelow x x 0 t t []
 cut_start x t none = record {
   seats = λ p. refl;
   firsts = λ k log. refl;
@@ -123,7 +123,7 @@ names_more (q ∷ on) m p = ap (λ b. (q == p) || b) (names_more on m p) ∙ or_
     or_assoc true b c = refl
     or_assoc false b c = refl
 
-pub cut_place : (x y z : Seen) (t u w : Slices) (many : ℕ) (read : Bool) (unread : List ℕ) → many < 16 → OnlyReads x y → Stays y z
+pub cut_place : (x y z : RackView) (t u w : Slices) (many : ℕ) (read : Bool) (unread : List ℕ) → many < 16 → OnlyReads x y → SameRack y z
     → ((p disk : ℕ) → seat_of u p ≡ Some disk → disk < x.disks)
     → IsCutBelow x y many t u unread → KeepsOthers u w many → IsCut y z w many read
     → IsCutBelow x z (many + 1) t w (with_unread read many unread)
@@ -215,7 +215,7 @@ cut_place x y z t u w many read unread few reads stays inside below others cut =
               (omega (arith, same), now.0, ap (seat_of w) (sym same) ∙ now.1, rose_later x y z now.0 reads.stays now.2)
         ]
 
-pub logs_kept : (x y : Seen) (many : ℕ) (t u : Slices) (unread : List ℕ) → IsCutBelow x y many t u unread → AreLogsCut t → AreLogsCut u
+pub logs_kept : (x y : RackView) (many : ℕ) (t u : Slices) (unread : List ℕ) → IsCutBelow x y many t u unread → AreLogsCut t → AreLogsCut u
 logs_kept x y many t u unread below logs k log some =
     let sectors = below.sectors k log in
     let first = below.firsts k log in

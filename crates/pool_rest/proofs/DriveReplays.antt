@@ -5,7 +5,7 @@ use Rattle.std.specs.List.{filter_map, list_all, range_with_len, slice_index}
 use Rattle.std.proofs.lemmas.List.Folds.{list_any_at}
 use Rattle.std.proofs.lemmas.Bool.{cases_Bool, cases_eq, both_ways, and_from}
 use Rattle.rack.specs.Values.{IsSector, IsSingle, Keeps, MayLeave}
-use Rattle.rack.specs.Seen.{Seen, IsLive, Rose}
+use Rattle.rack.specs.Seen.{RackView, IsLive, Rose}
 use Rattle.rack.specs.Joins.{keeps_then, rose_early, rose_later, live_first}
 use Rattle.rack.specs.Sequences.{OnlyReads, WritesOnly}
 use Rattle.rack.specs.Targets.{Target, look}
@@ -40,13 +40,13 @@ use Rattle.pool_rest.proofs.Meant.{none_listed}
 use Rattle.pool_rest.proofs.OnDrives.{OnDrives, past_none, log_first, sliced_place, of_drive, no_unread, no_lost, landing_is, filter_same, live_slice, untouched, written_there, live_all, has_work_or, all_stays, no_target}
 
 -- halves of logs keep their values
-pub halves_kept : {x w y : Seen} {known : List Known} {s : State} {t u : Slices} {on unread closing lost : List ℕ} {l : LogView}
+pub halves_kept : {x w y : RackView} {known : List Known} {s : State} {t u : Slices} {on unread closing lost : List ℕ} {l : LogView}
     → OnDrives x w y known s t u on unread closing lost l → list_all is_target l.pending ≡ true
     → (d i : ℕ) → IsLive x y d i → drive_gate < i → i < arrays_first → Keeps (x.held d i) (y.held d i)
 halves_kept parts valid d i live past before =
     untouched parts d i live (λ same. absurd (omega (arith, same, past))) (no_target parts valid d i (omega (arith, past)) before)
 
-pub replayed_drives : {x w y : Seen} {known : List Known} {before s : State} {t u : Slices} {on unread closing lost : List ℕ} {l : LogView}
+pub replayed_drives : {x w y : RackView} {known : List Known} {before s : State} {t u : Slices} {on unread closing lost : List ℕ} {l : LogView}
     → OnDrives x w y known s t u on unread closing lost l → AllTold x → IsLasting x → IsUnfaulted x y
     → AreOf (disks_of x) (identities_of (disks_of x) (now_in x)) known
     → list_all is_target l.pending ≡ true
@@ -200,7 +200,7 @@ replayed_drives {x} {w} {y} {known} {before} {s} {t} {u} {on} {unread} {closing}
 -- ---- gates that were closed
 
 -- all tables were read
-pub unread_none : {x w y : Seen} {known : List Known} {s : State} {t u : Slices} {on unread closing lost : List ℕ} {l : LogView}
+pub unread_none : {x w y : RackView} {known : List Known} {s : State} {t u : Slices} {on unread closing lost : List ℕ} {l : LogView}
     → OnDrives x w y known s t u on unread closing lost l → IsUnfaulted x y → unread ≡ []
 unread_none {unread = unread} parts free = none_named unread (no_unread parts free)
   where
@@ -208,7 +208,7 @@ unread_none {unread = unread} parts free = none_named unread (no_unread parts fr
     none_named [] none = refl
     none_named (q ∷ ps) none = absurd (both_ways (names (q ∷ ps) q) (none q) (names_first q ps))
 
-pub shut_drives : (before : State) {x w y : Seen} {known : List Known} {s : State} {t u : Slices} {on unread closing lost : List ℕ} {l : LogView}
+pub shut_drives : (before : State) {x w y : RackView} {known : List Known} {s : State} {t u : Slices} {on unread closing lost : List ℕ} {l : LogView}
     → OnDrives x w y known s t u on unread closing lost l → AllTold x → IsLasting x → IsUnfaulted x y → l.pending ≢ []
     → ((p : ℕ) → p < 16 → names on p ≡ true → seat_by before known p ≡ seat_by s known p → names closing p ≡ true)
     → AreShut x y known before s l.number
@@ -267,7 +267,7 @@ shut_drives before {x} {w} {y} {known} {s} {t} {u} {on} {unread} {closing} {lost
 -- ---- other clauses
 
 -- the places whose gates are closed have whole log slices
-pub closing_logs : (x w : Seen) (known : List Known) (s : State) (t u : Slices) (on unread closing : List ℕ)
+pub closing_logs : (x w : RackView) (known : List Known) (s : State) (t u : Slices) (on unread closing : List ℕ)
     → IsLaidBelow x known s 16 t on → IsCutBelow x w 16 t u unread
     → ((p : ℕ) → names closing p ≡ true → names on p ≡ true) → AreLogs (sectors_of u) closing
 closing_logs x w known s t u on unread closing laid cut closes j below =
@@ -277,14 +277,14 @@ closing_logs x w known s t u on unread closing laid cut closes j below =
     (is.0, cut.sectors (log_slice p) (omega arith) ∙ is.1)
 
 -- only sectors of the drives are written
-pub only_drives : {x w y : Seen} {known : List Known} {s : State} {t u : Slices} {on unread closing lost : List ℕ} {l : LogView}
+pub only_drives : {x w y : RackView} {known : List Known} {s : State} {t u : Slices} {on unread closing lost : List ℕ} {l : LogView}
     → OnDrives x w y known s t u on unread closing lost l → WritesOnly x y (IsOfDrive x known s)
 only_drives {x} {w} {y} {known} {s} {t} {u} parts =
     only_then (IsOfDrive x known s) (only_quiet (IsOfDrive x known s) parts.reads.stays parts.reads.keeps)
     (only_weaker (IsSliced u) (IsOfDrive x known s) (λ d i v is. of_drive parts d i v is) parts.apart)
 
 -- by the calls of a replay
-pub on_drives : {R : Type 0} (seen : R → Seen) (r0 r1 r2 r3 r4 r5 : R) (own : Type 0) (known : List Known) (s : State) (t u v : Slices) (on unread closing lost : List ℕ) (l : LogView)
+pub on_drives : {R : Type 0} (seen : R → RackView) (r0 r1 r2 r3 r4 r5 : R) (own : Type 0) (known : List Known) (s : State) (t u v : Slices) (on unread closing lost : List ℕ) (l : LogView)
     → r1 ≡ r0 → r2 ≡ r1 → r5 ≡ r4
     → IsLaidBelow (seen r1) known s 16 t on → OnlyReads (seen r2) (seen r3) → IsCutBelow (seen r2) (seen r3) 16 t u unread
     → IsOrderly u → (slices_of u (seen r3)).fit → Runs u v (seen r3) (seen r4) own
@@ -303,7 +303,7 @@ on_drives seen r0 r1 r2 r3 r4 r5 own known s t u v on unread closing lost l one 
 }
 
 -- the places that went, each with its cause
-pub lost_cause : {x w y : Seen} {known : List Known} {s : State} {t u : Slices} {on unread closing lost : List ℕ} {l : LogView}
+pub lost_cause : {x w y : RackView} {known : List Known} {s : State} {t u : Slices} {on unread closing lost : List ℕ} {l : LogView}
     → OnDrives x w y known s t u on unread closing lost l → (p d : ℕ) → p < 16 → (names unread p || names lost p) ≡ true → seat_by s known p ≡ Some d
     → Rose (x.faults d) (y.faults d)
 lost_cause {x} {w} {y} {known} {s} {t} {u} {on} {unread} {closing} {lost} parts p d few named seat =

@@ -1,7 +1,7 @@
 -- Places count as gone by the faults of their disks.
 use Rattle.std.proofs.Common.{◌≡◌, ◌⊎◌, ℕ, ◌<◌, Bool, true, nat_lt, List, Option, Some, unwrap_or, sym, ap, subst, ◌∙◌, inl, inr, arith, ltb-true}
 use Rattle.std.proofs.lemmas.Bool.{cases_lt, and_parts}
-use Rattle.rack.specs.Seen.{Seen, Stays, Rose}
+use Rattle.rack.specs.Seen.{RackView, SameRack, Rose}
 use Rattle.rack.specs.Joins.{rose_early, rose_later}
 use Rattle.pool_state.specs.declared.contents.State.{State}
 use Rattle.rack.specs.Sequences.{OnlyReads}
@@ -20,11 +20,11 @@ use Rattle.pool_rest.proofs.Agreeing.{told_later, lasting_later}
 use Rattle.pool_rest.proofs.Stood.{same_reading}
 
 -- by the scan
-pub flagged_rose : (a b : Seen) (known : List Known) (d : ℕ) → IsScan a b known → IsFlagged known d → Rose (a.faults d) (b.faults d)
+pub flagged_rose : (a b : RackView) (known : List Known) (d : ℕ) → IsScan a b known → IsFlagged known d → Rose (a.faults d) (b.faults d)
 flagged_rose a b known d scan flagged = (scan.each d flagged.0 flagged.1).gone flagged.2
 
 -- when the pending record was looked for
-pub looked_rose : (a b : Seen) (known : List Known) (s : State) (t : Slices) (on gone : List ℕ) (m : LogView) (is_pending : Bool) (damaged : Option ℕ)
+pub looked_rose : (a b : RackView) (known : List Known) (s : State) (t : Slices) (on gone : List ℕ) (m : LogView) (is_pending : Bool) (damaged : Option ℕ)
     → IsLaid a known s t on → HasLooked a b t on gone m is_pending damaged
     → (p d : ℕ) → names gone p ≡ true → seat_by s known p ≡ Some d → Rose (a.faults d) (b.faults d)
 looked_rose a b known s t on gone m is_pending damaged laid looked p d named seat =
@@ -45,7 +45,7 @@ looked_rose a b known s t on gone m is_pending damaged laid looked p d named sea
     disk = ap (λ q. unwrap_or (seat_of t q) 0) place ∙ ap (λ o. unwrap_or o 0) (laid.seats p few ∙ seat)
 
 -- by the scan, or then
-pub stands_rose : (a b : Seen) (known : List Known) (s : State) (t : Slices) (on gone : List ℕ) (m : LogView) (is_pending : Bool) (damaged : Option ℕ)
+pub stands_rose : (a b : RackView) (known : List Known) (s : State) (t : Slices) (on gone : List ℕ) (m : LogView) (is_pending : Bool) (damaged : Option ℕ)
     → IsScan a b known → IsLaid a known s t on → HasLooked a b t on gone m is_pending damaged
     → (d : ℕ) → IsFlagged known d ⊎ HasDisk known s gone d → Rose (a.faults d) (b.faults d)
 stands_rose a b known s t on gone m is_pending damaged scan laid looked d (inl flagged) = flagged_rose a b known d scan flagged
@@ -53,7 +53,7 @@ stands_rose a b known s t on gone m is_pending damaged scan laid looked d (inr h
     looked_rose a b known s t on gone m is_pending damaged laid looked has.0 d has.1 has.2
 
 -- after a replay, or in it, or by what was known before it
-pub again_rose : {R : Type 0} (seen : R → Seen) (r0 ri rd rb : R) → ri ≡ r0 → Stays (seen ri) (seen rd) → Stays (seen rd) (seen rb)
+pub again_rose : {R : Type 0} (seen : R → RackView) (r0 ri rd rb : R) → ri ≡ r0 → SameRack (seen ri) (seen rd) → SameRack (seen rd) (seen rb)
     → (early : List Known) (before seated : State) (gone lost : List ℕ) → HaveCause (seen ri) (seen rd) early seated lost
     → (d : ℕ) → Rose ((seen rd).faults d) ((seen rb).faults d) ⊎ HasRefused early before gone seated lost d
     → Rose ((seen r0).faults d) ((seen rb).faults d) ⊎ (IsFlagged early d ⊎ HasDisk early before gone d)
@@ -68,7 +68,7 @@ again_rose seen r0 ri rd rb same first second early before seated gone lost caus
     of (inr (inr (inr has))) = inl (rose_early (seen ri) (seen rd) (seen rb) d second (cause has.0 d has.1 has.2))
 
 -- What was found of the pending record is what the slices hold still, but for places that were passed over by their disks' faults.
-pub found_left : (a b : Seen) (known : List Known) (s : State) (t : Slices) (on gone : List ℕ) (m : LogView) (is_pending : Bool) (damaged : Option ℕ)
+pub found_left : (a b : RackView) (known : List Known) (s : State) (t : Slices) (on gone : List ℕ) (m : LogView) (is_pending : Bool) (damaged : Option ℕ)
     → IsOrderly t → (slices_of t b).fit → OnlyReads a b → IsLaid a known s t on → HasLooked a b t on gone m is_pending damaged
     → FindsLeft a b known s t on m is_pending damaged
 found_left a b known s t on gone m is_pending damaged orderly fit reads laid looked = record {
@@ -79,8 +79,8 @@ found_left a b known s t on gone m is_pending damaged orderly fit reads laid loo
 }
 
 -- over calls that were made before too
-pub left_since : (a x b : Seen) (known : List Known) (s : State) (t : Slices) (on : List ℕ) (m : LogView) (is_pending : Bool) (damaged : Option ℕ)
-    → Stays a x → FindsLeft x b known s t on m is_pending damaged → FindsLeft a b known s t on m is_pending damaged
+pub left_since : (a x b : RackView) (known : List Known) (s : State) (t : Slices) (on : List ℕ) (m : LogView) (is_pending : Bool) (damaged : Option ℕ)
+    → SameRack a x → FindsLeft x b known s t on m is_pending damaged → FindsLeft a b known s t on m is_pending damaged
 left_since a x b known s t on m is_pending damaged stays left = record {
   passed = left.passed;
   cause = λ p d named seat. rose_later a x b d stays (left.cause p d named seat);

@@ -3,7 +3,7 @@ use Rattle.std.proofs.Common.{◌≡◌, ℕ, ◌+◌, ◌<◌, Bool, true, fals
 use Rattle.std.specs.Option.{option_and_then}
 use Rattle.std.specs.List.{list_any, list_all}
 use Rattle.std.proofs.lemmas.Bool.{both_ways, or_parts}
-use Rattle.rack.specs.Seen.{Image, Seen, Stays}
+use Rattle.rack.specs.Seen.{Image, RackView, SameRack}
 use Rattle.rack.specs.Joins.{rose_early, rose_later, stays_then}
 use Rattle.rack.specs.Sequences.{OnlyReads, WritesOnly}
 use Rattle.rack.specs.Targets.{Target}
@@ -78,7 +78,7 @@ no_elements (x ∷ xs) none = absurd (omega (arith, none))
 
 -- ---- which disks were written
 
-pub writes_idle : (a b : Seen) (known : List Known) (s : State) → IsScan a b known → OnlyReads a b → WritesDrives a b
+pub writes_idle : (a b : RackView) (known : List Known) (s : State) → IsScan a b known → OnlyReads a b → WritesDrives a b
 writes_idle a b known s scan reads = record {
   known = known;
   state = s;
@@ -86,7 +86,7 @@ writes_idle a b known s scan reads = record {
   only = only_quiet (IsOfDrive a known s) reads.stays reads.keeps;
 }
 
-pub writes_since : (a x b : Seen) (known : List Known) (s : State) → OnlyReads a x → IsScan a x known → WritesOnly x b (IsOfDrive x known s) → WritesDrives a b
+pub writes_since : (a x b : RackView) (known : List Known) (s : State) → OnlyReads a x → IsScan a x known → WritesOnly x b (IsOfDrive x known s) → WritesDrives a b
 writes_since a x b known s reads scan only = record {
   known = known;
   state = s;
@@ -106,8 +106,8 @@ writes_since a x b known s reads scan only = record {
 
 -- ---- a record that was replayed
 
-module _ (a x b : Seen) (known : List Known) (st : State) (t : Slices) (m : LogView) (is_pending : Bool) (damaged : Option ℕ)
-    (reads : OnlyReads a x) (stays : Stays x b) (scan : IsScan a x known)
+module _ (a x b : RackView) (known : List Known) (st : State) (t : Slices) (m : LogView) (is_pending : Bool) (damaged : Option ℕ)
+    (reads : OnlyReads a x) (stays : SameRack x b) (scan : IsScan a x known)
     (meant : AllTold a → IsUnfaulted a x → StandsAs a st t m is_pending damaged) where
   pub free_before : IsUnfaulted a b → IsUnfaulted a x
   free_before free d rose = free d (rose_early a x b d stays rose)
@@ -156,12 +156,12 @@ module _ (a x b : Seen) (known : List Known) (st : State) (t : Slices) (m : LogV
       (one told (free_before free)) (still_one told lasts free)
 
 -- what was found is what is pending on the disks: nothing, where nothing is
-pub not_idle : (a : Seen) (st : State) (t : Slices) (m : LogView) (is_pending : Bool) (damaged : Option ℕ) → StandsAs a st t m is_pending damaged → IsLasting a → IsIdle a → m.pending ≡ []
+pub not_idle : (a : RackView) (st : State) (t : Slices) (m : LogView) (is_pending : Bool) (damaged : Option ℕ) → StandsAs a st t m is_pending damaged → IsLasting a → IsIdle a → m.pending ≡ []
 not_idle a st t m is_pending damaged stands lasts idle = stands.targets lasts ∙ idle (standing_by (disks_of a) (now_in a) st) stands.stands
 
 -- ---- nothing was to be replayed
 
-module _ (a b : Seen) (st : State) (t : Slices) (m : LogView) (is_pending : Bool) (damaged : Option ℕ) (reads : OnlyReads a b)
+module _ (a b : RackView) (st : State) (t : Slices) (m : LogView) (is_pending : Bool) (damaged : Option ℕ) (reads : OnlyReads a b)
     (meant : AllTold a → IsUnfaulted a b → StandsAs a st t m is_pending damaged) (none : m.pending ≡ []) where
   no_targets : (told : AllTold a) → IsLasting a → (free : IsUnfaulted a b) → (standing_by (disks_of a) (now_in a) st).targets ≡ []
   no_targets told lasts free = sym ((meant told free).targets lasts) ∙ none

@@ -5,7 +5,7 @@ use Rattle.std.specs.Option.{option_map_or}
 use Rattle.std.proofs.lemmas.Bool.{both_ways, cases_Bool, cases_lt, ne_eqb}
 use Rattle.std.proofs.lemmas.Option.{none-some}
 use Rattle.rack.specs.Values.{IsSingle}
-use Rattle.rack.specs.Seen.{Image, Seen, IsLive}
+use Rattle.rack.specs.Seen.{Image, RackView, IsLive}
 use Rattle.rack.specs.Targets.{look}
 use Rattle.pool_state.specs.declared.contents.State.{State}
 use Rattle.pool_state.specs.Sector.{decoded}
@@ -105,7 +105,7 @@ module _ (c : Image) (f : ℕ → Bool) (ps : List ℕ) (a : GateAt) (is : pendi
 -- ---- a replay
 
 -- On `on` are the places that stay, of those that have a log slice; the record is found on them. Others have lower gates.
-module _ (l : LogView) (on : List ℕ) (s0 s : State) (x : Seen) (is_pending : Bool) (a : GateAt)
+module _ (l : LogView) (on : List ℕ) (s0 s : State) (x : RackView) (is_pending : Bool) (a : GateAt)
     (lasting : x.lasting)
     (live : (d k : ℕ) → k < x.sectors d → IsLive x x d k)
     (single : (p k : ℕ) → k < x.sectors (log_slice p) → IsSingle (x.held (log_slice p) k))

@@ -3,7 +3,7 @@ use Rattle.std.proofs.Common.{◌≡◌, ◌≢◌, ◌⊎◌, ℕ, ◌+◌, ◌
 use Rattle.std.proofs.lemmas.Bool.{cases_lt}
 use Rattle.rack.specs.Values.{MayLeave}
 use Rattle.std.specs.List.{list_all}
-use Rattle.rack.specs.Seen.{Image, Seen, IsLive, IsPick, Stays}
+use Rattle.rack.specs.Seen.{Image, RackView, IsLive, IsPick, SameRack}
 use Rattle.rack.specs.Joins.{leaves_then, leaves_weaker, rose_early, stays_then}
 use Rattle.rack.specs.Moments.{Leaves}
 use Rattle.rack.specs.Sequences.{OnlyReads}
@@ -59,7 +59,7 @@ same_shown t c e same = λ i k j. at k j i
 
 -- ---- reads
 
-module _ (a x : Seen) (reads : OnlyReads a x) (told : AllTold a) (lasts : IsLasting a) where
+module _ (a x : RackView) (reads : OnlyReads a x) (told : AllTold a) (lasts : IsLasting a) where
   live_read : (d j : ℕ) → d < x.disks → j < x.sectors d → IsLive a x d j
   live_read d j disk sector = record {
     disk = disk;
@@ -96,7 +96,7 @@ module _ (a x : Seen) (reads : OnlyReads a x) (told : AllTold a) (lasts : IsLast
       (λ k j low. (reads.keeps.held (disk_of t k) (first_of t k + j) (live_read (disk_of t k) (first_of t k + j) (disk_below t x k j orderly inside low) (sector_below t x k j inside low))).current)
 
   -- reads before
-  pub keeps_since : (b : Seen) (t : Slices) → AreSingle a → KeepsReplayed x b t → KeepsReplayed a b t
+  pub keeps_since : (b : RackView) (t : Slices) → AreSingle a → KeepsReplayed x b t → KeepsReplayed a b t
   keeps_since b t single keeps =
       let picked : (i : Image) → ((d j : ℕ) → d < x.disks → j < x.sectors d → MayLeave (a.held d j) (i d j)) → IsPick x x x.held i = λ i may d j live.
       inl (single d j (subst (λ n. d < n) reads.stays.disks live.disk) (subst (λ n. j < n) (reads.stays.sectors d) live.sector) (i d j) (may d j live.disk live.sector)
@@ -111,7 +111,7 @@ module _ (a x : Seen) (reads : OnlyReads a x) (told : AllTold a) (lasts : IsLast
       }
 
   -- reads after
-  pub keeps_until : (w : Seen) (t : Slices) → Stays w a → IsOrderly t → IsInside t x → KeepsReplayed w a t → KeepsReplayed w x t
+  pub keeps_until : (w : RackView) (t : Slices) → SameRack w a → IsOrderly t → IsInside t x → KeepsReplayed w a t → KeepsReplayed w x t
   keeps_until w t stays orderly inside keeps =
       let later : (i : Image) → GivesNow t a i → GivesNow t x i = λ i gives.
       subst (λ (c : Image). IsAlike (replayed (sectors_of t) (sliced t i)) (replayed (sectors_of t) c)) (sym (shown_later t orderly inside)) gives in
@@ -150,7 +150,7 @@ module _ (a x : Seen) (reads : OnlyReads a x) (told : AllTold a) (lasts : IsLast
 
 -- ---- slices inside the disks lay there before
 
-pub inside_before : (t : Slices) (a b : Seen) → Stays a b → IsInside t b → IsInside t a
+pub inside_before : (t : Slices) (a b : RackView) → SameRack a b → IsInside t b → IsInside t a
 inside_before t a b stays inside = record {
   small = λ disk below. subst (λ n. n < 2 ^ 48) (stays.sectors disk) (inside.small disk (subst (λ n. disk < n) (sym stays.disks) below));
   seats = λ place disk seat. subst (λ n. disk < n) stays.disks (inside.seats place disk seat);
@@ -160,31 +160,31 @@ inside_before t a b stays inside = record {
 -- ---- a replay, with the reads round it
 
 -- what a replay keeps, by slices on which its record was found
-abbrev pub Replaying : Seen → Seen → List Known → State → State → LogView → Type 0
+abbrev pub Replaying : RackView → RackView → List Known → State → State → LogView → Type 0
 Replaying x y known st z m =
     (t u : Slices) (on : List ℕ) (is_pending : Bool) → IsLaid x known st t on → FindsAll x t on m is_pending None
     → BringsState x known st z m on (reading (slices_of t x)) → AreOfDrives x (seat_by z known) u → state_in (sliced u (now_in x)) ≡ Some st → KeepsReplayed x y u
 
 -- where no disk refuses a call
-abbrev pub KeepsBrought : Seen → Seen → List Known → State → State → LogView → Type 0
+abbrev pub KeepsBrought : RackView → RackView → List Known → State → State → LogView → Type 0
 KeepsBrought x y known st z m = AllTold x → IsLasting x → IsUnfaulted x y → AreSingle x → Replaying x y known st z m
 
 -- the disks were looked at once more
-pub again_brought : {R : Type 0} (seen : R → Seen) (r0 r1 rd rb : R) → r1 ≡ r0 → (known : List Known) (st z : State) (m : LogView) → z ≡ seated_state m.pending st
-    → Stays (seen r1) (seen rd) → OnlyReads (seen rd) (seen rb) → KeepsBrought (seen r1) (seen rd) known st z m
+pub again_brought : {R : Type 0} (seen : R → RackView) (r0 r1 rd rb : R) → r1 ≡ r0 → (known : List Known) (st z : State) (m : LogView) → z ≡ seated_state m.pending st
+    → SameRack (seen r1) (seen rd) → OnlyReads (seen rd) (seen rb) → KeepsBrought (seen r1) (seen rd) known st z m
     → KeepsBrought (seen r0) (seen rb) known st (seated_state m.pending st) m
 again_brought seen r0 r1 rd rb back known st z m seated stays reads keeps told lasts free single t u on is_pending laid finds brings of is =
     let a = seen r0 in
     let y = seen rd in
     let b = seen rb in
-    let early : Stays a y = subst (λ r. Stays (seen r) y) back stays in
+    let early : SameRack a y = subst (λ r. SameRack (seen r) y) back stays in
     let moved : KeepsBrought a y known st (seated_state m.pending st) m =
     subst (λ r. KeepsBrought (seen r) y known st (seated_state m.pending st) m) back (subst (λ k. KeepsBrought (seen r1) y known st k m) seated keeps) in
     keeps_until y b reads (told_later a y early told) (lasting_later a y early lasts) a u early of.orderly (inside_still reads.stays (inside_still early of.inside))
     (moved told lasts (λ d rose. free d (rose_early a y b d reads.stays rose)) single t u on is_pending laid finds brings of is)
 
-module _ (a x b : Seen) (known : List Known) (st : State) (m : LogView) (is_pending : Bool) (damaged : Option ℕ) (t : Slices)
-    (reads : OnlyReads a x) (stays : Stays x b) (scan : IsScan a x known) (some : m.pending ≢ [])
+module _ (a x b : RackView) (known : List Known) (st : State) (m : LogView) (is_pending : Bool) (damaged : Option ℕ) (t : Slices)
+    (reads : OnlyReads a x) (stays : SameRack x b) (scan : IsScan a x known) (some : m.pending ≢ [])
     (told : AllTold a) (lasts : IsLasting a) (free : IsUnfaulted a x)
     (stands : StandsAs a st t m is_pending damaged)
     (rests : Rests a b (standing_by (disks_of a) (now_in a) st))
@@ -192,7 +192,7 @@ module _ (a x b : Seen) (known : List Known) (st : State) (m : LogView) (is_pend
     (single : AreSingle a)
     (s : State) (again : List Known) (now : AreOf (disks_of b) (identities_of (disks_of b) (now_in b)) again)
     (same : s ≡ seated_state (standing_by (disks_of a) (now_in a) st).targets st) where
-  all : Stays a b
+  all : SameRack a b
   all = stays_then reads.stays stays
 
   are : AreOf (disks_of a) (identities_of (disks_of a) (now_in a)) known

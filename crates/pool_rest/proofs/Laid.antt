@@ -6,7 +6,7 @@ use Rattle.std.proofs.lemmas.List.Folds.{list_any_at}
 use Rattle.std.proofs.lemmas.Option.{none-some}
 use Rattle.std.proofs.lemmas.Bool.{cases_eq, cases_lt, and_parts, ne_eqb}
 use Rattle.std.proofs.lemmas.List.{length-append}
-use Rattle.rack.specs.Seen.{Image, Seen}
+use Rattle.rack.specs.Seen.{Image, RackView}
 use Rattle.pool_state.specs.declared.contents.State.{State}
 use Rattle.slice_rack.specs.Slices.{Slices, seat_of, first_of, sectors_of, disk_of}
 use Rattle.slice_rack.specs.Sliced.{sliced}
@@ -33,7 +33,7 @@ if_same false x = refl
 
 -- ---- one place after another
 
-pub laid_start : (x : Seen) (known : List Known) (s : State) (t : Slices) → IsEmpty t → IsLaidBelow x known s 0 t []
+pub laid_start : (x : RackView) (known : List Known) (s : State) (t : Slices) → IsEmpty t → IsLaidBelow x known s 0 t []
 laid_start x known s t empty = record {
   seats = λ p below. absurd (omega (arith, below));
   none = λ p from. empty.seats p;
@@ -45,7 +45,7 @@ laid_start x known s t empty = record {
 }
 
 -- a place without a disk
-no_sectors : (x : Seen) (known : List Known) (s : State) (k : ℕ) → seat_by s known (place_of k) ≡ None → laid_sectors x known s k ≡ 0
+no_sectors : (x : RackView) (known : List Known) (s : State) (k : ℕ) → seat_by s known (place_of k) ≡ None → laid_sectors x known s k ≡ 0
 no_sectors x known s k none =
     ap (λ o. if slice_of k == 0 then option_map_or (λ d. if nat_le arrays_first (x.sectors d) then log_sectors else 0) o 0 else 0) none
     ∙ if_same (slice_of k == 0) 0
@@ -57,7 +57,7 @@ nat_lt_more p many other =
       | inr from ↦ le-ltb p (many + 1) (omega (arith, from, other)) ∙ sym (le-ltb p many from)
     ]
 
-pub laid_over : (x : Seen) (known : List Known) (s : State) (many : ℕ) (t : Slices) (on : List ℕ) → seat_by s known many ≡ None
+pub laid_over : (x : RackView) (known : List Known) (s : State) (many : ℕ) (t : Slices) (on : List ℕ) → seat_by s known many ≡ None
     → IsLaidBelow x known s many t on → IsLaidBelow x known s (many + 1) t on
 laid_over x known s many t on none laid = record {
   seats = λ p below. elim (cases_eq p many) [
@@ -109,7 +109,7 @@ few_listed : (done : Bool) (many : ℕ) (on : List ℕ) → length on ≤ many �
 few_listed true many on few = omega (arith, few, length-append on (many ∷ []))
 few_listed false many on few = omega (arith, few)
 
-pub laid_place : (x : Seen) (known : List Known) (s : State) (many d : ℕ) (t u : Slices) (on : List ℕ) (done : Bool) → seat_by s known many ≡ Some d
+pub laid_place : (x : RackView) (known : List Known) (s : State) (many d : ℕ) (t u : Slices) (on : List ℕ) (done : Bool) → seat_by s known many ≡ Some d
     → LaysLog x t u many d done → IsLaidBelow x known s many t on → IsLaidBelow x known s (many + 1) u (listed done many on)
 laid_place x known s many d t u on done seat lays laid = record {
   seats = λ p below. elim (cases_eq p many) [
@@ -181,7 +181,7 @@ laid_place x known s many d t u on done seat lays laid = record {
         ∙ ap (λ b. b && nat_lt 0 (sectors_of u (log_slice p))) (sym (lt-ltb p (many + 1) (omega (arith, last))))
 
 -- a disk that is taken for a place is no other place's
-pub free_place : (x : Seen) (known : List Known) (s : State) (many d p : ℕ) (t : Slices) (on : List ℕ) → IsLaidBelow x known s many t on
+pub free_place : (x : RackView) (known : List Known) (s : State) (many d p : ℕ) (t : Slices) (on : List ℕ) → IsLaidBelow x known s many t on
     → seat_by s known many ≡ Some d → seat_of t p ≡ Some d → p ≡ many
 free_place x known s many d p t on laid seat at =
     elim (cases_lt p many) [
@@ -200,7 +200,7 @@ disk_is : (t : Slices) (k d : ℕ) → seat_of t (place_of k) ≡ Some d → dis
 disk_is t k d is = ap (λ o. unwrap_or o 0) is
 
 -- what a slice of one of the sixteen places shows
-laid_shows : (x a : Seen) (known : List Known) (s : State) (t : Slices) (on : List ℕ) → ((d : ℕ) → x.sectors d ≡ a.sectors d)
+laid_shows : (x a : RackView) (known : List Known) (s : State) (t : Slices) (on : List ℕ) → ((d : ℕ) → x.sectors d ≡ a.sectors d)
     → IsLaidBelow x known s 16 t on → (c : Image) (k u : ℕ) → k < 272 → sliced t c k u ≡ logs_of (disks_of a) (seat_by s known) c k u
 laid_shows x a known s t on same laid c k u few =
     elim (cases_eq (slice_of k) 0) [
@@ -247,7 +247,7 @@ laid_shows x a known s t on same laid c k u few =
         ∙ sym (logs_are first (Some d) seat)
 
 -- a place with a log slice is current, and its log slice is whole
-pub has_log : (x : Seen) (known : List Known) (s : State) (t : Slices) (on : List ℕ) (p : ℕ) → IsLaidBelow x known s 16 t on → 0 < sectors_of t (log_slice p)
+pub has_log : (x : RackView) (known : List Known) (s : State) (t : Slices) (on : List ℕ) (p : ℕ) → IsLaidBelow x known s 16 t on → 0 < sectors_of t (log_slice p)
     → (p < 16) × (is_current s p ≡ true) × (sectors_of t (log_slice p) ≡ log_sectors)
 has_log x known s t on p laid some =
     elim (cases_lt p 16) [
@@ -272,23 +272,23 @@ has_log x known s t on p laid some =
     of_seat few None seat is = absurd (omega (arith, some, is))
     of_seat few (Some d) seat is = (few, (seat_by_stands s known p d seat).2, whole d (nat_le arrays_first (x.sectors d)) is)
 
-named_log : (x : Seen) (known : List Known) (s : State) (t : Slices) (on : List ℕ) (p : ℕ) → IsLaidBelow x known s 16 t on → names on p ≡ true
+named_log : (x : RackView) (known : List Known) (s : State) (t : Slices) (on : List ℕ) (p : ℕ) → IsLaidBelow x known s 16 t on → names on p ≡ true
     → (p < 16) × (is_current s p ≡ true) × (sectors_of t (log_slice p) ≡ log_sectors)
 named_log x known s t on p laid named =
     has_log x known s t on p laid
     (ltb-true 0 (sectors_of t (log_slice p)) (and_parts (nat_lt p 16) (nat_lt 0 (sectors_of t (log_slice p))) (sym (laid.places p) ∙ named)).1)
 
-pub laid_logs : (x : Seen) (known : List Known) (s : State) (t : Slices) (on : List ℕ) → IsLaidBelow x known s 16 t on → AreLogs (sectors_of t) on
+pub laid_logs : (x : RackView) (known : List Known) (s : State) (t : Slices) (on : List ℕ) → IsLaidBelow x known s 16 t on → AreLogs (sectors_of t) on
 laid_logs x known s t on laid j below =
     let is = named_log x known s t on (slice_index on j) laid
     (list_any_at (λ q. q == slice_index on j) on j 0 below (eq-eqb (slice_index on j) (slice_index on j) refl)) in
     (is.0, is.2)
 
-pub laid_none : (x : Seen) (known : List Known) (s : State) (t : Slices) (on : List ℕ) → IsLaidBelow x known s 16 t on → (k : ℕ) → 272 ≤ k → sectors_of t k ≡ 0
+pub laid_none : (x : RackView) (known : List Known) (s : State) (t : Slices) (on : List ℕ) → IsLaidBelow x known s 16 t on → (k : ℕ) → 272 ≤ k → sectors_of t k ≡ 0
 laid_none x known s t on laid k past = laid.empty k (omega (arith, past))
 
 -- which sectors are laid goes by the disks' sizes
-pub sectors_seen : (x a : Seen) (known : List Known) (s : State) (k : ℕ) → ((d : ℕ) → x.sectors d ≡ a.sectors d)
+pub sectors_seen : (x a : RackView) (known : List Known) (s : State) (k : ℕ) → ((d : ℕ) → x.sectors d ≡ a.sectors d)
     → laid_sectors x known s k ≡ laid_sectors a known s k
 sectors_seen x a known s k same =
     ap (λ n. if slice_of k == 0 then n else 0) (of (seat_by s known (place_of k)))
@@ -299,7 +299,7 @@ sectors_seen x a known s k same =
     of None = refl
     of (Some d) = ap (λ n. if nat_le arrays_first n then log_sectors else 0) (same d)
 
-pub laid_all : (x a : Seen) (known : List Known) (s : State) (t : Slices) (on : List ℕ) → ((d : ℕ) → x.sectors d ≡ a.sectors d)
+pub laid_all : (x a : RackView) (known : List Known) (s : State) (t : Slices) (on : List ℕ) → ((d : ℕ) → x.sectors d ≡ a.sectors d)
     → IsLaidBelow x known s 16 t on → IsLaid a known s t on
 laid_all x a known s t on same laid = record {
   seats = λ p few. laid.seats p few;

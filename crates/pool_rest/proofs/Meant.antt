@@ -5,7 +5,7 @@ use Rattle.std.specs.Result.{result_ok}
 use Rattle.std.specs.List.{range_with_len}
 use Rattle.std.proofs.lemmas.Bool.{and_parts, cases_Bool, cases_lt, both_ways}
 use Rattle.std.proofs.lemmas.Option.{none-some}
-use Rattle.rack.specs.Seen.{Image, Seen}
+use Rattle.rack.specs.Seen.{Image, RackView}
 use Rattle.slice_rack.specs.Slices.{Slices, disk_of, sectors_of}
 use Rattle.slice_rack.specs.Sliced.{slices_of}
 use Rattle.pool_state.specs.declared.contents.State.{State}
@@ -39,13 +39,13 @@ use Rattle.pool_rest.specs.declared.standing.FindFault.TheVariants.{NoPool, TwoP
 use Rattle.pool_rest.specs.Standing.{IsLaid, IsNewest, HasLooked, StandsAs, IsMeant, IsCause}
 use Rattle.pool_rest.proofs.Damage.{damaged_left, damaged_by}
 
-stands_so : (a b : Seen) (known : List Known) (s : State) → IsScan a b known → AllTold a → IsUnfaulted a b
+stands_so : (a b : RackView) (known : List Known) (s : State) → IsScan a b known → AllTold a → IsUnfaulted a b
     → newest (disks_of a) (as_read a known) ≡ Some s → standing (disks_of a) (now_in a) ≡ Some (standing_by (disks_of a) (now_in a) s)
 unfolding standing
 stands_so a b known s scan told free is =
     ap (option_map (standing_by (disks_of a) (now_in a))) (sym (newest_meant a b known scan told free) ∙ is)
 
-pub cause_meant : (a b : Seen) (why : FindFault) → IsCause a b why → AllTold a → IsUnfaulted a b → IsMeant a why
+pub cause_meant : (a b : RackView) (why : FindFault) → IsCause a b why → AllTold a → IsUnfaulted a b → IsMeant a why
 unfolding refusal_of standing
 cause_meant a b NoPool cause told free =
     let none : standing (disks_of a) (now_in a) ≡ None =
@@ -78,12 +78,12 @@ few_stood disks c s is = of_front (foremost epoch_of (map (λ d. (identities_of 
         subst (λ (u : State). length u.drives.items ≤ 16) (some_state copy.state s same)
         (of_disk at.0 copy (nat_lt state_sector (disks.sectors at.0)) at.2)
 
-pub few_newest : (a : Seen) (s : State) → newest (disks_of a) (identities_of (disks_of a) (now_in a)) ≡ Some s → length s.drives.items ≤ 16
+pub few_newest : (a : RackView) (s : State) → newest (disks_of a) (identities_of (disks_of a) (now_in a)) ≡ Some s → length s.drives.items ≤ 16
 few_newest a s is = few_stood (disks_of a) (now_in a) s is
 
 -- ---- the places that were asked are the current ones
 
-module _ (a : Seen) (known : List Known) (s : State) (t : Slices) (on : List ℕ) (few : length s.drives.items ≤ 16) (laid : IsLaid a known s t on) where
+module _ (a : RackView) (known : List Known) (s : State) (t : Slices) (on : List ℕ) (few : length s.drives.items ≤ 16) (laid : IsLaid a known s t on) where
   abbrev read : Image
   read = reading (slices_of t a)
 
@@ -123,7 +123,7 @@ module _ (a : Seen) (known : List Known) (s : State) (t : Slices) (on : List ℕ
       ∙ ap (λ ps. pending_at ps read) (sym (current_of_all s few))
       ∙ pending_at_by read e (current_places s) (λ p named. same (log_slice p) gate_sector (let low = small p named in omega (arith, low)))
 
-clean_meant : (a b : Seen) (known : List Known) (s : State) (t : Slices) (on : List ℕ) (m : LogView) (is_pending : Bool) (damaged : Option ℕ)
+clean_meant : (a b : RackView) (known : List Known) (s : State) (t : Slices) (on : List ℕ) (m : LogView) (is_pending : Bool) (damaged : Option ℕ)
     → IsNewest a b known s → IsLaid a known s t on → HasLooked a b t on [] m is_pending damaged → AllTold a → IsUnfaulted a b → StandsAs a s t m is_pending damaged
 clean_meant a b known s t on m is_pending damaged is_new laid looked told free = record {
   stands = stands_so a b known s is_new.scan told free (is_new.newest told);
@@ -214,7 +214,7 @@ pub none_listed : (f : ℕ → Bool) (ks : List ℕ) → ((p : ℕ) → f p ≡ 
 none_listed f [] none = refl
 none_listed f (k ∷ ks) none = filter_out f k ks (none k) ∙ none_listed f ks none
 
-pub gone_none : (a b : Seen) (t : Slices) (on gone : List ℕ) (m : LogView) (is_pending : Bool) (damaged : Option ℕ)
+pub gone_none : (a b : RackView) (t : Slices) (on gone : List ℕ) (m : LogView) (is_pending : Bool) (damaged : Option ℕ)
     → HasLooked a b t on gone m is_pending damaged → IsUnfaulted a b → gone ≡ []
 gone_none a b t on gone m is_pending damaged looked free =
     looked.ordered
@@ -224,7 +224,7 @@ gone_none a b t on gone m is_pending damaged looked free =
       | inr none ↦ none
     ])
 
-pub stand_meant : (a b : Seen) (known : List Known) (s : State) (t : Slices) (on gone : List ℕ) (m : LogView) (is_pending : Bool) (damaged : Option ℕ)
+pub stand_meant : (a b : RackView) (known : List Known) (s : State) (t : Slices) (on gone : List ℕ) (m : LogView) (is_pending : Bool) (damaged : Option ℕ)
     → IsNewest a b known s → IsLaid a known s t on → HasLooked a b t on gone m is_pending damaged → AllTold a → IsUnfaulted a b → StandsAs a s t m is_pending damaged
 stand_meant a b known s t on gone m is_pending damaged is_new laid looked told free =
     clean_meant a b known s t on m is_pending damaged is_new laid

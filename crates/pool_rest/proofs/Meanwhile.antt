@@ -3,7 +3,7 @@ use Rattle.std.proofs.Common.{◌≡◌, ◌⊎◌, ℕ, ◌<◌, Bool, true, Li
 use Rattle.std.specs.List.{filter_map, list_all}
 use Rattle.std.proofs.lemmas.Bool.{cases_eq}
 use Rattle.rack.specs.Values.{IsSingle}
-use Rattle.rack.specs.Seen.{Image, IsLive, IsPick, Seen, Stays}
+use Rattle.rack.specs.Seen.{Image, IsLive, IsPick, RackView, SameRack}
 use Rattle.rack.specs.Joins.{leaves_then, leaves_weaker, rose_early}
 use Rattle.rack.specs.Moments.{Leaves}
 use Rattle.rack.specs.Sequences.{OnlyReads}
@@ -69,7 +69,7 @@ module _ (disks : Disks) (s0 s : State) (xs : List Target) (c e i : Image) (agre
 -- ---- reads
 
 -- what a stop in reads leaves agrees with what each sector holds, where that is one value
-pub reads_stop : (a b : Seen) → OnlyReads a b → AllTold a → IsLasting a → ((d t : ℕ) → d < a.disks → t < a.sectors d → IsSingle (a.held d t)) → (i : Image)
+pub reads_stop : (a b : RackView) → OnlyReads a b → AllTold a → IsLasting a → ((d t : ℕ) → d < a.disks → t < a.sectors d → IsSingle (a.held d t)) → (i : Image)
     → IsPick a b a.held i → Agree (disks_of a) i (now_in b)
 reads_stop a b reads told lasts single i pick d t there within =
     let live : IsLive a b d t = live_reads a b reads.stays told lasts d t there within in
@@ -78,20 +78,20 @@ reads_stop a b reads told lasts single i pick d t there within =
 -- ---- a replay, and reads after it
 
 -- what stands meanwhile, by slices on which its record was found
-abbrev pub Meanwhile : Seen → Seen → List Known → State → State → LogView → (Image → Type 0) → Type 0
+abbrev pub Meanwhile : RackView → RackView → List Known → State → State → LogView → (Image → Type 0) → Type 0
 Meanwhile x y known st z m P =
     (t u : Slices) (on : List ℕ) (is_pending : Bool) → IsLaid x known st t on → FindsAll x t on m is_pending None
     → BringsState x known st z m on (reading (slices_of t x)) → AreOfDrives x (seat_by z known) u → state_in (sliced u (now_in x)) ≡ Some st
     → x.traced → Leaves x y P
 
 -- where no disk refuses a call
-abbrev pub StandsFound : Seen → Seen → List Known → State → State → LogView → (Image → Type 0) → Type 0
+abbrev pub StandsFound : RackView → RackView → List Known → State → State → LogView → (Image → Type 0) → Type 0
 StandsFound x y known st z m P =
     AllTold x → IsLasting x → IsUnfaulted x y → AreSingle x → AreOf (disks_of x) (identities_of (disks_of x) (now_in x)) known
     → list_all is_target m.pending ≡ true → Meanwhile x y known st z m P
 
 -- sectors have one value after a replay, as they had before it
-replayed_single : (a y : Seen) (st z : State) (xs : List Target) (number : ℕ) → Stays a y → IsReplayed a y st z xs number → AreSingle a → (d t : ℕ) → d < y.disks → t < y.sectors d → IsSingle (y.held d t)
+replayed_single : (a y : RackView) (st z : State) (xs : List Target) (number : ℕ) → SameRack a y → IsReplayed a y st z xs number → AreSingle a → (d t : ℕ) → d < y.disks → t < y.sectors d → IsSingle (y.held d t)
 replayed_single a y st z xs number stays is single d t there within =
     let disk : d < a.disks = subst (λ n. d < n) stays.disks there in
     let sector : t < a.sectors d = subst (λ n. t < n) (stays.sectors d) within in
@@ -105,8 +105,8 @@ replayed_single a y st z xs number stays is single d t there within =
           ])
     ]
 
-pub again_stands : {R : Type 0} (seen : R → Seen) (r0 r1 rd rb : R) → r1 ≡ r0 → (known : List Known) (st z : State) (m : LogView) → z ≡ seated_state m.pending st
-    → Stays (seen r1) (seen rd) → OnlyReads (seen rd) (seen rb)
+pub again_stands : {R : Type 0} (seen : R → RackView) (r0 r1 rd rb : R) → r1 ≡ r0 → (known : List Known) (st z : State) (m : LogView) → z ≡ seated_state m.pending st
+    → SameRack (seen r1) (seen rd) → OnlyReads (seen rd) (seen rb)
     → (AllTold (seen r1) → IsLasting (seen r1) → IsUnfaulted (seen r1) (seen rd) → AreOf (disks_of (seen r1)) (identities_of (disks_of (seen r1)) (now_in (seen r1))) known
     → list_all is_target m.pending ≡ true → IsReplayed (seen r1) (seen rd) st z m.pending m.number)
     → StandsFound (seen r1) (seen rd) known st z m (StandsReplaying (disks_of (seen r1)) st z m.pending (now_in (seen r1)))
@@ -116,7 +116,7 @@ again_stands seen r0 r1 rd rb back known st z m seated stays reads replayed stan
     let a = seen r0 in
     let y = seen rd in
     let b = seen rb in
-    let early : Stays a y = subst (λ r. Stays (seen r) y) back stays in
+    let early : SameRack a y = subst (λ r. SameRack (seen r) y) back stays in
     let quiet : IsUnfaulted a y = λ d rose. free d (rose_early a y b d reads.stays rose) in
     let is : IsReplayed a y st z m.pending m.number =
     subst (λ r. AllTold (seen r) → IsLasting (seen r) → IsUnfaulted (seen r) y → AreOf (disks_of (seen r)) (identities_of (disks_of (seen r)) (now_in (seen r))) known

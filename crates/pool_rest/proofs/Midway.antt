@@ -6,7 +6,7 @@ use Rattle.std.specs.Result.{result_ok}
 use Rattle.std.proofs.lemmas.Bool.{cases_eq, cases_lt}
 use Rattle.std.proofs.lemmas.Option.{none-some}
 use Rattle.rack.specs.Values.{MayLeave}
-use Rattle.rack.specs.Seen.{Image, Seen, IsLive, IsPick}
+use Rattle.rack.specs.Seen.{Image, RackView, IsLive, IsPick}
 use Rattle.rack.specs.Moments.{Leaves}
 use Rattle.rack.specs.Joins.{leaves_then, leaves_weaker}
 use Rattle.rack.specs.Targets.{Target, look}
@@ -60,7 +60,7 @@ still_stands disks s0 s xs c i agree = record {
   says = inl (λ d there within. agree d state_sector there within, λ d there within. agree d drive_gate there within);
 }
 
-module _ {x w y : Seen} {known : List Known} {s : State} {t v : Slices} {on unread closing lost : List ℕ} {l : LogView}
+module _ {x w y : RackView} {known : List Known} {s : State} {t v : Slices} {on unread closing lost : List ℕ} {l : LogView}
     (parts : OnDrives x w y known s t v on unread closing lost l) (free : IsUnfaulted x y) (told : AllTold x) (lasts : IsLasting x) (single : AreSingle x)
     (u : Slices) (of : AreOfDrives x (seat_by s known) u)
     (are : AreOf (disks_of x) (identities_of (disks_of x) (now_in x)) known) (valid : list_all is_target l.pending ≡ true) (can : CanReplay l (slices_of v w))
@@ -452,7 +452,7 @@ module _ {x w y : Seen} {known : List Known} {s : State} {t v : Slices} {on unre
       })
 
 -- by the record that was found
-pub brought_midway : {x w y : Seen} {known : List Known} {s : State} {t v : Slices} {on unread closing lost : List ℕ} {l : LogView}
+pub brought_midway : {x w y : RackView} {known : List Known} {s : State} {t v : Slices} {on unread closing lost : List ℕ} {l : LogView}
     (parts : OnDrives x w y known s t v on unread closing lost l) (free : IsUnfaulted x y) (told : AllTold x) (lasts : IsLasting x) (single : AreSingle x)
     (u : Slices) (of : AreOfDrives x (seat_by s known) u) → AreOf (disks_of x) (identities_of (disks_of x) (now_in x)) known → list_all is_target l.pending ≡ true
     → (s0 : State) (t0 : Slices) (on0 : List ℕ) (is_pending : Bool) → IsLaid x known s0 t0 on0 → FindsAll x t0 on0 l is_pending None

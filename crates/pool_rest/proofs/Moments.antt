@@ -4,7 +4,7 @@ use Rattle.std.specs.Option.{option_map_or}
 use Rattle.std.specs.List.{range_with_len}
 use Rattle.std.proofs.lemmas.Bool.{and_from, and_parts, both_ways, cases_lt}
 use Rattle.rack.specs.Values.{MayLeave}
-use Rattle.rack.specs.Seen.{Image, Seen, IsLive, IsPick}
+use Rattle.rack.specs.Seen.{Image, RackView, IsLive, IsPick}
 use Rattle.rack.specs.Moments.{Leaves}
 use Rattle.rack.specs.Joins.{leaves_then, leaves_weaker}
 use Rattle.rack.specs.Targets.{look, put}
@@ -46,7 +46,7 @@ use Rattle.pool_rest.proofs.OnDrives.{OnDrives, log_first, past_none, slice_lies
 
 -- ---- one replay
 
-module _ {x w y : Seen} {known : List Known} {s : State} {t v : Slices} {on unread closing lost : List ℕ} {l : LogView}
+module _ {x w y : RackView} {known : List Known} {s : State} {t v : Slices} {on unread closing lost : List ℕ} {l : LogView}
     (parts : OnDrives x w y known s t v on unread closing lost l) (free : IsUnfaulted x y) (told : AllTold x) (lasts : IsLasting x) (single : AreSingle x)
     (u : Slices) (of : AreOfDrives x (seat_by s known) u) where
   -- ---- the slices of the replay are those of the drives

@@ -5,7 +5,7 @@ use Rattle.std.specs.List.{filter_map, cons_option, list_all}
 use Rattle.std.proofs.lemmas.Option.{none-some}
 use Rattle.std.proofs.lemmas.Bool.{cases_Bool, cases_eq, cases_lt, both_ways, and_parts}
 use Rattle.rack.specs.Values.{MayLeave, Keeps}
-use Rattle.rack.specs.Seen.{Seen, IsLive, Stays}
+use Rattle.rack.specs.Seen.{RackView, IsLive, SameRack}
 use Rattle.rack.specs.Joins.{rose_early, rose_later, live_first, stays_then}
 use Rattle.rack.specs.Sequences.{OnlyReads, WritesOnly}
 use Rattle.rack.specs.Targets.{Target, look}
@@ -37,7 +37,7 @@ use Rattle.pool_image.specs.Alike.{drive_gate}
 use Rattle.pool_rest.specs.Resting.{IsOfDrive}
 
 -- The parts of a replay: seats and log slices, members' slices by tables, and the log's call.
-pub record OnDrives (x w y : Seen) (known : List Known) (s : State) (t u : Slices) (on unread closing lost : List ℕ) (l : LogView) : Type 0 where
+pub record OnDrives (x w y : RackView) (known : List Known) (s : State) (t u : Slices) (on unread closing lost : List ℕ) (l : LogView) : Type 0 where
   pub laid : IsLaidBelow x known s 16 t on
   pub reads : OnlyReads x w
   pub cut : IsCutBelow x w 16 t u unread
@@ -47,7 +47,7 @@ pub record OnDrives (x w y : Seen) (known : List Known) (s : State) (t u : Slice
   pub call : ReplayCall l closing lost (slices_of u w) (slices_of u y)
 
 -- slices past the last one
-pub past_none : {x w y : Seen} {known : List Known} {s : State} {t u : Slices} {on unread closing lost : List ℕ} {l : LogView}
+pub past_none : {x w y : RackView} {known : List Known} {s : State} {t u : Slices} {on unread closing lost : List ℕ} {l : LogView}
     → OnDrives x w y known s t u on unread closing lost l → (k : ℕ) → 272 ≤ k → sectors_of u k ≡ 0
 past_none {t = t} {u = u} parts k past =
     elim (cases_eq (slice_of k) 0) [
@@ -56,11 +56,11 @@ past_none {t = t} {u = u} parts k past =
     ]
 
 -- a log slice begins at the state's sector
-pub log_first : {x w y : Seen} {known : List Known} {s : State} {t u : Slices} {on unread closing lost : List ℕ} {l : LogView}
+pub log_first : {x w y : RackView} {known : List Known} {s : State} {t u : Slices} {on unread closing lost : List ℕ} {l : LogView}
     → OnDrives x w y known s t u on unread closing lost l → (k : ℕ) → slice_of k ≡ 0 → 0 < sectors_of u k → first_of u k ≡ state_sector
 log_first parts k log some = parts.cut.firsts k log ∙ parts.laid.firsts k (subst (λ n. 0 < n) (parts.cut.sectors k log) some)
 
-log_size : {x w y : Seen} {known : List Known} {s : State} {t u : Slices} {on unread closing lost : List ℕ} {l : LogView}
+log_size : {x w y : RackView} {known : List Known} {s : State} {t u : Slices} {on unread closing lost : List ℕ} {l : LogView}
     → OnDrives x w y known s t u on unread closing lost l → (k : ℕ) → slice_of k ≡ 0 → sectors_of u k ≤ log_sectors
 log_size {x} {w} {y} {known} {s} {t} {u} parts k log =
     elim (cases_lt (place_of k) 16) [
@@ -79,7 +79,7 @@ log_size {x} {w} {y} {known} {s} {t} {u} parts k log =
 
 -- ---- which sectors are written
 
-pub sliced_place : {x w y : Seen} {known : List Known} {s : State} {t u : Slices} {on unread closing lost : List ℕ} {l : LogView}
+pub sliced_place : {x w y : RackView} {known : List Known} {s : State} {t u : Slices} {on unread closing lost : List ℕ} {l : LogView}
     → OnDrives x w y known s t u on unread closing lost l → (k : ℕ) → 0 < sectors_of u k
     → (place_of k < 16) × (seat_by s known (place_of k) ≡ Some (disk_of u k))
 sliced_place {x} {w} {y} {known} {s} {t} {u} parts k some =
@@ -93,7 +93,7 @@ sliced_place {x} {w} {y} {known} {s} {t} {u} parts k some =
     of_seat (Some d) is few =
         sym (parts.laid.seats (place_of k) few) ∙ sym (parts.cut.seats (place_of k)) ∙ is ∙ ap Some (sym (ap (λ o. unwrap_or o 0) is))
 
-pub of_drive : {x w y : Seen} {known : List Known} {s : State} {t u : Slices} {on unread closing lost : List ℕ} {l : LogView}
+pub of_drive : {x w y : RackView} {known : List Known} {s : State} {t u : Slices} {on unread closing lost : List ℕ} {l : LogView}
     → OnDrives x w y known s t u on unread closing lost l → (d i : ℕ) (v : List ℕ) → IsSliced u d i v → IsOfDrive x known s d i v
 of_drive {x} {w} {y} {known} {s} {t} {u} parts d i v is =
     let some : 0 < sectors_of u is.slice = omega (arith, is.within) in
@@ -123,7 +123,7 @@ of_drive {x} {w} {y} {known} {s} {t} {u} parts d i v is =
 -- ---- slices as the drives' tables have them
 
 -- no disk refused a call: all tables were read, and no place has gone
-pub no_unread : {x w y : Seen} {known : List Known} {s : State} {t u : Slices} {on unread closing lost : List ℕ} {l : LogView}
+pub no_unread : {x w y : RackView} {known : List Known} {s : State} {t u : Slices} {on unread closing lost : List ℕ} {l : LogView}
     → OnDrives x w y known s t u on unread closing lost l → IsUnfaulted x y → (p : ℕ) → names unread p ≡ false
 no_unread {x} {w} {y} {unread = unread} parts free p =
     elim (cases_Bool (names unread p)) [
@@ -131,7 +131,7 @@ no_unread {x} {w} {y} {unread = unread} parts free p =
       | inl named ↦ (let gone = parts.cut.refused p named in absurd (free gone.1 (rose_early x w y gone.1 parts.apart.stays gone.3)))
     ]
 
-pub no_lost : {x w y : Seen} {known : List Known} {s : State} {t u : Slices} {on unread closing lost : List ℕ} {l : LogView}
+pub no_lost : {x w y : RackView} {known : List Known} {s : State} {t u : Slices} {on unread closing lost : List ℕ} {l : LogView}
     → OnDrives x w y known s t u on unread closing lost l → IsUnfaulted x y → (p : ℕ) → names lost p ≡ false
 no_lost {x} {w} {y} {u = u} {lost = lost} parts free p =
     elim (cases_Bool (names lost p)) [
@@ -140,7 +140,7 @@ no_lost {x} {w} {y} {u = u} {lost = lost} parts free p =
     ]
 
 -- a slice of a seated place
-pub slice_lies : {x w y : Seen} {known : List Known} {s : State} {t u : Slices} {on unread closing lost : List ℕ} {l : LogView}
+pub slice_lies : {x w y : RackView} {known : List Known} {s : State} {t u : Slices} {on unread closing lost : List ℕ} {l : LogView}
     → OnDrives x w y known s t u on unread closing lost l → IsUnfaulted x y → (k d : ℕ) → k < 272 → seat_of u (place_of k) ≡ Some d → x.told d
     → Lies u k (extent_by (x.sectors d) (the_table (x.sectors d) (now_on x d)) (slice_of k))
 unfolding extent_by
@@ -175,7 +175,7 @@ slice_lies {x} {w} {y} {known} {s} {t} {u} parts free k d few seat told =
         by_room false is = record { sectors = is; first = λ some. absurd (omega (arith, some, is)) }
 
 -- a target lands where its slice has it
-pub landing_is : {x w y : Seen} {known : List Known} {s : State} {t u : Slices} {on unread closing lost : List ℕ} {l : LogView}
+pub landing_is : {x w y : RackView} {known : List Known} {s : State} {t u : Slices} {on unread closing lost : List ℕ} {l : LogView}
     → OnDrives x w y known s t u on unread closing lost l → IsUnfaulted x y → AllTold x
     → AreOf (disks_of x) (identities_of (disks_of x) (now_in x)) known
     → (z : Target) → z.disk < 272
@@ -242,7 +242,7 @@ filter_same f g (z ∷ xs) valid same =
 
 -- ---- what the disks hold
 
-pub live_slice : {x w y : Seen} {known : List Known} {s : State} {t u : Slices} {on unread closing lost : List ℕ} {l : LogView}
+pub live_slice : {x w y : RackView} {known : List Known} {s : State} {t u : Slices} {on unread closing lost : List ℕ} {l : LogView}
     → OnDrives x w y known s t u on unread closing lost l → (d i : ℕ) (v : List ℕ) → (is : IsSliced u d i v) → is.slice < 272 → IsLive w y d i
     → IsLive (slices_of u w) (slices_of u y) is.slice is.at
 live_slice {x} {w} {y} {u = u} parts d i v is few live = record {
@@ -253,7 +253,7 @@ live_slice {x} {w} {y} {u = u} parts d i v is few live = record {
 }
 
 -- a sector without a target that is no gate keeps its values
-pub untouched : {x w y : Seen} {known : List Known} {s : State} {t u : Slices} {on unread closing lost : List ℕ} {l : LogView}
+pub untouched : {x w y : RackView} {known : List Known} {s : State} {t u : Slices} {on unread closing lost : List ℕ} {l : LogView}
     → OnDrives x w y known s t u on unread closing lost l → (d i : ℕ) → IsLive x y d i → i ≢ drive_gate
     → look (filter_map (landing u) l.pending) d i ≡ None
     → Keeps (x.held d i) (y.held d i)
@@ -287,7 +287,7 @@ untouched {x} {w} {y} {known} {s} {t} {u} {on} {unread} {closing} {lost} {l} par
         no_target))
 
 -- a target's sector has its payload
-pub written_there : {x w y : Seen} {known : List Known} {s : State} {t u : Slices} {on unread closing lost : List ℕ} {l : LogView}
+pub written_there : {x w y : RackView} {known : List Known} {s : State} {t u : Slices} {on unread closing lost : List ℕ} {l : LogView}
     → OnDrives x w y known s t u on unread closing lost l → IsUnfaulted x y → list_all is_target l.pending ≡ true
     → (d i : ℕ) (v : List ℕ) → IsLive x y d i → look (filter_map (landing u) l.pending) d i ≡ Some v
     → (z : List ℕ) → MayLeave (y.held d i) z → z ≡ v
@@ -315,7 +315,7 @@ written_there {x} {w} {y} {known} {s} {t} {u} {on} {unread} {closing} {lost} {l}
         (no_lost parts free (place_of at.slice)) target
         (subst (λ j. MayLeave (y.held (disk_of u at.slice) j) z) at.sector_is (subst (λ e. MayLeave (y.held e i) z) at.disk_is may))
 
-pub live_all : (x y : Seen) → Stays x y → AllTold x → IsLasting x → (d i : ℕ) → d < x.disks → i < x.sectors d → IsLive x y d i
+pub live_all : (x y : RackView) → SameRack x y → AllTold x → IsLasting x → (d i : ℕ) → d < x.disks → i < x.sectors d → IsLive x y d i
 live_all x y stays told lasts d i disk sector = record {
   disk = subst (λ n. d < n) (sym stays.disks) disk;
   sector = subst (λ n. i < n) (sym (stays.sectors d)) sector;
@@ -338,12 +338,12 @@ has_work_or l = of_pending l.pending refl
         nonempty : (z : Target) (xs : List Target) → z ∷ xs ≡ [] → ⊥
         nonempty z xs same = cc
 
-pub all_stays : {x w y : Seen} {known : List Known} {s : State} {t u : Slices} {on unread closing lost : List ℕ} {l : LogView}
-    → OnDrives x w y known s t u on unread closing lost l → Stays x y
+pub all_stays : {x w y : RackView} {known : List Known} {s : State} {t u : Slices} {on unread closing lost : List ℕ} {l : LogView}
+    → OnDrives x w y known s t u on unread closing lost l → SameRack x y
 all_stays parts = stays_then parts.reads.stays parts.apart.stays
 
 -- gates and halves of logs have no target
-pub no_target : {x w y : Seen} {known : List Known} {s : State} {t u : Slices} {on unread closing lost : List ℕ} {l : LogView}
+pub no_target : {x w y : RackView} {known : List Known} {s : State} {t u : Slices} {on unread closing lost : List ℕ} {l : LogView}
     → OnDrives x w y known s t u on unread closing lost l → list_all is_target l.pending ≡ true
     → (d i : ℕ) → state_sector < i → i < arrays_first → look (filter_map (landing u) l.pending) d i ≡ None
 no_target {x} {w} {y} {known} {s} {t} {u} {on} {unread} {closing} {lost} {l} parts valid d i past before = none (sliced_or u d i (past_none parts))

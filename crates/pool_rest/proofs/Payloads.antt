@@ -5,7 +5,7 @@ use Rattle.std.specs.List.{list_all, list_any, filter_map, cons_option, range_wi
 use Rattle.std.proofs.lemmas.Bool.{cases_eq, and_parts}
 use Rattle.std.proofs.lemmas.Option.{none-some, cond_some}
 use Rattle.rack.specs.Values.{IsSector, IsSingle}
-use Rattle.rack.specs.Seen.{Image, Seen}
+use Rattle.rack.specs.Seen.{Image, RackView}
 use Rattle.rack.specs.Targets.{Target, is_at, look}
 use Rattle.shr_base.specs.Blocks.{number_at, bytes_at, put_at}
 use Rattle.shr_base.specs.Crc.{crc32_of}
@@ -185,7 +185,7 @@ written_sized disks c x stands sized d t disk sector =
         is
 
 -- where each sector of the disks had one value and 512 bytes
-pub steady_after : (a b : Seen) → b.disks ≡ a.disks → ((d : ℕ) → b.sectors d ≡ a.sectors d) → RestsSo a b → AreSingle a → AreSectors a → AreSteady b
+pub steady_after : (a b : RackView) → b.disks ≡ a.disks → ((d : ℕ) → b.sectors d ≡ a.sectors d) → RestsSo a b → AreSingle a → AreSectors a → AreSteady b
 steady_after a b disks sectors rests single sized = record {
   single = λ d t disk sector. elim (cases_eq t drive_gate) [
     | inr no_gate ↦ rests.rests.single d t (in_a d disk) (on_a d t sector) no_gate (single d t (in_a d disk) (on_a d t sector))

@@ -4,7 +4,7 @@ use Rattle.std.specs.List.{filter_map, list_all, range_with_len}
 use Rattle.std.proofs.lemmas.Bool.{cases_Bool, both_ways, and_parts}
 use Rattle.std.proofs.lemmas.List.FromFn.{length-map-range_with_len}
 use Rattle.std.proofs.lemmas.Option.{none-some, cond_some}
-use Rattle.rack.specs.Seen.{Image, Seen, Stays}
+use Rattle.rack.specs.Seen.{Image, RackView, SameRack}
 use Rattle.rack.specs.Joins.{stays_then}
 use Rattle.rack.specs.Sequences.{OnlyReads}
 use Rattle.rack.specs.Targets.{Target, look}
@@ -100,7 +100,7 @@ none_at ps c whole none = of_pending (pending_at ps c) refl
 
 -- ---- nobody was passed over
 
-pub none_flagged : (a x : Seen) (known : List Known) → IsScan a x known → IsUnfaulted a x → list_all (λ k. not k.gone) known ≡ true
+pub none_flagged : (a x : RackView) (known : List Known) → IsScan a x known → IsUnfaulted a x → list_all (λ k. not k.gone) known ≡ true
 none_flagged a x known scan free = all known (λ d k at gone. free d ((scan.each d k at).gone gone))
   where
     all : (ks : List Known) → ((d : ℕ) (k : Known) → slice_get ks d ≡ Some k → k.gone ≡ true → ⊥) → list_all (λ k. not k.gone) ks ≡ true
@@ -113,8 +113,8 @@ none_flagged a x known scan free = all known (λ d k at gone. free d ((scan.each
 
 -- ---- a record was replayed
 
-module _ (a x b : Seen) (known : List Known) (st : State) (m : LogView) (is_pending : Bool) (damaged : Option ℕ) (t : Slices)
-    (reads : OnlyReads a x) (stays : Stays x b) (scan : IsScan a x known) (some : m.pending ≢ [])
+module _ (a x b : RackView) (known : List Known) (st : State) (m : LogView) (is_pending : Bool) (damaged : Option ℕ) (t : Slices)
+    (reads : OnlyReads a x) (stays : SameRack x b) (scan : IsScan a x known) (some : m.pending ≢ [])
     (told : AllTold a) (lasts : IsLasting a) (free : IsUnfaulted a x)
     (stands : StandsAs a st t m is_pending damaged)
     (rests : Rests a b (standing_by (disks_of a) (now_in a) st))
@@ -354,7 +354,7 @@ pub none_brought : (s : State) → s ≡ seated_state [] s
 unfolding foremost
 none_brought s = refl
 
-pub settled_idle : (a b : Seen) (st : State) (t : Slices) (m : LogView) (is_pending : Bool) (damaged : Option ℕ) → OnlyReads a b → AllTold a → IsLasting a
+pub settled_idle : (a b : RackView) (st : State) (t : Slices) (m : LogView) (is_pending : Bool) (damaged : Option ℕ) → OnlyReads a b → AllTold a → IsLasting a
     → StandsAs a st t m is_pending damaged → StandsNow b st m is_pending damaged → m.pending ≡ [] → HasSoundLogs (disks_of a) (now_in a)
     → MeansTheSame (disks_of a) (now_in a) (now_in b) → IsSettled a b st is_pending damaged
 settled_idle a b st t m is_pending damaged reads told lasts stands now none sound means = record {

@@ -1,7 +1,7 @@
 -- What refuses a pool after its record was replayed, by the meaning of what the disks held and hold.
 use Rattle.std.proofs.Common.{◌≡◌, ◌≢◌, ◌⊎◌, false, if◌then◌else◌, Some, None, option_map, refl, sym, ap, ◌∙◌, inl, inr}
 use Rattle.std.specs.Option.{option_map_or, option_and_then}
-use Rattle.rack.specs.Seen.{Image, Seen, Stays}
+use Rattle.rack.specs.Seen.{Image, RackView, SameRack}
 use Rattle.rack.specs.Joins.{stays_then}
 use Rattle.rack.specs.Sequences.{OnlyReads}
 use Rattle.pool_state.specs.declared.contents.State.{State}
@@ -31,7 +31,7 @@ none_meant disks c e before stands one same none =
     ∙ ap (λ o. option_map_or refused_by (option_map (λ (s : State). record { disks = disks; before = before; contents = written disks before c; identities = identities_of disks (written disks before c); state = s; seats = seat_of s disks (identities_of disks (written disks before c)) }) o) (Some no_pool))
     (sym (newest_same disks (identities_of disks e) (identities_of disks (written disks before c)) same.identities) ∙ none)
 
-pub meant_after : (a x b : Seen) (st : State) → OnlyReads a x → Stays x b → AllTold a → IsUnfaulted a b
+pub meant_after : (a x b : RackView) (st : State) → OnlyReads a x → SameRack x b → AllTold a → IsUnfaulted a b
     → standing (disks_of a) (now_in a) ≡ Some (standing_by (disks_of a) (now_in a) st)
     → has_other_pool (disks_of a) (standing_by (disks_of a) (now_in a) st) ≡ false
     → Rests a b (standing_by (disks_of a) (now_in a) st)

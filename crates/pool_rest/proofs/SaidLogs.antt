@@ -17,7 +17,7 @@ use Rattle.array_image.specs.Arrays.{replayed}
 use Rattle.array_image.specs.Record.{Gate, GateAt, are_apart, damaged_log, gate_in, gate_of, gate_sector, is_bad_gate, is_there, pending, pending_at, record_in, record_of}
 use Rattle.array_image.specs.States.{current_places, epoch_of, is_current}
 use Rattle.array_image.proofs.Frames.{state_same}
-use Rattle.log_laws.specs.Saying.{AreOwnCopies, IsBrought, PlaceJoins, SaysState}
+use Rattle.log_laws.specs.Saying.{AreOwnCopies, PendingInstalls, PlaceJoins, RecoversTo}
 use Rattle.log_laws.specs.Standing.{deciding}
 use Rattle.log_laws.specs.View.{names}
 use Rattle.commit_log.proofs.Fewer.{names_filter}
@@ -129,7 +129,7 @@ seated_own s t xs apart own either = of (foremost epoch_of (map brought xs)) ref
 -- ---- logs of disks
 
 -- where the drive that a place had has the gate of the slices
-pub same_below : (sectors : ℕ → ℕ) (c e : Image) (t : State) (says : SaysState t sectors c) (a : GateAt) (p : ℕ)
+pub same_below : (sectors : ℕ → ℕ) (c e : Image) (t : State) (says : RecoversTo t sectors c) (a : GateAt) (p : ℕ)
     → pending_at (current_places says.stood) c ≡ Some a → PlaceJoins says.stood t p → e (log_slice p) gate_sector ≡ c (log_slice p) gate_sector
     → IsNoneOrBelow a.gate.number (e (log_slice p) gate_sector)
 same_below sectors c e t says a p at joins same = elim says.next [
@@ -137,7 +137,7 @@ same_below sectors c e t says a p at joins same = elim says.next [
   | inr brought ↦ let lower = brought.joining a p at joins in inr (lower.0, ap gate_of same ∙ lower.1, lower.2)
 ]
 
-module _ (disks : Disks) (i c : Image) (sectors : ℕ → ℕ) (t : State) (says : SaysState t sectors c) (show : ShowLogs disks i c says.stood t) where
+module _ (disks : Disks) (i c : Image) (sectors : ℕ → ℕ) (t : State) (says : RecoversTo t sectors c) (show : ShowLogs disks i c says.stood t) where
   abbrev s : State
   s = says.stood
 
@@ -181,14 +181,14 @@ module _ (disks : Disks) (i c : Image) (sectors : ℕ → ℕ) (t : State) (says
       ap (λ (o : Option State). option_map_or (λ z. z.epoch) o 0) (sym says.is_state ∙ state_same (replayed sectors c) c kept ∙ says.stood_is)
 
   -- the state stands, or a record is pending that brings it
-  brings_or : (t ≡ s) ⊎ ((a : GateAt) × (pending_at (current_places s) c ≡ Some a) × IsBrought s t c)
+  brings_or : (t ≡ s) ⊎ ((a : GateAt) × (pending_at (current_places s) c ≡ Some a) × PendingInstalls s t c)
   brings_or = elim says.next [
     | inl same ↦ inl same
     | inr brought ↦ of brought (pending_at (current_places s) c) refl
   ]
     where
-      of : IsBrought s t c → (o : Option GateAt) → pending_at (current_places s) c ≡ o
-          → (t ≡ s) ⊎ ((a : GateAt) × (pending_at (current_places s) c ≡ Some a) × IsBrought s t c)
+      of : PendingInstalls s t c → (o : Option GateAt) → pending_at (current_places s) c ≡ o
+          → (t ≡ s) ⊎ ((a : GateAt) × (pending_at (current_places s) c ≡ Some a) × PendingInstalls s t c)
       of brought (Some a) at = inr (a, at, brought)
       of brought None none = absurd (let later = brought.later in let same = state_stays (no_targets none) in omega (arith, later, same))
 
@@ -205,7 +205,7 @@ module _ (disks : Disks) (i c : Image) (sectors : ℕ → ℕ) (t : State) (says
         ap (record_of a.gate.number) (λ j u. show.logs a.place u (listed a.place (pending_named (current_places s) c a at).0) (joins_none s t a.place same) j)
 
   -- those that join have lower gates, in the slices and on the drives that they had
-  module _ (a : GateAt) (at : pending_at (current_places s) c ≡ Some a) (brought : IsBrought s t c) where
+  module _ (a : GateAt) (at : pending_at (current_places s) c ≡ Some a) (brought : PendingInstalls s t c) where
     source_kept : joins_not s t a.place ≡ true
     source_kept = stays_not s t a.place (brought.source a at).0
 

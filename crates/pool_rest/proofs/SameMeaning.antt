@@ -3,7 +3,7 @@ use Rattle.std.proofs.Common.{◌≡◌, ℕ, ◌+◌, ◌<◌, ◌≤◌, ◌==
 use Rattle.std.specs.Option.{option_map_or}
 use Rattle.std.specs.List.{list_all, range_with_len}
 use Rattle.std.proofs.lemmas.Bool.{cases_Bool, both_ways}
-use Rattle.rack.specs.Seen.{Image, Seen, Stays}
+use Rattle.rack.specs.Seen.{Image, RackView, SameRack}
 use Rattle.rack.specs.Sequences.{OnlyReads}
 use Rattle.rack.specs.Targets.{Target}
 use Rattle.pool_state.specs.declared.contents.State.{State}
@@ -95,7 +95,7 @@ no_pending : (o : Option GateAt) → false ≡ is_some o → o ≡ None
 no_pending None is = refl
 no_pending (Some a) is = absurd (both_ways (is_some (Some a)) (sym is) refl)
 
-pub replayed_means : (a b : Seen) (st s : State) (m : LogView) → Stays a b
+pub replayed_means : (a b : RackView) (st s : State) (m : LogView) → SameRack a b
     → standing (disks_of a) (now_in a) ≡ Some (standing_by (disks_of a) (now_in a) st)
     → damaged_log (current_places st) (standing_by (disks_of a) (now_in a) st).logs ≡ None
     → Rests a b (standing_by (disks_of a) (now_in a) st)
@@ -159,7 +159,7 @@ replayed_means a b st s m stays stands whole rests now one still_one =
 
 -- ---- nothing was to be replayed
 
-pub idle_means : (a b : Seen) (st : State) (m : LogView) (is_pending : Bool) (damaged : Option ℕ) → OnlyReads a b → AllTold a → IsLasting a
+pub idle_means : (a b : RackView) (st : State) (m : LogView) (is_pending : Bool) (damaged : Option ℕ) → OnlyReads a b → AllTold a → IsLasting a
     → standing (disks_of a) (now_in a) ≡ Some (standing_by (disks_of a) (now_in a) st)
     → (standing_by (disks_of a) (now_in a) st).targets ≡ []
     → StandsNow b st m is_pending damaged
@@ -173,7 +173,7 @@ idle_means a b st m is_pending damaged reads told lasts stands none now =
 
 -- ---- what a scan's list says after reads
 
-pub are_later : (a x : Seen) (known : List Known) → OnlyReads a x → AllTold a → IsLasting a
+pub are_later : (a x : RackView) (known : List Known) → OnlyReads a x → AllTold a → IsLasting a
     → AreOf (disks_of a) (identities_of (disks_of a) (now_in a)) known → AreOf (disks_of x) (identities_of (disks_of x) (now_in x)) known
 are_later a x known reads told lasts are =
     subst (λ (dk : Disks). AreOf dk (identities_of dk (now_in x)) known) (sym (disks_same a x reads.stays)) (record {
@@ -186,6 +186,6 @@ are_later a x known reads told lasts are =
     ids = agree_identities (disks_of a) (now_in x) (now_in a) (reads_agree a x reads told lasts)
 
 -- a pending record's targets are sectors that one may have
-pub targets_valid : (a : Seen) (st : State) (xs : List Target) → xs ≡ (standing_by (disks_of a) (now_in a) st).targets → list_all is_target xs ≡ true
+pub targets_valid : (a : RackView) (st : State) (xs : List Target) → xs ≡ (standing_by (disks_of a) (now_in a) st).targets → list_all is_target xs ≡ true
 targets_valid a st xs is =
     ap (list_all is_target) is ∙ (pending_sound (current_places st) (standing_by (disks_of a) (now_in a) st).logs).valid

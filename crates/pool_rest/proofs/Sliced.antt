@@ -2,7 +2,7 @@
 use Rattle.std.proofs.Common.{◌≡◌, ℕ, ◌+◌, ◌<◌, ◌≤◌, Bool, nat_lt, if◌then◌else◌, List, [], Option, unwrap_or, inl, inr, sym, ap, ◌∙◌, lt-ltb, le-ltb, arith}
 use Rattle.std.specs.Option.{option_map_or}
 use Rattle.std.proofs.lemmas.Bool.{cases_lt}
-use Rattle.rack.specs.Seen.{Image, Seen}
+use Rattle.rack.specs.Seen.{Image, RackView}
 use Rattle.rack.specs.Targets.{Target, look}
 use Rattle.slice_rack.specs.Slices.{Slices, disk_of, first_of, sectors_of}
 use Rattle.slice_rack.specs.Sliced.{sliced}
@@ -55,7 +55,7 @@ same_lies t u k e one two disk = record {
 }
 
 -- what a stop may leave before a replay it may leave amid it
-pub stands_amid : (xs : List Target) (x : Seen) (c : Image) → Stands x c → StandsAmid xs x c
+pub stands_amid : (xs : List Target) (x : RackView) (c : Image) → Stands x c → StandsAmid xs x c
 stands_amid xs x c stands = record {
   states = record { picks = λ p live. inl (stands.picks (log_slice p) 0 live); inside = λ p none. stands.inside p 0 (omega (arith, none)) };
   parts = λ p j some live. stands.picks (log_slice p) j live;

@@ -1,6 +1,6 @@
 -- What was found of the pending record, by what the disks held before the scan.
 use Rattle.std.proofs.Common.{◌≡◌, ℕ, ◌+◌, ◌<◌, ◌≤◌, Bool, true, false, nat_lt, if◌then◌else◌, List, [], Option, refl, sym, subst, ◌∙◌, arith, ltb-true}
-use Rattle.rack.specs.Seen.{Seen, Rose}
+use Rattle.rack.specs.Seen.{RackView, Rose}
 use Rattle.rack.specs.Joins.{rose_later}
 use Rattle.rack.specs.Sequences.{OnlyReads}
 use Rattle.rack.proofs.Reading.{only_reads_join}
@@ -20,7 +20,7 @@ use Rattle.pool_rest.specs.Standing.{IsLasting, HasLooked, FindsAll}
 use Rattle.pool_rest.proofs.Meant.{gone_none}
 
 -- slices read alike before reads and after them
-pub same_reading : (t : Slices) (a x : Seen) → IsOrderly t → IsInside t x → AllTold a → IsLasting a → OnlyReads a x → reading (slices_of t x) ≡ reading (slices_of t a)
+pub same_reading : (t : Slices) (a x : RackView) → IsOrderly t → IsInside t x → AllTold a → IsLasting a → OnlyReads a x → reading (slices_of t x) ≡ reading (slices_of t a)
 same_reading t a x orderly inside told lasts reads = λ i d s. same d s i
   where
     held : (d s : ℕ) → s < sectors_of t d → (x.held (disk_of t d) (first_of t d + s)).current ≡ (a.held (disk_of t d) (first_of t d + s)).current
@@ -41,7 +41,7 @@ same_reading t a x orderly inside told lasts reads = λ i d s. same d s i
         by true there = held d s (ltb-true s (sectors_of t d) there)
         by false none = refl
 
-pub looked_so : (t u : Slices) (a x b : Seen) (own : Type 0) (l m : LogView) (on gone : List ℕ) (is_pending : Bool) (damaged : Option ℕ)
+pub looked_so : (t u : Slices) (a x b : RackView) (own : Type 0) (l m : LogView) (on gone : List ℕ) (is_pending : Bool) (damaged : Option ℕ)
     → IsOrderly t → IsInside t x → AreLogs (sectors_of t) on → OnlyReads a x → Runs t u x b own → l.added ≡ []
     → PendingCall l m on gone is_pending damaged (slices_of t x) (slices_of u b) → HasLooked a b u on gone m is_pending damaged
 looked_so t u a x b own l m on gone is_pending damaged orderly inside logs reads runs empty call =
@@ -61,14 +61,14 @@ looked_so t u a x b own l m on gone is_pending damaged orderly inside logs reads
     })
 
 -- nothing was written
-pub only_reads_all : (t u : Slices) (a x b : Seen) (own : Type 0) → x.fit → IsInside t x → ((k : ℕ) → 272 ≤ k → sectors_of t k ≡ 0) → OnlyReads a x → Runs t u x b own
+pub only_reads_all : (t u : Slices) (a x b : RackView) (own : Type 0) → x.fit → IsInside t x → ((k : ℕ) → 272 ≤ k → sectors_of t k ≡ 0) → OnlyReads a x → Runs t u x b own
     → OnlyReads (slices_of t x) (slices_of u b) → OnlyReads a b
 only_reads_all t u a x b own fit inside none reads runs looked =
     only_reads_join reads
     (only_reads_below t x b none (runs.apart fit inside) (subst (λ k. OnlyReads (slices_of t x) (slices_of k b)) runs.tables looked))
 
 -- what was found is what the slices hold still, where nobody was passed over
-pub found_still : (a b : Seen) (t : Slices) (on gone : List ℕ) (m : LogView) (is_pending : Bool) (damaged : Option ℕ)
+pub found_still : (a b : RackView) (t : Slices) (on gone : List ℕ) (m : LogView) (is_pending : Bool) (damaged : Option ℕ)
     → IsOrderly t → (slices_of t b).fit → OnlyReads a b → HasLooked a b t on gone m is_pending damaged → AllTold a → IsLasting a → IsUnfaulted a b
     → FindsAll b t on m is_pending damaged
 found_still a b t on gone m is_pending damaged orderly fit reads looked told lasts free =

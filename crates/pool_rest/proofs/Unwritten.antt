@@ -2,7 +2,7 @@
 use Rattle.std.proofs.Common.{◌≡◌, ℕ, ◌<◌, ◌&&◌, not, Bool, true, false, nat_lt, if◌then◌else◌, List, [], Option, Some, None, option_map, refl, sym, ap, ap₂, subst, ◌∙◌, ltb-true}
 use Rattle.std.specs.Option.{option_map_or, option_and_then}
 use Rattle.std.proofs.lemmas.Option.{none-some}
-use Rattle.rack.specs.Seen.{Image, Seen}
+use Rattle.rack.specs.Seen.{Image, RackView}
 use Rattle.rack.specs.Sequences.{OnlyReads}
 use Rattle.rack.specs.Targets.{Target}
 use Rattle.pool_state.specs.declared.contents.State.{State}
@@ -145,7 +145,7 @@ module _ (disks : Disks) (c e : Image) (s z : State) (stands : standing disks c 
     meaning = means;
   }
 
-pub reads_mean : (a b : Seen) (f : Found) → OnlyReads a b → AllTold a → IsLasting a → found (disks_of a) (now_in a) ≡ Some f
+pub reads_mean : (a b : RackView) (f : Found) → OnlyReads a b → AllTold a → IsLasting a → found (disks_of a) (now_in a) ≡ Some f
     → MeansTheSame (disks_of a) (now_in a) (now_in b)
 reads_mean a b f reads told lasts is =
     let by = found_stands (disks_of a) (now_in a) f is in

@@ -1,7 +1,7 @@
 -- What a stop inside a replay leaves, as it stands on the disks, and by slices of the drives once it is replayed.
 use Rattle.std.specs.Prelude.{◌≡◌, ◌≢◌, ◌⊎◌, ℕ, ◌<◌, ◌≤◌, List, [], Option, Some, None, Ok}
 use Rattle.std.specs.List.{filter_map}
-use Rattle.rack.specs.Seen.{Image, Seen, IsPick}
+use Rattle.rack.specs.Seen.{Image, RackView, IsPick}
 use Rattle.rack.specs.Moments.{Leaves}
 use Rattle.rack.specs.Targets.{Target, look}
 use Rattle.gpt_table.specs.Changes.{the_table}
@@ -26,7 +26,7 @@ use Rattle.pool_rest.specs.Members.{Lies}
 use Rattle.pool_rest.specs.Resting.{seated_state}
 
 -- no target of the pending record is a state's sector
-abbrev pub BringsNoState : Seen → Type 0
+abbrev pub BringsNoState : RackView → Type 0
 BringsNoState x = (before : Standing) → standing (disks_of x) (now_in x) ≡ Some before → (p : ℕ) → look before.targets (log_slice p) 0 ≡ None
 
 -- a gate of a lower number
@@ -46,13 +46,13 @@ TakesLowerIn disks c =
     → arrays_first ≤ disks.sectors d → IsGateBelow a.gate.number (c d drive_gate)
 
 -- so it is with what disks hold
-abbrev pub TakesLower : Seen → Type 0
+abbrev pub TakesLower : RackView → Type 0
 TakesLower x = TakesLowerIn (disks_of x) (now_in x)
 
 -- The record that a log found on these places brings the state s where s0 stands, or none. Its copies are of s. The places that stay
 -- keep their disks, that which the record is read from too, for which it has a copy where s is a later state; those that join have gates of lower
 -- numbers.
-pub record BringsState (x : Seen) (known : List Known) (s0 s : State) (l : LogView) (on : List ℕ) (c : Image) : Type 0 where
+pub record BringsState (x : RackView) (known : List Known) (s0 s : State) (l : LogView) (on : List ℕ) (c : Image) : Type 0 where
   pub seats : (p : ℕ) → PlaceStays s0 s p → seat_by s known p ≡ seat_by s0 known p
   pub copies : (p : ℕ) (u : List ℕ) → look l.pending (log_slice p) 0 ≡ Some u → decoded u ≡ Ok (record { state = s; own = p })
   pub next : (s ≡ s0) ⊎ (s0.epoch < s.epoch)
@@ -65,7 +65,7 @@ pub record BringsState (x : Seen) (known : List Known) (s0 s : State) (l : LogVi
       → IsGateBelow at.gate.number (now_in x d drive_gate)
 
 -- Slices of the drives that are seated so, each where the drive's table has it: all log slices that there are, and any of members.
-pub record AreOfDrives (x : Seen) (seats : ℕ → Option ℕ) (t : Slices) : Type 0 where
+pub record AreOfDrives (x : RackView) (seats : ℕ → Option ℕ) (t : Slices) : Type 0 where
   pub orderly : IsOrderly t
   pub inside : IsInside t x
   pub seated : (p : ℕ) → p < 16 → seat_of t p ≡ seats p
@@ -126,11 +126,11 @@ pub record StandsMidway (disks : Disks) (c i : Image) : Type 0 where
   pub is : StandsReplaying disks before.state (seated_state before.targets before.state) before.targets c i
 
 -- contents, once the pending record is replayed, give by slices what the disks do now, but for gates and halves of logs
-abbrev pub GivesNow : Slices → Seen → Image → Type 0
+abbrev pub GivesNow : Slices → RackView → Image → Type 0
 GivesNow t y i = IsAlike (replayed (sectors_of t) (sliced t i)) (replayed (sectors_of t) (sliced t (now_in y)))
 
 -- Calls in which the replayed contents stay: what a stop leaves before them, at each moment and after them gives what the disks do then.
-pub record KeepsReplayed (x y : Seen) (t : Slices) : Type 0 where
+pub record KeepsReplayed (x y : RackView) (t : Slices) : Type 0 where
   pub first : (i : Image) → IsPick x x x.held i → GivesNow t y i
   pub during : x.traced → Leaves x y (GivesNow t y)
   pub last : (i : Image) → IsPick y y y.held i → GivesNow t y i

@@ -1,6 +1,6 @@
 -- Logs as commits of a pool leave them: what the record that is pending there brings.
 use Rattle.std.specs.Prelude.{◌≡◌, ◌⊎◌, ℕ, ◌<◌, ◌≤◌, Bool, true, false, List, Option, Ok, Some, None}
-use Rattle.rack.specs.Seen.{Image, Seen}
+use Rattle.rack.specs.Seen.{Image, RackView}
 use Rattle.rack.specs.Targets.{look}
 use Rattle.pool_state.specs.declared.contents.State.{State}
 use Rattle.pool_state.specs.Sector.{decoded}
@@ -68,7 +68,7 @@ pub record ShowLogs (disks : Disks) (i c : Image) (s t : State) : Type 0 where
       → i d drive_gate ≡ c (log_slice p) gate_sector
 
 -- A drive had a gate of this number: one that a place of the state has now.
-pub record HadGate (a b : Seen) (s : State) (number : ℕ) : Type 0 where
+pub record HadGate (a b : RackView) (s : State) (number : ℕ) : Type 0 where
   pub place : ℕ
   pub disk : ℕ
   pub seat : seat_of s (disks_of b) (identities_of (disks_of b) (now_in b)) place ≡ Some disk
@@ -78,7 +78,7 @@ pub record HadGate (a b : Seen) (s : State) (number : ℕ) : Type 0 where
 
 -- Nothing is pending and no log is damaged: the state is the one that the record brought, and the disks mean what they meant. The gates of the state's drives have
 -- no numbers but those that these drives' gates had.
-pub record IsSettled (a b : Seen) (s : State) (is_pending : Bool) (damaged : Option ℕ) : Type 0 where
+pub record IsSettled (a b : RackView) (s : State) (is_pending : Bool) (damaged : Option ℕ) : Type 0 where
   pub idle : is_pending ≡ false
   pub whole : damaged ≡ None
   pub state : (before : Standing) → standing (disks_of a) (now_in a) ≡ Some before → s ≡ seated_state before.targets before.state

@@ -9,7 +9,7 @@ use Rattle.array_image.specs.Foremost.{foremost}
 use Rattle.array_image.specs.States.{epoch_of, is_current}
 use Rattle.pool_image.specs.Disks.{Disks, Identities, candidate, newest, seat_of}
 use Rattle.pool_scan.specs.declared.Known.{Known}
-use Rattle.rack.specs.Seen.{Seen}
+use Rattle.rack.specs.Seen.{RackView}
 use Rattle.pool_image.specs.Disks.{disks_of, id_by, identities_of}
 use Rattle.pool_scan.specs.Scanning.{AllTold, IsScan, as_read, copied_at, id_in, now_in, table_in}
 use Rattle.pool_scan.specs.Choosing.{AreOf, epoch_at, has_pool_other_than, id_at, is_of_other, standing}
@@ -83,7 +83,7 @@ other_is pool disks identities known are =
         ap₂ (λ x y. x || y) (agree a (omega arith) (omega arith)) (any_same f g (a + 1) n (λ d least most. agree d (omega (arith, least)) (omega (arith, most))))
 
 -- the list of a scan says what was read
-pub scan_says : (x y : Seen) (known : List Known) → IsScan x y known → AllTold x → AreOf (disks_of x) (as_read x known) known
+pub scan_says : (x y : RackView) (known : List Known) → IsScan x y known → AllTold x → AreOf (disks_of x) (as_read x known) known
 scan_says x y known scan told = record {
   count = scan.count;
   copied = λ d inside. refl;

@@ -2,19 +2,19 @@
 use Rattle.std.proofs.Common.{◌≡◌, ◌∙◌, ℕ, ◌<◌, List, slice_get, Option, Some, None, refl, sym, ap, inl, inr, arith}
 use Rattle.std.specs.Option.{option_and_then}
 use Rattle.std.proofs.lemmas.Option.{none-some, slice_get_cases}
-use Rattle.rack.specs.Seen.{Seen}
+use Rattle.rack.specs.Seen.{RackView}
 use Rattle.pool_image.specs.Disks.{disks_of, id_by, identities_of, newest}
 use Rattle.pool_scan.specs.declared.Known.{Known}
 use Rattle.pool_scan.specs.Scanning.{AllTold, IsUnfaulted, IsReadOr, IsScan, as_read, id_in, now_in}
 use Rattle.pool_scan.specs.Choosing.{AreOf, has_pool_other_than}
 use Rattle.pool_scan.proofs.Chosen.{newest_is, other_is, scan_says}
 
-was_read : {X : Type 0} {shown read : Option X} (x y : Seen) (d : ℕ) → IsUnfaulted x y → IsReadOr x y d shown read → read ≡ shown
+was_read : {X : Type 0} {shown read : Option X} (x y : RackView) (d : ℕ) → IsUnfaulted x y → IsReadOr x y d shown read → read ≡ shown
 was_read x y d free (inl same) = same
 was_read x y d free (inr refused) = absurd (free d refused.1)
 
 -- the list says what the disks hold
-pub scan_meant : (x y : Seen) (known : List Known) → IsScan x y known → AllTold x → IsUnfaulted x y
+pub scan_meant : (x y : RackView) (known : List Known) → IsScan x y known → AllTold x → IsUnfaulted x y
     → AreOf (disks_of x) (identities_of (disks_of x) (now_in x)) known
 scan_meant x y known scan told free = record {
   count = scan.count;
@@ -44,13 +44,13 @@ scan_meant x y known scan told free = record {
         ∙ sym sees.named.id
 
 -- so what was read has the newest state of the disks, and of the same pools
-pub newest_meant : (x y : Seen) (known : List Known) → IsScan x y known → AllTold x → IsUnfaulted x y
+pub newest_meant : (x y : RackView) (known : List Known) → IsScan x y known → AllTold x → IsUnfaulted x y
     → newest (disks_of x) (as_read x known) ≡ newest (disks_of x) (identities_of (disks_of x) (now_in x))
 newest_meant x y known scan told free =
     sym (newest_is (disks_of x) (as_read x known) known (scan_says x y known scan told))
     ∙ newest_is (disks_of x) (identities_of (disks_of x) (now_in x)) known (scan_meant x y known scan told free)
 
-pub other_meant : (x y : Seen) (pool : List ℕ) (known : List Known) → IsScan x y known → AllTold x → IsUnfaulted x y
+pub other_meant : (x y : RackView) (pool : List ℕ) (known : List Known) → IsScan x y known → AllTold x → IsUnfaulted x y
     → has_pool_other_than pool (disks_of x) (as_read x known) ≡ has_pool_other_than pool (disks_of x) (identities_of (disks_of x) (now_in x))
 other_meant x y pool known scan told free =
     sym (other_is pool (disks_of x) (as_read x known) known (scan_says x y known scan told))

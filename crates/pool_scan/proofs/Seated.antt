@@ -4,7 +4,7 @@ use Rattle.std.specs.List.{range_with_len}
 use Rattle.std.specs.Option.{option_map_or}
 use Rattle.std.proofs.lemmas.Bool.{cases_Bool, both_ways, cond-true, cond-false}
 use Rattle.std.proofs.lemmas.Option.{none-some, cond_some}
-use Rattle.rack.specs.Seen.{Seen, Stays}
+use Rattle.rack.specs.Seen.{RackView, SameRack}
 use Rattle.rack.specs.Joins.{rose_early}
 use Rattle.pool_state.specs.declared.contents.State.{State}
 use Rattle.array_image.specs.Foremost.{ahead, foremost}
@@ -77,7 +77,7 @@ seat_by_stands s known place d is = of_current (is_current s place) refl is
 
 -- ---- a scan after further calls
 
-pub scan_later : (x y z : Seen) (known : List Known) → IsScan x y known → Stays y z → IsScan x z known
+pub scan_later : (x y z : RackView) (known : List Known) → IsScan x y known → SameRack y z → IsScan x z known
 scan_later x y z known scan stays = record {
   count = scan.count;
   each = λ d s at. let is = scan.each d s at in record {

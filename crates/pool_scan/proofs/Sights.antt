@@ -3,7 +3,7 @@ use Rattle.std.proofs.Common.{◌≡◌, ℕ, zero, suc, ◌+◌, ◌<◌, arith
 use Rattle.std.proofs.lemmas.Bool.{cases_eq}
 use Rattle.std.proofs.lemmas.Option.{slice_get-get_or}
 use Rattle.std.proofs.lemmas.List.{get_or-set_same, get_or-set_other, length-set}
-use Rattle.rack.specs.Seen.{Seen, Rose, Stays}
+use Rattle.rack.specs.Seen.{RackView, Rose, SameRack}
 use Rattle.rack.specs.Calls.{Reads}
 use Rattle.rack.specs.Sequences.{OnlyReads}
 use Rattle.gpt_table.specs.Changes.{the_table}
@@ -15,12 +15,12 @@ use Rattle.pool_image.specs.Disks.{id_by}
 use Rattle.pool_scan.specs.Scanning.{IsKnown, IsReadOr, IsValidCopy, Sees, copied_on, id_in, now_in, table_in}
 
 -- contents agree with themselves
-pub agrees_now : (x : Seen) (disk : ℕ) → AgreesUnspent x disk (now_in x disk)
+pub agrees_now : (x : RackView) (disk : ℕ) → AgreesUnspent x disk (now_in x disk)
 agrees_now x disk = λ sector within unspent. refl
 
 -- and after reads
 pub agrees_then :
-    {x y : Seen} (disk : ℕ) (contents : Contents)
+    {x y : RackView} (disk : ℕ) (contents : Contents)
     → OnlyReads x y
     → disk < x.disks
     → x.told disk
@@ -33,7 +33,7 @@ agrees_then {x} {y} disk contents reads inside told agrees =
 
 -- a sector that was read holds this, whatever spent ones held before
 pub read_says :
-    {x y : Seen} (disk sector : ℕ) (into : List ℕ) (contents : Contents)
+    {x y : RackView} (disk sector : ℕ) (into : List ℕ) (contents : Contents)
     → Reads x y disk sector into {X = Unit {0}} (Ok tt)
     → sector < x.sectors disk
     → x.told disk
@@ -44,8 +44,8 @@ read_says {x} {y} disk sector into contents reads within told agrees =
 
 -- what was read until one moment was read until a later one
 pub read_until :
-    {X : Type 0} (x y z : Seen) (disk : ℕ) (shown read : Option X)
-    → Stays y z
+    {X : Type 0} (x y z : RackView) (disk : ℕ) (shown read : Option X)
+    → SameRack y z
     → IsReadOr x y disk shown read
     → IsReadOr x z disk shown read
 read_until x y z disk shown read stays (inl is) = inl is
@@ -53,8 +53,8 @@ read_until x y z disk shown read stays (inr gone) = inr (gone.0, rose_early x y 
 
 -- and since an earlier one
 pub read_since :
-    {X : Type 0} (x y z : Seen) (disk : ℕ) (shown read : Option X)
-    → Stays x y
+    {X : Type 0} (x y z : RackView) (disk : ℕ) (shown read : Option X)
+    → SameRack x y
     → IsReadOr y z disk shown read
     → IsReadOr x z disk shown read
 read_since x y z disk shown read stays (inl is) = inl is
@@ -75,7 +75,7 @@ each_push P (z ∷ xs) y old new (suc d) x is =
     each_push (λ n. P (suc n)) xs y (λ e v at. old (suc e) v at) new d x is
 
 -- what was seen until one moment was seen until a later one
-pub known_until : (x y z : Seen) (d : ℕ) (s : Known) → Stays y z → IsKnown x y d s → IsKnown x z d s
+pub known_until : (x y z : RackView) (d : ℕ) (s : Known) → SameRack y z → IsKnown x y d s → IsKnown x z d s
 known_until x y z d s stays shown =
     record {
       sees =
@@ -97,7 +97,7 @@ known_until x y z d s stays shown =
 
 -- what was seen of a disk in a later call
 pub known_since :
-    (x y z : Seen) (d : ℕ) (s : Known)
+    (x y z : RackView) (d : ℕ) (s : Known)
     → OnlyReads x y
     → d < x.disks
     → (y.told d → (contents : Contents) → AgreesUnspent y d contents → Sees y z d contents s)

@@ -5,7 +5,7 @@ use Rattle.std.specs.Int.{is_power_of_two}
 use Rattle.std.specs.Option.{option_and_then}
 use Rattle.std.proofs.lemmas.Bool.{and_parts, and_from}
 use Rattle.std.proofs.lemmas.Option.{none-some}
-use Rattle.rack.specs.Seen.{Seen}
+use Rattle.rack.specs.Seen.{RackView}
 use Rattle.pool_state.specs.declared.contents.State.{State}
 use Rattle.pool_state.specs.Valid.{has_arrays, has_places, is_extent, is_valid, place_of}
 use Rattle.pool_scan.specs.declared.Known.{Known}
@@ -47,7 +47,7 @@ valid_extent s own valid =
     leb-true 128 s.extent (and_parts (nat_le 128 s.extent) (nat_le s.extent 65536) two.1).0
 
 -- so is that of a copy that was read
-pub copy_valid : (a b : Seen) (known : List Known) (s : State) → IsScan a b known → HasCopyOf known s → is_valid s 0 ≡ true
+pub copy_valid : (a b : RackView) (known : List Known) (s : State) → IsScan a b known → HasCopyOf known s → is_valid s 0 ≡ true
 copy_valid a b known s scan has = at (slice_get known has.disk) refl has.read
   where
     at : (o : Option Known) → slice_get known has.disk ≡ o → option_and_then (λ k. k.copied) o ≡ Some has.copy → is_valid s 0 ≡ true

@@ -3,7 +3,7 @@ use Rattle.std.proofs.Common.{◌≡◌, ◌≢◌, ◌⊎◌, ℕ, ◌==◌, �
 use Rattle.std.proofs.lemmas.Bool.{cases_eq}
 use Rattle.rack.specs.declared.Gone.{Gone}
 use Rattle.rack.specs.Values.{Values, MayLeave, Keeps, IsSingle, append}
-use Rattle.rack.specs.Seen.{Held, Seen, IsLive, IsPick, Rose, Stays, appended}
+use Rattle.rack.specs.Seen.{Held, RackView, IsLive, IsPick, Rose, SameRack, appended}
 use Rattle.rack.specs.Calls.{Writes, Syncs}
 use Rattle.rack.specs.Joins.{keeps_then, may_leave-append, stays_then, live_first, live_second, leaves_weaker, leaves_then, pick_kept, pick_longer, rose_since}
 use Rattle.rack.specs.Sequences.{IsMix, WritesOnly, WritesDurably}
@@ -39,7 +39,7 @@ refused_others held h disk sector v d s other (inr new) =
 
 -- the write was refused
 pub write_refused :
-    (a b : Seen) (disk sector : ℕ) (v : List ℕ) (r : Result (Unit {0}) Gone) (e : Gone)
+    (a b : RackView) (disk sector : ℕ) (v : List ℕ) (r : Result (Unit {0}) Gone) (e : Gone)
     → r ≡ Err e
     → Writes a b disk sector v r
     → WritesDurably a b disk sector v {X = Unit {0}} (Err e)
@@ -56,15 +56,15 @@ write_refused a b disk sector v r e is at_result =
     }
 
 gone_later :
-    (a m b : Seen) (disk : ℕ) (r : Result (Unit {0}) Gone)
-    → Stays a m
+    (a m b : RackView) (disk : ℕ) (r : Result (Unit {0}) Gone)
+    → SameRack a m
     → IfErr r (λ e. (e.disk ≡ disk) × Rose (m.faults disk) (b.faults disk))
     → IfErr r (λ e. (e.disk ≡ disk) × Rose (a.faults disk) (b.faults disk))
 gone_later a m b disk (Ok done) stays gone = tt
 gone_later a m b disk (Err e) stays gone = (gone.0, rose_since (stays.faults disk) gone.1)
 
 durable_now :
-    (a m b : Seen) (disk sector : ℕ) (v : List ℕ) (r : Result (Unit {0}) Gone)
+    (a m b : RackView) (disk sector : ℕ) (v : List ℕ) (r : Result (Unit {0}) Gone)
     → Writes a m disk sector v {X = Unit {0}} (Ok tt)
     → Syncs m b disk r
     → OnOk r (IsLive a b disk sector → (w : List ℕ) → MayLeave (b.held disk sector) w → w ≡ v)
@@ -79,8 +79,8 @@ durable_now a m b disk sector v (Ok done) writes syncs =
     ∙ appended_here a.held disk sector v
 
 synced_now :
-    (a m b : Seen) (disk : ℕ) (r : Result (Unit {0}) Gone)
-    → Stays a m
+    (a m b : RackView) (disk : ℕ) (r : Result (Unit {0}) Gone)
+    → SameRack a m
     → Syncs m b disk r
     → OnOk r ((s : ℕ) → IsLive a b disk s → IsSingle (b.held disk s))
 synced_now a m b disk (Err e) stays syncs = tt
@@ -88,7 +88,7 @@ synced_now a m b disk (Ok done) stays syncs = λ s live w leaves. syncs.done s w
 
 -- it was done, and the disk was synced or refused it
 pub write_then_sync :
-    (a m b : Seen) (disk sector : ℕ) (v : List ℕ) (r q : Result (Unit {0}) Gone) (u : Unit {0})
+    (a m b : RackView) (disk sector : ℕ) (v : List ℕ) (r q : Result (Unit {0}) Gone) (u : Unit {0})
     → r ≡ Ok u
     → Writes a m disk sector v r
     → Syncs m b disk q
@@ -124,7 +124,7 @@ write_then_sync a m b disk sector v r q u is at_result syncs =
 
 -- nothing else was written
 pub durable_only :
-    {a b : Seen} {disk sector : ℕ} {value : List ℕ} (r : Result (Unit {0}) Gone)
+    {a b : RackView} {disk sector : ℕ} {value : List ℕ} (r : Result (Unit {0}) Gone)
     → WritesDurably a b disk sector value r
     → WritesOnly a b (λ d s v. (d ≡ disk) × (s ≡ sector) × (v ≡ value))
 durable_only {a} {b} {disk} {sector} {value} r writes =

@@ -6,7 +6,7 @@ use Rattle.std.proofs.lemmas.Option.{none-some, cond_some}
 use Rattle.std.proofs.lemmas.Bool.{both_ways, cases_Bool, and_parts, and_from, or_parts, cond-true}
 use Rattle.rack.specs.declared.Gone.{Gone}
 use Rattle.rack.specs.Values.{MayLeave}
-use Rattle.rack.specs.Seen.{Seen, IsLive, Stays, Rose, appended}
+use Rattle.rack.specs.Seen.{RackView, IsLive, SameRack, Rose, appended}
 use Rattle.rack.specs.Calls.{KeepsAll, Reads, Writes, Syncs}
 use Rattle.rack.specs.Joins.{live_first, live_second, rose_later, rose_early}
 use Rattle.rack.specs.Targets.{Target, is_at, look, target}
@@ -92,7 +92,7 @@ first_is false q left is = absurd (both_ways q left is)
 
 -- whoever has gone newly has the cause
 gone_cause :
-    (a b : Seen) (went : ℕ → Bool) (disk : ℕ)
+    (a b : RackView) (went : ℕ → Bool) (disk : ℕ)
     → Rose (a.faults disk) (b.faults disk)
     → (d : ℕ)
     → went d ≡ false
@@ -102,7 +102,7 @@ gone_cause a b went disk rose d left gone =
     subst (λ k. Rose (a.faults k) (b.faults k)) (sym (eqb-true d disk (first_is (d == disk) (went d) left gone))) rose
 
 -- no call
-pub phase_none : (a : Seen) (went : ℕ → Bool) → a.fit → Phase a a [] went went
+pub phase_none : (a : RackView) (went : ℕ → Bool) → a.fit → Phase a a [] went went
 unfolding look
 phase_none a went fit =
     record {
@@ -113,7 +113,7 @@ phase_none a went fit =
     }
 
 -- calls that bring no value: a read, a sync, or many of them
-pub phase_quiet : {a b : Seen} (went : ℕ → Bool) → Stays a b → KeepsAll a b → Phase a b [] went went
+pub phase_quiet : {a b : RackView} (went : ℕ → Bool) → SameRack a b → KeepsAll a b → Phase a b [] went went
 unfolding look
 phase_quiet went stays keeps =
     record {
@@ -125,7 +125,7 @@ phase_quiet went stays keeps =
 
 -- a disk has gone in it, with its cause: a read or a sync was refused
 pub phase_gone :
-    {a b : Seen} (went : ℕ → Bool) (disk : ℕ)
+    {a b : RackView} (went : ℕ → Bool) (disk : ℕ)
     → Rose (a.faults disk) (b.faults disk)
     → Phase a b [] went went
     → Phase a b [] went (gone_too disk went)
@@ -139,14 +139,14 @@ phase_gone {a} {b} went disk rose phase =
 
 -- a read
 pub phase_read :
-    {a b : Seen} (went : ℕ → Bool) (disk sector : ℕ) (into : List ℕ)
+    {a b : RackView} (went : ℕ → Bool) (disk sector : ℕ) (into : List ℕ)
     → Reads a b disk sector into {X = Unit {0}} (Ok tt)
     → Phase a b [] went went
 phase_read went disk sector into reads = phase_quiet went reads.stays reads.keeps
 
 -- a read that was refused: its disk has gone
 pub phase_unread :
-    {a b : Seen} (went : ℕ → Bool) (disk sector : ℕ) (into : List ℕ) (gone : Gone)
+    {a b : RackView} (went : ℕ → Bool) (disk sector : ℕ) (into : List ℕ) (gone : Gone)
     → Reads a b disk sector into {X = Unit {0}} (Err gone)
     → Phase a b [] went (gone_too disk went)
 phase_unread went disk sector into gone reads =
@@ -154,7 +154,7 @@ phase_unread went disk sector into gone reads =
 
 -- a write that was answered
 pub phase_write :
-    {a b : Seen} (went : ℕ → Bool) (disk sector : ℕ) (v : List ℕ)
+    {a b : RackView} (went : ℕ → Bool) (disk sector : ℕ) (v : List ℕ)
     → Writes a b disk sector v {X = Unit {0}} (Ok tt)
     → Phase a b (target disk sector v ∷ []) went went
 phase_write {a} {b} went disk sector v writes =
@@ -172,7 +172,7 @@ phase_write {a} {b} went disk sector v writes =
 
 -- a write that was refused: its disk has gone
 pub phase_refused :
-    {a b : Seen} (went : ℕ → Bool) (disk sector : ℕ) (v : List ℕ) (gone : Gone)
+    {a b : RackView} (went : ℕ → Bool) (disk sector : ℕ) (v : List ℕ) (gone : Gone)
     → Writes a b disk sector v {X = Unit {0}} (Err gone)
     → Phase a b (target disk sector v ∷ []) went (gone_too disk went)
 phase_refused {a} {b} went disk sector v gone writes =
@@ -188,7 +188,7 @@ phase_refused {a} {b} went disk sector v gone writes =
 
 -- a target on a disk that has gone needs no call
 pub phase_skipped :
-    {a b : Seen} (went now : ℕ → Bool) (disk sector : ℕ) (v : List ℕ)
+    {a b : RackView} (went now : ℕ → Bool) (disk sector : ℕ) (v : List ℕ)
     → Phase a b [] went now
     → now disk ≡ true
     → Phase a b (target disk sector v ∷ []) went now
@@ -207,7 +207,7 @@ phase_skipped {a} {b} went now disk sector v phase gone =
 
 -- phases in a row
 pub phase_then :
-    {a b c : Seen} (xs ys : List Target) (went between now : ℕ → Bool)
+    {a b c : RackView} (xs ys : List Target) (went between now : ℕ → Bool)
     → Phase a b xs went between
     → Phase b c ys between now
     → Phase a c (xs ++ ys) went now
@@ -237,7 +237,7 @@ phase_then {a} {b} {c} xs ys went between now one two =
 
 -- who has gone may be said by another map
 pub phase_same :
-    {a b : Seen} (xs : List Target) (went now other : ℕ → Bool)
+    {a b : RackView} (xs : List Target) (went now other : ℕ → Bool)
     → ((d : ℕ) → now d ≡ other d)
     → Phase a b xs went now
     → Phase a b xs went other
@@ -248,13 +248,13 @@ phase_same {a} {b} xs went now other same phase =
 -- ---- syncs
 
 -- no disk was to be synced
-pub syncs_none : (a : Seen) (went : ℕ → Bool) → a.fit → SyncsEach a a (λ d. false) went went
+pub syncs_none : (a : RackView) (went : ℕ → Bool) → a.fit → SyncsEach a a (λ d. false) went went
 syncs_none a went fit =
     record { phase = phase_none a went fit; done = λ d s on. absurd (both_ways false refl on) }
 
 -- one was
 pub syncs_one :
-    {a b : Seen} (went : ℕ → Bool) (disk : ℕ)
+    {a b : RackView} (went : ℕ → Bool) (disk : ℕ)
     → Syncs a b disk {X = Unit {0}} (Ok tt)
     → SyncsEach a b (λ d. d == disk) went went
 syncs_one {a} {b} went disk syncs =
@@ -272,7 +272,7 @@ syncs_one {a} {b} went disk syncs =
 
 -- one was to be, and refused
 pub syncs_lost :
-    {a b : Seen} (went : ℕ → Bool) (disk : ℕ) (gone : Gone)
+    {a b : RackView} (went : ℕ → Bool) (disk : ℕ) (gone : Gone)
     → Syncs a b disk {X = Unit {0}} (Err gone)
     → SyncsEach a b (λ d. d == disk) went (gone_too disk went)
 syncs_lost {a} {b} went disk gone syncs =
@@ -283,7 +283,7 @@ syncs_lost {a} {b} went disk gone syncs =
 
 -- some disks, and then others
 pub syncs_then :
-    {a b c : Seen} (on too : ℕ → Bool) (went between now : ℕ → Bool)
+    {a b c : RackView} (on too : ℕ → Bool) (went between now : ℕ → Bool)
     → SyncsEach a b on went between
     → SyncsEach b c too between now
     → SyncsEach a c (λ d. on d || too d) went now

@@ -1,13 +1,13 @@
 -- Reads in a row.
 use Rattle.std.proofs.Common.{◌≡◌, ℕ, ◌<◌, List, Result, Ok, false, sym, subst, ◌∙◌}
 use Rattle.rack.specs.declared.Gone.{Gone}
-use Rattle.rack.specs.Seen.{Seen, IsPick}
+use Rattle.rack.specs.Seen.{RackView, IsPick}
 use Rattle.rack.specs.Calls.{Reads}
 use Rattle.rack.specs.Joins.{keeps_same, leaves_same, stays_same, stays_then, keeps_all_then}
 use Rattle.rack.specs.Sequences.{OnlyReads}
 
 -- before the first read
-pub only_reads_start : (a : Seen) → a.fit → OnlyReads a a
+pub only_reads_start : (a : RackView) → a.fit → OnlyReads a a
 only_reads_start a fit =
     record {
       stays = stays_same a fit;
@@ -16,7 +16,7 @@ only_reads_start a fit =
 
 -- one more read
 pub only_reads_then :
-    {a b c : Seen} {disk sector : ℕ} {into : List ℕ} {X : Type 0} {result : Result X Gone}
+    {a b c : RackView} {disk sector : ℕ} {into : List ℕ} {X : Type 0} {result : Result X Gone}
     → OnlyReads a b
     → Reads b c disk sector into result
     → OnlyReads a c
@@ -27,7 +27,7 @@ only_reads_then first second =
     }
 
 -- reads after reads
-pub only_reads_join : {a b c : Seen} → OnlyReads a b → OnlyReads b c → OnlyReads a c
+pub only_reads_join : {a b c : RackView} → OnlyReads a b → OnlyReads b c → OnlyReads a c
 only_reads_join first second =
     record {
       stays = stays_then first.stays second.stays;
@@ -36,7 +36,7 @@ only_reads_join first second =
 
 -- what stands in a sector after reads stood there before them
 pub same_after :
-    {a b : Seen} (disk sector : ℕ)
+    {a b : RackView} (disk sector : ℕ)
     → OnlyReads a b
     → disk < a.disks
     → sector < a.sectors disk
@@ -56,7 +56,7 @@ same_after {a} {b} disk sector reads has within told unspent =
 
 -- a sector that was read wasn't spent before
 pub unspent_before :
-    {a b c : Seen} {disk sector : ℕ} {into : List ℕ} {X : Type 0} (x : X)
+    {a b c : RackView} {disk sector : ℕ} {into : List ℕ} {X : Type 0} (x : X)
     → OnlyReads a b
     → Reads b c disk sector into (Ok x)
     → a.spent disk sector ≡ false
@@ -65,7 +65,7 @@ unspent_before {disk = disk} {sector = sector} x first second =
 
 -- what a later read gives is what stood there before the first
 pub value_then :
-    {a b c : Seen} {disk sector : ℕ} {into : List ℕ} {X : Type 0} (x : X)
+    {a b c : RackView} {disk sector : ℕ} {into : List ℕ} {X : Type 0} (x : X)
     → OnlyReads a b
     → Reads b c disk sector into (Ok x)
     → disk < a.disks

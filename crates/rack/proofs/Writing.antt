@@ -3,7 +3,7 @@ use Rattle.std.proofs.Common.{◌≡◌, ◌≢◌, ◌⊎◌, ℕ, ◌==◌, �
 use Rattle.std.proofs.lemmas.Bool.{cases_Bool, and_parts, and_from, and_left, and_right, cond-true, cond-false, ne_eqb}
 use Rattle.rack.specs.declared.Gone.{Gone}
 use Rattle.rack.specs.Values.{Values, MayLeave, Keeps, append}
-use Rattle.rack.specs.Seen.{Seen, IsLive, IsPick, Stays, appended}
+use Rattle.rack.specs.Seen.{RackView, IsLive, IsPick, SameRack, appended}
 use Rattle.rack.specs.Calls.{KeepsAll, Writes}
 use Rattle.rack.specs.Joins.{keeps_same, keeps_then, leaves_same, leaves_weaker, leaves_then, stays_same, stays_then, live_first, live_second, append-may_leave}
 use Rattle.rack.specs.Sequences.{MayBecome, IsMix, WritesOnly}
@@ -47,7 +47,7 @@ appended_may held disk sector v d s u left =
 -- ---- one call
 
 -- nothing was called
-pub only_none : (a : Seen) (may : ℕ → ℕ → List ℕ → Type 0) → a.fit → WritesOnly a a may
+pub only_none : (a : RackView) (may : ℕ → ℕ → List ℕ → Type 0) → a.fit → WritesOnly a a may
 only_none a may fit =
     record {
       stays = stays_same a fit;
@@ -57,7 +57,7 @@ only_none a may fit =
     }
 
 -- reads and syncs
-pub only_quiet : {a b : Seen} (may : ℕ → ℕ → List ℕ → Type 0) → Stays a b → KeepsAll a b → WritesOnly a b may
+pub only_quiet : {a b : RackView} (may : ℕ → ℕ → List ℕ → Type 0) → SameRack a b → KeepsAll a b → WritesOnly a b may
 only_quiet {a} {b} may stays keeps =
     record {
       stays = stays;
@@ -70,7 +70,7 @@ only_quiet {a} {b} may stays keeps =
 
 -- what one write may leave
 one_becomes :
-    (a : Seen) (may : ℕ → ℕ → List ℕ → Type 0) (disk sector : ℕ) (v : List ℕ)
+    (a : RackView) (may : ℕ → ℕ → List ℕ → Type 0) (disk sector : ℕ) (v : List ℕ)
     → may disk sector v
     → (d s : ℕ) (u : List ℕ)
     → MayLeave (appended a.held disk sector v d s) u
@@ -85,7 +85,7 @@ one_becomes a may disk sector v allowed d s u left =
 
 -- a write elsewhere keeps a sector
 one_kept :
-    (a : Seen) (may : ℕ → ℕ → List ℕ → Type 0) (disk sector : ℕ) (v : List ℕ)
+    (a : RackView) (may : ℕ → ℕ → List ℕ → Type 0) (disk sector : ℕ) (v : List ℕ)
     → may disk sector v
     → (d s : ℕ) (h : Values)
     → ((u : List ℕ) → may d s u → ⊥)
@@ -102,7 +102,7 @@ one_kept a may disk sector v allowed d s h never keeps =
 
 -- a write, answered
 pub only_written :
-    {a b : Seen} (may : ℕ → ℕ → List ℕ → Type 0) (disk sector : ℕ) (v : List ℕ)
+    {a b : RackView} (may : ℕ → ℕ → List ℕ → Type 0) (disk sector : ℕ) (v : List ℕ)
     → may disk sector v
     → Writes a b disk sector v {X = Unit {0}} (Ok tt)
     → WritesOnly a b may
@@ -122,7 +122,7 @@ only_written {a} {b} may disk sector v allowed writes =
 
 -- or refused
 pub only_refused :
-    {a b : Seen} (may : ℕ → ℕ → List ℕ → Type 0) (disk sector : ℕ) (v : List ℕ) (gone : Gone)
+    {a b : RackView} (may : ℕ → ℕ → List ℕ → Type 0) (disk sector : ℕ) (v : List ℕ) (gone : Gone)
     → may disk sector v
     → Writes a b disk sector v {X = Unit {0}} (Err gone)
     → WritesOnly a b may
@@ -154,7 +154,7 @@ only_refused {a} {b} may disk sector v gone allowed writes =
 
 -- more may be written than was
 pub only_weaker :
-    {a b : Seen} (may more : ℕ → ℕ → List ℕ → Type 0)
+    {a b : RackView} (may more : ℕ → ℕ → List ℕ → Type 0)
     → ((d s : ℕ) (v : List ℕ) → may d s v → more d s v)
     → WritesOnly a b may
     → WritesOnly a b more
@@ -178,7 +178,7 @@ only_weaker {a} {b} may more weaker only =
 
 -- writes, and then writes
 pub only_then :
-    {a b c : Seen} (may : ℕ → ℕ → List ℕ → Type 0) → WritesOnly a b may → WritesOnly b c may → WritesOnly a c may
+    {a b c : RackView} (may : ℕ → ℕ → List ℕ → Type 0) → WritesOnly a b may → WritesOnly b c may → WritesOnly a c may
 only_then {a} {b} {c} may one two =
     record {
       stays = stays_then one.stays two.stays;

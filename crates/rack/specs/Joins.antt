@@ -3,7 +3,7 @@ use Rattle.std.specs.Prelude.{◌≡◌, ◌⊎◌, ℕ, ◌<◌, ◌≤◌, Lis
 use Rattle.std.proofs.Common.{sym, ◌∙◌, subst, inl, inr, arith}
 use Rattle.std.proofs.lemmas.Bool.{cases_lt}
 use Rattle.rack.specs.Values.{Values, Has, MayLeave, Keeps, append}
-use Rattle.rack.specs.Seen.{Image, Held, Seen, Rose, IsLive, IsPick, Stays}
+use Rattle.rack.specs.Seen.{Image, Held, RackView, Rose, IsLive, IsPick, SameRack}
 use Rattle.rack.specs.Moments.{Leaves}
 use Rattle.rack.specs.Calls.{KeepsAll}
 
@@ -73,7 +73,7 @@ rose_before after (inl rose) = inl (omega arith)
 rose_before after (inr stands) = inr (omega arith)
 
 -- nothing was called
-pub stays_same : (x : Seen) → x.fit → Stays x x
+pub stays_same : (x : RackView) → x.fit → SameRack x x
 stays_same x fit =
     record {
       fit = fit;
@@ -89,7 +89,7 @@ stays_same x fit =
     }
 
 -- what no call changes, two calls don't
-pub stays_then : {a b c : Seen} → Stays a b → Stays b c → Stays a c
+pub stays_then : {a b c : RackView} → SameRack a b → SameRack b c → SameRack a c
 stays_then first second =
     record {
       fit = second.fit;
@@ -108,16 +108,16 @@ stays_then first second =
 
 -- a disk whose faults rose later did so over the whole time
 pub rose_later :
-    (a b c : Seen) (disk : ℕ) → Stays a b → Rose (b.faults disk) (c.faults disk) → Rose (a.faults disk) (c.faults disk)
+    (a b c : RackView) (disk : ℕ) → SameRack a b → Rose (b.faults disk) (c.faults disk) → Rose (a.faults disk) (c.faults disk)
 rose_later a b c disk first rose = rose_since (first.faults disk) rose
 
 -- and one whose faults rose early did too
 pub rose_early :
-    (a b c : Seen) (disk : ℕ) → Stays b c → Rose (a.faults disk) (b.faults disk) → Rose (a.faults disk) (c.faults disk)
+    (a b c : RackView) (disk : ℕ) → SameRack b c → Rose (a.faults disk) (b.faults disk) → Rose (a.faults disk) (c.faults disk)
 rose_early a b c disk second rose = rose_before (second.faults disk) rose
 
 -- a sector that is live over two calls is live over the first
-pub live_first : {a b c : Seen} {d s : ℕ} → Stays b c → IsLive a c d s → IsLive a b d s
+pub live_first : {a b c : RackView} {d s : ℕ} → SameRack b c → IsLive a c d s → IsLive a b d s
 live_first {a} {b} {c} {d} {s} second live =
     record {
       disk = subst (λ n. d < n) second.disks live.disk;
@@ -127,7 +127,7 @@ live_first {a} {b} {c} {d} {s} second live =
     }
 
 -- and over the second
-pub live_second : {a b c : Seen} {d s : ℕ} → Stays a b → IsLive a c d s → IsLive b c d s
+pub live_second : {a b c : RackView} {d s : ℕ} → SameRack a b → IsLive a c d s → IsLive b c d s
 live_second {a} {b} {c} {d} {s} first live =
     record {
       disk = live.disk;
@@ -138,7 +138,7 @@ live_second {a} {b} {c} {d} {s} first live =
 
 -- a property of what stops leave may be weakened
 pub leaves_weaker :
-    {a b : Seen} (P Q : Image → Type 0) → ((c : Image) → P c → Q c) → Leaves a b P → Leaves a b Q
+    {a b : RackView} (P Q : Image → Type 0) → ((c : Image) → P c → Q c) → Leaves a b P → Leaves a b Q
 leaves_weaker P Q weaker leaves =
     record {
       later = leaves.later;
@@ -148,7 +148,7 @@ leaves_weaker P Q weaker leaves =
     }
 
 -- no time has passed
-pub leaves_same : (a : Seen) (P : Image → Type 0) → Leaves a a P
+pub leaves_same : (a : RackView) (P : Image → Type 0) → Leaves a a P
 leaves_same a P =
     record {
       later = omega arith;
@@ -159,7 +159,7 @@ leaves_same a P =
 
 -- stops in two calls in a row
 pub leaves_then :
-    {a b c : Seen} (P : Image → Type 0) → Leaves a b P → Leaves b c P → Leaves a c P
+    {a b c : RackView} (P : Image → Type 0) → Leaves a b P → Leaves b c P → Leaves a c P
 leaves_then {a} {b} {c} P first second =
     record {
       later = let one = first.later in let two = second.later in omega arith;
@@ -181,9 +181,9 @@ leaves_then {a} {b} {c} P first second =
 
 -- a pick of the values that a call kept is a pick of the values before it
 pub pick_kept :
-    {a b c : Seen} (old new : Held)
-    → Stays a b
-    → Stays b c
+    {a b c : RackView} (old new : Held)
+    → SameRack a b
+    → SameRack b c
     → ((d s : ℕ) → IsLive a b d s → Keeps (old d s) (new d s))
     → (i : Image)
     → IsPick b c new i
@@ -193,12 +193,12 @@ pick_kept {a} {b} {c} old new first second kept i pick d s live =
 
 -- a pick over a longer time is one over the first part of it
 pub pick_longer :
-    {a b c : Seen} (held : Held) (i : Image) → Stays b c → IsPick a b held i → IsPick a c held i
+    {a b c : RackView} (held : Held) (i : Image) → SameRack b c → IsPick a b held i → IsPick a c held i
 pick_longer held i second pick d s live = pick d s (live_first second live)
 
 -- calls that bring no value, in a row
 pub keeps_all_then :
-    {a b c : Seen} → Stays a b → Stays b c → KeepsAll a b → KeepsAll b c → KeepsAll a c
+    {a b c : RackView} → SameRack a b → SameRack b c → KeepsAll a b → KeepsAll b c → KeepsAll a c
 keeps_all_then {a} {b} {c} first second one two =
     record {
       held =

@@ -15,7 +15,7 @@ abbrev pub Held : Type 0
 Held = ℕ → ℕ → Values
 
 -- all meanings of a rack
-pub record Seen : Type 1 where
+pub record RackView : Type 1 where
   -- the number of disks
   pub disks : ℕ
   -- the sectors of a disk
@@ -46,14 +46,14 @@ abbrev pub Rose : ℕ → ℕ → Type 0
 Rose before after = (before < after) ⊎ (2 ^ 64 - 1 ≤ after)
 
 -- a sector of which a call speaks: told when it begins, and not spent when it returns
-pub record IsLive (a b : Seen) (d s : ℕ) : Type 0 where
+pub record IsLive (a b : RackView) (d s : ℕ) : Type 0 where
   pub disk : d < b.disks
   pub sector : s < b.sectors d
   pub is_told : a.told d
   pub unspent : b.spent d s ≡ false
 
 -- contents that take one of the held values in each live sector
-abbrev pub IsPick : Seen → Seen → Held → Image → Type 0
+abbrev pub IsPick : RackView → RackView → Held → Image → Type 0
 IsPick a b held c = (d s : ℕ) → IsLive a b d s → MayLeave (held d s) (c d s)
 
 -- the values after a write to one sector
@@ -62,7 +62,7 @@ appended held disk sector v =
     λ d s. if (d == disk) && (s == sector) then append (held d s) v else held d s
 
 -- what no call changes, and what never falls
-pub record Stays (a b : Seen) : Type 0 where
+pub record SameRack (a b : RackView) : Type 0 where
   pub fit : b.fit
   pub disks : b.disks ≡ a.disks
   pub sectors : (d : ℕ) → b.sectors d ≡ a.sectors d

@@ -4,7 +4,7 @@ use Rattle.std.proofs.Common.{◌∙◌}
 use Rattle.rack.specs.declared.AttachFault.{AttachFault}
 use Rattle.rack.specs.declared.AttachFault.TheVariants.{Failed, Twice}
 use Rattle.rack.specs.Values.{only}
-use Rattle.rack.specs.Seen.{Image, Seen, Rose}
+use Rattle.rack.specs.Seen.{Image, RackView, Rose}
 
 -- a disk that waits to be attached: its sectors and their contents
 pub record Waiting : Type 0 where
@@ -48,7 +48,7 @@ keeps_shelf_then s t u first second =
     }
 
 -- what is known of an old disk stays
-pub record SameDisk (a b : Seen) (d : ℕ) : Type 0 where
+pub record SameDisk (a b : RackView) (d : ℕ) : Type 0 where
   pub sectors : b.sectors d ≡ a.sectors d
   pub held : (s : ℕ) → b.held d s ≡ a.held d s
   pub faults : b.faults d ≡ a.faults d
@@ -59,7 +59,7 @@ abbrev pub Shows : ℕ → Waiting → Image → Type 0
 Shows d w c = (s : ℕ) → s < w.sectors → c d s ≡ w.contents s
 
 -- the new disk has the contents that waited, with one value in each sector, now and at all moments before
-pub record IsFrom (a b : Seen) (d : ℕ) (w : Waiting) : Type 0 where
+pub record IsFrom (a b : RackView) (d : ℕ) (w : Waiting) : Type 0 where
   pub sectors : b.sectors d ≡ w.sectors
   pub held : (s : ℕ) → s < w.sectors → b.held d s ≡ only (w.contents s)
   pub told : b.told d
@@ -67,7 +67,7 @@ pub record IsFrom (a b : Seen) (d : ℕ) (w : Waiting) : Type 0 where
   pub stops : a.traced → (k : ℕ) (c : Image) → k ≤ a.clock → a.stops k c → Shows d w c → b.stops k c
 
 -- a disk is added after the old ones, which stay as they were; it has refused no call yet
-pub record Adds (a b : Seen) (s t : Shelf) (name : List ℕ) (d : ℕ) : Type 0 where
+pub record Adds (a b : RackView) (s t : Shelf) (name : List ℕ) (d : ℕ) : Type 0 where
   pub number : d ≡ a.disks
   pub disks : b.disks ≡ a.disks + 1
   pub clock : b.clock ≡ a.clock
@@ -87,7 +87,7 @@ pub record Adds (a b : Seen) (s t : Shelf) (name : List ℕ) (d : ℕ) : Type 0 
   pub told : s.told → t.told
 
 -- all is as before
-pub record IsSame (a b : Seen) (s t : Shelf) : Type 0 where
+pub record IsSame (a b : RackView) (s t : Shelf) : Type 0 where
   pub disks : b.disks ≡ a.disks
   pub clock : b.clock ≡ a.clock
   pub others : (e : ℕ) → SameDisk a b e
@@ -100,7 +100,7 @@ pub record IsSame (a b : Seen) (s t : Shelf) : Type 0 where
   pub told : s.told → t.told
 
 -- attaching a name: one disk more, or a refusal by its cause that changes nothing but the count
-pub record Attaches (a b : Seen) (s t : Shelf) (name : List ℕ) (result : Result ℕ AttachFault)
+pub record Attaches (a b : RackView) (s t : Shelf) (name : List ℕ) (result : Result ℕ AttachFault)
     : Type 0 where
   pub faults : s.faults ≤ t.faults
   pub ok : IfOk result (Adds a b s t name)

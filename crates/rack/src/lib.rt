@@ -4,7 +4,7 @@
 //! through it: image files, disks in memory, slices of disks and whole arrays are racks, and each
 //! layer works over any rack by this contract alone.
 //!
-//! **The model.** What a rack shows to contracts is one record, `Seen` (specs/Seen.antt): for each
+//! **The model.** What a rack shows to contracts is one record, `RackView` (specs/RackView.antt): for each
 //! sector the values since its disk's last sync, the last one current; a clock; what a stop at each
 //! moment may leave; a count of faults for each disk; and the sectors that are spent. A sector write
 //! is atomic, and after a stop each sector holds one of its values, each sector by itself.
@@ -26,7 +26,7 @@ mod name;
 mod references;
 
 ghost use Rattle.std.specs.Prelude.{◌≡◌, ℕ, ◌<◌, ◌^◌, List, length, false};
-ghost use Rattle.rack.specs.Seen.{Seen};
+ghost use Rattle.rack.specs.Seen.{RackView};
 ghost use Rattle.rack.specs.Moments.{IsSound};
 ghost use Rattle.rack.specs.Calls.{Reads, Writes, Syncs};
 ghost use Rattle.rack.specs.Shelf.{Shelf, KeepsShelf, Attaches};
@@ -78,7 +78,7 @@ pub enum AttachFault {
 /// A numbered set of disks.
 pub trait Rack: Drop {
     /// All that contracts see of a rack.
-    ghost seen: { Self → Seen };
+    ghost seen: { Self → RackView };
 
     /// What calls in a row do to the layers below, beyond the disks that this rack shows: a rack of arrays
     /// says here what images of its drives say of its books. A rack over another one passes it on.

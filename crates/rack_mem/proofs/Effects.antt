@@ -7,7 +7,7 @@ use Rattle.std.proofs.Common.{◌≡◌, ℕ, ◌+◌, ◌<◌, ◌≤◌, ◌==
 use Rattle.std.proofs.lemmas.List.{length_push}
 use Rattle.std.proofs.lemmas.Bool.{eq-eqb}
 use Rattle.rack.specs.Values.{Values, MayLeave, Keeps, append, only}
-use Rattle.rack.specs.Seen.{Image, IsPick, Stays}
+use Rattle.rack.specs.Seen.{Image, IsPick, SameRack}
 use Rattle.rack.specs.Moments.{Leaves}
 use Rattle.rack.specs.Calls.{KeepsAll}
 use Rattle.rack.specs.Shelf.{KeepsShelf}
@@ -42,7 +42,7 @@ sectors_same : {a b : Memory} → Follows a b → (d : ℕ) → sectors_of b.she
 sectors_same {a} {b} f d = ap (λ shelf. sectors_of shelf (number_of b.attached d)) f.shelf ∙ ap (sectors_of a.shelf) (f.numbers d)
 
 -- what no call changes
-pub stays : {a b : Memory} → Follows a b → Stays (seen_of a) (seen_of b)
+pub stays : {a b : Memory} → Follows a b → SameRack (seen_of a) (seen_of b)
 stays {a} {b} f = record {
   fit = tt;
   disks = f.disks;

@@ -4,7 +4,7 @@ use Rattle.std.specs.Option.{option_map, option_map_or}
 use Rattle.std.specs.List.{list_any}
 use Rattle.std.specs.Str.{bytes_eq}
 use Rattle.rack.specs.Values.{Values, MayLeave}
-use Rattle.rack.specs.Seen.{Image, Seen, Rose}
+use Rattle.rack.specs.Seen.{Image, RackView, Rose}
 use Rattle.rack.specs.Shelf.{Shelf, Waiting}
 use Rattle.rack_mem.specs.declared.DiskSpec.{DiskSpec}
 use Rattle.rack_mem.specs.declared.calls.Call.{Call}
@@ -60,7 +60,7 @@ IsLeft m k c =
     → MayLeave (values_of m d s k) (c d s)
 
 -- the bay as a rack
-abbrev pub seen_of : Memory → Seen
+abbrev pub seen_of : Memory → RackView
 seen_of m = record {
   disks = length m.attached;
   sectors = λ d. sectors_of m.shelf (number_of m.attached d);

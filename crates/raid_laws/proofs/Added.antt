@@ -13,7 +13,7 @@ use Rattle.pool_state.specs.declared.contents.State.{State}
 use Rattle.array_image.specs.Places.{log_slice, place_of}
 use Rattle.array_image.specs.States.{is_current, current_places}
 use Rattle.log_laws.specs.View.{names}
-use Rattle.log_laws.specs.Kept.{Brings}
+use Rattle.log_laws.specs.Kept.{CarriesState}
 use Rattle.log_laws.proofs.Naming.{names_range}
 use Rattle.array_core.specs.declared.slots.Slot.{Slot}
 use Rattle.array_core.specs.Staging.{AreSupersOn, AddsSupers, present}
@@ -99,7 +99,7 @@ pub marks_bring : (s : State) (lost : List ℕ) (before added : List Target) →
     → AddsCopies (marked lost s) (current_places (marked lost s)) before added
     → ((p : ℕ) → list_any (λ x. place_of x.disk == p) before ≡ true → is_current (marked lost s) p ≡ true)
     → ((p : ℕ) → look before (log_slice p) 0 ≡ None)
-    → Brings s (marked lost s) added (current_places (marked lost s))
+    → CarriesState s (marked lost s) added (current_places (marked lost s))
 marks_bring s lost before added room adds inside none =
     let t = marked lost s in
     copies_bring t s (current_places t) before added adds

@@ -2,7 +2,7 @@
 use Rattle.std.proofs.Common.{◌≡◌, ◌⊎◌, ℕ, zero, suc, ◌+◌, ◌<◌, ◌≤◌, Bool, true, false, ◌==◌, ◌&&◌, ◌||◌, not, if◌then◌else◌, List, [], ◌∷◌, ◌++◌, filter, length, slice_get, Option, Some, None, option_map, refl, sym, ap, subst, ◌∙◌, inl, inr, eq-eqb, eqb-true, ne_eqb, lt-ltb, arith}
 use Rattle.std.proofs.lemmas.Bool.{cases_Bool, cases_eq, both_ways, and_parts, and_from}
 use Rattle.std.specs.List.{list_any, list_all, range_with_len}
-use Rattle.rack.specs.Seen.{Seen, IsLive}
+use Rattle.rack.specs.Seen.{RackView, IsLive}
 use Rattle.rack.specs.Targets.{Target, look}
 use Rattle.pool_state.specs.declared.contents.State.{State}
 use Rattle.array_image.specs.Places.{log_slice, member_slice, place_of, slice_of, super_sector}
@@ -28,7 +28,7 @@ use Rattle.raid_laws.proofs.Seated.{missing_of, place_few}
 use Rattle.raid_laws.proofs.Elements.{among_either, all_among, any_among, apart_append, look_among, look_lacks}
 
 -- the superblock's sector of a member that isn't missing is told
-super_live : (v : Raid) (x : Seen) (n k : ℕ) → IsSet v x → AreLive v.state.made x → n < v.state.made → k < (v.arrays n).truth.raid_disks
+super_live : (v : Raid) (x : RackView) (n k : ℕ) → IsSet v x → AreLive v.state.made x → n < v.state.made → k < (v.arrays n).truth.raid_disks
     → (slice_get (v.arrays n).seats k ≡ Some Missing → ⊥) → IsLive x x (slice_on (v.arrays n) k) super_sector
 super_live v x n k set live low inside there =
     let u = v.arrays n in
@@ -99,7 +99,7 @@ copies_apart t f a (suc k) xs are =
 
 -- ---- all targets
 
-module _ (v : Raid) (lost on : List ℕ) (l : LogView) (xs : List Target) (x : Seen) (marking : IsMarking v lost on l xs x) where
+module _ (v : Raid) (lost on : List ℕ) (l : LogView) (xs : List Target) (x : RackView) (marking : IsMarking v lost on l xs x) where
   t : State
   t = state_after v lost
 

@@ -6,7 +6,7 @@ use Rattle.std.proofs.lemmas.List.FromFn.{length-map-range_with_len}
 use Rattle.std.proofs.lemmas.Option.{slice_get-get_or}
 use Rattle.std.proofs.lemmas.Slice.Zip.{length-zip}
 use Rattle.std.specs.List.{list_any, range_with_len, zip}
-use Rattle.rack.specs.Seen.{Image, Seen}
+use Rattle.rack.specs.Seen.{Image, RackView}
 use Rattle.rack.specs.Targets.{Target, put}
 use Rattle.md_super.specs.declared.superblock.Super.{Super}
 use Rattle.pool_state.specs.declared.contents.State.{State}
@@ -61,7 +61,7 @@ seat_there o seat current is marks now =
     not_not (is_missing_seat seat)
     (ap (λ (x : Option Bool). unwrap_or x (not (is_missing_seat seat))) (sym (ap (option_map (λ s. not (is_missing_seat s))) is) ∙ marks) ∙ now)
 
-module _ (s t : State) (gone : ℕ → Bool) (u : View) (xs : List Target) (a : Seen) (n : ℕ) (c : Image) (staged : IsStaged s t gone u xs a n)
+module _ (s t : State) (gone : ℕ → Bool) (u : View) (xs : List Target) (a : RackView) (n : ℕ) (c : Image) (staged : IsStaged s t gone u xs a n)
     (alone : HasNoOthers u t (put a.sectors xs c)) where
   -- the superblock of the member of a position
   record HasOwn (k : ℕ) : Type 0 where

@@ -1,11 +1,11 @@
 -- Shapes of an array that differ at most in which of their members are there: what its members' data holds says the same by each.
 use Rattle.std.proofs.Common.{◌≡◌, ℕ, suc, ◌+◌, ◌<◌, Bool, false, nat_lt, if◌then◌else◌, List, [], ◌∷◌, map, take, slice_get, length, Option, unwrap_or, refl, sym, ap, ap₂, subst, ◌∙◌, inl, inr, arith}
 use Rattle.rack.specs.Values.{IsSingle, Values}
-use Rattle.rack.specs.Seen.{Held, Image, IsLive, Seen}
+use Rattle.rack.specs.Seen.{Held, Image, IsLive, RackView}
 use Rattle.raid_map.specs.LeftSymmetric.{row_at}
 use Rattle.array_image.specs.Arrays.{Member, Shape, column, layout_at, stripe_in, value_by}
 use Rattle.array_image.specs.Even.{AllCount, AreEven}
-use Rattle.array_image.specs.Held.{Among, IsSettled, current_in}
+use Rattle.array_image.specs.Held.{Among, IsSynced, current_in}
 use Rattle.array_image.specs.Places.{data_sector, member_slice}
 use Rattle.array_image.specs.Spent.{spent_by, spent_with, wanting}
 use Rattle.array_image.specs.Stripes.{AgreeIn, Layout, given, position_in, sector_in, there, width}
@@ -93,7 +93,7 @@ module _ (a b : Shape) (alike : CountAlike a b) where
       subst (λ place. P place sector) (sym (ap (λ (o : Member). o.place) at.2))
       (each at.0 sector at.1 (subst (λ reach. sector < reach) (ap (λ (o : Member). o.reach) at.2) counts))
 
-  pub settled_alike : (n : ℕ) (held : Held) → IsSettled a n held → IsSettled b n held
+  pub settled_alike : (n : ℕ) (held : Held) → IsSynced a n held → IsSynced b n held
   settled_alike n held settled = counts_alike (λ place sector. IsSingle (held (member_slice place n) (data_sector + sector))) settled
 
   even_alike : (n resync : ℕ) (c : Image) → AreEven a n resync c → AreEven b n resync c
@@ -111,7 +111,7 @@ module _ (a b : Shape) (alike : CountAlike a b) where
       let at = member_alike (take (width layout) a.members) (take (width layout) b.members) (sym (take_alike (width layout))) m among in
       subst (λ reach. sector < reach) (sym (ap (λ (o : Member). o.reach) at.2)) (counts at.0 at.1))))
 
-  pub data_alike : (n resync : ℕ) (vals : ℕ → Values) (spent : ℕ → Bool) (x : Seen) → HoldsData n a resync vals spent x → HoldsData n b resync vals spent x
+  pub data_alike : (n resync : ℕ) (vals : ℕ → Values) (spent : ℕ → Bool) (x : RackView) → HoldsData n a resync vals spent x → HoldsData n b resync vals spent x
   data_alike n resync vals spent x holds = record {
     open_left = counts_alike (λ place sector. IsLive x x (member_slice place n) (data_sector + sector)) holds.open_left;
     current = λ y alive. value_alike (current_in x.held) n y ∙ holds.current y alive;

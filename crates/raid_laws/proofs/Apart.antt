@@ -1,7 +1,7 @@
 -- Writes to a disk that has no place leave the slices alone: to them they are reads.
 use Rattle.std.proofs.Common.{◌≡◌, ◌≢◌, ℕ, ◌+◌, ◌*◌, ◌<◌, List, Option, Some, None, refl, sym, ap, subst, ◌∙◌, inl, inr, unwrap_or, arith}
 use Rattle.rack.specs.Values.{MayLeave}
-use Rattle.rack.specs.Seen.{Image, Seen, IsPick, Stays}
+use Rattle.rack.specs.Seen.{Image, RackView, IsPick, SameRack}
 use Rattle.rack.specs.Joins.{leaves_weaker}
 use Rattle.rack.specs.Moments.{Leaves}
 use Rattle.std.proofs.lemmas.Bool.{both_ways}
@@ -13,7 +13,7 @@ use Rattle.slice_rack.specs.Runs.{inside_still}
 use Rattle.slice_rack.proofs.Below.{stays_sliced}
 use Rattle.raid_laws.specs.Book.{after_same}
 use Rattle.raid_laws.specs.Losing.{only_same}
-use Rattle.raid_laws.specs.Moves.{IsSet, Moves}
+use Rattle.raid_laws.specs.Moves.{IsSet, ChangesNoData}
 use Rattle.raid_laws.specs.Raid.{Raid, gone_in, is_left}
 use Rattle.raid_laws.proofs.Changed.{part_if, seated_still}
 use Rattle.raid_laws.proofs.Over.{someone_left}
@@ -29,7 +29,7 @@ seat_is t d s orderly within = of (seat_of t (place_of d)) refl
     of None none = let empty = orderly.seated d none in absurd (omega (arith, within, empty))
     of (Some disk) is = is ∙ ap Some (sym (ap (λ o. unwrap_or o 0) is))
 
-module _ (t : Slices) (a b : Seen) (disk : ℕ) (may : ℕ → ℕ → List ℕ → Type 0) (orderly : IsOrderly t) (inside : IsInside t a) (only : WritesOnly a b may)
+module _ (t : Slices) (a b : RackView) (disk : ℕ) (may : ℕ → ℕ → List ℕ → Type 0) (orderly : IsOrderly t) (inside : IsInside t a) (only : WritesOnly a b may)
     (there : (d s : ℕ) (v : List ℕ) → may d s v → d ≡ disk) (free : (p : ℕ) → seat_of t p ≢ Some disk) where
   never : (d s u : ℕ) (v : List ℕ) → s < sectors_of t d → may (disk_of t d) u v → ⊥
   never d s u v within writes = free (place_of d) (seat_is t d s orderly within ∙ ap Some (there (disk_of t d) u v writes))
@@ -64,7 +64,7 @@ module _ (t : Slices) (a b : Seen) (disk : ℕ) (may : ℕ → ℕ → List ℕ 
   }
 
 -- what holds of the arrays at each point of a call holds after calls that keep the rack
-pub set_still : (v : Raid) (a b : Seen) → Stays a b → IsSet v a → IsSet v b
+pub set_still : (v : Raid) (a b : RackView) → SameRack a b → IsSet v a → IsSet v b
 set_still v a b stays set = record {
   fit = stays.fit;
   lasting = stays.lasting set.lasting;
@@ -78,7 +78,7 @@ set_still v a b stays set = record {
 }
 
 -- calls that write nothing, and change no array, are a part of a call
-pub moves_quiet : (v : Raid) (a b : Seen) → IsSet v a → OnlyReads a b → Moves v v a b
+pub moves_quiet : (v : Raid) (a b : RackView) → IsSet v a → OnlyReads a b → ChangesNoData v v a b
 moves_quiet v a b set reads =
     let leaves : a.traced → Leaves a b (λ c. Unit {0}) = λ traced. leaves_weaker (IsPick a b a.held) (λ c. Unit {0}) (λ c pick. tt) (reads.keeps.stops traced) in
     record {

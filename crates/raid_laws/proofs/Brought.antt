@@ -14,7 +14,7 @@ use Rattle.pool_state.specs.Sector.{decoded}
 use Rattle.array_image.specs.Places.{log_slice, place_of}
 use Rattle.array_image.specs.States.{is_current, id_of}
 use Rattle.log_laws.specs.View.{names}
-use Rattle.log_laws.specs.Kept.{IsCopyOf, Brings}
+use Rattle.log_laws.specs.Kept.{IsCopyOf, CarriesState}
 use Rattle.log_laws.specs.Saying.{AreOwnCopies}
 use Rattle.commit_log.proofs.Deciding.{names_first, names_later}
 use Rattle.raid_laws.specs.Losses.{IsCopyOn, AreCopiesOn, AddsCopies}
@@ -108,7 +108,7 @@ module _ (t : State) where
       → ((p : ℕ) → names on p ≡ is_current t p)
       → ((p : ℕ) → list_any (λ x. place_of x.disk == p) before ≡ true → names on p ≡ true)
       → ((p : ℕ) → look before (log_slice p) 0 ≡ None)
-      → Brings s t added on
+      → CarriesState s t added on
   copies_bring s on before added adds later current on_is inside none = record {
     current = current;
     left = λ p named. sym (on_is p) ∙ named;

@@ -2,7 +2,7 @@
 use Rattle.std.proofs.Common.{◌≡◌, ℕ, ◌+◌, ◌-◌, ◌*◌, ◌/◌, ◌%◌, ◌^◌, ◌<◌, ◌≤◌, Bool, true, false, nat_lt, if◌then◌else◌, ◌⊎◌, refl, sym, ap, subst, ◌∙◌, inl, inr, eq-eqb, ltb-true, lt-ltb, le-ltb, arith}
 use Rattle.std.proofs.lemmas.Bool.{cases_eq, cases_lt, both_ways, ltb-false}
 use Rattle.rack.specs.Values.{Values}
-use Rattle.rack.specs.Seen.{Seen, IsPick}
+use Rattle.rack.specs.Seen.{RackView, IsPick}
 use Rattle.rack.specs.Moments.{Leaves}
 use Rattle.rack.specs.Joins.{leaves_weaker}
 use Rattle.rack.specs.Sequences.{OnlyReads}
@@ -11,14 +11,14 @@ use Rattle.array_image.specs.Arrays.{Shape}
 use Rattle.array_image.specs.SoundArray.{first_unsynced}
 use Rattle.array_image.specs.Supers.{is_unclean}
 use Rattle.array_model.specs.View.{View, IsArray, rows_of, shape_of}
-use Rattle.array_model.specs.ArrayCalls.{Covers, Keeping}
+use Rattle.array_model.specs.ArrayCalls.{IncludesSpent, Keeping}
 use Rattle.array_model.specs.Members.{Notes}
 use Rattle.array_core.specs.Superblocks.{settled, settled_truth, left_offset, raised}
 use Rattle.array_core.specs.Settling.{Settles}
 use Rattle.array_core.proofs.Marking.{restated_array}
 use Rattle.raid_laws.specs.Book.{after_same}
-use Rattle.raid_laws.specs.Raid.{Raid, gone_in, is_left, is_over, IsWritten}
-use Rattle.raid_laws.specs.Moves.{IsOfPool, IsSet, PartOf, Moves}
+use Rattle.raid_laws.specs.Raid.{Raid, gone_in, is_left, is_failed, IsWritten}
+use Rattle.raid_laws.specs.Moves.{IsOfPool, IsSet, SubCall, ChangesNoData}
 use Rattle.raid_laws.proofs.Changed.{LosesOne, ViewsOne, further, keeps_arrays, marked_before, more_gone, same_shape, left_before, caused, part_if, views_counted, views_sectors, views_set, views_spent}
 use Rattle.raid_laws.proofs.Views.{MayRestate, views_notes}
 use Rattle.raid_laws.proofs.Rows.{KeepsClear, clear_same, clear_seats, clear_settled, left_old, rows_read, settled_just}
@@ -31,22 +31,22 @@ use Rattle.raid_laws.specs.Reach.{reach_then}
 
 -- ---- a call of array m that writes nothing
 
-pub record ReadsOne (v : Raid) (f : ℕ → View) (m : ℕ) (a b : Seen) : Type 0 where
+pub record ReadsOne (v : Raid) (f : ℕ → View) (m : ℕ) (a b : RackView) : Type 0 where
   pub views : ViewsOne v f m a b
   pub loses : LosesOne v f m
   pub reads : OnlyReads a b
   pub clear : KeepsClear (v.arrays m) (f m)
-  pub keeps : (s : State) (durable : Shape) (vals : ℕ → Values) (spent : ℕ → Bool) → Covers (f m) spent → Keeping s (v.arrays m) (f m) spent a b durable vals
+  pub keeps : (s : State) (durable : Shape) (vals : ℕ → Values) (spent : ℕ → Bool) → IncludesSpent (f m) spent → Keeping s (v.arrays m) (f m) spent a b durable vals
 
-module _ (v : Raid) (f : ℕ → View) (m : ℕ) (a b : Seen) (set : IsSet v a) (call : ReadsOne v f m a b) where
+module _ (v : Raid) (f : ℕ → View) (m : ℕ) (a b : RackView) (set : IsSet v a) (call : ReadsOne v f m a b) where
   views : ViewsOne v f m a b
   views = call.views
 
   read_leaves : a.traced → Leaves a b (λ c. Unit {0})
   read_leaves traced = leaves_weaker (IsPick a b a.held) (λ c. Unit {0}) (λ c pick. tt) (call.reads.keeps.stops traced)
 
-  read_part : (n : ℕ) (vals : ℕ → Values) (spent : ℕ → Bool) → n < v.state.made → is_over (with_arrays v f) n ≡ false → Covers (f n) spent
-      → PartOf v (with_arrays v f) a b n vals vals spent
+  read_part : (n : ℕ) (vals : ℕ → Values) (spent : ℕ → Bool) → n < v.state.made → is_failed (with_arrays v f) n ≡ false → IncludesSpent (f n) spent
+      → SubCall v (with_arrays v f) a b n vals vals spent
   read_part n vals spent low goes covers =
       let someone = someone_left (with_arrays v f) n goes in
       let more = more_gone v f m a b set views in
@@ -62,7 +62,7 @@ module _ (v : Raid) (f : ℕ → View) (m : ℕ) (a b : Seen) (set : IsSet v a) 
               part_read v.state amid.durable vals spent (gone_in v) (gone_in (with_arrays v f)) v (with_arrays v f) a b n set.lasting call.reads refl more someone
               (subst (λ k. IsWritten (v.arrays k) → IsWritten (f k)) (sym same) views.written)
               (subst (λ k. Keeping v.state (v.arrays k) (f k) spent a b amid.durable vals) (sym same)
-              (call.keeps v.state amid.durable vals spent (subst (λ k. Covers (f k) spent) same covers)))
+              (call.keeps v.state amid.durable vals spent (subst (λ k. IncludesSpent (f k) spent) same covers)))
           | inr apart ↦
               part_unread v.state amid.durable vals spent (gone_in v) (gone_in (with_arrays v f)) v (with_arrays v f) a b n set.lasting call.reads refl (views.others n apart) more someone
         ];
@@ -74,7 +74,7 @@ module _ (v : Raid) (f : ℕ → View) (m : ℕ) (a b : Seen) (set : IsSet v a) 
     | inr apart ↦ clear_same (v.arrays n) (f n) (views.others n apart)
   ]
 
-  pub moves_read : Moves v (with_arrays v f) a b
+  pub moves_read : ChangesNoData v (with_arrays v f) a b
   moves_read =
       record {
         stays = call.reads.stays;
@@ -98,9 +98,9 @@ module _ (v : Raid) (f : ℕ → View) (m : ℕ) (a b : Seen) (set : IsSet v a) 
         lacking = λ n vals spent joined low goes covers amid leaves. lacking_read v (with_arrays v f) a b n set.lasting call.reads (each_clear n) leaves;
       }
 
-pub reads_notes : (v : Raid) (f : ℕ → View) (m : ℕ) (a b : Seen) → IsSet v a → m < v.state.made → OnlyReads a b
+pub reads_notes : (v : Raid) (f : ℕ → View) (m : ℕ) (a b : RackView) → IsSet v a → m < v.state.made → OnlyReads a b
     → ((n : ℕ) → (n ≡ m → ⊥) → f n ≡ v.arrays n) → Notes (v.arrays m) (f m) a b
-    → ((s : State) (durable : Shape) (vals : ℕ → Values) (spent : ℕ → Bool) → Covers (f m) spent → Keeping s (v.arrays m) (f m) spent a b durable vals)
+    → ((s : State) (durable : Shape) (vals : ℕ → Values) (spent : ℕ → Bool) → IncludesSpent (f m) spent → Keeping s (v.arrays m) (f m) spent a b durable vals)
     → ReadsOne v f m a b
 reads_notes v f m a b set low reads others notes keeps =
     let u = v.arrays m in
@@ -181,7 +181,7 @@ may_settle s z is_array pool =
     }
 
 -- places that went, where the array is settled as well
-pub settled_notes : (u z : View) (a b : Seen) → Notes u z a b → Notes (settled u) (settled z) a b
+pub settled_notes : (u z : View) (a b : RackView) → Notes u z a b → Notes (settled u) (settled z) a b
 settled_notes u z a b notes =
     let same = view_with u z notes.same in
     record {
@@ -198,9 +198,9 @@ settled_notes u z a b notes =
       cause = notes.cause;
     }
 
-pub reads_settled : (v : Raid) (f : ℕ → View) (m : ℕ) (a b : Seen) → IsSet v a → m < v.state.made → OnlyReads a b
+pub reads_settled : (v : Raid) (f : ℕ → View) (m : ℕ) (a b : RackView) → IsSet v a → m < v.state.made → OnlyReads a b
     → ((n : ℕ) → (n ≡ m → ⊥) → f n ≡ v.arrays n) → Settles (v.arrays m) (f m) a b
-    → ((s : State) (durable : Shape) (vals : ℕ → Values) (spent : ℕ → Bool) → Covers (f m) spent → Keeping s (v.arrays m) (f m) spent a b durable vals)
+    → ((s : State) (durable : Shape) (vals : ℕ → Values) (spent : ℕ → Bool) → IncludesSpent (f m) spent → Keeping s (v.arrays m) (f m) spent a b durable vals)
     → ReadsOne v f m a b
 reads_settled v f m a b set low reads others settles keeps =
     let u = v.arrays m in

@@ -2,33 +2,33 @@
 use Rattle.std.proofs.Common.{◌≡◌, ℕ, ◌-◌, ◌^◌, ◌<◌, Bool, true, false, ◌||◌, not, List, Some, refl, sym, ap, subst, ◌∙◌, arith}
 use Rattle.std.proofs.lemmas.Bool.{both_ways, and_from}
 use Rattle.rack.specs.Values.{Values}
-use Rattle.rack.specs.Seen.{Image, Seen}
+use Rattle.rack.specs.Seen.{Image, RackView}
 use Rattle.rack.specs.Targets.{Target, put}
 use Rattle.array_image.specs.States.{is_current}
 use Rattle.md_super.specs.declared.superblock.Super.{Super}
 use Rattle.array_image.specs.Supers.{truth_in}
 use Rattle.array_image.proofs.Frames.{supers_same, truth_by_supers}
-use Rattle.array_image.specs.Held.{IsSettled, current_in}
+use Rattle.array_image.specs.Held.{IsSynced, current_in}
 use Rattle.array_image.specs.Marks.{lowered}
 use Rattle.array_image.specs.Left.{IsLeft}
 use Rattle.log_laws.specs.View.{LogView, names, next_number}
-use Rattle.log_laws.specs.Kept.{LogKept, AreLeft, Brings, gone_with}
+use Rattle.log_laws.specs.Kept.{LogInvariant, AreLeft, CarriesState, gone_with}
 use Rattle.log_laws.proofs.KeptAfter.{on_left}
 use Rattle.log_laws.proofs.Kept.{brings_to, kept_ready, kept_decides}
 use Rattle.array_model.specs.View.{View, may_vary, shape_of}
-use Rattle.array_model.specs.ArrayCalls.{Covers}
+use Rattle.array_model.specs.ArrayCalls.{IncludesSpent}
 use Rattle.array_model.proofs.Losses.{IsLosing, data_of}
 use Rattle.array_model.proofs.Spared.{lost_value}
 use Rattle.array_model.proofs.Noting.{laid_out, unspent_then}
-use Rattle.raid_laws.specs.Raid.{Raid, gone_in, is_left, is_over}
+use Rattle.raid_laws.specs.Raid.{Raid, gone_in, is_left, is_failed}
 use Rattle.raid_laws.specs.Losses.{AddsCopies}
-use Rattle.array_model.specs.Says.{HoldsShape}
+use Rattle.array_model.specs.Says.{ShapeInvariant}
 use Rattle.raid_laws.specs.Rows.{KeepsLacking, KeepsRows, LeavesLacking, LeavesRows}
 use Rattle.raid_laws.proofs.MarkedRows.{marks_lacking, marks_rows}
 use Rattle.raid_laws.proofs.Rows.{clear_same}
 use Rattle.raid_laws.specs.Marking.{Restates, Part}
 use Rattle.raid_laws.specs.Reach.{reach_fewer}
-use Rattle.raid_laws.specs.Moves.{IsSeated, IsAmid, PartOf}
+use Rattle.raid_laws.specs.Moves.{IsSeated, IsTrackedInCall, SubCall}
 use Rattle.raid_laws.specs.Settling.{state_after}
 use Rattle.raid_laws.specs.Agreeing.{SupersAgree}
 use Rattle.raid_laws.proofs.Agreed.{agree_by, staged_agrees}
@@ -44,10 +44,10 @@ use Rattle.raid_laws.proofs.Changed.{PartAmid, lowered_none, part_if}
 use Rattle.raid_laws.proofs.Adding.{current_is, on_current, was_current, no_data, all_live, supers_calm, supers_inside}
 use Rattle.raid_laws.proofs.Committed.{IsCommit, raid_after, after_further, after_marked, after_gone, after_set, commit_losing, raised_more, raised_range, next_later}
 
-module _ (v : Raid) (lost on gone : List ℕ) (l : LogView) (xs : List Target) (f : ℕ → View) (b c : Seen) (commit : IsCommit v lost on gone l xs f b c)
+module _ (v : Raid) (lost on gone : List ℕ) (l : LogView) (xs : List Target) (f : ℕ → View) (b c : RackView) (commit : IsCommit v lost on gone l xs f b c)
     (n : ℕ) (vals : ℕ → Values) (spent : ℕ → Bool) (joined : n < v.state.joined) (low : n < v.state.made)
-    (goes : is_over (raid_after v lost (next_number l.number) f) n ≡ false) (covers : Covers (f n) spent)
-    (amid : IsAmid v b n vals spent) (settled : IsSettled (shape_of (v.arrays n)) n b.held) where
+    (goes : is_failed (raid_after v lost (next_number l.number) f) n ≡ false) (covers : IncludesSpent (f n) spent)
+    (amid : IsTrackedInCall v b n vals spent) (settled : IsSynced (shape_of (v.arrays n)) n b.held) where
   small : n < 16
   small = let most = commit.marking.set.most in omega (arith, low, most)
 
@@ -77,15 +77,15 @@ module _ (v : Raid) (lost on gone : List ℕ) (l : LogView) (xs : List Target) (
       let up = (raised_range v.state.epoch).0 in
       (omega (arith, number, more), omega (arith, epoch, up))
 
-  brings : Brings v.state (state_after v lost) l.added on
+  brings : CarriesState v.state (state_after v lost) l.added on
   brings =
-      subst (Brings v.state (state_after v lost) l.added) (sym commit.marking.on_is)
+      subst (CarriesState v.state (state_after v lost) l.added) (sym commit.marking.on_is)
       (marks_bring v.state lost xs l.added room.1
       (subst (λ ps. AddsCopies (state_after v lost) ps xs l.added) commit.marking.on_is commit.marking.copies)
       (supers_inside v lost on l xs b commit.marking) (supers_calm v lost on l xs b commit.marking))
 
-  kept : LogKept v.state l.number (gone_in v) b
-  kept = subst (λ k. LogKept v.state k (gone_in v) b) (sym commit.marking.number) amid.stood.log
+  kept : LogInvariant v.state l.number (gone_in v) b
+  kept = subst (λ k. LogInvariant v.state k (gone_in v) b) (sym commit.marking.number) amid.stood.log
 
   are_left : AreLeft v.state (gone_in v) on
   are_left q = on_current v lost on l xs b commit.marking q ∙ current_is v lost on l xs b commit.marking q
@@ -128,8 +128,8 @@ module _ (v : Raid) (lost on gone : List ℕ) (l : LogView) (xs : List Target) (
   restates : Restates (state_after v lost) (shape_of (v.arrays n)) false (v.arrays n) l.added b n
   restates = restates_staged v.state (state_after v lost) amid.durable vals spent (gone_in v) v l.added b n staged amid.stood
 
-  holds : HoldsShape v.state n amid.durable (shape_of (v.arrays n)) (v.arrays n).resync (may_vary (v.arrays n)) vals spent b
-  holds = subst (λ k. HoldsShape v.state k amid.durable (shape_of (v.arrays n)) (v.arrays n).resync (may_vary (v.arrays n)) vals spent b)
+  holds : ShapeInvariant v.state n amid.durable (shape_of (v.arrays n)) (v.arrays n).resync (may_vary (v.arrays n)) vals spent b
+  holds = subst (λ k. ShapeInvariant v.state k amid.durable (shape_of (v.arrays n)) (v.arrays n).resync (may_vary (v.arrays n)) vals spent b)
       seated.number amid.stood.holds.shape
 
   notes : NotesLost (f n) (shape_of (v.arrays n)) (v.arrays n).resync false (v.arrays n) gone n
@@ -189,9 +189,9 @@ module _ (v : Raid) (lost on gone : List ℕ) (l : LogView) (xs : List Target) (
         (only_gone (v.arrays n) (f n) gone seated.is_array (commit.arrays n low));
   }
 
-pub commit_part : (v : Raid) (lost on gone : List ℕ) (l : LogView) (xs : List Target) (f : ℕ → View) (b c : Seen) → IsCommit v lost on gone l xs f b c
-    → (n : ℕ) (vals : ℕ → Values) (spent : ℕ → Bool) → n < v.state.joined → n < v.state.made → is_over (raid_after v lost (next_number l.number) f) n ≡ false
-    → Covers (f n) spent → IsSettled (shape_of (v.arrays n)) n b.held → PartOf v (raid_after v lost (next_number l.number) f) b c n vals vals spent
+pub commit_part : (v : Raid) (lost on gone : List ℕ) (l : LogView) (xs : List Target) (f : ℕ → View) (b c : RackView) → IsCommit v lost on gone l xs f b c
+    → (n : ℕ) (vals : ℕ → Values) (spent : ℕ → Bool) → n < v.state.joined → n < v.state.made → is_failed (raid_after v lost (next_number l.number) f) n ≡ false
+    → IncludesSpent (f n) spent → IsSynced (shape_of (v.arrays n)) n b.held → SubCall v (raid_after v lost (next_number l.number) f) b c n vals vals spent
 commit_part v lost on gone l xs f b c commit n vals spent joined low goes covers settled =
     part_if v (raid_after v lost (next_number l.number) f) b c n vals vals spent commit.call.stays commit.marking.set.lasting commit.call.leaves
     (λ amid. commit_amid v lost on gone l xs f b c commit n vals spent joined low goes covers amid settled)

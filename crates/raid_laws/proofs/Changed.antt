@@ -2,7 +2,7 @@
 use Rattle.std.proofs.Common.{◌≡◌, ℕ, ◌+◌, ◌-◌, ◌<◌, ◌≤◌, Bool, true, false, ◌||◌, not, if◌then◌else◌, List, [], ◌∷◌, map, ◌⊎◌, refl, sym, ap, subst, ◌∙◌, inl, inr, arith}
 use Rattle.std.proofs.lemmas.Bool.{cases_Bool, cases_eq, both_ways, and_parts, and_from}
 use Rattle.rack.specs.Values.{Values}
-use Rattle.rack.specs.Seen.{Seen, Stays}
+use Rattle.rack.specs.Seen.{RackView, SameRack}
 use Rattle.rack.specs.Moments.{Leaves}
 use Rattle.pool_state.specs.declared.contents.State.{State}
 use Rattle.array_image.specs.Places.{log_slice, data_sector}
@@ -15,7 +15,7 @@ use Rattle.array_model.specs.Members.{slice_on}
 use Rattle.raid_laws.specs.Raid.{Raid, AreLive, gone_in, is_left, IsWritten}
 use Rattle.raid_laws.specs.Marking.{Part}
 use Rattle.raid_laws.specs.Reach.{KeepsReachOn}
-use Rattle.raid_laws.specs.Moves.{IsAmid, IsSet, IsSeated, IsMarkedWhole, AreMarked, KeepsArrays, LosesOnly, PartOf}
+use Rattle.raid_laws.specs.Moves.{IsTrackedInCall, IsSet, IsSeated, IsMarkedWhole, AreMarked, KeepsArrays, OnlyFailures, SubCall}
 use Rattle.raid_laws.specs.Losing.{only_same}
 use Rattle.raid_laws.proofs.Over.{IsFurther, not_true}
 use Rattle.raid_laws.proofs.Noted.{with_arrays, live_later, current_few, gone_some, gone_from}
@@ -23,7 +23,7 @@ use Rattle.raid_laws.proofs.Noted.{with_arrays, live_later, current_few, gone_so
 -- ---- one array
 
 -- calls elsewhere leave it one of the pool
-pub seated_still : (s : State) (n : ℕ) (u : View) (x y : Seen) → Stays x y → IsSeated s n u x → IsSeated s n u y
+pub seated_still : (s : State) (n : ℕ) (u : View) (x y : RackView) → SameRack x y → IsSeated s n u x → IsSeated s n u y
 seated_still s n u x y stays seated =
     record {
       is_array = seated.is_array;
@@ -53,9 +53,9 @@ abbrev pub called : Raid → (ℕ → View) → ℕ → Raid
 called v f number = record v { arrays = f; number = number }
 
 -- what is known of them: no other array has changed, and places went in array m, each with its cause
-pub record ViewsOne (v : Raid) (f : ℕ → View) (m : ℕ) (a b : Seen) : Type 0 where
+pub record ViewsOne (v : Raid) (f : ℕ → View) (m : ℕ) (a b : RackView) : Type 0 where
   pub low : m < v.state.made
-  pub stays : Stays a b
+  pub stays : SameRack a b
   pub others : (n : ℕ) → (n ≡ m → ⊥) → f n ≡ v.arrays n
   pub seated : IsSeated v.state m (f m) b
   pub lost : ℕ → Bool
@@ -74,22 +74,22 @@ pub record ViewsOne (v : Raid) (f : ℕ → View) (m : ℕ) (a b : Seen) : Type 
 
 -- Of array m nothing has changed but whom it lost: so its shape is that by the marks that images go by, where whoever went is marked.
 pub record LosesOne (v : Raid) (f : ℕ → View) (m : ℕ) : Type 0 where
-  pub only : LosesOnly (v.arrays m) (f m)
+  pub only : OnlyFailures (v.arrays m) (f m)
   pub counted : (k : Member) (sector : ℕ) → Among k (shape_of (f m)).members → sector < k.reach → Among k (shape_of (v.arrays m)).members
   pub shape : AreMarked (with_arrays v f) → shape_of (v.arrays m) ≡ shape_of (f m)
 
 -- A part that an array is owed which stands by this shape.
-pub record PartAmid (v w : Raid) (a b : Seen) (n : ℕ) (vals now : ℕ → Values) (spent : ℕ → Bool) (durable : Shape) : Type 0 where
+pub record PartAmid (v w : Raid) (a b : RackView) (n : ℕ) (vals now : ℕ → Values) (spent : ℕ → Bool) (durable : Shape) : Type 0 where
   pub after : Shape
   pub part : Part v.state w.state durable after vals now spent (gone_in v) (gone_in w) v w a b n
   pub marked : AreMarked w → after ≡ shape_of (w.arrays n)
   pub noted : KeepsReachOn (is_left w) after (shape_of (w.arrays n))
 
 -- a part that an array which stands is owed: the array has then the shape by the marks that images go by
-pub part_if : (v w : Raid) (a b : Seen) (n : ℕ) (vals now : ℕ → Values) (spent : ℕ → Bool)
-    → Stays a b → a.lasting → (a.traced → Leaves a b (λ c. Unit {0}))
-    → ((amid : IsAmid v a n vals spent) → PartAmid v w a b n vals now spent amid.durable)
-    → PartOf v w a b n vals now spent
+pub part_if : (v w : Raid) (a b : RackView) (n : ℕ) (vals now : ℕ → Values) (spent : ℕ → Bool)
+    → SameRack a b → a.lasting → (a.traced → Leaves a b (λ c. Unit {0}))
+    → ((amid : IsTrackedInCall v a n vals spent) → PartAmid v w a b n vals now spent amid.durable)
+    → SubCall v w a b n vals now spent
 part_if v w a b n vals now spent stays lasting leaves part =
     record {
       holds = λ amid. record {
@@ -130,7 +130,7 @@ by_number X m n own other = elim (cases_eq n m) [
   | inr apart ↦ other apart
 ]
 
-module _ (v : Raid) (f : ℕ → View) (m : ℕ) (a b : Seen) (set : IsSet v a) (call : ViewsOne v f m a b) where
+module _ (v : Raid) (f : ℕ → View) (m : ℕ) (a b : RackView) (set : IsSet v a) (call : ViewsOne v f m a b) where
   pub more_gone : (p : ℕ) → gone_in v p ≡ true → gone_in (with_arrays v f) p ≡ true
   more_gone p is =
       let at = gone_some v p is in
@@ -193,7 +193,7 @@ module _ (v : Raid) (f : ℕ → View) (m : ℕ) (a b : Seen) (set : IsSet v a) 
 
   pub keeps_arrays : LosesOne v f m → KeepsArrays v (with_arrays v f)
   keeps_arrays loses n low =
-      by_number (λ k. LosesOnly (v.arrays k) (f k)) m n loses.only (λ apart. only_same (v.arrays n) (f n) (call.others n apart))
+      by_number (λ k. OnlyFailures (v.arrays k) (f k)) m n loses.only (λ apart. only_same (v.arrays n) (f n) (call.others n apart))
 
   pub further : (number : ℕ) → v.number ≤ number → IsFurther v (called v f number)
   further number more = record {

@@ -2,22 +2,22 @@
 use Rattle.std.proofs.Common.{◌≡◌, ◌≢◌, ℕ, ◌+◌, ◌<◌, Bool, false, ◌==◌, ◌||◌, if◌then◌else◌, List, [], slice_get, Option, Some, None, option_map, refl, sym, ap, subst, ◌∙◌, inl, inr, eq-eqb, eqb-true, arith}
 use Rattle.std.proofs.lemmas.Bool.{cases_Bool, cases_eq, both_ways}
 use Rattle.rack.specs.Values.{Values, MayLeave, Keeps}
-use Rattle.rack.specs.Seen.{Seen, IsLive, Stays}
+use Rattle.rack.specs.Seen.{RackView, IsLive, SameRack}
 use Rattle.array_image.specs.Places.{member_slice, slice_of, super_sector}
 use Rattle.md_super.specs.declared.superblock.Super.{Super}
 use Rattle.array_image.specs.Arrays.{Shape}
 use Rattle.array_image.specs.States.{is_current}
-use Rattle.array_image.specs.Held.{IsSettled}
+use Rattle.array_image.specs.Held.{IsSynced}
 use Rattle.array_image.specs.SoundArray.{array_fields}
-use Rattle.log_laws.specs.Kept.{LogKept}
+use Rattle.log_laws.specs.Kept.{LogInvariant}
 use Rattle.log_laws.specs.View.{names}
 use Rattle.log_laws.proofs.KeptAfter.{kept_more}
 use Rattle.array_model.specs.declared.Seat.{Seat}
 use Rattle.array_model.specs.declared.Seat.TheVariants.{Missing}
 use Rattle.array_model.specs.View.{View, has_gone, place_at, shape_of}
-use Rattle.array_model.specs.Says.{Holds}
+use Rattle.array_model.specs.Says.{ArrayInvariant}
 use Rattle.array_model.specs.Members.{IsSameButSeats, Notes, slice_on}
-use Rattle.array_model.specs.ArrayCalls.{Covers, Keeping}
+use Rattle.array_model.specs.ArrayCalls.{IncludesSpent, Keeping}
 use Rattle.array_model.proofs.Views.{either_of, loses_then, same_view_then}
 use Rattle.array_core.specs.Seats.{heeded}
 use Rattle.array_core.specs.Superblocks.{is_settled, settled, left_offset, raised}
@@ -26,8 +26,8 @@ use Rattle.array_core.specs.Pool.{Goes, MayRenew}
 use Rattle.array_core.specs.TruthLeft.{LeavesTruth}
 use Rattle.array_core.specs.Writing.{KeepsElsewhere}
 use Rattle.raid_laws.specs.Book.{after_same}
-use Rattle.raid_laws.specs.Raid.{Raid, gone_in, is_over}
-use Rattle.raid_laws.specs.Moves.{AreMarked, IsAmid, IsHeeded, IsSet, Moves, PartOf}
+use Rattle.raid_laws.specs.Raid.{Raid, gone_in, is_failed}
+use Rattle.raid_laws.specs.Moves.{AreMarked, IsTrackedInCall, IsHeeded, IsSet, ChangesNoData, SubCall}
 use Rattle.raid_laws.specs.Cleaning.{Ends, HasSupersOn, IsEnded, IsIdle, NoneFails, as_it_was, restated}
 use Rattle.raid_laws.proofs.Calls.{may_settle, settled_notes}
 use Rattle.raid_laws.specs.Reach.{reach_same}
@@ -47,7 +47,7 @@ use Rattle.raid_laws.proofs.Rows.{KeepsClear, clear_seats, left_rows, rows_read}
 -- ---- what it makes of the array
 
 -- what two calls noted, between the same moments
-notes_join : (u v w : View) (a b : Seen) → Notes u v a b → Notes v w a b → Notes u w a b
+notes_join : (u v w : View) (a b : RackView) → Notes u v a b → Notes v w a b → Notes u w a b
 notes_join u v w a b one two = record {
   same = same_view_then u v w one.same two.same;
   lost = λ p. two.lost p || one.lost p;
@@ -55,7 +55,7 @@ notes_join u v w a b one two = record {
   cause = λ p is. elim (either_of (two.lost p) (one.lost p) is) [ inl late ↦ two.cause p late | inr early ↦ one.cause p early ];
 }
 
-views_clean : (v : Raid) (f : ℕ → View) (m : ℕ) (a b : Seen) → IsSet v a → m < v.state.made → Stays a b
+views_clean : (v : Raid) (f : ℕ → View) (m : ℕ) (a b : RackView) → IsSet v a → m < v.state.made → SameRack a b
     → ((n : ℕ) → (n ≡ m → ⊥) → f n ≡ v.arrays n) → ArrayCleans (v.arrays m) (f m) a b → NotesOne v f m a b
 views_clean v f m a b set low stays others cleans =
     let u = v.arrays m in
@@ -75,14 +75,14 @@ views_clean v f m a b set low stays others cleans =
 
 -- ---- where no drive refuses a call
 
-unlost : (v w : View) (a b : Seen) (notes : Notes v w a b) → NoneFails a b → (p : ℕ) → notes.lost p ≡ false
+unlost : (v w : View) (a b : RackView) (notes : Notes v w a b) → NoneFails a b → (p : ℕ) → notes.lost p ≡ false
 unlost v w a b notes none p =
     elim (cases_Bool (notes.lost p)) [
       | inl lost ↦ absurd (none p (notes.cause p lost))
       | inr not ↦ not
     ]
 
-seats_still : (v w : View) (a b : Seen) → Notes v w a b → NoneFails a b → (n : ℕ) → slice_get w.seats n ≡ slice_get v.seats n
+seats_still : (v w : View) (a b : RackView) → Notes v w a b → NoneFails a b → (n : ℕ) → slice_get w.seats n ≡ slice_get v.seats n
 seats_still v w a b notes none n =
     notes.loses.seats n
     ∙ ap (λ (b : Bool). option_map (λ (seat : Seat). if b then Missing else seat) (slice_get v.seats n)) (unlost v w a b notes none (place_at v n))
@@ -92,7 +92,7 @@ seats_still v w a b notes none n =
     same None = refl
     same (Some seat) = refl
 
-fresh_still : (v w : View) (a b : Seen) → Notes v w a b → NoneFails a b → v.went ≡ [] → w.went ≡ []
+fresh_still : (v w : View) (a b : RackView) → Notes v w a b → NoneFails a b → v.went ≡ [] → w.went ≡ []
 fresh_still v w a b notes none fresh =
     none_listed w.went
     (λ p. notes.loses.went p ∙ ap (λ (b : Bool). b || has_gone v p) (unlost v w a b notes none p) ∙ ap (λ (ps : List ℕ). names ps p) fresh)
@@ -107,7 +107,7 @@ heeded_same u z same =
 heeded_fresh : (u : View) → u.went ≡ [] → heeded u ≡ u
 heeded_fresh u fresh = ap (λ (ps : List ℕ). record u { went = ps }) (sym fresh)
 
-supers_on : (z w : View) (a b : Seen) → Notes (settled z) w a b → NoneFails a b
+supers_on : (z w : View) (a b : RackView) → Notes (settled z) w a b → NoneFails a b
     → ((n : ℕ) → n < z.truth.raid_disks → slice_get w.seats n ≢ Some Missing → IsLive a b (slice_on z n) super_sector
     → (x : List ℕ) → MayLeave (b.held (slice_on z n) super_sector) x → IsOwnSector (settled z) n x)
     → HasSupersOn (heeded w) a b
@@ -127,28 +127,28 @@ slice_own p m few = omega (arith, few)
 
 -- ---- a cleaning of array m, where whoever went is marked
 
-pub record CleanCall (v : Raid) (f : ℕ → View) (m : ℕ) (a b : Seen) : Type 0 where
+pub record CleanCall (v : Raid) (f : ℕ → View) (m : ℕ) (a b : RackView) : Type 0 where
   pub heeded : IsHeeded v
   pub low : m < v.state.made
   pub others : (n : ℕ) → (n ≡ m → ⊥) → f n ≡ v.arrays n
   pub goes : Goes a b
   pub view : ArrayCleans (v.arrays m) (f m) a b
   pub cleans :
-      (vals : ℕ → Values) (spent : ℕ → Bool) → Covers (f m) spent → MayRenew v.state (v.arrays m) a
+      (vals : ℕ → Values) (spent : ℕ → Bool) → IncludesSpent (f m) spent → MayRenew v.state (v.arrays m) a
       → Keeping v.state (v.arrays m) (f m) spent a b (shape_of (v.arrays m)) vals
   -- images have the truth from before, or the one that leaves the rows that are left
   pub truths :
-      (vals : ℕ → Values) (spent : ℕ → Bool) → Covers (f m) spent → MayRenew v.state (v.arrays m) a
+      (vals : ℕ → Values) (spent : ℕ → Bool) → IncludesSpent (f m) spent → MayRenew v.state (v.arrays m) a
       → LeavesTruth v.state (v.arrays m).number (λ t. array_fields t ≡ array_fields (settled (v.arrays m)).truth)
-      (Holds v.state (shape_of (v.arrays m)) (v.arrays m) vals spent a) a b
-  pub kept : LogKept v.state v.number (λ place. false) a → LogKept v.state v.number (λ place. false) b
+      (ArrayInvariant v.state (shape_of (v.arrays m)) (v.arrays m) vals spent a) a b
+  pub kept : LogInvariant v.state v.number (λ place. false) a → LogInvariant v.state v.number (λ place. false) b
   pub elsewhere : KeepsElsewhere false (v.arrays m) [] a b
   pub supers : KeepsOthers a b
   pub settled :
-      (durable : Shape) (vals : ℕ → Values) (spent : ℕ → Bool) → Covers (f m) spent → Holds v.state durable (v.arrays m) vals spent a
-      → IsSettled (shape_of (f m)) (f m).number b.held
+      (durable : Shape) (vals : ℕ → Values) (spent : ℕ → Bool) → IncludesSpent (f m) spent → ArrayInvariant v.state durable (v.arrays m) vals spent a
+      → IsSynced (shape_of (f m)) (f m).number b.held
 
-module _ (v : Raid) (f : ℕ → View) (m : ℕ) (a b : Seen) (set : IsSet v a) (call : CleanCall v f m a b) where
+module _ (v : Raid) (f : ℕ → View) (m : ℕ) (a b : RackView) (set : IsSet v a) (call : CleanCall v f m a b) where
   views : ViewsOne v f m a b
   views = (views_clean v f m a b set call.low call.goes.stays call.others call.view).views
 
@@ -186,8 +186,8 @@ module _ (v : Raid) (f : ℕ → View) (m : ℕ) (a b : Seen) (set : IsSet v a) 
         | inr now ↦ absurd (both_ways (is_settled u) (sym (settled_same u z call.view.notes.same) ∙ now.open_rows) rows.settled)
       ]
 
-  own_lacking : (vals : ℕ → Values) (spent : ℕ → Bool) → is_over (called v f v.number) m ≡ false → Covers (f m) spent
-      → IsAmid v a m vals spent → LeavesLacking v a m → KeepsLacking v (called v f v.number) a b m
+  own_lacking : (vals : ℕ → Values) (spent : ℕ → Bool) → is_failed (called v f v.number) m ≡ false → IncludesSpent (f m) spent
+      → IsTrackedInCall v a m vals spent → LeavesLacking v a m → KeepsLacking v (called v f v.number) a b m
   own_lacking vals spent goes covers amid leaves =
       let u = v.arrays m in
       let able = acts.able m vals spent call.low goes amid in
@@ -196,7 +196,7 @@ module _ (v : Raid) (f : ℕ → View) (m : ℕ) (a b : Seen) (set : IsSet v a) 
       (λ t. array_fields t ≡ array_fields (settled (v.arrays m)).truth) (call.truths vals spent covers able)
       (λ t fields. left_rows u t (set.arrays m call.low).is_array leaves.young (ap (λ (z : Super). z.resync_offset) fields) (ap (λ (z : Super). z.size) fields)) leaves
 
-  pub moves_clean : Moves v (called v f v.number) a b
+  pub moves_clean : ChangesNoData v (called v f v.number) a b
   moves_clean =
       record {
         stays = call.goes.stays;
@@ -218,9 +218,9 @@ module _ (v : Raid) (f : ℕ → View) (m : ℕ) (a b : Seen) (set : IsSet v a) 
         parts = λ n vals spent joined low goes covers.
             elim (cases_eq n m) [
               | inl same ↦
-                  subst (λ k. PartOf v (called v f v.number) a b k vals vals spent) (sym same)
+                  subst (λ k. SubCall v (called v f v.number) a b k vals vals spent) (sym same)
                   (own_part v f v.number m a b (λ vals. vals) (shape_of (v.arrays m)) (MayRenew v.state (v.arrays m) a) set acts vals spent
-                  (subst (λ k. is_over (called v f v.number) k ≡ false) same goes) (subst (λ k. Covers (f k) spent) same covers))
+                  (subst (λ k. is_failed (called v f v.number) k ≡ false) same goes) (subst (λ k. IncludesSpent (f k) spent) same covers))
               | inr apart ↦ other_part v f v.number m a b (λ vals. vals) (shape_of (v.arrays m)) (MayRenew v.state (v.arrays m) a) set acts n vals spent apart low goes
             ];
         rows = λ n vals spent joined low goes covers amid rows.
@@ -232,19 +232,19 @@ module _ (v : Raid) (f : ℕ → View) (m : ℕ) (a b : Seen) (set : IsSet v a) 
         lacking = λ n vals spent joined low goes covers amid leaves.
             elim (cases_eq n m) [
               | inl same ↦
-                  subst (λ k. is_over (called v f v.number) k ≡ false → Covers (f k) spent → IsAmid v a k vals spent → LeavesLacking v a k → KeepsLacking v (called v f v.number) a b k)
+                  subst (λ k. is_failed (called v f v.number) k ≡ false → IncludesSpent (f k) spent → IsTrackedInCall v a k vals spent → LeavesLacking v a k → KeepsLacking v (called v f v.number) a b k)
                   (sym same) (own_lacking vals spent) goes covers amid leaves
               | inr apart ↦
                   other_lacking v f v.number m a b (λ vals. vals) (shape_of (v.arrays m)) (MayRenew v.state (v.arrays m) a) set acts n vals spent apart low goes amid leaves
             ];
       }
 
-  pub settled_clean : (n : ℕ) (vals : ℕ → Values) (spent : ℕ → Bool) → n ≡ m → Covers (f n) spent → IsAmid v a n vals spent
-      → IsSettled (shape_of (f n)) n b.held
+  pub settled_clean : (n : ℕ) (vals : ℕ → Values) (spent : ℕ → Bool) → n ≡ m → IncludesSpent (f n) spent → IsTrackedInCall v a n vals spent
+      → IsSynced (shape_of (f n)) n b.held
   settled_clean n vals spent is =
-      subst (λ k. Covers (f k) spent → IsAmid v a k vals spent → IsSettled (shape_of (f k)) k b.held) (sym is)
+      subst (λ k. IncludesSpent (f k) spent → IsTrackedInCall v a k vals spent → IsSynced (shape_of (f k)) k b.held) (sym is)
       (λ covers amid.
-      subst (λ k. IsSettled (shape_of (f m)) k b.held) views.seated.number (call.settled amid.durable vals spent covers amid.stood.holds))
+      subst (λ k. IsSynced (shape_of (f m)) k b.held) views.seated.number (call.settled amid.durable vals spent covers amid.stood.holds))
 
   pub none_gone : NoneFails a b → AreMarked (called v f v.number)
   none_gone none p current =

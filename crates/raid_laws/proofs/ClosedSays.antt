@@ -8,7 +8,7 @@ use Rattle.array_image.specs.States.{current_places}
 use Rattle.array_image.specs.Supers.{truth_in}
 use Rattle.array_image.specs.SoundArray.{IsSoundArray}
 use Rattle.array_image.specs.Arrays.{Shape, shape_by, shape_in}
-use Rattle.array_model.specs.Says.{Says}
+use Rattle.array_model.specs.Says.{ImageShowsArray}
 use Rattle.raid_laws.specs.Works.{closed}
 
 pub truth_closed : (s : State) (r : Image) (n : ℕ) → truth_in (closed s) r n ≡ truth_in s r n
@@ -28,7 +28,7 @@ sound_closed s r n u sound = record {
   even = λ joined shape is. sound.even joined shape (sym (shape_closed s r n) ∙ is);
 }
 
-pub says_closed : (s : State) (n : ℕ) (shape : Shape) (vals : ℕ → Values) (spent : ℕ → Bool) (r : Image) → Says s n shape vals spent r → Says (closed s) n shape vals spent r
+pub says_closed : (s : State) (n : ℕ) (shape : Shape) (vals : ℕ → Values) (spent : ℕ → Bool) (r : Image) → ImageShowsArray s n shape vals spent r → ImageShowsArray (closed s) n shape vals spent r
 says_closed s n shape vals spent r says = record {
   shape_is = shape_closed s r n ∙ says.shape_is;
   value = says.value;

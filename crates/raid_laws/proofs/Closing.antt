@@ -3,7 +3,7 @@ use Rattle.std.proofs.Common.{◌≡◌, ◌⊎◌, ℕ, zero, suc, ◌+◌, ◌
 use Rattle.std.proofs.lemmas.Bool.{cases_Bool, cases_eq, both_ways, and_parts, and_from, le-leb, leb-true}
 use Rattle.std.specs.List.{list_all}
 use Rattle.rack.specs.Values.{Keeps}
-use Rattle.rack.specs.Seen.{Seen, IsLive}
+use Rattle.rack.specs.Seen.{RackView, IsLive}
 use Rattle.rack.specs.Joins.{stays_same}
 use Rattle.rack.specs.Targets.{Target, look}
 use Rattle.pool_state.specs.Valid.{is_valid, is_drive, is_extent, has_places, has_arrays, has_epoch, place_of as planned_place}
@@ -12,13 +12,13 @@ use Rattle.array_image.specs.Places.{log_slice, place_of, slice_of}
 use Rattle.array_image.specs.States.{is_current, current_places}
 use Rattle.log_laws.specs.View.{LogView, names, next_number}
 use Rattle.log_laws.specs.Commits.{CommitCall}
-use Rattle.log_laws.specs.Kept.{Brings as BringsState}
+use Rattle.log_laws.specs.Kept.{CarriesState as BringsState}
 use Rattle.array_model.specs.View.{View, HasFault, has_gone, is_whole_array, present, sectors_of}
 use Rattle.array_model.specs.Stages.{AmongTargets}
 use Rattle.array_model.proofs.Losses.{IsLosing}
 use Rattle.array_core.specs.Seats.{gone as without}
 use Rattle.raid_laws.specs.Raid.{Raid, gone_in, is_left}
-use Rattle.raid_laws.specs.Book.{IsAfter}
+use Rattle.raid_laws.specs.Book.{OnlyMarksSince}
 use Rattle.raid_laws.specs.Losses.{AddsCopies, AreCopiesOn}
 use Rattle.raid_laws.specs.Marking.{NoData}
 use Rattle.raid_laws.specs.Missing.{raised}
@@ -59,7 +59,7 @@ valid_closed s own is =
     (le-leb 1 (raised s.epoch) (let first = leb-true 1 s.epoch five.0 in let up = low.0 in omega (arith, first, up)))
     (lt-ltb (raised s.epoch) (2 ^ 63) (low.1 (ltb-true s.epoch (2 ^ 63) five.1)))))))
 
-pub after_closed : (s : State) → IsAfter s (closed s)
+pub after_closed : (s : State) → OnlyMarksSince s (closed s)
 after_closed s = record {
   same = record { pool = refl; extent = refl; drives = refl; plan = inr refl; made = refl; joined = refl; serial = refl };
   epoch = (raised_range s.epoch).0;
@@ -68,7 +68,7 @@ after_closed s = record {
 }
 
 -- an array of the pool is one by it
-pub seated_closed : (s : State) (n : ℕ) (u : View) (x : Seen) → IsSeated s n u x → IsSeated (closed s) n u x
+pub seated_closed : (s : State) (n : ℕ) (u : View) (x : RackView) → IsSeated s n u x → IsSeated (closed s) n u x
 seated_closed s n u x seated =
     let pool = seated.is_of_pool in
     record {
@@ -91,7 +91,7 @@ seated_closed s n u x seated =
     }
 
 -- a whole array is so once places are noted as gone, or one of them is current
-whole_listed : (s : State) (n : ℕ) (u : View) (gone : List ℕ) (x : Seen) → IsSeated s n u x → is_whole_array u ≡ true
+whole_listed : (s : State) (n : ℕ) (u : View) (gone : List ℕ) (x : RackView) → IsSeated s n u x → is_whole_array u ≡ true
     → (is_whole_array (without gone u) ≡ true) ⊎ ((p : ℕ) × (is_current s p ≡ true) × (names gone p ≡ true))
 unfolding listed
 whole_listed s n u gone x seated all =
@@ -106,7 +106,7 @@ abbrev pub closed_raid : Raid → ℕ → (ℕ → View) → Raid
 closed_raid v number f = record v { state = closed v.state; number = number; arrays = f }
 
 -- the commit, and who went in it noted in all arrays
-pub record IsClosing (v : Raid) (on gone : List ℕ) (l : LogView) (f : ℕ → View) (b c : Seen) : Type 0 where
+pub record IsClosing (v : Raid) (on gone : List ℕ) (l : LogView) (f : ℕ → View) (b c : RackView) : Type 0 where
   pub set : IsSet v b
   pub heeded : IsHeeded v
   pub copies : AddsCopies (closed v.state) on [] l.added
@@ -116,7 +116,7 @@ pub record IsClosing (v : Raid) (on gone : List ℕ) (l : LogView) (f : ℕ → 
   pub arrays : (n : ℕ) → n < v.state.made → f n ≡ without gone (v.arrays n)
   pub sectors : (n : ℕ) → sectors_of (f n) ≡ sectors_of (v.arrays n)
 
-module _ (v : Raid) (on gone : List ℕ) (l : LogView) (f : ℕ → View) (b c : Seen) (commit : IsClosing v on gone l f b c) where
+module _ (v : Raid) (on gone : List ℕ) (l : LogView) (f : ℕ → View) (b c : RackView) (commit : IsClosing v on gone l f b c) where
   pub closing_named : (p : ℕ) → names on p ≡ is_current v.state p
   closing_named p = ap (λ ps. names ps p) commit.on_is ∙ names_current (closed v.state) p
 

@@ -3,7 +3,7 @@ use Rattle.std.proofs.Common.{◌≡◌, ◌⊎◌, ℕ, zero, suc, ◌+◌, ◌
 use Rattle.std.proofs.lemmas.Bool.{cases_Bool, cases_eq, cases_lt, both_ways, and_parts, and_from, le-leb, leb-true}
 use Rattle.std.specs.List.{list_all}
 use Rattle.rack.specs.Values.{Keeps}
-use Rattle.rack.specs.Seen.{Seen, IsLive}
+use Rattle.rack.specs.Seen.{RackView, IsLive}
 use Rattle.rack.specs.Joins.{stays_same}
 use Rattle.rack.specs.Targets.{Target, look}
 use Rattle.pool_state.specs.Valid.{is_valid, is_drive, is_extent, has_places, has_arrays, has_epoch, place_of as planned_place}
@@ -19,7 +19,7 @@ use Rattle.array_model.specs.View.{View, HasFault, has_gone, place_at, present, 
 use Rattle.array_model.proofs.Losses.{IsLosing}
 use Rattle.array_core.specs.Seats.{gone as without}
 use Rattle.raid_laws.specs.Raid.{Raid, gone_in, is_left}
-use Rattle.raid_laws.specs.Book.{IsAfter, drive_of}
+use Rattle.raid_laws.specs.Book.{OnlyMarksSince, drive_of}
 use Rattle.raid_laws.specs.Missing.{marked, marked_from, raised}
 use Rattle.raid_laws.specs.Moves.{IsSet, IsSeated, IsUnmarked}
 use Rattle.raid_laws.specs.Settling.{IsMarking, state_after}
@@ -96,7 +96,7 @@ valid_vacated place s own is =
     (and_from (has_arrays s) _ three.0
     (and_from _ _ (drives_valid lost 0 s.drives.items ∙ four.0) four.1)))
 
-pub after_marked : (lost : List ℕ) (s : State) → IsAfter s (marked lost s)
+pub after_marked : (lost : List ℕ) (s : State) → OnlyMarksSince s (marked lost s)
 after_marked lost s = record {
   same = record { pool = refl; extent = refl; drives = drives_same lost 0 s.drives.items; plan = inl refl; made = refl; joined = refl; serial = refl };
   epoch = (raised_range s.epoch).0;
@@ -105,7 +105,7 @@ after_marked lost s = record {
 }
 
 -- an array of the pool is one by the marked state, where it has noted the lost places
-pub seated_marked : (s : State) (lost : List ℕ) (n : ℕ) (u : View) (x : Seen) → ((p : ℕ) → names lost p ≡ true → has_gone u p ≡ true)
+pub seated_marked : (s : State) (lost : List ℕ) (n : ℕ) (u : View) (x : RackView) → ((p : ℕ) → names lost p ≡ true → has_gone u p ≡ true)
     → IsUnmarked u → IsSeated s n u x → IsSeated (marked lost s) n u x
 seated_marked s lost n u x noted unmarked seated =
     let pool = seated.is_of_pool in
@@ -142,7 +142,7 @@ abbrev pub raid_after : Raid → List ℕ → ℕ → (ℕ → View) → Raid
 raid_after v lost number f = record v { state = state_after v lost; number = number; arrays = f }
 
 -- The commit, by the logs of some of the places that the state has which it brings, and who went in it noted in all arrays.
-pub record IsCommitBy (v : Raid) (lost on by gone : List ℕ) (l : LogView) (xs : List Target) (f : ℕ → View) (b c : Seen) : Type 0 where
+pub record IsCommitBy (v : Raid) (lost on by gone : List ℕ) (l : LogView) (xs : List Target) (f : ℕ → View) (b c : RackView) : Type 0 where
   pub marking : IsMarking v lost on l xs b
   pub call : CommitCall l by gone b c
   pub fewer : (p : ℕ) → names by p ≡ true → names on p ≡ true
@@ -150,7 +150,7 @@ pub record IsCommitBy (v : Raid) (lost on by gone : List ℕ) (l : LogView) (xs 
   pub sectors : (n : ℕ) → sectors_of (f n) ≡ sectors_of (v.arrays n)
 
 -- by the logs of all of them
-abbrev pub IsCommit : Raid → (lost on gone : List ℕ) → LogView → List Target → (ℕ → View) → Seen → Seen → Type 0
+abbrev pub IsCommit : Raid → (lost on gone : List ℕ) → LogView → List Target → (ℕ → View) → RackView → RackView → Type 0
 IsCommit v lost on gone l xs f b c = IsCommitBy v lost on on gone l xs f b c
 
 pub next_later : (n : ℕ) → n ≤ next_number n
@@ -159,7 +159,7 @@ next_later n = elim (cases_lt n (2 ^ 63 - 1)) [
   | inr last ↦ let is : next_number n ≡ n = ap (λ (b : Bool). if b then n + 1 else n) (le-ltb n (2 ^ 63 - 1) last) in omega (arith, is)
 ]
 
-module _ (v : Raid) (lost on : List ℕ) {by : List ℕ} (gone : List ℕ) (l : LogView) (xs : List Target) (f : ℕ → View) (b c : Seen)
+module _ (v : Raid) (lost on : List ℕ) {by : List ℕ} (gone : List ℕ) (l : LogView) (xs : List Target) (f : ℕ → View) (b c : RackView)
     (commit : IsCommitBy v lost on by gone l xs f b c) where
   marking : IsMarking v lost on l xs b
   marking = commit.marking

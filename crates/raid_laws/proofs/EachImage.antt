@@ -1,17 +1,17 @@
 -- What each image has that a stop leaves, at each moment of a part of a call and after it.
 use Rattle.std.proofs.Common.{◌≡◌, ℕ, ◌<◌, refl}
-use Rattle.rack.specs.Seen.{Image, Seen, IsPick}
+use Rattle.rack.specs.Seen.{Image, RackView, IsPick}
 use Rattle.rack.specs.Joins.{leaves_same, leaves_weaker}
 use Rattle.rack.specs.Moments.{Leaves}
 use Rattle.rack.specs.Sequences.{OnlyReads}
 use Rattle.array_image.specs.Arrays.{replayed}
-use Rattle.array_image.specs.Left.{IsCalm, IsInside, IsLeft}
+use Rattle.array_image.specs.Left.{PendingOnlyFor, IsInside, IsLeft}
 use Rattle.array_image.specs.Places.{log_slice, member_slice}
 use Rattle.array_image.specs.States.{state_in}
 use Rattle.array_image.proofs.Frames.{Agree, state_same}
-use Rattle.array_model.specs.ArrayCalls.{Turns}
+use Rattle.array_model.specs.ArrayCalls.{ImageInCall}
 use Rattle.array_model.proofs.Keeping.{left_before, pick_before}
-use Rattle.array_model.proofs.Moves.{Moves as CallMoves}
+use Rattle.array_model.proofs.Moves.{CallRefines as CallMoves}
 use Rattle.array_model.proofs.Others.{apart_left, other_apart, state_apart}
 use Rattle.raid_laws.proofs.Leaving.{leaves_both}
 
@@ -20,15 +20,15 @@ abbrev pub GoesBy : ℕ → (Image → Type 0) → Type 0
 GoesBy n P = (r e : Image) → state_in r ≡ state_in e → Agree n r e → P e → P r
 
 -- each image has it before some calls
-abbrev pub HasBefore : (Image → Type 0) → Seen → Type 0
+abbrev pub HasBefore : (Image → Type 0) → RackView → Type 0
 HasBefore P a = (r : Image) → IsLeft a r → P r
 
 -- each has it meanwhile, and after them
-pub record HasEach (P : Image → Type 0) (a b : Seen) : Type 0 where
+pub record HasEach (P : Image → Type 0) (a b : RackView) : Type 0 where
   pub leaves : a.traced → Leaves a b (λ c. IsInside a.sectors c → P (replayed a.sectors c))
   pub after : (r : Image) → IsLeft b r → P r
 
-pub each_weaker : (P Q : Image → Type 0) (a b : Seen) → ((r : Image) → P r → Q r) → HasEach P a b → HasEach Q a b
+pub each_weaker : (P Q : Image → Type 0) (a b : RackView) → ((r : Image) → P r → Q r) → HasEach P a b → HasEach Q a b
 each_weaker P Q a b weaker each = record {
   leaves = λ traced.
       leaves_weaker (λ c. IsInside a.sectors c → P (replayed a.sectors c)) (λ c. IsInside a.sectors c → Q (replayed a.sectors c))
@@ -36,7 +36,7 @@ each_weaker P Q a b weaker each = record {
   after = λ r left. weaker r (each.after r left);
 }
 
-pub each_both : (P Q : Image → Type 0) (a b : Seen) → HasEach P a b → HasEach Q a b → HasEach (λ r. P r × Q r) a b
+pub each_both : (P Q : Image → Type 0) (a b : RackView) → HasEach P a b → HasEach Q a b → HasEach (λ r. P r × Q r) a b
 each_both P Q a b one two = record {
   leaves = λ traced.
       let First : Image → Type 0 = λ c. IsInside a.sectors c → P (replayed a.sectors c) in
@@ -47,14 +47,14 @@ each_both P Q a b one two = record {
 }
 
 -- where nothing is called
-pub each_still : (P : Image → Type 0) (x : Seen) → HasBefore P x → HasEach P x x
+pub each_still : (P : Image → Type 0) (x : RackView) → HasBefore P x → HasEach P x x
 each_still P x images = record {
   leaves = λ traced. leaves_same x (λ c. IsInside x.sectors c → P (replayed x.sectors c));
   after = images;
 }
 
 -- calls that write nothing
-pub each_read : (P : Image → Type 0) (a b : Seen) → a.lasting → OnlyReads a b → HasBefore P a → HasEach P a b
+pub each_read : (P : Image → Type 0) (a b : RackView) → a.lasting → OnlyReads a b → HasBefore P a → HasEach P a b
 each_read P a b lasting reads images = record {
   leaves = λ traced.
       leaves_weaker (IsPick a b a.held) (λ c. IsInside a.sectors c → P (replayed a.sectors c))
@@ -63,12 +63,12 @@ each_read P a b lasting reads images = record {
 }
 
 -- a call of another array, k
-pub each_other : (P : Image → Type 0) (a b : Seen) (n k : ℕ) (H Q : Type 0) (during : Image → Type 0)
-    → GoesBy n P → k < 16 → n < 16 → (n ≡ k → ⊥) → a.lasting → CallMoves k a b H during Q → IsCalm k a → HasBefore P a → HasEach P a b
+pub each_other : (P : Image → Type 0) (a b : RackView) (n k : ℕ) (H Q : Type 0) (during : Image → Type 0)
+    → GoesBy n P → k < 16 → n < 16 → (n ≡ k → ⊥) → a.lasting → CallMoves k a b H during Q → PendingOnlyFor k a → HasBefore P a → HasEach P a b
 each_other P a b n k H Q during by small also apart lasting acts calm images = record {
   leaves = λ traced.
       leaves_weaker
-      (λ c. IsInside a.sectors c → Turns k a b (λ r. H → during r) c)
+      (λ c. IsInside a.sectors c → ImageInCall k a b (λ r. H → during r) c)
       (λ c. IsInside a.sectors c → P (replayed a.sectors c))
       (λ c turn inside.
       let turns = turn inside in

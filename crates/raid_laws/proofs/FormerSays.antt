@@ -3,7 +3,7 @@
 use Rattle.std.proofs.Common.{◌≡◌, ◌≢◌, ℕ, ◌<◌, ◌==◌, Bool, true, false, List, Some, refl, sym, ap, subst, ◌∙◌, inl, eq-eqb, arith}
 use Rattle.std.proofs.lemmas.Bool.{ne_eqb}
 use Rattle.rack.specs.Values.{Values}
-use Rattle.rack.specs.Seen.{Image, Seen}
+use Rattle.rack.specs.Seen.{Image, RackView}
 use Rattle.rack.specs.Targets.{Target, look}
 use Rattle.pool_state.specs.declared.contents.State.{State}
 use Rattle.array_image.specs.Arrays.{replayed}
@@ -11,7 +11,7 @@ use Rattle.array_image.specs.Left.{Picks}
 use Rattle.array_image.specs.Places.{log_sectors, log_slice}
 use Rattle.array_image.specs.Record.{gate_sector, pending}
 use Rattle.array_image.specs.States.{is_current, state_in}
-use Rattle.log_laws.specs.Kept.{LogKept}
+use Rattle.log_laws.specs.Kept.{LogInvariant}
 use Rattle.log_laws.specs.Saying.{CopiesIn}
 use Rattle.log_laws.specs.Standing.{IsAlike, deciding}
 use Rattle.commit_log.proofs.Amid.{not_state}
@@ -21,7 +21,7 @@ use Rattle.raid_laws.specs.Book.{after_same}
 use Rattle.raid_laws.specs.Enlisting.{HasNoCopy, IsNewLog, SaysBy, SaysFormer}
 use Rattle.raid_laws.specs.Frames.{frame_of}
 use Rattle.raid_laws.specs.Laws.{stood_left}
-use Rattle.raid_laws.specs.Moves.{IsAmid, IsHeeded, IsSet}
+use Rattle.raid_laws.specs.Moves.{IsTrackedInCall, IsHeeded, IsSet}
 use Rattle.raid_laws.specs.Raid.{Raid, gone_in}
 use Rattle.raid_laws.specs.Since.{AreSince}
 use Rattle.raid_laws.specs.Vacated.{AgreesOff, DiffersAt, IsFormerly}
@@ -41,9 +41,9 @@ copies_since s sectors c copies p few there = record {
   former = λ copy past is. copies.earlier p copy few past is;
 }
 
-module _ (place : ℕ) (x y : Seen) (differs : DiffersAt place x y) (v : Raid) (n : ℕ) (vals : ℕ → Values) (spent : ℕ → Bool) (set : IsSet v x) (heeded : IsHeeded v)
+module _ (place : ℕ) (x y : RackView) (differs : DiffersAt place x y) (v : Raid) (n : ℕ) (vals : ℕ → Values) (spent : ℕ → Bool) (set : IsSet v x) (heeded : IsHeeded v)
     (low : n < v.state.made) (was : is_current v.state place ≡ true) (someone : (p : ℕ) × (is_current v.state p ≡ true) × (p ≢ place)) (new_log : IsNewLog place y)
-    (size : y.sectors (log_slice place) ≡ log_sectors) (amid : IsAmid v x n vals spent)
+    (size : y.sectors (log_slice place) ≡ log_sectors) (amid : IsTrackedInCall v x n vals spent)
     (c e : Image) (agrees : AgreesOff place x c e) (former : IsFormerly place y e) where
   small : n < 16
   small = let most = set.most in omega (arith, low, most)
@@ -84,7 +84,7 @@ module _ (place : ℕ) (x y : Seen) (differs : DiffersAt place x y) (v : Raid) (
 
   copies : CopiesIn v.state x.sectors (replayed x.sectors c)
   copies =
-      let log : LogKept v.state v.number (λ p. false) x = subst (λ g. LogKept v.state v.number g x) (λ i p. heeded_gone v heeded p i) amid.stood.log in
+      let log : LogInvariant v.state v.number (λ p. false) x = subst (λ g. LogInvariant v.state v.number g x) (λ i p. heeded_gone v heeded p i) amid.stood.log in
       copies_same v.state x.sectors (replayed x.sectors c) (replayed x.sectors at.0) (λ p. at.2 (log_slice p) 0 (not_state p))
       ((kept_holds v.state v.number x log).copies at.0 (stands_of at.0 at.1))
 

@@ -4,7 +4,7 @@ use Rattle.std.specs.Option.{option_map_or}
 use Rattle.std.specs.List.{range_with_len}
 use Rattle.std.proofs.lemmas.Bool.{and_parts, both_ways}
 use Rattle.std.proofs.lemmas.Slice.Eq.{bytes_eq-Decides}
-use Rattle.rack.specs.Seen.{Image, Seen}
+use Rattle.rack.specs.Seen.{Image, RackView}
 use Rattle.md_super.specs.declared.superblock.Super.{Super}
 use Rattle.md_super.specs.Profile.{profiled}
 use Rattle.pool_state.specs.declared.contents.State.{State}
@@ -131,7 +131,7 @@ module _ (s : State) (c : Image) (n : ℕ) (young : Bool) (t : Super) (found : L
       ∙ ap Some (missing_found (is_current s p) (names absent p) (super_in s c n p) (there p (founded_named k low)))
 
   -- it is one of the pool, and whoever is absent has gone in it
-  pub founded_seated : (x : Seen) → HasSlices v x → IsSeated s n v x
+  pub founded_seated : (x : RackView) → HasSlices v x → IsSeated s n v x
   founded_seated x slices =
       record {
         is_array = array_with u v.seats v.went (seats_length v.seats u.seats (λ k. seat_unless (names absent) (place_at u k)) lost_seats) is_array;

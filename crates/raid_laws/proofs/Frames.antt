@@ -4,7 +4,7 @@ use Rattle.std.specs.List.{range_with_len}
 use Rattle.std.proofs.lemmas.Nat.{and_assoc}
 use Rattle.rack.specs.Calls.{KeepsAll}
 use Rattle.rack.specs.Joins.{leaves_same, leaves_then, leaves_weaker}
-use Rattle.rack.specs.Seen.{Image, IsPick, Seen, Stays}
+use Rattle.rack.specs.Seen.{Image, IsPick, RackView, SameRack}
 use Rattle.rack.specs.Values.{Values}
 use Rattle.md_super.specs.declared.superblock.Super.{Super}
 use Rattle.pool_state.specs.declared.contents.State.{State}
@@ -20,7 +20,7 @@ use Rattle.array_model.specs.View.{HasGeometry, View, member_on, shape_of}
 use Rattle.array_model.proofs.Keeping.{pick_before}
 use Rattle.raid_laws.specs.Frames.{Frame, HasFrame, KeepsFrame, frame_of}
 use Rattle.raid_laws.specs.Laws.{stood_left}
-use Rattle.raid_laws.specs.Raid.{Raid, Stood}
+use Rattle.raid_laws.specs.Raid.{Raid, InvariantInCall}
 
 some_same : {X : Type 0} (x y : X) → Some x ≡ Some y → x ≡ y
 some_same x y same = cc
@@ -76,8 +76,8 @@ pub frame_same : (g : Frame) (n : ℕ) (r e : Image) → state_in r ≡ state_in
 frame_same g n r e state agree frame s t is truth = frame s t (sym state ∙ is) (sym (truth_by_supers s r e n (supers_same s r e n agree)) ∙ truth)
 
 -- what a stop leaves
-pub left_frame : (g : Frame) (s : State) (durable : Shape) (vals : ℕ → Values) (spent gone : ℕ → Bool) (v : Raid) (x : Seen) (n : ℕ) (c : Image)
-    → frame_of (v.arrays n).truth ≡ g → Stood s durable vals spent gone v x n → Picks x c → HasFrame g n (replayed x.sectors c)
+pub left_frame : (g : Frame) (s : State) (durable : Shape) (vals : ℕ → Values) (spent gone : ℕ → Bool) (v : Raid) (x : RackView) (n : ℕ) (c : Image)
+    → frame_of (v.arrays n).truth ≡ g → InvariantInCall s durable vals spent gone v x n → Picks x c → HasFrame g n (replayed x.sectors c)
 left_frame g s durable vals spent gone v x n c framed stood picks q t is truth =
     let r : Image = replayed x.sectors c in
     let state = (stood_left s durable vals spent gone v x n c stood picks).0 in
@@ -102,10 +102,10 @@ known_frame g n t r e state agree framed q u is truth =
 
 -- ---- parts
 
-pub frame_still : (g : Frame) (n : ℕ) (w : View) (x : Seen) → frame_of w.truth ≡ g → KeepsFrame g n w x x
+pub frame_still : (g : Frame) (n : ℕ) (w : View) (x : RackView) → frame_of w.truth ≡ g → KeepsFrame g n w x x
 frame_still g n w x after = record { leaves = λ traced. leaves_same x (λ c. IsInside x.sectors c → HasFrame g n (replayed x.sectors c)); after = after }
 
-pub frame_then : (g : Frame) (n : ℕ) (w z : View) (a b c : Seen) → Stays a b → KeepsFrame g n w a b → KeepsFrame g n z b c → KeepsFrame g n z a c
+pub frame_then : (g : Frame) (n : ℕ) (w z : View) (a b c : RackView) → SameRack a b → KeepsFrame g n w a b → KeepsFrame g n z b c → KeepsFrame g n z a c
 frame_then g n w z a b c stays one two = record {
   leaves = λ traced.
       leaves_then
@@ -122,8 +122,8 @@ frame_then g n w z a b c stays one two = record {
 }
 
 -- calls that bring no value
-pub frame_read : (g : Frame) (s : State) (durable : Shape) (vals : ℕ → Values) (spent gone : ℕ → Bool) (v : Raid) (w : View) (a b : Seen) (n : ℕ)
-    → a.lasting → Stays a b → KeepsAll a b → frame_of (v.arrays n).truth ≡ g → frame_of w.truth ≡ g → Stood s durable vals spent gone v a n → KeepsFrame g n w a b
+pub frame_read : (g : Frame) (s : State) (durable : Shape) (vals : ℕ → Values) (spent gone : ℕ → Bool) (v : Raid) (w : View) (a b : RackView) (n : ℕ)
+    → a.lasting → SameRack a b → KeepsAll a b → frame_of (v.arrays n).truth ≡ g → frame_of w.truth ≡ g → InvariantInCall s durable vals spent gone v a n → KeepsFrame g n w a b
 frame_read g s durable vals spent gone v w a b n lasting stays keeps before after stood = record {
   leaves = λ traced.
       leaves_weaker (IsPick a b a.held) (λ c. IsInside a.sectors c → HasFrame g n (replayed a.sectors c))

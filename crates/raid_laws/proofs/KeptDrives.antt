@@ -7,7 +7,7 @@ use Rattle.pool_state.specs.declared.contents.State.{State}
 use Rattle.array_image.specs.States.{is_current, id_of}
 use Rattle.log_laws.specs.Saying.{KeepsDrives, PlaceJoins}
 use Rattle.log_laws.specs.View.{names}
-use Rattle.raid_laws.specs.Book.{IsAfter, drive_of}
+use Rattle.raid_laws.specs.Book.{OnlyMarksSince, drive_of}
 use Rattle.raid_laws.specs.Enlisting.{enlisted, next_drive}
 use Rattle.raid_laws.proofs.Each.{get_set_other}
 use Rattle.raid_laws.proofs.Seated.{map_get}
@@ -17,18 +17,18 @@ first_id None = refl
 first_id (Some d) = refl
 
 -- marks, and a plan that ends
-pub after_id : (s t : State) (p : ℕ) → IsAfter s t → id_of t p ≡ id_of s p
+pub after_id : (s t : State) (p : ℕ) → OnlyMarksSince s t → id_of t p ≡ id_of s p
 after_id s t p after =
     let first : Option (List ℕ × ℕ) → Option (List ℕ) = option_map (λ (x : List ℕ × ℕ). x.0) in
     first_id (slice_get t.drives.items p)
     ∙ ap first (sym (map_get drive_of t.drives.items p) ∙ ap (λ xs. slice_get xs p) after.same.drives ∙ map_get drive_of s.drives.items p)
     ∙ sym (first_id (slice_get s.drives.items p))
 
-pub after_drives : (s t : State) (on : List ℕ) → IsAfter s t → KeepsDrives s t on
+pub after_drives : (s t : State) (on : List ℕ) → OnlyMarksSince s t → KeepsDrives s t on
 after_drives s t on after = record { pool = after.same.pool; ids = λ p named. after_id s t p after }
 
 -- by which no place joins
-pub after_joins : (s t : State) (p : ℕ) → IsAfter s t → PlaceJoins s t p → ⊥
+pub after_joins : (s t : State) (p : ℕ) → OnlyMarksSince s t → PlaceJoins s t p → ⊥
 after_joins s t p after joins = elim joins.new [
   | inl former ↦ both_ways (is_current s p) former (after.current p joins.now)
   | inr other ↦ other (after_id s t p after)

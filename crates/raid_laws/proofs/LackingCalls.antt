@@ -1,7 +1,7 @@
 -- A call of array m that goes by one shape of it: the rows that images leave to resync where a member of it is lacking.
 use Rattle.std.proofs.Common.{◌≡◌, ℕ, ◌<◌, ◌≤◌, Bool, true, Some, subst, ◌∙◌}
 use Rattle.rack.specs.Values.{Values}
-use Rattle.rack.specs.Seen.{Image, Seen}
+use Rattle.rack.specs.Seen.{Image, RackView}
 use Rattle.rack.specs.Joins.{leaves_weaker}
 use Rattle.md_super.specs.declared.superblock.Super.{Super}
 use Rattle.array_image.specs.Places.{log_slice}
@@ -11,11 +11,11 @@ use Rattle.array_image.specs.SoundArray.{first_unsynced}
 use Rattle.array_image.specs.States.{state_in}
 use Rattle.array_image.proofs.Frames.{state_same}
 use Rattle.array_model.specs.View.{View, is_whole_array, shape_of}
-use Rattle.array_model.specs.Says.{Holds, Says}
-use Rattle.array_model.specs.ArrayCalls.{Acts, Turns}
+use Rattle.array_model.specs.Says.{ArrayInvariant, ImageShowsArray}
+use Rattle.array_model.specs.ArrayCalls.{ArrayCall, ImageInCall}
 use Rattle.array_core.specs.TruthLeft.{HasTruthOf, LeavesTruth}
 use Rattle.raid_laws.specs.Laws.{stood_left}
-use Rattle.raid_laws.specs.Moves.{IsAmid, IsHeeded, IsSet}
+use Rattle.raid_laws.specs.Moves.{IsTrackedInCall, IsHeeded, IsSet}
 use Rattle.raid_laws.specs.Raid.{Raid, gone_in}
 use Rattle.raid_laws.specs.Rows.{KeepsLacking, LackingFrom, LeavesLacking}
 use Rattle.raid_laws.proofs.Changed.{called}
@@ -24,17 +24,17 @@ use Rattle.raid_laws.proofs.LackingRows.{lacking_by, lacking_truth, lacking_whol
 use Rattle.raid_laws.proofs.Parts.{turned_state}
 use Rattle.raid_laws.proofs.Whole.{heeded_gone}
 
-module _ (v : Raid) (f : ℕ → View) (number m : ℕ) (a b : Seen) (vals now : ℕ → Values) (spent : ℕ → Bool) (set : IsSet v a) (heeded : IsHeeded v) (low : m < v.state.made)
-    (amid : IsAmid v a m vals spent) (standing : IsAmid (called v f number) b m now spent)
-    (acts : Acts v.state (v.arrays m) (f m) spent a b (shape_of (v.arrays m)) vals (Says v.state (v.arrays m).number (shape_of (v.arrays m)) now spent) (shape_of (v.arrays m)) now) where
+module _ (v : Raid) (f : ℕ → View) (number m : ℕ) (a b : RackView) (vals now : ℕ → Values) (spent : ℕ → Bool) (set : IsSet v a) (heeded : IsHeeded v) (low : m < v.state.made)
+    (amid : IsTrackedInCall v a m vals spent) (standing : IsTrackedInCall (called v f number) b m now spent)
+    (acts : ArrayCall v.state (v.arrays m) (f m) spent a b (shape_of (v.arrays m)) vals (ImageShowsArray v.state (v.arrays m).number (shape_of (v.arrays m)) now spent) (shape_of (v.arrays m)) now) where
   abbrev Before : Type 0
-  Before = Holds v.state (shape_of (v.arrays m)) (v.arrays m) vals spent a
+  Before = ArrayInvariant v.state (shape_of (v.arrays m)) (v.arrays m) vals spent a
 
   abbrev During : Image → Type 0
-  During r = Holds v.state (shape_of (v.arrays m)) (v.arrays m) vals spent a → Says v.state (v.arrays m).number (shape_of (v.arrays m)) now spent r
+  During r = ArrayInvariant v.state (shape_of (v.arrays m)) (v.arrays m) vals spent a → ImageShowsArray v.state (v.arrays m).number (shape_of (v.arrays m)) now spent r
 
-  holds : Holds v.state (shape_of (v.arrays m)) (v.arrays m) vals spent a
-  holds = subst (λ (s : Shape). Holds v.state s (v.arrays m) vals spent a) (amid.marked (λ p current. heeded_gone v heeded p)) amid.stood.holds
+  holds : ArrayInvariant v.state (shape_of (v.arrays m)) (v.arrays m) vals spent a
+  holds = subst (λ (s : Shape). ArrayInvariant v.state s (v.arrays m) vals spent a) (amid.marked (λ p current. heeded_gone v heeded p)) amid.stood.holds
 
   number_is : (v.arrays m).number ≡ m
   number_is = (set.arrays m low).number
@@ -53,7 +53,7 @@ module _ (v : Raid) (f : ℕ → View) (number m : ℕ) (a b : Seen) (vals now :
   shape_each : HasEach HasShape a b
   shape_each = record {
     leaves = λ traced.
-        leaves_weaker (λ c. IsInside a.sectors c → Turns (v.arrays m).number a b During c) (λ c. IsInside a.sectors c → HasShape (replayed a.sectors c))
+        leaves_weaker (λ c. IsInside a.sectors c → ImageInCall (v.arrays m).number a b During c) (λ c. IsInside a.sectors c → HasShape (replayed a.sectors c))
         (λ c turn inside.
         let turns = turn inside in (
           turned_state v.state amid.durable vals spent (gone_in v) v a b m (v.arrays m).number During c amid.stood turns,

@@ -3,18 +3,18 @@ use Rattle.std.proofs.Common.{◌≡◌, ℕ, zero, suc, ◌+◌, ◌<◌, ◌�
 use Rattle.std.specs.Option.{option_map_or}
 use Rattle.std.specs.List.{range_with_len}
 use Rattle.std.proofs.lemmas.List.Sums.{sum_by-cons}
-use Rattle.rack.specs.Seen.{Image, Seen}
+use Rattle.rack.specs.Seen.{Image, RackView}
 use Rattle.rack.specs.Sequences.{OnlyReads}
 use Rattle.md_super.specs.declared.superblock.Super.{Super}
 use Rattle.pool_state.specs.declared.contents.State.{State}
 use Rattle.array_image.specs.Arrays.{Member, Shape, shape_in}
-use Rattle.array_image.specs.Left.{IsCalm}
+use Rattle.array_image.specs.Left.{PendingOnlyFor}
 use Rattle.array_image.specs.SoundArray.{first_unsynced}
 use Rattle.array_image.specs.States.{state_in}
 use Rattle.array_image.specs.Supers.{truth_in}
 use Rattle.array_image.proofs.Frames.{Agree, SameSupers, shape_by_supers, supers_same, truth_by_supers}
 use Rattle.array_model.specs.View.{View, IsArray, is_whole_array, is_whole_seat, member_on, shape_of}
-use Rattle.array_model.proofs.Moves.{Moves as CallMoves}
+use Rattle.array_model.proofs.Moves.{CallRefines as CallMoves}
 use Rattle.array_model.proofs.RowWrites.{whole_seat}
 use Rattle.array_core.specs.Contents.{lacking_in}
 use Rattle.array_core.specs.TruthLeft.{HasTruthOf}
@@ -69,7 +69,7 @@ lacking_whole row n s u r is_array whole state_is shape_is at shape t state is l
     absurd (omega (arith, some, none))
 
 -- contents of a shape whose truth is that of contents from before, of the same shape, or a new one
-pub lacking_truth : (row n : ℕ) (s : State) (first : Shape) (a : Seen) (new : Super → Type 0) (r : Image) → state_in r ≡ Some s → shape_in s r n ≡ Some first
+pub lacking_truth : (row n : ℕ) (s : State) (first : Shape) (a : RackView) (new : Super → Type 0) (r : Image) → state_in r ≡ Some s → shape_in s r n ≡ Some first
     → HasBefore (λ e. (state_in e ≡ Some s) × (shape_in s e n ≡ Some first)) a → HasBefore (LackingFrom row n) a
     → ((t : Super) → new t → row ≤ first_unsynced t) → HasTruthOf s n a new r → LackingFrom row n r
 lacking_truth row n s first a new r state_is shape_is before images fresh truths at shape t state is lacks truth =
@@ -85,7 +85,7 @@ lacking_truth row n s first a new r state_is shape_is before images fresh truths
 -- ---- parts
 
 -- a part that resyncs no row
-pub lacking_by : (v w : Raid) (a b : Seen) (n : ℕ) → (w.arrays n).resync ≡ (v.arrays n).resync → (w.arrays n).young ≡ (v.arrays n).young → LeavesLacking v a n
+pub lacking_by : (v w : Raid) (a b : RackView) (n : ℕ) → (w.arrays n).resync ≡ (v.arrays n).resync → (w.arrays n).young ≡ (v.arrays n).young → LeavesLacking v a n
     → HasEach (LackingFrom (v.arrays n).resync n) a b → KeepsLacking v w a b n
 lacking_by v w a b n resync young leaves each = record {
   later = omega (arith, resync);
@@ -97,17 +97,17 @@ lacking_by v w a b n resync young leaves each = record {
 }
 
 -- where nothing is called
-pub lacking_still : (v w : Raid) (x : Seen) (n : ℕ) → KeepsClear (v.arrays n) (w.arrays n) → LeavesLacking v x n → KeepsLacking v w x x n
+pub lacking_still : (v w : Raid) (x : RackView) (n : ℕ) → KeepsClear (v.arrays n) (w.arrays n) → LeavesLacking v x n → KeepsLacking v w x x n
 lacking_still v w x n clear leaves = lacking_by v w x x n clear.resync clear.young leaves (each_still (LackingFrom (v.arrays n).resync n) x leaves.images)
 
 -- calls that write nothing
-pub lacking_read : (v w : Raid) (a b : Seen) (n : ℕ) → a.lasting → OnlyReads a b → KeepsClear (v.arrays n) (w.arrays n) → LeavesLacking v a n → KeepsLacking v w a b n
+pub lacking_read : (v w : Raid) (a b : RackView) (n : ℕ) → a.lasting → OnlyReads a b → KeepsClear (v.arrays n) (w.arrays n) → LeavesLacking v a n → KeepsLacking v w a b n
 lacking_read v w a b n lasting reads clear leaves = lacking_by v w a b n clear.resync clear.young leaves (each_read (LackingFrom (v.arrays n).resync n) a b lasting reads leaves.images)
 
 -- a call of another array
-pub lacking_other : (v w : Raid) (a b : Seen) (n m : ℕ) (H Q : Type 0) (during : Image → Type 0)
+pub lacking_other : (v w : Raid) (a b : RackView) (n m : ℕ) (H Q : Type 0) (during : Image → Type 0)
     → m < 16 → n < 16 → (n ≡ m → ⊥) → (v.arrays m).number ≡ m → w.arrays n ≡ v.arrays n → a.lasting
-    → CallMoves (v.arrays m).number a b H during Q → IsCalm (v.arrays m).number a
+    → CallMoves (v.arrays m).number a b H during Q → PendingOnlyFor (v.arrays m).number a
     → LeavesLacking v a n → KeepsLacking v w a b n
 lacking_other v w a b n m H Q during few also other number same lasting acts calm leaves =
     lacking_by v w a b n (ap (λ (u : View). u.resync) same) (ap (λ (u : View). u.young) same) leaves

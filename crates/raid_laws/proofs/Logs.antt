@@ -2,7 +2,7 @@
 use Rattle.std.proofs.Common.{◌≡◌, ℕ, ◌≤◌, ◌<◌, Bool, true, false, List, [], Some, refl, sym, ap, subst, ◌∙◌, inl, arith}
 use Rattle.std.proofs.lemmas.Option.{none-some}
 use Rattle.rack.specs.Calls.{KeepsAll}
-use Rattle.rack.specs.Seen.{Image, Seen, IsPick, Stays}
+use Rattle.rack.specs.Seen.{Image, RackView, IsPick, SameRack}
 use Rattle.rack.specs.Joins.{leaves_same, leaves_then, leaves_weaker}
 use Rattle.rack.specs.Targets.{Target, look}
 use Rattle.pool_state.specs.declared.contents.State.{State}
@@ -11,20 +11,20 @@ use Rattle.array_image.specs.Places.{log_slice}
 use Rattle.array_image.specs.Record.{pending}
 use Rattle.array_image.specs.States.{is_current, state_in}
 use Rattle.array_image.specs.Arrays.{replayed}
-use Rattle.array_image.specs.Left.{IsCalm, IsCalmIn, IsInside, Picks, deciding}
+use Rattle.array_image.specs.Left.{PendingOnlyFor, IsPendingOnlyFor, IsInside, Picks, deciding}
 use Rattle.array_image.proofs.Frames.{state_same}
 use Rattle.array_image.proofs.Replays.{replayed_as_is}
-use Rattle.array_model.specs.ArrayCalls.{Turns}
+use Rattle.array_model.specs.ArrayCalls.{ImageInCall}
 use Rattle.array_model.proofs.Keeping.{logs_of, pick_before}
-use Rattle.array_model.proofs.Moves.{Moves as CallMoves}
+use Rattle.array_model.proofs.Moves.{CallRefines as CallMoves}
 use Rattle.array_model.proofs.Others.{state_apart}
 use Rattle.log_laws.specs.Commits.{Stands}
-use Rattle.log_laws.specs.Kept.{LogKept}
-use Rattle.log_laws.specs.Saying.{CopiesIn, HoldsCopies, SaysState}
+use Rattle.log_laws.specs.Kept.{LogInvariant}
+use Rattle.log_laws.specs.Saying.{CopiesIn, HoldsCopies, RecoversTo}
 use Rattle.log_laws.specs.Standing.{LogsStand, StatesStand}
 use Rattle.log_laws.proofs.Kept.{kept_idle, kept_state, live_after, live_on, stands_of}
 use Rattle.log_laws.proofs.HeldCopies.{copies_same, held_copies, holds_keeps, kept_latest, kept_says, says_by}
-use Rattle.raid_laws.specs.Book.{IsAfter, after_same, after_then}
+use Rattle.raid_laws.specs.Book.{OnlyMarksSince, after_same, after_then}
 use Rattle.raid_laws.specs.Logs.{KeepsLogs, LogsBetween, StandsSince}
 use Rattle.raid_laws.specs.Since.{AreEach, HoldsEach, IsSince, IsTakenSince, KeepsEach, each_still, each_then}
 use Rattle.raid_laws.proofs.Own.{look_nothing}
@@ -35,17 +35,17 @@ abbrev pub HasSomeone : State → (ℕ → Bool) → Type 0
 HasSomeone s gone = (place : ℕ) × (is_current s place ≡ true) × (gone place ≡ false)
 
 -- contents that say a state say it between the same
-pub between_same : (s : State) (sectors : ℕ → ℕ) (c : Image) → SaysState s sectors c → LogsBetween s s sectors c
+pub between_same : (s : State) (sectors : ℕ → ℕ) (c : Image) → RecoversTo s sectors c → LogsBetween s s sectors c
 between_same s sectors c says = record { state = s; later = after_same s; sooner = after_same s; says = says }
 
 pub stands_same : (s : State) (c : Image) → state_in c ≡ Some s → StandsSince s c
-stands_same s c here stood is = subst (IsAfter s) (some_state s stood (sym here ∙ is)) (after_same s)
+stands_same s c here stood is = subst (OnlyMarksSince s) (some_state s stood (sym here ∙ is)) (after_same s)
   where
     some_state : (a b : State) → Some a ≡ Some b → a ≡ b
     some_state a b same = cc
 
 -- where nothing is called
-pub logs_still : (s : State) (x : Seen) → HoldsCopies s x → KeepsLogs s s x x
+pub logs_still : (s : State) (x : RackView) → HoldsCopies s x → KeepsLogs s s x x
 logs_still s x holds = record {
   leaves = λ traced. leaves_same x (λ c. IsInside x.sectors c → LogsBetween s s x.sectors c);
   stands = λ traced. leaves_same x (λ c. IsInside x.sectors c → StandsSince s c);
@@ -55,7 +55,7 @@ logs_still s x holds = record {
 }
 
 -- parts in a row
-pub logs_then : (s t u : State) (a b c : Seen) → IsAfter s t → IsAfter t u → Stays a b → KeepsLogs s t a b → KeepsLogs t u b c → KeepsLogs s u a c
+pub logs_then : (s t u : State) (a b c : RackView) → OnlyMarksSince s t → OnlyMarksSince t u → SameRack a b → KeepsLogs s t a b → KeepsLogs t u b c → KeepsLogs s u a c
 logs_then s t u a b c first second stays one two = record {
   leaves = λ traced.
       leaves_then
@@ -88,8 +88,8 @@ logs_then s t u a b c first second stays one two = record {
 }
 
 -- calls that bring no value
-pub logs_read : (s : State) (number : ℕ) (gone : ℕ → Bool) (a b : Seen) → a.lasting → Stays a b → KeepsAll a b
-    → LogKept s number gone a → HasSomeone s gone → HoldsCopies s a → KeepsLogs s s a b
+pub logs_read : (s : State) (number : ℕ) (gone : ℕ → Bool) (a b : RackView) → a.lasting → SameRack a b → KeepsAll a b
+    → LogInvariant s number gone a → HasSomeone s gone → HoldsCopies s a → KeepsLogs s s a b
 logs_read s number gone a b lasting stays keeps kept someone holds = record {
   leaves = λ traced.
       leaves_weaker (IsPick a b a.held) (λ c. IsInside a.sectors c → LogsBetween s s a.sectors c)
@@ -107,46 +107,46 @@ logs_read s number gone a b lasting stays keeps kept someone holds = record {
 }
 
 -- where all current places are left, nothing is pending for other arrays
-pub kept_calm : (s : State) (number : ℕ) (gone : ℕ → Bool) (x : Seen) (m : ℕ) → LogKept s number gone x
-    → ((p : ℕ) → is_current s p ≡ true → gone p ≡ false) → IsCalm m x
+pub kept_calm : (s : State) (number : ℕ) (gone : ℕ → Bool) (x : RackView) (m : ℕ) → LogInvariant s number gone x
+    → ((p : ℕ) → is_current s p ≡ true → gone p ≡ false) → PendingOnlyFor m x
 kept_calm s number gone x m kept all c picks d t apart =
     ap (λ (xs : List Target). look xs d t) (kept_idle s number gone x c kept picks all) ∙ look_nothing d t
 
 -- ---- a call of one array
 
-module _ (s : State) (number : ℕ) (gone : ℕ → Bool) (n : ℕ) (a b : Seen) (H Q : Type 0) (P : Image → Type 0) (lasting : a.lasting)
-    (all : (p : ℕ) → is_current s p ≡ true → gone p ≡ false) (moves : CallMoves n a b H P Q) (kept : LogKept s number gone a)
+module _ (s : State) (number : ℕ) (gone : ℕ → Bool) (n : ℕ) (a b : RackView) (H Q : Type 0) (P : Image → Type 0) (lasting : a.lasting)
+    (all : (p : ℕ) → is_current s p ≡ true → gone p ≡ false) (moves : CallMoves n a b H P Q) (kept : LogInvariant s number gone a)
     (someone : HasSomeone s gone) (holds : HoldsCopies s a) where
-  calm : IsCalm n a
+  calm : PendingOnlyFor n a
   calm = kept_calm s number gone a n kept all
 
   -- no copy of a state is pending where an array's slices alone are
-  none : (x : Image) (p : ℕ) (u : List ℕ) → IsCalmIn n x → look (pending (deciding x) x) (log_slice p) 0 ≡ Some u → ⊥
+  none : (x : Image) (p : ℕ) (u : List ℕ) → IsPendingOnlyFor n x → look (pending (deciding x) x) (log_slice p) 0 ≡ Some u → ⊥
   none x p u calm is = none-some u (sym (calm (log_slice p) 0 (state_apart n p)) ∙ is)
 
   -- so copies stand as they are replayed
-  as_is : (sectors : ℕ → ℕ) (x : Image) (p : ℕ) → IsCalmIn n x → replayed sectors x (log_slice p) 0 ≡ x (log_slice p) 0
+  as_is : (sectors : ℕ → ℕ) (x : Image) (p : ℕ) → IsPendingOnlyFor n x → replayed sectors x (log_slice p) 0 ≡ x (log_slice p) 0
   as_is sectors x p calm = replayed_as_is sectors x (log_slice p) 0 (calm (log_slice p) 0 (state_apart n p))
 
-  replays_same : (c : Image) (turns : Turns n a b (λ r. H → P r) c) (p : ℕ)
+  replays_same : (c : Image) (turns : ImageInCall n a b (λ r. H → P r) c) (p : ℕ)
       → replayed a.sectors c (log_slice p) 0 ≡ replayed a.sectors turns.left.0 (log_slice p) 0
   replays_same c turns p = turns.others (log_slice p) 0 (state_apart n p) ∙ turns.left.2 (log_slice p) 0
 
   -- copies stand as a stop before the call might leave them
-  copies_stand : (c : Image) (turns : Turns n a b (λ r. H → P r) c) (p : ℕ) → c (log_slice p) 0 ≡ turns.left.0 (log_slice p) 0
+  copies_stand : (c : Image) (turns : ImageInCall n a b (λ r. H → P r) c) (p : ℕ) → c (log_slice p) 0 ≡ turns.left.0 (log_slice p) 0
   copies_stand c turns p =
       sym (as_is a.sectors c p (turns.calm calm)) ∙ replays_same c turns p ∙ as_is a.sectors turns.left.0 p (calm turns.left.0 (logs_of turns.left.0 turns.left.1))
 
-  turned_stands : (c : Image) → Turns n a b (λ r. H → P r) c → state_in c ≡ Some s
+  turned_stands : (c : Image) → ImageInCall n a b (λ r. H → P r) c → state_in c ≡ Some s
   turned_stands c turns =
       state_same c turns.left.0 (copies_stand c turns) ∙ kept_state s number gone a turns.left.0 someone.0 kept (logs_of turns.left.0 turns.left.1) someone.1 someone.2
 
-  pub turned : (c : Image) → Turns n a b (λ r. H → P r) c → SaysState s a.sectors c
+  pub turned : (c : Image) → ImageInCall n a b (λ r. H → P r) c → RecoversTo s a.sectors c
   turned c turns =
       let e = turns.left.0 in
       let picks : Picks a e = turns.left.1 in
       let stand : Stands a e = stands_of e picks in
-      let calm_now : IsCalmIn n c = turns.calm calm in
+      let calm_now : IsPendingOnlyFor n c = turns.calm calm in
       let same : (p : ℕ) → replayed a.sectors c (log_slice p) 0 ≡ replayed a.sectors e (log_slice p) 0 = replays_same c turns in
       let stands : (p : ℕ) → c (log_slice p) 0 ≡ e (log_slice p) 0 = copies_stand c turns in
       let logs : LogsStand a e = record { picks = λ p t live. picks.picks (log_slice p) t live; inside = λ p t out. picks.inside (log_slice p) t out } in
@@ -167,7 +167,7 @@ module _ (s : State) (number : ℕ) (gone : ℕ → Bool) (n : ℕ) (a b : Seen)
   pub each_call : (R : ℕ → List ℕ → Type 0) → HoldsEach R a → KeepsEach R a b
   each_call R held = record {
     leaves = λ traced.
-        leaves_weaker (λ c. IsInside a.sectors c → Turns n a b (λ r. H → P r) c) (λ c. IsInside a.sectors c → AreEach R a.sectors c)
+        leaves_weaker (λ c. IsInside a.sectors c → ImageInCall n a b (λ r. H → P r) c) (λ c. IsInside a.sectors c → AreEach R a.sectors c)
         (λ c found inside p few there.
         let turns = found inside in
         subst (R p) (sym (copies_stand c turns p))
@@ -181,11 +181,11 @@ module _ (s : State) (number : ℕ) (gone : ℕ → Bool) (n : ℕ) (a b : Seen)
   pub logs_call : KeepsLogs s s a b
   logs_call = record {
     leaves = λ traced.
-        leaves_weaker (λ c. IsInside a.sectors c → Turns n a b (λ r. H → P r) c) (λ c. IsInside a.sectors c → LogsBetween s s a.sectors c)
+        leaves_weaker (λ c. IsInside a.sectors c → ImageInCall n a b (λ r. H → P r) c) (λ c. IsInside a.sectors c → LogsBetween s s a.sectors c)
         (λ c turns inside. between_same s a.sectors c (turned c (turns inside)))
         (moves.leaves traced);
     stands = λ traced.
-        leaves_weaker (λ c. IsInside a.sectors c → Turns n a b (λ r. H → P r) c) (λ c. IsInside a.sectors c → StandsSince s c)
+        leaves_weaker (λ c. IsInside a.sectors c → ImageInCall n a b (λ r. H → P r) c) (λ c. IsInside a.sectors c → StandsSince s c)
         (λ c turns inside. stands_same s c (turned_stands c (turns inside)))
         (moves.leaves traced);
     holds = record {

@@ -1,7 +1,7 @@
 -- A commit of marks leaves no row of an array to resync but those that are left in it.
 use Rattle.std.proofs.Common.{◌≡◌, ℕ, ◌<◌, ◌≤◌, Bool, true, false, List, Option, Some, unwrap_or, refl, sym, ap, subst, ◌∙◌, inl, inr}
 use Rattle.rack.specs.Values.{Values}
-use Rattle.rack.specs.Seen.{Image, Seen}
+use Rattle.rack.specs.Seen.{Image, RackView}
 use Rattle.rack.specs.Joins.{leaves_weaker}
 use Rattle.rack.specs.Targets.{put}
 use Rattle.pool_state.specs.declared.contents.State.{State}
@@ -13,13 +13,13 @@ use Rattle.array_image.proofs.Frames.{Agree, state_same, supers_same, truth_by_s
 use Rattle.array_image.specs.Arrays.{Shape, replayed}
 use Rattle.array_image.specs.Left.{IsInside, LogsInside, Picks}
 use Rattle.log_laws.specs.View.{LogView}
-use Rattle.log_laws.specs.Commits.{Commits}
+use Rattle.log_laws.specs.Commits.{ImageInCommit}
 use Rattle.log_laws.proofs.Kept.{before_inside, joined_state, stands_of}
 use Rattle.array_model.specs.View.{View, IsArray}
 use Rattle.array_core.specs.Superblocks.{is_settled}
 use Rattle.raid_laws.specs.Laws.{stood_left}
 use Rattle.raid_laws.specs.Marking.{Restates}
-use Rattle.raid_laws.specs.Raid.{Raid, Stood}
+use Rattle.raid_laws.specs.Raid.{Raid, InvariantInCall}
 use Rattle.raid_laws.specs.Rows.{KeepsLacking, KeepsRows, LackingFrom, LeavesFrom, LeavesLacking, LeavesRows}
 use Rattle.raid_laws.proofs.Marking.{MarksCall, alike_agree, alike_state, restated_after}
 use Rattle.raid_laws.proofs.EachImage.{GoesBy, HasBefore, HasEach}
@@ -27,7 +27,7 @@ use Rattle.raid_laws.proofs.LackingRows.{lacking_all, lacking_by, lacking_same}
 use Rattle.raid_laws.proofs.Rows.{KeepsClear, from_same, rows_by, settled_rows}
 
 -- Contents that have the new state and the superblocks of the commit leave the rows that its truth does.
-pub commit_leaves : (t : State) (noted : Shape) (view : View) (row : ℕ) (l : LogView) (a : Seen) (n : ℕ) → Restates t noted false view l.added a n → row ≤ first_unsynced view.truth
+pub commit_leaves : (t : State) (noted : Shape) (view : View) (row : ℕ) (l : LogView) (a : RackView) (n : ℕ) → Restates t noted false view l.added a n → row ≤ first_unsynced view.truth
     → (before r : Image) → Picks a before → state_in r ≡ Some t → Agree n r (put a.sectors l.added before) → LeavesFrom row n r
 commit_leaves t noted view row l a n restates low before r picks state_is agree at u state truth =
     let e : Image = put a.sectors l.added before in
@@ -37,21 +37,21 @@ commit_leaves t noted view row l a n restates low before r picks state_is agree 
     subst (λ k. row ≤ k) (sym (ap first_unsynced fields)) low
 
 -- so those of an array that was settled leave the rows that are left
-pub commit_rows : (t : State) (noted : Shape) (view own : View) (l : LogView) (a : Seen) (n : ℕ) → Restates t noted false view l.added a n → IsArray view → KeepsClear own view
+pub commit_rows : (t : State) (noted : Shape) (view own : View) (l : LogView) (a : RackView) (n : ℕ) → Restates t noted false view l.added a n → IsArray view → KeepsClear own view
     → is_settled own ≡ true → own.young ≡ false → (before r : Image) → Picks a before → state_in r ≡ Some t → Agree n r (put a.sectors l.added before) → LeavesFrom own.resync n r
 commit_rows t noted view own l a n restates is_array clear settled young =
     commit_leaves t noted view own.resync l a n restates
     (subst (λ k. k ≤ first_unsynced view.truth) clear.resync (settled_rows view is_array (clear.young ∙ young) (clear.settled young settled)))
 
-module _ (s t : State) (durable noted : Shape) (view : View) (vals : ℕ → Values) (spent gone : ℕ → Bool) (v w : Raid) (l : LogView) (on lost : List ℕ) (a b : Seen) (n : ℕ)
+module _ (s t : State) (durable noted : Shape) (view : View) (vals : ℕ → Values) (spent gone : ℕ → Bool) (v w : Raid) (l : LogView) (on lost : List ℕ) (a b : RackView) (n : ℕ)
     (few : n < 16) (call : MarksCall s t gone l on lost a b) (restates : Restates t noted false view l.added a n)
-    (stood : Stood s durable vals spent gone v a n) (gone_now : ℕ → Bool) (after : Stood t noted vals spent gone_now w b n) where
+    (stood : InvariantInCall s durable vals spent gone v a n) (gone_now : ℕ → Bool) (after : InvariantInCall t noted vals spent gone_now w b n) where
   -- what images had before it, and those with its superblocks have
   pub marks_each : (P : Image → Type 0) → GoesBy n P → HasBefore P a
       → ((before r : Image) → Picks a before → state_in r ≡ Some t → Agree n r (put a.sectors l.added before) → P r) → HasEach P a b
   marks_each P by images fresh = record {
     leaves = λ traced.
-        leaves_weaker (λ c. LogsInside a.sectors c → Commits l.added a c) (λ c. IsInside a.sectors c → P (replayed a.sectors c))
+        leaves_weaker (λ c. LogsInside a.sectors c → ImageInCommit l.added a c) (λ c. IsInside a.sectors c → P (replayed a.sectors c))
         (λ c commits inside. moment c inside (commits (λ place i out. inside (log_slice place) i out)))
         (call.commit.stops traced call.ready call.decides);
     after = λ r left.
@@ -60,7 +60,7 @@ module _ (s t : State) (durable noted : Shape) (view : View) (vals : ℕ → Val
         fresh at.0 r at.1 (state_same r (replayed b.sectors left.0) (λ place. left.2 (log_slice place) 0) ∙ read.0) at.2;
   }
     where
-      moment : (c : Image) → IsInside a.sectors c → Commits l.added a c → P (replayed a.sectors c)
+      moment : (c : Image) → IsInside a.sectors c → ImageInCommit l.added a c → P (replayed a.sectors c)
       moment c inside commits =
           let before = commits.before in
           let picks = before_inside l.added a c before inside commits.stands commits.either in

@@ -2,7 +2,7 @@
 use Rattle.std.proofs.Common.{◌≡◌, ℕ, ◌<◌, ◌≤◌, Bool, true, false, refl, sym, subst, ◌∙◌, inl, inr, arith}
 use Rattle.std.proofs.lemmas.Bool.{cases_Bool, both_ways}
 use Rattle.rack.specs.Values.{Values}
-use Rattle.rack.specs.Seen.{Image, Seen, Stays}
+use Rattle.rack.specs.Seen.{Image, RackView, SameRack}
 use Rattle.rack.specs.Moments.{Leaves}
 use Rattle.rack.specs.Joins.{stays_same, stays_then, leaves_same, leaves_then, leaves_weaker, keeps_same, keeps_then, live_first, live_second, rose_later, rose_early}
 use Rattle.pool_state.specs.declared.contents.State.{State}
@@ -11,9 +11,9 @@ use Rattle.array_image.specs.Places.{place_of}
 use Rattle.array_image.specs.States.{is_current}
 use Rattle.array_image.specs.Left.{IsInside}
 use Rattle.array_model.specs.View.{HasFault}
-use Rattle.raid_laws.specs.Book.{IsAfter, after_same, after_then}
+use Rattle.raid_laws.specs.Book.{OnlyMarksSince, after_same, after_then}
 use Rattle.raid_laws.specs.Raid.{Raid, is_left}
-use Rattle.array_model.specs.ArrayCalls.{Covers}
+use Rattle.array_model.specs.ArrayCalls.{IncludesSpent}
 use Rattle.raid_laws.specs.Frames.{frame_of}
 use Rattle.raid_laws.specs.Logs.{KeepsLogs}
 use Rattle.raid_laws.specs.Marking.{SaysBetween, TiedBetween}
@@ -24,27 +24,27 @@ use Rattle.raid_laws.proofs.Rows.{clear_same, rows_still}
 use Rattle.raid_laws.proofs.LackingRows.{lacking_still}
 use Rattle.raid_laws.specs.Rows.{lacking_then, rows_then}
 use Rattle.raid_laws.specs.Losing.{arrays_then, only_same}
-use Rattle.raid_laws.specs.Moves.{IsSet, IsAmid, KeepsMarked, PartOf, AreCaused, Brings, Moves}
+use Rattle.raid_laws.specs.Moves.{IsSet, IsTrackedInCall, KeepsMarked, SubCall, AreCaused, ChangesData, ChangesNoData}
 
 -- ---- one array
 
 -- where nothing is called, an array that stands after it is all that is owed
-pub part_still : (v w : Raid) (x : Seen) (n : ℕ) (vals : ℕ → Values) (spent : ℕ → Bool)
-    → w.state ≡ v.state → frame_of (w.arrays n).truth ≡ frame_of (v.arrays n).truth → (holds : IsAmid v x n vals spent → IsAmid w x n vals spent)
-    → ((amid : IsAmid v x n vals spent) → (holds amid).durable ≡ amid.durable) → PartOf v w x x n vals vals spent
+pub part_still : (v w : Raid) (x : RackView) (n : ℕ) (vals : ℕ → Values) (spent : ℕ → Bool)
+    → w.state ≡ v.state → frame_of (w.arrays n).truth ≡ frame_of (v.arrays n).truth → (holds : IsTrackedInCall v x n vals spent → IsTrackedInCall w x n vals spent)
+    → ((amid : IsTrackedInCall v x n vals spent) → (holds amid).durable ≡ amid.durable) → SubCall v w x x n vals vals spent
 part_still v w x n vals spent same framed holds still =
     record {
       holds = holds;
       leaves = λ traced.
           leaves_same x
-          (λ c. IsInside x.sectors c → (amid : IsAmid v x n vals spent) → TiedBetween v.state w.state amid.durable (holds amid).durable n vals spent (replayed x.sectors c));
+          (λ c. IsInside x.sectors c → (amid : IsTrackedInCall v x n vals spent) → TiedBetween v.state w.state amid.durable (holds amid).durable n vals spent (replayed x.sectors c));
       reach = λ amid. subst (λ (shape : Shape). KeepsReach w.state amid.durable shape) (sym (still amid)) (reach_same (is_current w.state) amid.durable);
       logs = λ copies amid. subst (λ (s : State). KeepsLogs v.state s x x) (sym same) (logs_still v.state x copies);
       frame = λ g before amid. frame_still g n (w.arrays n) x (framed ∙ before);
     }
 
 -- contents that say an array by a state between two, say it by one between more
-tied_sooner : (s t u : State) (first mid last : Shape) (n : ℕ) (vals : ℕ → Values) (spent : ℕ → Bool) (r : Image) → IsAfter t u → KeepsReach u mid last
+tied_sooner : (s t u : State) (first mid last : Shape) (n : ℕ) (vals : ℕ → Values) (spent : ℕ → Bool) (r : Image) → OnlyMarksSince t u → KeepsReach u mid last
     → TiedBetween s t first mid n vals spent r → TiedBetween s u first last n vals spent r
 tied_sooner s t u first mid last n vals spent r after reach at =
     let by = at.says in
@@ -54,7 +54,7 @@ tied_sooner s t u first mid last n vals spent r after reach at =
       to = reach_then (is_current t) (is_current u) by.shape mid last after.current at.to reach;
     }
 
-tied_later : (s t u : State) (first mid last : Shape) (n : ℕ) (vals : ℕ → Values) (spent : ℕ → Bool) (r : Image) → IsAfter s t → KeepsReach t first mid
+tied_later : (s t u : State) (first mid last : Shape) (n : ℕ) (vals : ℕ → Values) (spent : ℕ → Bool) (r : Image) → OnlyMarksSince s t → KeepsReach t first mid
     → TiedBetween t u mid last n vals spent r → TiedBetween s u first last n vals spent r
 tied_later s t u first mid last n vals spent r after reach at =
     let by = at.says in
@@ -65,19 +65,19 @@ tied_later s t u first mid last n vals spent r after reach at =
     }
 
 -- a second part that depends on what stood before the first
-pub parts_within : (v w z : Raid) (a b c : Seen) (n : ℕ) (vals now : ℕ → Values) (spent : ℕ → Bool)
-    → Stays a b → IsAfter v.state w.state → IsAfter w.state z.state → (b.traced → Leaves b c (λ i. Unit {0}))
-    → PartOf v w a b n vals now spent → (IsAmid v a n vals spent → PartOf w z b c n now now spent) → PartOf v z a c n vals now spent
+pub parts_within : (v w z : Raid) (a b c : RackView) (n : ℕ) (vals now : ℕ → Values) (spent : ℕ → Bool)
+    → SameRack a b → OnlyMarksSince v.state w.state → OnlyMarksSince w.state z.state → (b.traced → Leaves b c (λ i. Unit {0}))
+    → SubCall v w a b n vals now spent → (IsTrackedInCall v a n vals spent → SubCall w z b c n now now spent) → SubCall v z a c n vals now spent
 parts_within v w z a b c n vals now spent stays first second leaves one two =
     record {
       holds = λ amid. (two amid).holds (one.holds amid);
       leaves = λ traced.
           let all = leaves (stays.traced traced) in
-          let Said : Image → Type 0 = λ i. IsInside a.sectors i → (amid : IsAmid v a n vals spent)
+          let Said : Image → Type 0 = λ i. IsInside a.sectors i → (amid : IsTrackedInCall v a n vals spent)
           → TiedBetween v.state z.state amid.durable ((two amid).holds (one.holds amid)).durable n now spent (replayed a.sectors i) in
           leaves_then Said
           (leaves_weaker
-          (λ i. IsInside a.sectors i → (amid : IsAmid v a n vals spent) → TiedBetween v.state w.state amid.durable (one.holds amid).durable n now spent (replayed a.sectors i))
+          (λ i. IsInside a.sectors i → (amid : IsTrackedInCall v a n vals spent) → TiedBetween v.state w.state amid.durable (one.holds amid).durable n now spent (replayed a.sectors i))
           Said
           (λ i says inside amid.
           tied_sooner v.state w.state z.state amid.durable (one.holds amid).durable ((two amid).holds (one.holds amid)).durable n now spent (replayed a.sectors i) second
@@ -107,31 +107,31 @@ parts_within v w z a b c n vals now spent stays first second leaves one two =
     }
 
 -- contents say it, whatever the shapes
-pub part_says : (v w : Raid) (a b : Seen) (n : ℕ) (vals now : ℕ → Values) (spent : ℕ → Bool) → PartOf v w a b n vals now spent → a.traced
-    → Leaves a b (λ c. IsInside a.sectors c → IsAmid v a n vals spent → SaysBetween v.state w.state n now spent (replayed a.sectors c))
+pub part_says : (v w : Raid) (a b : RackView) (n : ℕ) (vals now : ℕ → Values) (spent : ℕ → Bool) → SubCall v w a b n vals now spent → a.traced
+    → Leaves a b (λ c. IsInside a.sectors c → IsTrackedInCall v a n vals spent → SaysBetween v.state w.state n now spent (replayed a.sectors c))
 part_says v w a b n vals now spent part traced =
     leaves_weaker
-    (λ c. IsInside a.sectors c → (amid : IsAmid v a n vals spent) → TiedBetween v.state w.state amid.durable (part.holds amid).durable n now spent (replayed a.sectors c))
-    (λ c. IsInside a.sectors c → IsAmid v a n vals spent → SaysBetween v.state w.state n now spent (replayed a.sectors c))
+    (λ c. IsInside a.sectors c → (amid : IsTrackedInCall v a n vals spent) → TiedBetween v.state w.state amid.durable (part.holds amid).durable n now spent (replayed a.sectors c))
+    (λ c. IsInside a.sectors c → IsTrackedInCall v a n vals spent → SaysBetween v.state w.state n now spent (replayed a.sectors c))
     (λ c tied inside amid. (tied inside amid).says)
     (part.leaves traced)
 
 -- ---- all of them
 
 -- a mark stays
-pub marked_later : (s t : State) (p : ℕ) → IsAfter s t → is_current s p ≡ false → is_current t p ≡ false
+pub marked_later : (s t : State) (p : ℕ) → OnlyMarksSince s t → is_current s p ≡ false → is_current t p ≡ false
 marked_later s t p after gone =
     elim (cases_Bool (is_current t p)) [
       | inl is ↦ absurd (both_ways (is_current s p) gone (after.current p is))
       | inr not ↦ not
     ]
 
-unwritten_then : (v w : Raid) (a b c : Seen) → IsAfter v.state w.state → Stays a b → Stays b c → KeepsMarked v a b → KeepsMarked w b c → KeepsMarked v a c
+unwritten_then : (v w : Raid) (a b c : RackView) → OnlyMarksSince v.state w.state → SameRack a b → SameRack b c → KeepsMarked v a b → KeepsMarked w b c → KeepsMarked v a c
 unwritten_then v w a b c book first second one two d t live gone =
     keeps_then (a.held d t) (b.held d t) (c.held d t) (one d t (live_first second live) gone)
     (two d t (live_second first live) (marked_later v.state w.state (place_of d) book gone))
 
-pub moves_same : (v : Raid) (x : Seen) → IsSet v x → Moves v v x x
+pub moves_same : (v : Raid) (x : RackView) → IsSet v x → ChangesNoData v v x x
 moves_same v x set =
     record {
       stays = stays_same x set.fit;
@@ -155,7 +155,7 @@ moves_same v x set =
       lacking = λ n vals spent joined made goes covers amid leaves. lacking_still v v x n (clear_same (v.arrays n) (v.arrays n) refl) leaves;
     }
 
-pub moves_then : (v w z : Raid) (a b c : Seen) → Moves v w a b → Moves w z b c → Moves v z a c
+pub moves_then : (v w z : Raid) (a b c : RackView) → ChangesNoData v w a b → ChangesNoData w z b c → ChangesNoData v z a c
 moves_then v w z a b c one two =
     record {
       stays = stays_then one.stays two.stays;
@@ -182,14 +182,14 @@ moves_then v w z a b c one two =
           (λ amid. two.parts n vals spent (subst (λ k. n < k) (sym one.book.same.joined) joined) (still_made n made) goes covers);
       rows = λ n vals spent joined made goes covers amid rows.
           let goes_w = two.still n (still_made n made) goes in
-          let covered : Covers (w.arrays n) spent = λ y alive. two.spent n y (still_made n made) (covers y alive) in
+          let covered : IncludesSpent (w.arrays n) spent = λ y alive. two.spent n y (still_made n made) (covers y alive) in
           let first = one.rows n vals spent joined made goes_w covered amid rows in
           rows_then v w z a b c n one.stays.sectors one.stays.traced first
           (two.rows n vals spent (subst (λ k. n < k) (sym one.book.same.joined) joined) (still_made n made) goes covers
           ((one.parts n vals spent joined made goes_w covered).holds amid) first.after);
       lacking = λ n vals spent joined made goes covers amid leaves.
           let goes_w = two.still n (still_made n made) goes in
-          let covered : Covers (w.arrays n) spent = λ y alive. two.spent n y (still_made n made) (covers y alive) in
+          let covered : IncludesSpent (w.arrays n) spent = λ y alive. two.spent n y (still_made n made) (covers y alive) in
           let first = one.lacking n vals spent joined made goes_w covered amid leaves in
           lacking_then v w z a b c n one.stays.sectors one.stays.traced first
           (two.lacking n vals spent (subst (λ k. n < k) (sym one.book.same.joined) joined) (still_made n made) goes covers
@@ -213,7 +213,7 @@ moves_then v w z a b c one two =
 -- ---- parts that write
 
 -- a part that moves no value brings none
-pub moves_bring : (v w : Raid) (a b : Seen) → Moves v w a b → Brings v w a b (λ n vals. vals)
+pub moves_bring : (v w : Raid) (a b : RackView) → ChangesNoData v w a b → ChangesData v w a b (λ n vals. vals)
 moves_bring v w a b moves =
     record {
       stays = moves.stays;
@@ -232,7 +232,7 @@ moves_bring v w a b moves =
     }
 
 -- a write, and what moves no value after it
-pub brings_then : (v w z : Raid) (a b c : Seen) (now : ℕ → (ℕ → Values) → ℕ → Values) → Brings v w a b now → Moves w z b c → Brings v z a c now
+pub brings_then : (v w z : Raid) (a b c : RackView) (now : ℕ → (ℕ → Values) → ℕ → Values) → ChangesData v w a b now → ChangesNoData w z b c → ChangesData v z a c now
 brings_then v w z a b c now one two =
     record {
       stays = stays_then one.stays two.stays;
@@ -251,14 +251,14 @@ brings_then v w z a b c now one two =
           (λ amid. two.parts n (now n vals) spent (subst (λ k. n < k) (sym one.book.same.joined) joined) (still_made n made) goes covers);
       rows = λ n vals spent unwritten joined made goes covers amid rows.
           let goes_w = two.still n (still_made n made) goes in
-          let covered : Covers (w.arrays n) spent = λ y alive. two.spent n y (still_made n made) (covers y alive) in
+          let covered : IncludesSpent (w.arrays n) spent = λ y alive. two.spent n y (still_made n made) (covers y alive) in
           let first = one.rows n vals spent unwritten joined made goes_w covered amid rows in
           rows_then v w z a b c n one.stays.sectors one.stays.traced first
           (two.rows n (now n vals) spent (subst (λ k. n < k) (sym one.book.same.joined) joined) (still_made n made) goes covers
           ((one.parts n vals spent joined made goes_w covered).holds amid) first.after);
       lacking = λ n vals spent joined made goes covers amid leaves.
           let goes_w = two.still n (still_made n made) goes in
-          let covered : Covers (w.arrays n) spent = λ y alive. two.spent n y (still_made n made) (covers y alive) in
+          let covered : IncludesSpent (w.arrays n) spent = λ y alive. two.spent n y (still_made n made) (covers y alive) in
           let first = one.lacking n vals spent joined made goes_w covered amid leaves in
           lacking_then v w z a b c n one.stays.sectors one.stays.traced first
           (two.lacking n (now n vals) spent (subst (λ k. n < k) (sym one.book.same.joined) joined) (still_made n made) goes covers
@@ -269,7 +269,7 @@ brings_then v w z a b c now one two =
     still_made n made = subst (λ k. n < k) (sym one.book.same.made) made
 
 -- causes of two parts in a row
-pub caused_then : (v w z : Raid) (a b c : Seen) → Stays a b → Stays b c → AreCaused v w a b → AreCaused w z b c → AreCaused v z a c
+pub caused_then : (v w z : Raid) (a b c : RackView) → SameRack a b → SameRack b c → AreCaused v w a b → AreCaused w z b c → AreCaused v z a c
 caused_then v w z a b c first second one two =
     record {
       left = λ place is. one.left place (two.left place is);

@@ -1,7 +1,7 @@
 -- Slices of which those of one place alone differ, where its new ones are told: those of superblocks are, with the members that are new there.
 use Rattle.std.proofs.Common.{◌≡◌, ◌≢◌, ℕ, ◌+◌, ◌||◌, Bool, true, false, if◌then◌else◌, [], ◌∷◌, Some, option_map, slice_get, sym, ap, ◌∙◌, inl, inr, arith}
 use Rattle.std.proofs.lemmas.Bool.{cases_eq, ne_eqb}
-use Rattle.rack.specs.Seen.{Seen}
+use Rattle.rack.specs.Seen.{RackView}
 use Rattle.shr_base.specs.declared.Id.{Id}
 use Rattle.slice_rack.specs.Slices.{place_of}
 use Rattle.array_image.specs.Places.{super_sector}
@@ -16,7 +16,7 @@ use Rattle.raid_laws.specs.Truths.{TellsThere}
 use Rattle.raid_laws.specs.Vacated.{DiffersAt}
 use Rattle.raid_laws.proofs.Seated.{zip_seats}
 
-module _ (place : ℕ) (x y : Seen) (differs : DiffersAt place x y) where
+module _ (place : ℕ) (x y : RackView) (differs : DiffersAt place x y) where
   -- a member that was there before the new one
   seat_before : (q : View) (drive : Id) (k : ℕ) → IsArray q → place_at q k ≢ place → slice_get (renewed place drive q).seats k ≢ Some Missing → slice_get q.seats k ≢ Some Missing
   seat_before q drive k is_array away there gone =

@@ -7,7 +7,7 @@ use Rattle.array_image.specs.Stripes.{sector_in}
 use Rattle.array_image.specs.Spent.{wanting, spent_with}
 use Rattle.std.specs.List.{list_any, range_with_len}
 use Rattle.rack.specs.Values.{Values}
-use Rattle.rack.specs.Seen.{Image, Seen, Stays}
+use Rattle.rack.specs.Seen.{Image, RackView, SameRack}
 use Rattle.rack.specs.Joins.{stays_same, leaves_same, keeps_same}
 use Rattle.rack.specs.Targets.{Target, look}
 use Rattle.pool_state.specs.declared.contents.State.{State}
@@ -19,11 +19,11 @@ use Rattle.array_image.specs.Held.{Among, current_in}
 use Rattle.array_image.proofs.Marked.{among_lowered}
 use Rattle.array_image.specs.Left.{PicksLogs}
 use Rattle.array_image.proofs.Replays.{replayed_as_is}
-use Rattle.log_laws.specs.Kept.{LogKept}
+use Rattle.log_laws.specs.Kept.{LogInvariant}
 use Rattle.log_laws.specs.Commits.{Stands}
 use Rattle.log_laws.proofs.Kept.{kept_idle, live_on, live_after}
 use Rattle.array_model.specs.View.{View, IsArray, has_gone, is_whole_array, present, sectors_of, shape_of, spent_in}
-use Rattle.array_model.specs.ArrayCalls.{Covers}
+use Rattle.array_model.specs.ArrayCalls.{IncludesSpent}
 use Rattle.array_model.proofs.Losses.{IsLosing}
 use Rattle.array_model.proofs.Spared.{at_most_one, lost_value, wanting_more}
 use Rattle.array_model.proofs.Noting.{laid_out, unspent_then}
@@ -31,8 +31,8 @@ use Rattle.array_core.specs.Seats.{names, gone, heeded}
 use Rattle.array_core.specs.Superblocks.{is_settled}
 use Rattle.raid_laws.specs.Book.{after_same}
 use Rattle.raid_laws.specs.Frames.{frame_of}
-use Rattle.raid_laws.specs.Raid.{Raid, AreLive, gone_in, is_left, is_over, IsWritten}
-use Rattle.raid_laws.specs.Moves.{IsSet, IsSeated, IsMarkedWhole, AreMarked, IsAmid, Brings, LosesOnly, Moves}
+use Rattle.raid_laws.specs.Raid.{Raid, AreLive, gone_in, is_left, is_failed, IsWritten}
+use Rattle.raid_laws.specs.Moves.{IsSet, IsSeated, IsMarkedWhole, AreMarked, IsTrackedInCall, ChangesData, OnlyFailures, ChangesNoData}
 use Rattle.raid_laws.specs.Reach.{KeepsReachOn, reach_fewer, reach_then}
 use Rattle.raid_laws.proofs.Own.{look_nothing}
 use Rattle.raid_laws.proofs.Ranges.{any_some, any_from}
@@ -85,7 +85,7 @@ current_few s p few current =
     ]
 
 -- an array that has lost members counts those on places that are left as before
-pub left_reach : (w : Raid) (n : ℕ) (u : View) (x : Seen) → n < w.state.made → IsSeated w.state n (w.arrays n) x → LosesOnly u (w.arrays n)
+pub left_reach : (w : Raid) (n : ℕ) (u : View) (x : RackView) → n < w.state.made → IsSeated w.state n (w.arrays n) x → OnlyFailures u (w.arrays n)
     → KeepsReachOn (is_left w) (shape_of u) (shape_of (w.arrays n))
 left_reach w n u x low seated only =
     lost_reach (is_left w) w.state n u (w.arrays n) x seated only
@@ -107,7 +107,7 @@ abbrev pub with_arrays : Raid → (ℕ → View) → Raid
 with_arrays v f = record v { arrays = f }
 
 -- slices that are told are told still
-pub live_later : (made : ℕ) (x y : Seen) → Stays x y → x.lasting → AreLive made x → AreLive made y
+pub live_later : (made : ℕ) (x y : RackView) → SameRack x y → x.lasting → AreLive made x → AreLive made y
 live_later made x y stays lasting live n place t low few there =
     live_after stays (live_on lasting stays (live n place t low few (subst (λ k. t < k) (stays.sectors (member_slice place n)) there)))
 
@@ -131,7 +131,7 @@ pub noted_whole : (lost : List ℕ) (v : Raid) (f : ℕ → View) → IsNoting l
 noted_whole lost v f noting n low marked =
     inr (noting.one, noting.current, gone_from (with_arrays v f) noting.one n noting.few low (noted_one lost v f noting n low))
 
-pub noted_seated : (lost : List ℕ) (v : Raid) (f : ℕ → View) (x : Seen) → IsNoting lost v f → IsSet v x → (n : ℕ) → n < v.state.made → IsSeated v.state n (f n) x
+pub noted_seated : (lost : List ℕ) (v : Raid) (f : ℕ → View) (x : RackView) → IsNoting lost v f → IsSet v x → (n : ℕ) → n < v.state.made → IsSeated v.state n (f n) x
 noted_seated lost v f x noting set n low =
     subst (λ (u : View). IsSeated v.state n u x) (sym (noting.arrays n low)) (gone_seated v.state n (v.arrays n) lost x (stays_same x set.fit) (λ p current. current_few v.state p set.few current) (set.arrays n low))
 
@@ -154,9 +154,9 @@ noted_before lost v f noting p is =
     ])
 
 -- An array that stands does so still, its members on these places missing: with images as they were, and the values that it held.
-pub noted_amid : (lost : List ℕ) (v : Raid) (f : ℕ → View) (x : Seen) (n : ℕ) (vals : ℕ → Values) (spent : ℕ → Bool)
-    → IsSet v x → IsNoting lost v f → n < v.state.made → is_over (with_arrays v f) n ≡ false → Covers (f n) spent
-    → IsAmid v x n vals spent → IsAmid (with_arrays v f) x n vals spent
+pub noted_amid : (lost : List ℕ) (v : Raid) (f : ℕ → View) (x : RackView) (n : ℕ) (vals : ℕ → Values) (spent : ℕ → Bool)
+    → IsSet v x → IsNoting lost v f → n < v.state.made → is_failed (with_arrays v f) n ≡ false → IncludesSpent (f n) spent
+    → IsTrackedInCall v x n vals spent → IsTrackedInCall (with_arrays v f) x n vals spent
 noted_amid lost v f x n vals spent set noting low goes covers amid =
     let losing = noted_losing lost v f n noting low (set.arrays n low).is_array in
     record {
@@ -201,7 +201,7 @@ noted_gone lost v f noting went p =
 noted_left : (lost : List ℕ) (v : Raid) (f : ℕ → View) → IsNoting lost v f → HaveGone lost v → (p : ℕ) → is_left (with_arrays v f) p ≡ is_left v p
 noted_left lost v f noting went p = ap (λ b. is_current v.state p && not b) (noted_gone lost v f noting went p)
 
-noted_further : (lost : List ℕ) (v : Raid) (f : ℕ → View) (x : Seen) → IsSet v x → IsNoting lost v f → HaveGone lost v → IsFurther v (with_arrays v f)
+noted_further : (lost : List ℕ) (v : Raid) (f : ℕ → View) (x : RackView) → IsSet v x → IsNoting lost v f → HaveGone lost v → IsFurther v (with_arrays v f)
 noted_further lost v f x set noting went = record {
   left = λ p is. sym (noted_left lost v f noting went p) ∙ is;
   number = omega arith;
@@ -230,7 +230,7 @@ losing_spent u w lost is_array losing y alive =
               ap (λ k. spent_with k b) none
         ]
 
-pub set_noted : (lost : List ℕ) (v : Raid) (f : ℕ → View) (x : Seen) → IsSet v x → IsNoting lost v f → IsSet (with_arrays v f) x
+pub set_noted : (lost : List ℕ) (v : Raid) (f : ℕ → View) (x : RackView) → IsSet v x → IsNoting lost v f → IsSet (with_arrays v f) x
 set_noted lost v f x set noting = record {
   fit = set.fit;
   lasting = set.lasting;
@@ -250,8 +250,8 @@ noted_clear lost u w same = record { resync = ap (λ (z : View). z.resync) same;
 heeded_clear : (u w : View) → w ≡ heeded u → KeepsClear u w
 heeded_clear u w same = record { resync = ap (λ (z : View). z.resync) same; young = ap (λ (z : View). z.young) same; settled = λ young is. ap is_settled same ∙ is }
 
-pub moves_noted : (lost : List ℕ) (v : Raid) (f : ℕ → View) (x : Seen) → IsSet v x → IsNoting lost v f → HaveGone lost v
-    → ((n : ℕ) → sectors_of (f n) ≡ sectors_of (v.arrays n)) → Moves v (with_arrays v f) x x
+pub moves_noted : (lost : List ℕ) (v : Raid) (f : ℕ → View) (x : RackView) → IsSet v x → IsNoting lost v f → HaveGone lost v
+    → ((n : ℕ) → sectors_of (f n) ≡ sectors_of (v.arrays n)) → ChangesNoData v (with_arrays v f) x x
 unfolding noted_amid
 moves_noted lost v f x set noting went sectors =
     record {
@@ -281,8 +281,8 @@ moves_noted lost v f x set noting went sectors =
     }
 
 -- so they move no value
-pub noted_brings : (lost : List ℕ) (v : Raid) (f : ℕ → View) (x : Seen) → IsSet v x → IsNoting lost v f
-    → ((n : ℕ) → sectors_of (f n) ≡ sectors_of (v.arrays n)) → Brings v (with_arrays v f) x x (λ n vals. vals)
+pub noted_brings : (lost : List ℕ) (v : Raid) (f : ℕ → View) (x : RackView) → IsSet v x → IsNoting lost v f
+    → ((n : ℕ) → sectors_of (f n) ≡ sectors_of (v.arrays n)) → ChangesData v (with_arrays v f) x x (λ n vals. vals)
 unfolding noted_amid
 noted_brings lost v f x set noting sectors =
     record {
@@ -313,18 +313,18 @@ noted_brings lost v f x set noting sectors =
 -- ---- they are heeded
 
 -- where whoever went is marked, nothing is pending
-pub idle_now : (s : State) (number : ℕ) (gone : ℕ → Bool) (x : Seen) → LogKept s number gone x → ((p : ℕ) → is_current s p ≡ true → gone p ≡ false)
+pub idle_now : (s : State) (number : ℕ) (gone : ℕ → Bool) (x : RackView) → LogInvariant s number gone x → ((p : ℕ) → is_current s p ≡ true → gone p ≡ false)
     → (c : Image) → PicksLogs x c → (d t : ℕ) → replayed x.sectors c d t ≡ c d t
 idle_now s number gone x kept all c picks d t =
     replayed_as_is x.sectors c d t
     (ap (λ (xs : List Target). look xs d t) (kept_idle s number gone x c kept picks all) ∙ look_nothing d t)
 
-logs_stand : {x : Seen} (c : Image) → Stands x c → PicksLogs x c
+logs_stand : {x : RackView} (c : Image) → Stands x c → PicksLogs x c
 logs_stand c stands = record { picks = λ p t live. stands.picks (log_slice p) t live; inside = λ p t out. stands.inside p t out }
 
 -- so the places that went need be known no more
-pub kept_marked : (s : State) (number : ℕ) (gone now : ℕ → Bool) (x : Seen) → ((p : ℕ) → is_current s p ≡ true → gone p ≡ false)
-    → LogKept s number gone x → LogKept s number now x
+pub kept_marked : (s : State) (number : ℕ) (gone now : ℕ → Bool) (x : RackView) → ((p : ℕ) → is_current s p ≡ true → gone p ≡ false)
+    → LogInvariant s number gone x → LogInvariant s number now x
 kept_marked s number gone now x all kept =
     record {
       logs = kept.logs;
@@ -365,9 +365,9 @@ heeded_left v f arrays are p = of (is_current v.state p) (gone_in (with_arrays v
     of true now was none all = ap (λ b. true && not b) (none ∙ sym (all refl))
     of false now was none all = refl
 
-heeded_amid : (v : Raid) (f : ℕ → View) (x : Seen) (n : ℕ) (vals : ℕ → Values) (spent : ℕ → Bool)
+heeded_amid : (v : Raid) (f : ℕ → View) (x : RackView) (n : ℕ) (vals : ℕ → Values) (spent : ℕ → Bool)
     → IsSet v x → ((m : ℕ) → m < v.state.made → f m ≡ heeded (v.arrays m)) → AreMarked v → n < v.state.made
-    → IsAmid v x n vals spent → IsAmid (with_arrays v f) x n vals spent
+    → IsTrackedInCall v x n vals spent → IsTrackedInCall (with_arrays v f) x n vals spent
 heeded_amid v f x n vals spent set arrays are low amid =
     let stood = stood_heeded v.state amid.durable vals spent (gone_in v) v (with_arrays v f) x n refl (arrays n low)
     (λ c picks place t. idle_now v.state v.number (gone_in v) x amid.stood.log are c picks (member_slice place n) t) amid.stood in
@@ -396,9 +396,9 @@ heeded_whole v f n is are whole marked =
       | inr some ↦ absurd (both_ways (gone_in v some.0) (are some.0 some.1) some.2)
     ]
 
-pub moves_heeded : (v : Raid) (f : ℕ → View) (x : Seen) → IsSet v x
+pub moves_heeded : (v : Raid) (f : ℕ → View) (x : RackView) → IsSet v x
     → ((n : ℕ) → n < v.state.made → f n ≡ heeded (v.arrays n)) → ((n : ℕ) → sectors_of (f n) ≡ sectors_of (v.arrays n)) → AreMarked v
-    → Moves v (with_arrays v f) x x
+    → ChangesNoData v (with_arrays v f) x x
 unfolding heeded_amid
 moves_heeded v f x set arrays sectors are =
     record {

@@ -2,7 +2,7 @@
 use Rattle.std.proofs.Common.{◌≡◌, ℕ, ◌<◌, ◌≤◌, Bool, true, false, nat_lt, List, [], refl, sym, ap, subst, ◌∙◌, inl, inr, lt-ltb, arith}
 use Rattle.std.proofs.lemmas.Bool.{cases_lt, and_from}
 use Rattle.rack.specs.Values.{Values, Keeps}
-use Rattle.rack.specs.Seen.{Seen, IsLive}
+use Rattle.rack.specs.Seen.{RackView, IsLive}
 use Rattle.rack.specs.Targets.{look}
 use Rattle.rack.specs.Joins.{leaves_weaker}
 use Rattle.array_image.specs.Places.{log_slice, member_slice}
@@ -12,7 +12,7 @@ use Rattle.array_image.specs.Left.{IsInside}
 use Rattle.array_image.specs.Held.{held_by}
 use Rattle.log_laws.specs.View.{LogView, names}
 use Rattle.log_laws.specs.Opening.{ReplayCall}
-use Rattle.log_laws.specs.Kept.{LogKept}
+use Rattle.log_laws.specs.Kept.{LogInvariant}
 use Rattle.log_laws.specs.AtRest.{CopiesAgree, Opened}
 use Rattle.commit_log.proofs.KeptReplayed.{replayed_same}
 use Rattle.commit_log.proofs.Replayable.{opened_can_replay, opened_someone}
@@ -21,13 +21,13 @@ use Rattle.array_model.specs.View.{shape_of}
 use Rattle.array_model.specs.Opened.{OpensOn}
 use Rattle.array_model.proofs.Keeping.{live_on, live_after}
 use Rattle.array_model.proofs.OpenedKept.{opens_kept}
-use Rattle.array_model.specs.Says.{Holds}
+use Rattle.array_model.specs.Says.{ArrayInvariant}
 use Rattle.array_model.proofs.Opening.{opens_holds}
-use Rattle.raid_laws.specs.Raid.{Raid, gone_in, held_in, is_left, is_over, spent_of, IsTold}
+use Rattle.raid_laws.specs.Raid.{Raid, gone_in, held_in, is_left, is_failed, spent_of, IsTracked}
 use Rattle.raid_laws.specs.Reach.{reach_same}
 use Rattle.raid_laws.specs.Laws.{live_parts}
 use Rattle.raid_laws.specs.Marking.{SaysBetween}
-use Rattle.raid_laws.specs.Moves.{IsAmid, IsHeeded, IsSet, Mends}
+use Rattle.raid_laws.specs.Moves.{IsTrackedInCall, IsHeeded, IsSet, Mends}
 use Rattle.raid_laws.specs.Opening.{OpensRaid, OpenedRaid}
 use Rattle.raid_laws.proofs.Moving.{part_says}
 use Rattle.raid_laws.proofs.Sourced.{sourced}
@@ -35,7 +35,7 @@ use Rattle.raid_laws.proofs.Told.{own_holds, own_keeps}
 use Rattle.raid_laws.proofs.Whole.{amid_stood, heeded_whole}
 
 -- each array stands, whoever is absent
-pub opened_amid : (v : Raid) (x : Seen) (n : ℕ) (spent : ℕ → Bool) → OpensRaid v x → n < v.state.joined → IsAmid v x n (held_in v x n) spent
+pub opened_amid : (v : Raid) (x : RackView) (n : ℕ) (spent : ℕ → Bool) → OpensRaid v x → n < v.state.joined → IsTrackedInCall v x n (held_in v x n) spent
 opened_amid v x n spent opens joined =
     let u = v.arrays n in
     let array = opens.arrays n joined in
@@ -49,7 +49,7 @@ opened_amid v x n spent opens joined =
         log = opens.log;
         someone = opens.someone;
         written = array.sound.written;
-        holds = subst (λ k. Holds v.state (shape_of u) u (held_by (shape_of u) x.held k) spent x) number (opens_holds v.state u x array spent);
+        holds = subst (λ k. ArrayInvariant v.state (shape_of u) u (held_by (shape_of u) x.held k) spent x) number (opens_holds v.state u x array spent);
       };
       slices = opens.slices;
       marked = λ are. refl;
@@ -59,7 +59,7 @@ opened_amid v x n spent opens joined =
 -- What an opening knows of slices at rest, before it closes the gates that are open: nothing is pending, each current place that isn't
 -- noted as gone has its log slice with this state, one of them is left, and each array that is ready for the volume is that of its
 -- superblocks.
-pub record IsAtRest (v : Raid) (l : LogView) (on : List ℕ) (a : Seen) : Type 0 where
+pub record IsAtRest (v : Raid) (l : LogView) (on : List ℕ) (a : RackView) : Type 0 where
   pub opened : Opened v.state v.state l on a
   pub idle : l.pending ≡ []
   -- no slice is past those of the places
@@ -75,7 +75,7 @@ pub record IsAtRest (v : Raid) (l : LogView) (on : List ℕ) (a : Seen) : Type 0
   pub arrays : (n : ℕ) → n < v.state.joined → OpensOn v.state (v.arrays n) a
 
 -- Once the gates are closed the slices hold the arrays.
-pub opens_raid : (v : Raid) (l : LogView) (on : List ℕ) (a b : Seen) → IsAtRest v l on a → ReplayCall l on [] a b → OpensRaid v b
+pub opens_raid : (v : Raid) (l : LogView) (on : List ℕ) (a b : RackView) → IsAtRest v l on a → ReplayCall l on [] a b → OpensRaid v b
 unfolding look
 opens_raid v l on a b at replay =
     let s = v.state in
@@ -91,7 +91,7 @@ opens_raid v l on a b at replay =
     λ n place t few small inside. rest.live (member_slice place n) t (omega (arith, few, small)) inside in
     record {
       few = at.few;
-      log = subst (λ k. LogKept s k (gone_in v) b) (sym at.number) (rest_kept s (gone_in v) l on one a b at.opened at.idle named replay at.there at.copies);
+      log = subst (λ k. LogInvariant s k (gone_in v) b) (sym at.number) (rest_kept s (gone_in v) l on one a b at.opened at.idle named replay at.there at.copies);
       someone = at.someone;
       slices = λ n place t below small inside.
           let made = at.made in
@@ -118,8 +118,8 @@ opens_raid v l on a b at replay =
     }
 
 -- an array between calls, where whoever went is heeded
-pub amid_told : (w : Raid) (b : Seen) (n : ℕ) (vals : ℕ → Values) → IsHeeded w → IsSet w b → n < w.state.joined → n < w.state.made
-    → (is_over w n ≡ false → IsAmid w b n vals (spent_of w n)) → IsTold w b n
+pub amid_told : (w : Raid) (b : RackView) (n : ℕ) (vals : ℕ → Values) → IsHeeded w → IsSet w b → n < w.state.joined → n < w.state.made
+    → (is_failed w n ≡ false → IsTrackedInCall w b n vals (spent_of w n)) → IsTracked w b n
 amid_told w b n vals heeded set joined low amid =
     record {
       joined = joined;
@@ -134,18 +134,18 @@ amid_told w b n vals heeded set joined low amid =
             log = stood.log;
             someone = stood.someone;
             written = stood.written;
-            holds = subst (λ k. Holds w.state (shape_of (w.arrays n)) (w.arrays n) (held_by (shape_of (w.arrays n)) b.held k) (spent_of w n) b) stood.number
+            holds = subst (λ k. ArrayInvariant w.state (shape_of (w.arrays n)) (w.arrays n) (held_by (shape_of (w.arrays n)) b.held k) (spent_of w n) b) stood.number
                 (own_holds w.state (w.arrays n) vals (spent_of w n) b source stood.holds);
           };
       slices = λ goes. (amid goes).slices;
     }
 
-pub opened_raid : (v w : Raid) (a b : Seen) → OpensRaid v a → v.state.joined ≤ v.state.made → Mends v w a b → OpenedRaid v w a b
+pub opened_raid : (v w : Raid) (a b : RackView) → OpensRaid v a → v.state.joined ≤ v.state.made → Mends v w a b → OpenedRaid v w a b
 opened_raid v w a b opens ready mends =
     let moves = mends.moves in
     let made : w.state.made ≡ v.state.made = moves.book.same.made in
     let joined_is : w.state.joined ≡ v.state.joined = moves.book.same.joined in
-    let part = λ (n : ℕ) (joined : n < v.state.joined) (goes : is_over w n ≡ false).
+    let part = λ (n : ℕ) (joined : n < v.state.joined) (goes : is_failed w n ≡ false).
     moves.parts n (held_in v a n) (spent_of w n) joined (omega (arith, joined, ready)) goes (λ y alive. (live_parts w n y alive).1) in
     let before = λ (n : ℕ) (joined : n < v.state.joined). opened_amid v a n (spent_of w n) opens joined in
     record {
@@ -159,7 +159,7 @@ opened_raid v w a b opens ready mends =
           (own_keeps w.state (w.arrays n) (held_in v a n) (spent_of w n) b y stood.holds.shape alive);
       leaves = λ n joined goes traced.
           leaves_weaker
-          (λ c. IsInside a.sectors c → IsAmid v a n (held_in v a n) (spent_of w n) → SaysBetween v.state w.state n (held_in v a n) (spent_of w n) (replayed a.sectors c))
+          (λ c. IsInside a.sectors c → IsTrackedInCall v a n (held_in v a n) (spent_of w n) → SaysBetween v.state w.state n (held_in v a n) (spent_of w n) (replayed a.sectors c))
           (λ c. IsInside a.sectors c → SaysBetween v.state w.state n (held_in v a n) (spent_of w n) (replayed a.sectors c))
           (λ c says inside. says inside (before n joined))
           (part_says v w a b n (held_in v a n) (held_in v a n) (spent_of w n) (part n joined goes) traced);

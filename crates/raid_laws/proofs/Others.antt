@@ -4,7 +4,7 @@ use Rattle.std.specs.List.{list_all, list_any, range_with_len}
 use Rattle.std.specs.Option.{option_map_or}
 use Rattle.std.proofs.lemmas.Bool.{and_parts, both_ways, cases_Bool, cases_eq, cases_lt}
 use Rattle.std.proofs.lemmas.Option.{slice_get_past}
-use Rattle.rack.specs.Seen.{Seen}
+use Rattle.rack.specs.Seen.{RackView}
 use Rattle.md_super.specs.declared.superblock.Super.{Super}
 use Rattle.pool_state.specs.declared.contents.State.{State}
 use Rattle.array_image.specs.Arrays.{place_with}
@@ -79,7 +79,7 @@ some_present (seat ∷ seats) (suc k) is =
     ]
 
 -- An array of which nobody went has a member left where all drives but one are current: two of its members are on two places.
-pub other_left : (s : State) (n : ℕ) (u : View) (x : Seen) (place : ℕ) → IsSeated s n u x → u.went ≡ []
+pub other_left : (s : State) (n : ℕ) (u : View) (x : RackView) (place : ℕ) → IsSeated s n u x → u.went ≡ []
     → ((p : ℕ) → p < length s.drives.items → p ≢ place → is_current s p ≡ true) → 0 < present u.seats
 other_left s n u x place seated heeded others =
     let least = seated.is_array.least in

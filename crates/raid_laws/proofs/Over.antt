@@ -4,7 +4,7 @@ use Rattle.std.proofs.lemmas.Bool.{cases_lt, both_ways, and_parts, ltb-false}
 use Rattle.std.specs.List.{list_any, range_with_len}
 use Rattle.array_image.specs.States.{is_current}
 use Rattle.array_model.specs.View.{present}
-use Rattle.raid_laws.specs.Raid.{Raid, gone_in, is_left, is_empty, is_used_up, is_over, last_number}
+use Rattle.raid_laws.specs.Raid.{Raid, gone_in, is_left, is_empty, is_used_up, is_failed, last_number}
 use Rattle.raid_laws.proofs.Ranges.{any_some, any_from, any_none, any_wider, none_narrower}
 
 pub or_parts : (b c : Bool) → (b || c) ≡ false → (b ≡ false) × (c ≡ false)
@@ -26,7 +26,7 @@ lower_still : (m n top : ℕ) → m ≤ n → nat_lt top n ≡ false → nat_lt 
 lower_still m n top less below = le-ltb top m (let high = ltb-false top n below in omega (arith, high, less))
 
 -- a place that is left
-pub someone_left : (v : Raid) (n : ℕ) → is_over v n ≡ false → (place : ℕ) × (is_current v.state place ≡ true) × (gone_in v place ≡ false)
+pub someone_left : (v : Raid) (n : ℕ) → is_failed v n ≡ false → (place : ℕ) × (is_current v.state place ≡ true) × (gone_in v place ≡ false)
 someone_left v n goes =
     let parts = or_parts (is_empty v) (is_used_up v || (present (v.arrays n).seats == 0)) goes in
     let at = any_some (is_left v) 0 16 (not_false (list_any (is_left v) (range_with_len 0 16)) parts.0) in
@@ -38,7 +38,7 @@ pub not_empty : (v : Raid) (p : ℕ) → p < 16 → is_left v p ≡ true → is_
 not_empty v p few left = ap not (any_from (is_left v) 0 16 p (omega arith) few left)
 
 -- a member that is left
-pub member_left : (v : Raid) (n : ℕ) → is_over v n ≡ false → 0 < present (v.arrays n).seats
+pub member_left : (v : Raid) (n : ℕ) → is_failed v n ≡ false → 0 < present (v.arrays n).seats
 member_left v n goes =
     let parts = or_parts (is_empty v) (is_used_up v || (present (v.arrays n).seats == 0)) goes in
     let seats = (or_parts (is_used_up v) (present (v.arrays n).seats == 0) parts.1).1 in
@@ -48,7 +48,7 @@ member_left v n goes =
     ]
 
 -- numbers that aren't at their end
-pub number_room : (v : Raid) (n : ℕ) → is_over v n ≡ false → (v.number ≤ last_number) × (v.state.epoch ≤ last_number)
+pub number_room : (v : Raid) (n : ℕ) → is_failed v n ≡ false → (v.number ≤ last_number) × (v.state.epoch ≤ last_number)
 number_room v n goes =
     let parts = or_parts (is_empty v) (is_used_up v || (present (v.arrays n).seats == 0)) goes in
     let used = (or_parts (is_used_up v) (present (v.arrays n).seats == 0) parts.1).0 in
@@ -56,7 +56,7 @@ number_room v n goes =
     let two = or_parts (nat_lt last_number v.state.epoch) (list_any (λ m. nat_lt last_number (v.arrays m).truth.events) (range_with_len 0 v.state.made)) one.1 in
     (ltb-false last_number v.number one.0, ltb-false last_number v.state.epoch two.0)
 
-pub event_room : (v : Raid) (n m : ℕ) → is_over v n ≡ false → m < v.state.made → (v.arrays m).truth.events ≤ last_number
+pub event_room : (v : Raid) (n m : ℕ) → is_failed v n ≡ false → m < v.state.made → (v.arrays m).truth.events ≤ last_number
 event_room v n m goes low =
     let late : ℕ → Bool = λ k. nat_lt last_number (v.arrays k).truth.events in
     let parts = or_parts (is_empty v) (is_used_up v || (present (v.arrays n).seats == 0)) goes in
@@ -91,7 +91,7 @@ pub record IsFurther (v w : Raid) : Type 0 where
   pub events : (n : ℕ) → n < v.state.made → (v.arrays n).truth.events ≤ (w.arrays n).truth.events
   pub seats : (n : ℕ) → n < v.state.made → present (w.arrays n).seats ≤ present (v.arrays n).seats
 
-pub over_still : (v w : Raid) → IsFurther v w → (n : ℕ) → n < v.state.made → is_over w n ≡ false → is_over v n ≡ false
+pub over_still : (v w : Raid) → IsFurther v w → (n : ℕ) → n < v.state.made → is_failed w n ≡ false → is_failed v n ≡ false
 over_still v w further n low goes =
     let parts = or_parts (is_empty w) (is_used_up w || (present (w.arrays n).seats == 0)) goes in
     let rest = or_parts (is_used_up w) (present (w.arrays n).seats == 0) parts.1 in

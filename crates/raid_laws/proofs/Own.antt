@@ -6,7 +6,7 @@ use Rattle.rack.specs.Targets.{look}
 use Rattle.pool_state.specs.declared.contents.State.{State}
 use Rattle.array_image.specs.States.{state_in}
 use Rattle.array_image.specs.Arrays.{Shape, arrays_in}
-use Rattle.array_model.specs.Says.{Says}
+use Rattle.array_model.specs.Says.{ImageShowsArray}
 use Rattle.array_image.proofs.Frames.{Agree, supers_same, truth_by_supers, shape_same, value_same}
 use Rattle.array_image.proofs.SoundFrames.{sound_same}
 use Rattle.raid_laws.specs.Book.{after_same}
@@ -21,7 +21,7 @@ look_nothing d t = refl
 
 -- what is said of an array goes by its own slices
 pub says_same : (s : State) (array : ℕ) (shape : Shape) (vals : ℕ → Values) (spent : ℕ → Bool) (c e : Image) → Agree array c e
-    → Says s array shape vals spent e → Says s array shape vals spent c
+    → ImageShowsArray s array shape vals spent e → ImageShowsArray s array shape vals spent c
 says_same s array shape vals spent c e agree says =
     record {
       shape_is = shape_same s c e array agree ∙ says.shape_is;
@@ -31,7 +31,7 @@ says_same s array shape vals spent c e agree says =
 
 -- contents of a state that say something by it
 pub tied_at : (s : State) (first last : Shape) (array : ℕ) (shape : Shape) (vals : ℕ → Values) (spent : ℕ → Bool) (r : Image) → state_in r ≡ Some s
-    → KeepsReach s first shape → KeepsReach s shape last → Says s array shape vals spent r → TiedBetween s s first last array vals spent r
+    → KeepsReach s first shape → KeepsReach s shape last → ImageShowsArray s array shape vals spent r → TiedBetween s s first last array vals spent r
 tied_at s first last array shape vals spent r state from to says = record {
   says = record { state = s; is_state = state; later = after_same s; sooner = after_same s; shape = shape; says = says };
   from = from;

@@ -2,34 +2,34 @@
 use Rattle.std.specs.Prelude.{Result, OnOk, IfErr}
 use Rattle.std.proofs.Common.{◌≡◌, ℕ, ◌≤◌, true, List, Ok, Err, refl, sym, ap, subst, ◌∙◌, inl}
 use Rattle.rack.specs.Values.{MayLeave, Keeps, IsSingle}
-use Rattle.rack.specs.Seen.{Image, Held, Seen, IsPick, Stays, Rose, appended}
+use Rattle.rack.specs.Seen.{Image, Held, RackView, IsPick, SameRack, Rose, appended}
 use Rattle.rack.specs.Moments.{Leaves}
 use Rattle.rack.specs.declared.Gone.{Gone}
 use Rattle.rack.specs.Calls.{KeepsAll, Reads, Writes, Syncs}
 use Rattle.array_image.specs.Arrays.{arrays_in, replayed}
-use Rattle.raid_laws.specs.Raid.{Raid, live_of, spent_of, held_in, IsTold, Stops, raid_of}
+use Rattle.raid_laws.specs.Raid.{Raid, live_of, spent_of, held_in, IsTracked, Stops, raid_of}
 use Rattle.raid_laws.specs.Acts.{GiveThese, RaidActs}
 
 -- slices of as many sectors are replayed alike
-sizes_same : {a b : Seen} → Stays a b → b.sectors ≡ a.sectors
+sizes_same : {a b : RackView} → SameRack a b → b.sectors ≡ a.sectors
 sizes_same stays = λ i d. stays.sectors d i
 
 -- the same contents of the arrays stand for the same slices, before a call and after it
-stop_kept : {a b : Seen} → Stays a b → (k : ℕ) (c : Image)
+stop_kept : {a b : RackView} → SameRack a b → (k : ℕ) (c : Image)
     → ((below : Image) → a.stops k below → b.stops k below)
     → Stops a k c → Stops b k c
 stop_kept {a} {b} stays k c kept left =
     (left.0, kept left.0 left.1, λ n y. left.2 n y ∙ ap (λ (sectors : ℕ → ℕ). arrays_in (replayed sectors left.0) n y) (sym (sizes_same stays)))
 
-stop_past : {a b : Seen} → Stays a b → (k : ℕ) (c : Image)
+stop_past : {a b : RackView} → SameRack a b → (k : ℕ) (c : Image)
     → ((below : Image) → b.stops k below → a.stops k below)
     → Stops b k c → Stops a k c
 stop_past {a} {b} stays k c past left =
     (left.0, past left.0 left.1, λ n y. left.2 n y ∙ ap (λ (sectors : ℕ → ℕ). arrays_in (replayed sectors left.0) n y) (sizes_same stays))
 
 -- The past of the arrays is that of the slices, whatever the run's arrays become: more of them, larger ones, other members, marks.
-pub leaves_raid : {F G : Type 0} {r q : ℕ → ℕ} (v w : Raid) (a b : Seen) (P Q : Image → Type 0)
-    → Stays a b
+pub leaves_raid : {F G : Type 0} {r q : ℕ → ℕ} (v w : Raid) (a b : RackView) (P Q : Image → Type 0)
+    → SameRack a b
     → Leaves a b P
     → ((below c : Image) → P below → ((n y : ℕ) → c n y ≡ arrays_in (replayed a.sectors below) n y) → Q c)
     → Leaves (raid_of F r v a) (raid_of G q w b) Q
@@ -44,7 +44,7 @@ leaves_raid v w a b P Q stays leaves shown =
     }
 
 -- what no call changes
-pub stays_raid : {F G : Type 0} {r q : ℕ → ℕ} (v w : Raid) (a b : Seen) (vals : Held) → G → ((n : ℕ) → r n ≤ q n) → RaidActs v w a b vals → Stays (raid_of F r v a) (raid_of G q w b)
+pub stays_raid : {F G : Type 0} {r q : ℕ → ℕ} (v w : Raid) (a b : RackView) (vals : Held) → G → ((n : ℕ) → r n ≤ q n) → RaidActs v w a b vals → SameRack (raid_of F r v a) (raid_of G q w b)
 stays_raid v w a b vals fit more acts =
     record {
       fit = fit;
@@ -60,7 +60,7 @@ stays_raid v w a b vals fit more acts =
     }
 
 -- at each moment of a call, a stop leaves values that the sectors hold since
-pub picks_raid : {F G : Type 0} {r q : ℕ → ℕ} (v w : Raid) (a b : Seen) (vals : Held)
+pub picks_raid : {F G : Type 0} {r q : ℕ → ℕ} (v w : Raid) (a b : RackView) (vals : Held)
     → RaidActs v w a b vals
     → a.traced
     → Leaves (raid_of F r v a) (raid_of G q w b) (IsPick (raid_of F r v a) (raid_of G q w b) vals)
@@ -69,7 +69,7 @@ picks_raid {F = F} {G = G} {r = r} {q = q} v w a b vals acts traced =
     (λ below c these is n y live. subst (MayLeave (vals n y)) (sym (is n y)) (these n y live.is_told live.unspent))
 
 -- a read or a sync of such a rack
-pub keeps_raid : {F G : Type 0} {r q : ℕ → ℕ} (v w : Raid) (a b : Seen)
+pub keeps_raid : {F G : Type 0} {r q : ℕ → ℕ} (v w : Raid) (a b : RackView)
     → RaidActs v w a b (held_in v a)
     → KeepsAll (raid_of F r v a) (raid_of G q w b)
 keeps_raid v w a b acts =
@@ -79,7 +79,7 @@ keeps_raid v w a b acts =
     }
 
 -- a write, answered
-pub writes_raid : {F G : Type 0} {r q : ℕ → ℕ} (v w : Raid) (a b : Seen) (n y : ℕ) (from : List ℕ) (u : Unit {0})
+pub writes_raid : {F G : Type 0} {r q : ℕ → ℕ} (v w : Raid) (a b : RackView) (n y : ℕ) (from : List ℕ) (u : Unit {0})
     → G → ((m : ℕ) → r m ≤ q m) → RaidActs v w a b (appended (held_in v a) n y from)
     → live_of w n y
     → Writes (raid_of F r v a) (raid_of G q w b) n y from {X = Unit {0}} (Ok u)
@@ -93,9 +93,9 @@ writes_raid v w a b n y from u fit more acts unspent =
     }
 
 -- a read: the answer is refused exactly where the sector is spent
-pub reads_raid : {F G : Type 0} {r q : ℕ → ℕ} (v w : Raid) (a b : Seen) (n y : ℕ) (into : List ℕ) (result : Result (Unit {0}) Gone)
+pub reads_raid : {F G : Type 0} {r q : ℕ → ℕ} (v w : Raid) (a b : RackView) (n y : ℕ) (into : List ℕ) (result : Result (Unit {0}) Gone)
     → G → ((m : ℕ) → r m ≤ q m) → RaidActs v w a b (held_in v a)
-    → (IsTold v a n → live_of w n y → into ≡ (held_in v a n y).current)
+    → (IsTracked v a n → live_of w n y → into ≡ (held_in v a n y).current)
     → OnOk result (live_of w n y)
     → IfErr result (λ e. (e.disk ≡ n) × (spent_of w n y ≡ true) × Rose (r n) (q n))
     → Reads (raid_of F r v a) (raid_of G q w b) n y into result
@@ -115,9 +115,9 @@ reads_raid v w a b n y into (Err e) fit more acts value served refused =
     }
 
 -- a sync, answered; whoever was synced has one value in each sector
-pub syncs_raid : {F G : Type 0} {r q : ℕ → ℕ} (v w : Raid) (a b : Seen) (n : ℕ)
+pub syncs_raid : {F G : Type 0} {r q : ℕ → ℕ} (v w : Raid) (a b : RackView) (n : ℕ)
     → G → ((m : ℕ) → r m ≤ q m) → RaidActs v w a b (held_in v a)
-    → ((y : ℕ) → IsTold v a n → live_of w n y → IsSingle (held_in w b n y))
+    → ((y : ℕ) → IsTracked v a n → live_of w n y → IsSingle (held_in w b n y))
     → Syncs (raid_of F r v a) (raid_of G q w b) n {X = Unit {0}} (Ok tt)
 syncs_raid v w a b n fit more acts single =
     record {
@@ -129,9 +129,9 @@ syncs_raid v w a b n fit more acts single =
     }
 
 -- a write that is refused: its sector is spent, and all others are as they were
-pub refused_raid : {F G : Type 0} {r q : ℕ → ℕ} (v w : Raid) (a b : Seen) (n y : ℕ) (from : List ℕ) (e : Gone) → e.disk ≡ n
+pub refused_raid : {F G : Type 0} {r q : ℕ → ℕ} (v w : Raid) (a b : RackView) (n y : ℕ) (from : List ℕ) (e : Gone) → e.disk ≡ n
     → G → ((m : ℕ) → r m ≤ q m) → RaidActs v w a b (appended (held_in v a) n y from)
-    → ((m z : ℕ) → IsTold v a m → live_of w m z → Keeps (held_in v a m z) (held_in w b m z))
+    → ((m z : ℕ) → IsTracked v a m → live_of w m z → Keeps (held_in v a m z) (held_in w b m z))
     → spent_of w n y ≡ true
     → Rose (r n) (q n)
     → Writes (raid_of F r v a) (raid_of G q w b) n y from {X = Unit {0}} (Err e)

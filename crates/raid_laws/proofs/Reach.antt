@@ -4,7 +4,7 @@ use Rattle.std.proofs.lemmas.Bool.{both_ways}
 use Rattle.std.specs.List.{range_with_len}
 use Rattle.std.specs.Option.{option_map_or}
 use Rattle.arrayvec.specs.ArrayVec.{ArrayVec}
-use Rattle.rack.specs.Seen.{Seen}
+use Rattle.rack.specs.Seen.{RackView}
 use Rattle.pool_state.specs.declared.contents.State.{State}
 use Rattle.array_image.specs.Arrays.{Member, place_with}
 use Rattle.array_image.specs.States.{is_current}
@@ -12,7 +12,7 @@ use Rattle.array_core.proofs.Rules.{get_map, zero_more}
 use Rattle.array_model.specs.declared.Seat.{Seat}
 use Rattle.array_model.specs.View.{View, has_gone, is_missing_seat, is_seated, is_whole_seat, member_on, place_at, seat_reach, shape_of}
 use Rattle.raid_laws.specs.Frames.{Frame, frame_of}
-use Rattle.raid_laws.specs.Moves.{IsSeated, LosesOnly}
+use Rattle.raid_laws.specs.Moves.{IsSeated, OnlyFailures}
 use Rattle.raid_laws.specs.Reach.{KeepsMember, KeepsReachOn}
 use Rattle.raid_laws.proofs.Frames.{geometry_frame, view_frame}
 use Rattle.raid_laws.proofs.Seated.{place_few}
@@ -64,7 +64,7 @@ same_counts u z k size same =
     }
 
 -- An array that has lost members counts those as before that it hasn't lost: they are those on current places that haven't gone.
-pub lost_reach : (on : ℕ → Bool) (s : State) (n : ℕ) (u z : View) (x : Seen) → IsSeated s n z x → LosesOnly u z
+pub lost_reach : (on : ℕ → Bool) (s : State) (n : ℕ) (u z : View) (x : RackView) → IsSeated s n z x → OnlyFailures u z
     → ((p : ℕ) → p < 16 → on p ≡ true → (is_current s p && not (has_gone z p)) ≡ true) → KeepsReachOn on (shape_of u) (shape_of z)
 lost_reach on s n u z x seated only left =
     reach_by on u z (geometry_frame u.truth z.truth only.same.geometry)

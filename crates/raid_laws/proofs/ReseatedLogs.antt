@@ -6,7 +6,7 @@ use Rattle.std.specs.Result.{result_ok}
 use Rattle.std.proofs.lemmas.Bool.{both_ways, cases_eq, eqb-true, ne_eqb}
 use Rattle.std.proofs.lemmas.Option.{none-some}
 use Rattle.rack.specs.Values.{MayLeave}
-use Rattle.rack.specs.Seen.{Image, Seen, IsLive}
+use Rattle.rack.specs.Seen.{Image, RackView, IsLive}
 use Rattle.rack.specs.Targets.{Target, look, put}
 use Rattle.shr_base.specs.Blocks.{bytes_at, number_at}
 use Rattle.pool_state.specs.declared.contents.Copied.{Copied}
@@ -21,7 +21,7 @@ use Rattle.array_image.proofs.Frames.{state_same}
 use Rattle.array_image.proofs.Replays.{replayed_as_is}
 use Rattle.array_model.proofs.Keeping.{reading_live, reading_outside}
 use Rattle.log_laws.specs.Commits.{Stands}
-use Rattle.log_laws.specs.Kept.{Brings, CopiesStand, IsCopyOf, IsNoLater, LogKept}
+use Rattle.log_laws.specs.Kept.{CarriesState, CopiesStand, IsCopyOf, IsNoLater, LogInvariant}
 use Rattle.log_laws.specs.Standing.{LogsStand, deciding}
 use Rattle.log_laws.specs.View.{names}
 use Rattle.commit_log.proofs.Amid.{log_of_place}
@@ -37,13 +37,13 @@ use Rattle.raid_laws.proofs.Over.{not_false}
 use Rattle.raid_laws.proofs.Own.{look_nothing}
 
 -- contents with the place's slices as they read before
-abbrev pub put_back : ℕ → Seen → Image → Image
+abbrev pub put_back : ℕ → RackView → Image → Image
 put_back place x c = λ d t. if place_of d == place then reading x d t else c d t
 
-pub put_back_off : (place : ℕ) (x : Seen) (c : Image) (d t : ℕ) → place_of d ≢ place → put_back place x c d t ≡ c d t
+pub put_back_off : (place : ℕ) (x : RackView) (c : Image) (d t : ℕ) → place_of d ≢ place → put_back place x c d t ≡ c d t
 put_back_off place x c d t other = ap (λ b. if b then reading x d t else c d t) (ne_eqb (place_of d) place other)
 
-put_back_on : (place : ℕ) (x : Seen) (c : Image) (d t : ℕ) → place_of d ≡ place → put_back place x c d t ≡ reading x d t
+put_back_on : (place : ℕ) (x : RackView) (c : Image) (d t : ℕ) → place_of d ≡ place → put_back place x c d t ≡ reading x d t
 put_back_on place x c d t same = ap (λ b. if b then reading x d t else c d t) (eq-eqb (place_of d) place same)
 
 -- zeros say no state
@@ -55,7 +55,7 @@ pub no_copy : (u : List ℕ) (copy : Copied) → u ≡ no_state → decoded u �
 no_copy u copy zeros is = none-some copy (sym (ap (λ v. result_ok (decoded v)) zeros ∙ zeros_say_none) ∙ ap result_ok is)
 
 -- no target, on no place
-pub no_targets : (s : State) → Brings s s [] []
+pub no_targets : (s : State) → CarriesState s s [] []
 unfolding look
 no_targets s = record {
   current = λ p is. is;
@@ -65,7 +65,7 @@ no_targets s = record {
 }
 
 -- contents whose log slices stand, as such contents of all slices
-pub stands_logs : (x : Seen) (c : Image) → LogsStand x c → Stands x (restored off_log x c)
+pub stands_logs : (x : RackView) (c : Image) → LogsStand x c → Stands x (restored off_log x c)
 stands_logs x c stand = record {
   picks = restored_picks off_log x c (λ d t live here.
       let slice : slice_of d ≡ 0 = eqb-true (slice_of d) 0 (not_false (slice_of d == 0) here) in
@@ -74,7 +74,7 @@ stands_logs x c stand = record {
   inside = restored_inside off_log x c (λ p t past. on_log p t) stand.inside;
 }
 
-module _ (place : ℕ) (x y : Seen) (differs : DiffersAt place x y) where
+module _ (place : ℕ) (x y : RackView) (differs : DiffersAt place x y) where
   -- a sector of it, or of another place
   pub live_now : (d t : ℕ) → ((t < x.sectors d → IsLive x x d t)) → t < y.sectors d → IsLive y y d t
   live_now d t was within =
@@ -117,7 +117,7 @@ module _ (place : ℕ) (x y : Seen) (differs : DiffersAt place x y) where
     inside = λ p t past. inside_back c (log_slice p) t past (stand.inside p t);
   }
 
-  module _ (s : State) (number : ℕ) (gone : ℕ → Bool) (kept : LogKept s number gone x) (missing : is_current s place ≡ false)
+  module _ (s : State) (number : ℕ) (gone : ℕ → Bool) (kept : LogInvariant s number gone x) (missing : is_current s place ≡ false)
       (someone : (p : ℕ) × (is_current s p ≡ true) × (gone p ≡ false)) (all : (p : ℕ) → is_current s p ≡ true → gone p ≡ false)
       (cleared : 0 < y.sectors (log_slice place) → (v : List ℕ) → MayLeave (y.held (log_slice place) 0) v → v ≡ no_state) where
     away : (p : ℕ) → is_current s p ≡ true → p ≢ place
@@ -203,7 +203,7 @@ module _ (place : ℕ) (x y : Seen) (differs : DiffersAt place x y) where
     logs_of_stands : (c : Image) → Stands y c → LogsStand y c
     logs_of_stands c stand = record { picks = λ p t live. stand.picks (log_slice p) t live; inside = stand.inside }
 
-    pub logs_kept : LogKept s number gone y
+    pub logs_kept : LogInvariant s number gone y
     logs_kept = record {
       logs = logs_live;
       few = kept.few;

@@ -2,7 +2,7 @@
 use Rattle.std.proofs.Common.{◌≡◌, ℕ, ◌+◌, ◌<◌, ◌≤◌, Bool, true, false, ◌&&◌, not, List, take, length, Some, None, refl, sym, ap, subst, ◌∙◌, arith}
 use Rattle.std.proofs.lemmas.Bool.{both_ways}
 use Rattle.rack.specs.Values.{Values}
-use Rattle.rack.specs.Seen.{Image, Seen}
+use Rattle.rack.specs.Seen.{Image, RackView}
 use Rattle.rack.specs.Targets.{Target, look, put}
 use Rattle.pool_state.specs.declared.contents.State.{State}
 use Rattle.array_image.specs.Places.{member_slice, place_of, super_sector, data_sector}
@@ -10,7 +10,7 @@ use Rattle.array_image.specs.States.{is_current}
 use Rattle.array_image.specs.Supers.{super_in, truth_in}
 use Rattle.array_image.specs.Stripes.{width, sector_in, there, AgreeIn}
 use Rattle.array_image.specs.Arrays.{Shape, shape_in, layout_at, replayed}
-use Rattle.array_image.specs.Held.{current_in, IsSettled}
+use Rattle.array_image.specs.Held.{current_in, IsSynced}
 use Rattle.array_image.specs.Even.{AreEven}
 use Rattle.array_image.specs.Marks.{Marks}
 use Rattle.array_image.specs.Left.{Picks}
@@ -24,7 +24,7 @@ use Rattle.array_model.specs.Says.{IsOpen, HasNoOthers}
 use Rattle.array_model.specs.Stages.{IsStateOf, AmongTargets, HasTargets}
 use Rattle.array_core.specs.Staging.{AddsSupersOf, HasRowRebuilds}
 use Rattle.array_core.proofs.Staged.{slot_on, alone_others, staged_shape, staged_truth, staged_sound}
-use Rattle.raid_laws.specs.Raid.{Raid, Stood}
+use Rattle.raid_laws.specs.Raid.{Raid, InvariantInCall}
 use Rattle.raid_laws.specs.Marking.{NoData, Restates}
 use Rattle.raid_laws.proofs.Marking.{no_data}
 use Rattle.raid_laws.specs.Laws.{AgreeCounted, counted_columns}
@@ -41,7 +41,7 @@ even_counted shape n resync c e same even x inside synced counts =
     (even x inside synced counts)
 
 -- contents of settled members are what they hold now
-settled_counted : (shape : Shape) (xs : List Target) (a : Seen) (n : ℕ) (c : Image) → n < 16 → NoData xs → IsOpen shape n a → IsSettled shape n a.held → Picks a c
+settled_counted : (shape : Shape) (xs : List Target) (a : RackView) (n : ℕ) (c : Image) → n < 16 → NoData xs → IsOpen shape n a → IsSynced shape n a.held → Picks a c
     → AgreeCounted shape n (put a.sectors xs c) (current_in a.held)
 settled_counted shape xs a n c few none is_open settled picks m sector among counts =
     put_none a.sectors xs c (member_slice m.place n) (data_sector + sector) (no_data xs n m.place sector none few)
@@ -51,7 +51,7 @@ settled_counted shape xs a n c few none is_open settled picks m sector among cou
 -- ---- the superblocks
 
 -- What is known of a settled array whose superblocks are among the targets of a commit of marks.
-pub record IsStaged (s t : State) (gone : ℕ → Bool) (u : View) (xs : List Target) (a : Seen) (n : ℕ) : Type 0 where
+pub record IsStaged (s t : State) (gone : ℕ → Bool) (u : View) (xs : List Target) (a : RackView) (n : ℕ) : Type 0 where
   pub few : n < 16
   pub number : u.number ≡ n
   pub seats : length u.seats ≡ u.truth.raid_disks
@@ -75,11 +75,11 @@ pub record IsStaged (s t : State) (gone : ℕ → Bool) (u : View) (xs : List Ta
   pub rows : HasRowRebuilds u
   pub written : IsWrittenSuper u.number u.truth
   pub unsynced : first_unsynced u.truth ≤ u.resync
-  pub settled : IsSettled (shape_of u) n a.held
+  pub settled : IsSynced (shape_of u) n a.held
   pub unmarked : u.marked ≡ false
 
 -- the contents with the targets have its superblocks
-pub has_supers : (s t : State) (gone : ℕ → Bool) (u : View) (xs : List Target) (a : Seen) (n : ℕ) (c : Image) (staged : IsStaged s t gone u xs a n)
+pub has_supers : (s t : State) (gone : ℕ → Bool) (u : View) (xs : List Target) (a : RackView) (n : ℕ) (c : Image) (staged : IsStaged s t gone u xs a n)
     → HasTargets staged.adds.targets (put a.sectors xs c)
 has_supers s t gone u xs a n c staged x among =
     let at = staged.are_targets x among in
@@ -95,8 +95,8 @@ place_of_slice : (place n : ℕ) → n < 16 → place_of (member_slice place n) 
 place_of_slice place n few = omega (arith, few)
 
 -- with the targets written, a current place that isn't a member's has none, as it had none
-pub alone_on : (s t : State) (durable : Shape) (vals : ℕ → Values) (spent gone : ℕ → Bool) (v : Raid) (xs : List Target) (a : Seen) (n place : ℕ) (c : Image)
-    → n < 16 → Stood s durable vals spent gone v a n → Picks a c → is_current s place ≡ true → gone place ≡ false
+pub alone_on : (s t : State) (durable : Shape) (vals : ℕ → Values) (spent gone : ℕ → Bool) (v : Raid) (xs : List Target) (a : RackView) (n place : ℕ) (c : Image)
+    → n < 16 → InvariantInCall s durable vals spent gone v a n → Picks a c → is_current s place ≡ true → gone place ≡ false
     → look xs (member_slice place n) super_sector ≡ None → ((e : Image) → super_in t e n place ≡ super_in s e n place)
     → ((k : ℕ) → k < (v.arrays n).truth.raid_disks → place_at (v.arrays n) k ≡ place → ⊥)
     → super_in t (put a.sectors xs c) n place ≡ None
@@ -109,8 +109,8 @@ alone_on s t durable vals spent gone v xs a n place c few stood picks current le
     (stood.holds.alone (replayed a.sectors c) (c, picks, λ e i. refl) place current other)
 
 -- so no other current place has one
-put_alone : (s t : State) (durable : Shape) (vals : ℕ → Values) (spent gone : ℕ → Bool) (v : Raid) (xs : List Target) (a : Seen) (n : ℕ) (c : Image)
-    → IsStaged s t gone (v.arrays n) xs a n → Stood s durable vals spent gone v a n → Picks a c
+put_alone : (s t : State) (durable : Shape) (vals : ℕ → Values) (spent gone : ℕ → Bool) (v : Raid) (xs : List Target) (a : RackView) (n : ℕ) (c : Image)
+    → IsStaged s t gone (v.arrays n) xs a n → InvariantInCall s durable vals spent gone v a n → Picks a c
     → HasNoOthers (v.arrays n) t (put a.sectors xs c)
 put_alone s t durable vals spent gone v xs a n c staged stood picks place current other =
     let now = left_now (is_current s place) (gone place) (sym (staged.marks.current place) ∙ current) in
@@ -119,7 +119,7 @@ put_alone s t durable vals spent gone v xs a n c staged stood picks place curren
     (λ e. marked_super s t gone e n place staged.marks) other)
 
 -- By the new state, with the targets written, contents restate the array, where no other current place has a superblock of it.
-pub restates_by : (s t : State) (gone : ℕ → Bool) (u : View) (xs : List Target) (a : Seen) (n : ℕ)
+pub restates_by : (s t : State) (gone : ℕ → Bool) (u : View) (xs : List Target) (a : RackView) (n : ℕ)
     → IsStaged s t gone u xs a n → ((c : Image) → Picks a c → HasNoOthers u t (put a.sectors xs c))
     → IsOpen (shape_of u) n a → AreEven (shape_of u) n u.resync (current_in a.held)
     → Restates t (shape_of u) false u xs a n
@@ -148,8 +148,8 @@ restates_by s t gone u xs a n staged alone is_open even =
     }
 
 -- so they do for an array that stands before it
-pub restates_staged : (s t : State) (durable : Shape) (vals : ℕ → Values) (spent gone : ℕ → Bool) (v : Raid) (xs : List Target) (a : Seen) (n : ℕ)
-    → IsStaged s t gone (v.arrays n) xs a n → Stood s durable vals spent gone v a n
+pub restates_staged : (s t : State) (durable : Shape) (vals : ℕ → Values) (spent gone : ℕ → Bool) (v : Raid) (xs : List Target) (a : RackView) (n : ℕ)
+    → IsStaged s t gone (v.arrays n) xs a n → InvariantInCall s durable vals spent gone v a n
     → Restates t (shape_of (v.arrays n)) false (v.arrays n) xs a n
 restates_staged s t durable vals spent gone v xs a n staged stood =
     let u = v.arrays n in

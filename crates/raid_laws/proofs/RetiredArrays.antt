@@ -3,10 +3,10 @@
 use Rattle.std.proofs.Common.{◌≡◌, ◌≢◌, ℕ, ◌+◌, ◌<◌, ◌==◌, ◌&&◌, ◌||◌, not, Bool, true, false, List, [], ◌∷◌, length, map, None, refl, sym, ap, subst, ◌∙◌, inl, inr, eq-eqb, arith}
 use Rattle.std.proofs.lemmas.Bool.{both_ways, ne_eqb}
 use Rattle.rack.specs.Values.{Values, Keeps}
-use Rattle.rack.specs.Seen.{Image, Seen}
+use Rattle.rack.specs.Seen.{Image, RackView}
 use Rattle.rack.specs.Joins.{keeps_same}
 use Rattle.array_image.specs.Arrays.{Member, Shape, replayed}
-use Rattle.array_image.specs.Held.{Among, IsSettled, current_in}
+use Rattle.array_image.specs.Held.{Among, IsSynced, current_in}
 use Rattle.array_image.specs.Left.{Picks}
 use Rattle.array_image.specs.Marks.{lower, lowered, unless_gone}
 use Rattle.array_image.specs.Places.{data_sector, member_slice, place_of, super_sector}
@@ -16,7 +16,7 @@ use Rattle.array_image.specs.Supers.{is_super_of, only_if, super_in, super_of}
 use Rattle.array_image.proofs.Frames.{super_of_sector}
 use Rattle.array_image.proofs.Marked.{among_lowered}
 use Rattle.array_image.proofs.Replays.{replayed_as_is}
-use Rattle.array_model.specs.ArrayCalls.{Covers}
+use Rattle.array_model.specs.ArrayCalls.{IncludesSpent}
 use Rattle.array_model.specs.Says.{HoldsData}
 use Rattle.array_model.specs.View.{View, may_vary, place_at, shape_of}
 use Rattle.array_model.proofs.Keeping.{KeepsData, even_kept, logs_of, same_value, settled_kept}
@@ -28,7 +28,7 @@ use Rattle.log_laws.specs.View.{names}
 use Rattle.log_laws.proofs.Kept.{kept_idle}
 use Rattle.rack.specs.Targets.{Target, look}
 use Rattle.raid_laws.specs.Enlisting.{IsNewLog}
-use Rattle.raid_laws.specs.Moves.{IsAmid, IsHeeded, IsSet}
+use Rattle.raid_laws.specs.Moves.{IsTrackedInCall, IsHeeded, IsSet}
 use Rattle.raid_laws.specs.Raid.{Raid, gone_in}
 use Rattle.raid_laws.specs.Vacated.{DiffersAt, FindsArray, vacated}
 use Rattle.raid_laws.proofs.Missing.{current_marked, id_marked, length_marked}
@@ -60,7 +60,7 @@ pub losing_shape : (places : List ℕ) (u : View) → shape_of (losing places u)
 unfolding shape_of
 losing_shape places u = refl
 
-module _ (place : ℕ) (x y : Seen) (differs : DiffersAt place x y) where
+module _ (place : ℕ) (x y : RackView) (differs : DiffersAt place x y) where
   member_off : (p n : ℕ) → n < 16 → p ≢ place → place_of (member_slice p n) ≢ place
   member_off p n few away same = away (omega (arith, same, few))
 
@@ -85,7 +85,7 @@ module _ (place : ℕ) (x y : Seen) (differs : DiffersAt place x y) where
 
   module _ (v : Raid) (n : ℕ) (vals : ℕ → Values) (spent : ℕ → Bool) (set : IsSet v x) (heeded : IsHeeded v) (low : n < v.state.made)
       (was : is_current v.state place ≡ true) (someone : (p : ℕ) × (is_current v.state p ≡ true) × (p ≢ place)) (new_log : IsNewLog place y)
-      (covers : Covers (losing (place ∷ []) (v.arrays n)) spent) (amid : IsAmid v x n vals spent) (settled : IsSettled (shape_of (v.arrays n)) n x.held) where
+      (covers : IncludesSpent (losing (place ∷ []) (v.arrays n)) spent) (amid : IsTrackedInCall v x n vals spent) (settled : IsSynced (shape_of (v.arrays n)) n x.held) where
     few : n < 16
     few = let most = set.most in omega (arith, low, most)
 
@@ -133,9 +133,9 @@ module _ (place : ℕ) (x y : Seen) (differs : DiffersAt place x y) where
         subst (λ (shape : Shape). HoldsData n shape (v.arrays n).resync vals spent y) (sym shape_now)
         (holds_away n (lowered (names (place ∷ [])) (shape_of (v.arrays n))) (v.arrays n).resync vals spent few off members_before)
 
-    settled_now : IsSettled (shape_of (losing (place ∷ []) (v.arrays n))) n y.held
+    settled_now : IsSynced (shape_of (losing (place ∷ []) (v.arrays n))) n y.held
     settled_now =
-        subst (λ (shape : Shape). IsSettled shape n y.held) (sym shape_now)
+        subst (λ (shape : Shape). IsSynced shape n y.held) (sym shape_now)
         (settled_kept x.held y.held (lowered (names (place ∷ [])) (shape_of (v.arrays n))) n
         (data_away n (lowered (names (place ∷ [])) (shape_of (v.arrays n))) few off)
         (λ m sector among reached. settled m sector (among_lowered (names (place ∷ [])) sector (shape_of (v.arrays n)).members m among reached) reached))

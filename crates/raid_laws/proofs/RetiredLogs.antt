@@ -5,7 +5,7 @@ use Rattle.std.specs.Option.{option_map_or}
 use Rattle.std.proofs.lemmas.Bool.{both_ways, cases_eq, cases_lt}
 use Rattle.std.proofs.lemmas.Option.{none-some}
 use Rattle.rack.specs.Values.{MayLeave}
-use Rattle.rack.specs.Seen.{Image, Seen, IsLive}
+use Rattle.rack.specs.Seen.{Image, RackView, IsLive}
 use Rattle.rack.specs.Targets.{Target, look, put}
 use Rattle.pool_state.specs.declared.contents.Copied.{Copied}
 use Rattle.pool_state.specs.declared.contents.State.{State}
@@ -17,7 +17,7 @@ use Rattle.array_image.specs.States.{current_places, is_current, state_in}
 use Rattle.array_image.proofs.Frames.{state_same}
 use Rattle.array_image.proofs.Replays.{replayed_as_is}
 use Rattle.log_laws.specs.Commits.{Stands}
-use Rattle.log_laws.specs.Kept.{CopiesStand, HasClosedGate, IsNoLater, LogKept, MayJoin}
+use Rattle.log_laws.specs.Kept.{CopiesStand, HasClosedGate, IsNoLater, LogInvariant, MayJoin}
 use Rattle.log_laws.specs.Standing.{IsNumbered, LogsStand, deciding}
 use Rattle.commit_log.proofs.Amid.{no_gate_in_nothing}
 use Rattle.commit_log.proofs.Committing.{off_log, on_log}
@@ -33,7 +33,7 @@ use Rattle.raid_laws.proofs.Added.{names_current}
 use Rattle.raid_laws.proofs.Own.{look_nothing}
 use Rattle.raid_laws.proofs.ReseatedLogs.{live_now, logs_back, no_copy, no_targets, put_back, put_back_off, stands_back, stands_logs}
 
-module _ (place : ℕ) (x y : Seen) (differs : DiffersAt place x y) (s : State) (number : ℕ) (gone now : ℕ → Bool) (kept : LogKept s number gone x)
+module _ (place : ℕ) (x y : RackView) (differs : DiffersAt place x y) (s : State) (number : ℕ) (gone now : ℕ → Bool) (kept : LogInvariant s number gone x)
     (was : is_current s place ≡ true) (all : (p : ℕ) → is_current s p ≡ true → gone p ≡ false)
     (went : now place ≡ true) (left : (p : ℕ) → now p ≡ false → gone p ≡ false)
     (someone : (p : ℕ) × (is_current s p ≡ true) × (now p ≡ false)) (new_log : IsNewLog place y) where
@@ -169,7 +169,7 @@ module _ (place : ℕ) (x y : Seen) (differs : DiffersAt place x y) (s : State) 
       (λ a is. absurd (none-some a (sym (none_pending c stand) ∙ is))))
 
   -- what a commit on the others finds
-  pub retired_logs : LogKept s number now y
+  pub retired_logs : LogInvariant s number now y
   retired_logs = record {
     logs = logs_live;
     few = kept.few;

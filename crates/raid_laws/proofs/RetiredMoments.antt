@@ -4,7 +4,7 @@ use Rattle.std.proofs.Common.{◌≡◌, ◌≢◌, ℕ, ◌<◌, ◌≤◌, ◌
 use Rattle.std.specs.Option.{option_map_or}
 use Rattle.std.proofs.lemmas.Bool.{cases_eq, ne_eqb}
 use Rattle.rack.specs.Values.{MayLeave}
-use Rattle.rack.specs.Seen.{Image, Seen}
+use Rattle.rack.specs.Seen.{Image, RackView}
 use Rattle.rack.specs.Targets.{Target, look}
 use Rattle.pool_state.specs.declared.contents.State.{State}
 use Rattle.array_image.specs.Arrays.{replayed}
@@ -16,7 +16,7 @@ use Rattle.array_image.proofs.Frames.{state_same}
 use Rattle.array_image.proofs.Replays.{replayed_as_is}
 use Rattle.array_model.proofs.Keeping.{logs_of}
 use Rattle.log_laws.specs.Commits.{IsPendingYet, Stands}
-use Rattle.log_laws.specs.Kept.{LogKept}
+use Rattle.log_laws.specs.Kept.{LogInvariant}
 use Rattle.log_laws.specs.Standing.{IsAlike, IsWhole, LogsStand, StatesStand, deciding}
 use Rattle.log_laws.proofs.FirstGate.{closed_gate}
 use Rattle.log_laws.proofs.Kept.{brings_none, brings_to, kept_idle, place_of_log, stands_latest}
@@ -27,7 +27,7 @@ use Rattle.raid_laws.proofs.Own.{look_nothing}
 use Rattle.raid_laws.proofs.ReseatedLogs.{no_copy}
 use Rattle.raid_laws.proofs.RetiredLogs.{retired_as_is, retired_idle, retired_logs, retired_state}
 
-module _ (place : ℕ) (x y : Seen) (differs : DiffersAt place x y) (s : State) (number : ℕ) (gone now : ℕ → Bool) (kept : LogKept s number gone x)
+module _ (place : ℕ) (x y : RackView) (differs : DiffersAt place x y) (s : State) (number : ℕ) (gone now : ℕ → Bool) (kept : LogInvariant s number gone x)
     (was : is_current s place ≡ true) (all : (p : ℕ) → is_current s p ≡ true → gone p ≡ false)
     (went : now place ≡ true) (left : (p : ℕ) → now p ≡ false → gone p ≡ false)
     (someone : (p : ℕ) × (is_current s p ≡ true) × (now p ≡ false)) (new_log : IsNewLog place y)
@@ -42,7 +42,7 @@ module _ (place : ℕ) (x y : Seen) (differs : DiffersAt place x y) (s : State) 
   stands_logs : (i : Image) → Stands y i → LogsStand y i
   stands_logs i stand = record { picks = λ p k live. stand.picks (log_slice p) k live; inside = stand.inside }
 
-  kept_now : LogKept s number now y
+  kept_now : LogInvariant s number now y
   kept_now = retired_logs place x y differs s number gone now kept was all went left someone new_log
 
   abbrev yet : IsPendingYet y e

@@ -1,9 +1,9 @@
 -- Rows that images leave to resync, over parts of a call.
 use Rattle.std.proofs.Common.{◌≡◌, ℕ, ◌-◌, ◌*◌, ◌/◌, ◌^◌, ◌<◌, ◌≤◌, Bool, true, false, nat_lt, if◌then◌else◌, refl, sym, ap, subst, ◌∙◌, inl, inr, eq-eqb, eqb-true, lt-ltb, le-ltb, arith}
 use Rattle.std.proofs.lemmas.Bool.{cases_lt}
-use Rattle.rack.specs.Seen.{Image, Seen}
+use Rattle.rack.specs.Seen.{Image, RackView}
 use Rattle.rack.specs.Sequences.{OnlyReads}
-use Rattle.array_image.specs.Left.{IsCalm}
+use Rattle.array_image.specs.Left.{PendingOnlyFor}
 use Rattle.md_super.specs.declared.superblock.Super.{Super}
 use Rattle.array_image.specs.States.{state_in}
 use Rattle.array_image.specs.Supers.{is_unclean}
@@ -11,7 +11,7 @@ use Rattle.array_image.specs.SoundArray.{first_unsynced}
 use Rattle.array_image.proofs.Frames.{Agree, supers_same, truth_by_supers}
 use Rattle.array_model.specs.View.{View, IsArray, IsSameArray, rows_of}
 use Rattle.array_model.specs.Members.{IsSameButSeats}
-use Rattle.array_model.proofs.Moves.{Moves as CallMoves}
+use Rattle.array_model.proofs.Moves.{CallRefines as CallMoves}
 use Rattle.array_core.specs.Superblocks.{is_settled, left_offset, settled}
 use Rattle.raid_laws.specs.Raid.{Raid}
 use Rattle.raid_laws.specs.Rows.{KeepsRows, LeavesFrom, LeavesRows}
@@ -96,7 +96,7 @@ clear_settled u z same = record {
 }
 
 -- what a part makes of the array, and what images leave of its rows
-pub rows_by : (v w : Raid) (a b : Seen) (n : ℕ) → KeepsClear (v.arrays n) (w.arrays n) → LeavesRows v a n → HasEach (LeavesFrom (v.arrays n).resync n) a b → KeepsRows v w a b n
+pub rows_by : (v w : Raid) (a b : RackView) (n : ℕ) → KeepsClear (v.arrays n) (w.arrays n) → LeavesRows v a n → HasEach (LeavesFrom (v.arrays n).resync n) a b → KeepsRows v w a b n
 rows_by v w a b n clear rows each = record {
   later = let same = clear.resync in omega (arith, same);
   leaves = each.leaves;
@@ -110,17 +110,17 @@ rows_by v w a b n clear rows each = record {
 -- ---- parts
 
 -- where nothing is called
-pub rows_still : (v w : Raid) (x : Seen) (n : ℕ) → KeepsClear (v.arrays n) (w.arrays n) → LeavesRows v x n → KeepsRows v w x x n
+pub rows_still : (v w : Raid) (x : RackView) (n : ℕ) → KeepsClear (v.arrays n) (w.arrays n) → LeavesRows v x n → KeepsRows v w x x n
 rows_still v w x n clear rows = rows_by v w x x n clear rows (each_still (LeavesFrom (v.arrays n).resync n) x rows.images)
 
 -- calls that write nothing
-pub rows_read : (v w : Raid) (a b : Seen) (n : ℕ) → a.lasting → OnlyReads a b → KeepsClear (v.arrays n) (w.arrays n) → LeavesRows v a n → KeepsRows v w a b n
+pub rows_read : (v w : Raid) (a b : RackView) (n : ℕ) → a.lasting → OnlyReads a b → KeepsClear (v.arrays n) (w.arrays n) → LeavesRows v a n → KeepsRows v w a b n
 rows_read v w a b n lasting reads clear rows = rows_by v w a b n clear rows (each_read (LeavesFrom (v.arrays n).resync n) a b lasting reads rows.images)
 
 -- a call of another array
-pub rows_other : (v w : Raid) (a b : Seen) (n m : ℕ) (H Q : Type 0) (during : Image → Type 0)
+pub rows_other : (v w : Raid) (a b : RackView) (n m : ℕ) (H Q : Type 0) (during : Image → Type 0)
     → m < 16 → n < 16 → (n ≡ m → ⊥) → (v.arrays m).number ≡ m → w.arrays n ≡ v.arrays n → a.lasting
-    → CallMoves (v.arrays m).number a b H during Q → IsCalm (v.arrays m).number a
+    → CallMoves (v.arrays m).number a b H during Q → PendingOnlyFor (v.arrays m).number a
     → LeavesRows v a n → KeepsRows v w a b n
 rows_other v w a b n m H Q during few also other number same lasting acts calm rows =
     rows_by v w a b n (clear_same (v.arrays n) (w.arrays n) same) rows

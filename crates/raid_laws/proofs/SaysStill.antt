@@ -17,7 +17,7 @@ use Rattle.array_image.specs.Stripes.{AgreeIn, sector_in, there, width}
 use Rattle.array_image.specs.Supers.{super_in, truth_in}
 use Rattle.array_image.proofs.Frames.{map_same, super_of_sector, value_by_data}
 use Rattle.array_image.proofs.Settled.{among_take}
-use Rattle.array_model.specs.Says.{Says}
+use Rattle.array_model.specs.Says.{ImageShowsArray}
 use Rattle.array_model.proofs.DataFrames.{columns_same}
 
 -- members that count stand on current places
@@ -93,7 +93,7 @@ module _ (s : State) (n : ℕ) (r e : Image) (same : (p t : ℕ) → is_current 
       some_shape : {x y : Shape} → Some x ≡ Some y → x ≡ y
       some_shape {x} {y} both = ap (λ o. unwrap_or o x) both
 
-  pub says_still : (shape : Shape) (vals : ℕ → Values) (spent : ℕ → Bool) → CountsOn s shape → Says s n shape vals spent e → Says s n shape vals spent r
+  pub says_still : (shape : Shape) (vals : ℕ → Values) (spent : ℕ → Bool) → CountsOn s shape → ImageShowsArray s n shape vals spent e → ImageShowsArray s n shape vals spent r
   says_still shape vals spent counts says = record {
     shape_is = shape_still ∙ says.shape_is;
     value = λ y alive.

@@ -6,7 +6,7 @@ use Rattle.std.proofs.lemmas.List.Folds.{list_any-append}
 use Rattle.std.proofs.lemmas.Map.Views.{any-filter_same}
 use Rattle.std.specs.List.{list_all, list_any, range_with_len, zip}
 use Rattle.shr_base.specs.declared.Id.{Id}
-use Rattle.rack.specs.Seen.{Seen, Stays}
+use Rattle.rack.specs.Seen.{RackView, SameRack}
 use Rattle.pool_state.specs.declared.contents.State.{State}
 use Rattle.array_image.specs.States.{is_current}
 use Rattle.array_image.specs.Supers.{is_reshaping}
@@ -84,7 +84,7 @@ abbrev pub AreLost : View → List Seat → (ℕ → Bool) → Type 0
 AreLost u seats lost = (k : ℕ) → slice_get seats k ≡ option_map (seat_unless lost (place_at u k)) (slice_get u.seats k)
 
 -- a whole array is so after calls in which no place of a current member went
-pub whole_then : (s : State) (n : ℕ) (u w : View) (lost : ℕ → Bool) (x : Seen) → IsSeated s n u x → IsSameButSeats u w → AreLost u w.seats lost → is_whole_array u ≡ true
+pub whole_then : (s : State) (n : ℕ) (u w : View) (lost : ℕ → Bool) (x : RackView) → IsSeated s n u x → IsSameButSeats u w → AreLost u w.seats lost → is_whole_array u ≡ true
     → (is_whole_array w ≡ true) ⊎ ((p : ℕ) × (is_current s p ≡ true) × (lost p ≡ true))
 whole_then s n u w lost x seated same loses whole =
     let test : ℕ → Bool = λ k. lost (place_at u k) in
@@ -143,7 +143,7 @@ pub or_last : (b c : Bool) → c ≡ true → (b || c) ≡ true
 or_last true c is = refl
 or_last false c is = is
 
-pool_with : (s : State) (n : ℕ) (u : View) (seats : List Seat) (went : List ℕ) (lost : ℕ → Bool) (x : Seen) → IsSeated s n u x → AreLost u seats lost
+pool_with : (s : State) (n : ℕ) (u : View) (seats : List Seat) (went : List ℕ) (lost : ℕ → Bool) (x : RackView) → IsSeated s n u x → AreLost u seats lost
     → ((p : ℕ) → is_current s p ≡ true → names went p ≡ (lost p || has_gone u p)) → IsOfPool s (with_seats u seats went)
 pool_with s n u seats went lost x seated are listed =
     let pool = seated.is_of_pool in
@@ -195,7 +195,7 @@ place_few u k is_array low =
     subst (λ p. p < 16) (sym (ap (λ o. unwrap_or o 16) at.1)) at.2
 
 -- Calls in which places went: the array is one of the pool without them, where those that are listed and current are those.
-pub seated_with : (s : State) (n : ℕ) (u : View) (seats : List Seat) (went : List ℕ) (lost : ℕ → Bool) (x y : Seen) → Stays x y
+pub seated_with : (s : State) (n : ℕ) (u : View) (seats : List Seat) (went : List ℕ) (lost : ℕ → Bool) (x y : RackView) → SameRack x y
     → IsSeated s n u x → AreLost u seats lost
     → ((p : ℕ) → is_current s p ≡ true → names went p ≡ (lost p || has_gone u p))
     → IsSeated s n (with_seats u seats went) y
@@ -293,7 +293,7 @@ unfolding listed
 gone_fewer u lost is_array = fewer_left u (listed u lost) (names lost) (listed_loses u lost is_array)
 
 -- it is one of the pool still
-pub gone_seated : (s : State) (n : ℕ) (u : View) (lost : List ℕ) (x : Seen) → Stays x x → ((p : ℕ) → is_current s p ≡ true → p < 16)
+pub gone_seated : (s : State) (n : ℕ) (u : View) (lost : List ℕ) (x : RackView) → SameRack x x → ((p : ℕ) → is_current s p ≡ true → p < 16)
     → IsSeated s n u x → IsSeated s n (gone lost u) x
 gone_seated s n u lost x stays few seated =
     seated_with s n u (gone lost u).seats (gone lost u).went (names lost) x x stays seated (gone_lost u lost seated.is_array)
@@ -306,7 +306,7 @@ gone_seated s n u lost x stays few seated =
     or_swap false false = refl
 
 -- and heeded, where whoever went is marked
-pub heeded_seated : (s : State) (n : ℕ) (u : View) (x : Seen) → Stays x x → IsSeated s n u x
+pub heeded_seated : (s : State) (n : ℕ) (u : View) (x : RackView) → SameRack x x → IsSeated s n u x
     → ((p : ℕ) → is_current s p ≡ true → has_gone u p ≡ false) → IsSeated s n (heeded u) x
 heeded_seated s n u x stays seated marked =
     seated_with s n u u.seats [] (λ p. false) x x stays seated (λ k. same (place_at u k) (slice_get u.seats k)) (λ p current. sym (marked p current))

@@ -4,7 +4,7 @@ use Rattle.std.proofs.lemmas.Bool.{cases_eq, cases_lt, both_ways}
 use Rattle.std.proofs.lemmas.List.{length-append}
 use Rattle.std.proofs.lemmas.Option.{slice_get-get_or}
 use Rattle.rack.specs.Values.{Values}
-use Rattle.rack.specs.Seen.{Seen, IsPick}
+use Rattle.rack.specs.Seen.{RackView, IsPick}
 use Rattle.rack.specs.Joins.{stays_same, stays_then, leaves_same, keeps_same, keeps_all_then}
 use Rattle.rack.specs.Targets.{Target}
 use Rattle.rack.specs.Sequences.{OnlyReads}
@@ -12,13 +12,13 @@ use Rattle.pool_state.specs.declared.contents.State.{State}
 use Rattle.array_image.specs.Places.{member_slice, data_sector}
 use Rattle.array_image.specs.Record.{are_apart}
 use Rattle.array_image.specs.Arrays.{Shape}
-use Rattle.array_image.specs.Held.{IsSettled}
+use Rattle.array_image.specs.Held.{IsSynced}
 use Rattle.array_model.specs.declared.Seat.{Seat}
 use Rattle.array_model.specs.declared.Seat.TheVariants.{Missing}
 use Rattle.array_model.specs.View.{View, IsArray, has_gone, is_missing_seat, place_at, shape_of}
 use Rattle.array_model.specs.Members.{slice_on}
-use Rattle.array_model.specs.Says.{IsOpen, Holds}
-use Rattle.array_model.specs.ArrayCalls.{Covers, SyncsArray}
+use Rattle.array_model.specs.Says.{IsOpen, ArrayInvariant}
+use Rattle.array_model.specs.ArrayCalls.{IncludesSpent, SyncsArray}
 use Rattle.log_laws.proofs.Kept.{live_on}
 use Rattle.array_model.specs.Stages.{AmongTargets}
 use Rattle.array_model.proofs.Keeping.{settled_kept}
@@ -30,7 +30,7 @@ use Rattle.array_core.specs.Staging.{AddsSupersOf}
 use Rattle.array_core.specs.Superblocks.{left_offset}
 use Rattle.array_core.proofs.StagedTargets.{targets_apart}
 use Rattle.raid_laws.specs.Raid.{Raid}
-use Rattle.raid_laws.specs.Moves.{IsSet, IsAmid, IsUnmarked}
+use Rattle.raid_laws.specs.Moves.{IsSet, IsTrackedInCall, IsUnmarked}
 use Rattle.raid_laws.specs.Settling.{IsSuperOf, HasSupers, HasStaged, SettlesTo}
 use Rattle.raid_laws.proofs.Moving.{moves_same, moves_then}
 use Rattle.raid_laws.proofs.Noted.{with_arrays}
@@ -162,8 +162,8 @@ or_right true c is = refl
 or_right false c is = is
 
 -- the members of a settled array have one value still
-settled_later : (w : Raid) (b c : Seen) (n : ℕ) (vals : ℕ → Values) (spent : ℕ → Bool) → b.lasting → OnlyReads b c → IsAmid w b n vals spent
-    → IsSettled (shape_of (w.arrays n)) n b.held → IsSettled (shape_of (w.arrays n)) n c.held
+settled_later : (w : Raid) (b c : RackView) (n : ℕ) (vals : ℕ → Values) (spent : ℕ → Bool) → b.lasting → OnlyReads b c → IsTrackedInCall w b n vals spent
+    → IsSynced (shape_of (w.arrays n)) n b.held → IsSynced (shape_of (w.arrays n)) n c.held
 settled_later w b c n vals spent lasting reads amid single =
     settled_kept b.held c.held (shape_of (w.arrays n)) n
     (λ m sector among counts.
@@ -172,7 +172,7 @@ settled_later w b c n vals spent lasting reads amid single =
     (subst (λ k. IsOpen (shape_of (w.arrays n)) k b) amid.stood.number amid.stood.holds.shape.open_left m sector among counts)))
     single
 
-pub settles_first : (v : Raid) (x : Seen) → IsSet v x → SettlesTo v v x x 0 []
+pub settles_first : (v : Raid) (x : RackView) → IsSet v x → SettlesTo v v x x 0 []
 settles_first v x set =
     record {
       moves = moves_same v x set;
@@ -187,9 +187,9 @@ settles_first v x set =
       settled = λ n vals spent low joined goes covers amid. absurd (omega (arith, low));
     }
 
-pub settles_more : (v w : Raid) (f : ℕ → View) (a b c : Seen) (m : ℕ) (xs ys : List Target) → w.state.made ≤ 16
+pub settles_more : (v w : Raid) (f : ℕ → View) (a b c : RackView) (m : ℕ) (xs ys : List Target) → w.state.made ≤ 16
     → SettlesTo v w a b m xs → ReadsOne w f m b c
-    → ((s : State) (durable : Shape) (vals : ℕ → Values) (spent : ℕ → Bool) → Covers (f m) spent → SyncsArray s (w.arrays m) (f m) spent b c durable vals)
+    → ((s : State) (durable : Shape) (vals : ℕ → Values) (spent : ℕ → Bool) → IncludesSpent (f m) spent → SyncsArray s (w.arrays m) (f m) spent b c durable vals)
     → AddsSupersOf (f m) xs ys → (f m).marked ≡ false → (f m).truth.events ≤ (w.arrays m).truth.events + 1
     → (f m).truth.resync_offset ≡ left_offset (w.arrays m)
     → SettlesTo v (with_arrays w f) a c (m + 1) ys
@@ -243,17 +243,17 @@ settles_more v w f a b c m xs ys few before call syncs adds unmarked raised left
           let made : n < w.state.made = let last = call.views.low in omega (arith, low, last) in
           let was : n < v.state.made = subst (λ (s : State). n < s.made) before.same made in
           let earlier = step.still n made goes in
-          let covered : Covers (w.arrays n) spent = λ y alive. step.spent n y made (covers y alive) in
+          let covered : IncludesSpent (w.arrays n) spent = λ y alive. step.spent n y made (covers y alive) in
           let mid = (before.moves.parts n vals spent joined was earlier covered).holds amid in
           elim (cases_eq n m) [
             | inl same ↦
-                let goal : IsSettled (shape_of (f m)) m c.held =
-                subst (λ k. IsSettled (shape_of (f m)) k c.held) call.views.seated.number
-                ((syncs w.state mid.durable vals spent (subst (λ k. Covers (f k) spent) same covers)).settled
-                (subst (λ k. Holds w.state mid.durable (w.arrays k) vals spent b) same mid.stood.holds)) in
-                subst (λ k. IsSettled (shape_of (f k)) k c.held) (sym same) goal
+                let goal : IsSynced (shape_of (f m)) m c.held =
+                subst (λ k. IsSynced (shape_of (f m)) k c.held) call.views.seated.number
+                ((syncs w.state mid.durable vals spent (subst (λ k. IncludesSpent (f k) spent) same covers)).settled
+                (subst (λ k. ArrayInvariant w.state mid.durable (w.arrays k) vals spent b) same mid.stood.holds)) in
+                subst (λ k. IsSynced (shape_of (f k)) k c.held) (sym same) goal
             | inr other ↦
-                subst (λ (u : View). IsSettled (shape_of u) n c.held) (sym (call.views.others n other))
+                subst (λ (u : View). IsSynced (shape_of u) n c.held) (sym (call.views.others n other))
                 (settled_later w b c n vals spent before.moves.set.lasting call.reads mid
                 (before.settled n vals spent (omega (arith, low, other)) joined earlier covered amid))
           ];

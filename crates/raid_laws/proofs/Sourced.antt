@@ -1,16 +1,16 @@
 -- A sector that isn't spent has its own member, or its array's members have one value a sector.
 use Rattle.std.proofs.Common.{◌≡◌, ℕ, suc, ◌≤◌, Bool, true, false, ◌||◌, nat_lt, nat_le, if◌then◌else◌, List, [], ◌∷◌, take, length, Some, None, refl, sym, ap, subst, ◌∙◌, inl, inr, arith}
 use Rattle.std.proofs.lemmas.Bool.{cases_Bool, and_parts}
-use Rattle.rack.specs.Seen.{Seen}
+use Rattle.rack.specs.Seen.{RackView}
 use Rattle.md_super.specs.Profile.{is_mirror}
 use Rattle.array_image.specs.Stripes.{Layout, mirror, width, position_in, sector_in}
 use Rattle.array_image.specs.Supers.{is_reshaping}
 use Rattle.array_image.specs.Arrays.{Member, Shape, layout_at}
-use Rattle.array_image.specs.Held.{IsSettled, first_counting, source_in}
+use Rattle.array_image.specs.Held.{IsSynced, first_counting, source_in}
 use Rattle.array_image.specs.Spent.{wanting, spent_by}
 use Rattle.array_image.proofs.Sources.{source_of}
 use Rattle.array_model.specs.View.{View, IsArray, is_alone, is_whole_array, may_vary, present, shape_of, spent_in}
-use Rattle.array_model.specs.ArrayCalls.{Covers}
+use Rattle.array_model.specs.ArrayCalls.{IncludesSpent}
 use Rattle.array_model.proofs.Layouts.{final_by, layout_by}
 use Rattle.array_model.proofs.Noting.{laid_out}
 use Rattle.array_model.proofs.RowWrites.{whole_shape}
@@ -71,8 +71,8 @@ whole_sourced v y is_array is alive none =
     let bad : Some some.0 ≡ None = sym some.1 ∙ none in
     cc
 
-pub sourced : (v : View) (spent : ℕ → Bool) (x : Seen) → IsArray v → (v.marked ≡ true → is_whole_array v ≡ true) → Covers v spent
-    → (may_vary v ≡ false → IsSettled (shape_of v) v.number x.held) → IsSourced v spent x
+pub sourced : (v : View) (spent : ℕ → Bool) (x : RackView) → IsArray v → (v.marked ≡ true → is_whole_array v ≡ true) → IncludesSpent v spent
+    → (may_vary v ≡ false → IsSynced (shape_of v) v.number x.held) → IsSourced v spent x
 sourced v spent x is_array whole covers settled y alive none =
     elim (cases_Bool v.marked) [
       | inl marked ↦ absurd (whole_sourced v y is_array (whole marked) (covers y alive) none)

@@ -1,10 +1,10 @@
 -- The superblocks of an array that are staged for a commit that marks losses, and what is noted of it after the commit.
 use Rattle.std.proofs.Common.{◌≡◌, ℕ, suc, ◌<◌, Bool, true, false, ◌&&◌, ◌||◌, not, if◌then◌else◌, List, [], ◌∷◌, length, slice_get, Option, Some, None, option_map, unwrap_or, refl, sym, ap, subst, ◌∙◌, inl, inr, arith}
 use Rattle.std.proofs.lemmas.Bool.{cases_Bool, both_ways, and_parts}
-use Rattle.rack.specs.Seen.{Seen}
+use Rattle.rack.specs.Seen.{RackView}
 use Rattle.rack.specs.Targets.{Target}
 use Rattle.array_image.specs.Places.{member_slice, super_sector}
-use Rattle.array_image.specs.Held.{IsSettled}
+use Rattle.array_image.specs.Held.{IsSynced}
 use Rattle.array_image.specs.States.{is_current}
 use Rattle.log_laws.specs.View.{LogView, names, next_number}
 use Rattle.array_model.specs.declared.Seat.{Seat}
@@ -47,7 +47,7 @@ or_last : (x y : Bool) → y ≡ true → (x || y) ≡ true
 or_last true y is = refl
 or_last false y is = is
 
-module _ (v : Raid) (lost on : List ℕ) (l : LogView) (xs : List Target) (b : Seen) (marking : IsMarking v lost on l xs b) (n : ℕ) (low : n < v.state.made) where
+module _ (v : Raid) (lost on : List ℕ) (l : LogView) (xs : List Target) (b : RackView) (marking : IsMarking v lost on l xs b) (n : ℕ) (low : n < v.state.made) where
   small : n < 16
   small = let most = marking.set.most in omega (arith, low, most)
 
@@ -77,7 +77,7 @@ module _ (v : Raid) (lost on : List ℕ) (l : LogView) (xs : List Target) (b : S
       }
 
   -- where a member is left, and its members are settled
-  pub staged_array : 0 < present (v.arrays n).seats → IsWritten (v.arrays n) → IsSettled (shape_of (v.arrays n)) n b.held
+  pub staged_array : 0 < present (v.arrays n).seats → IsWritten (v.arrays n) → IsSynced (shape_of (v.arrays n)) n b.held
       → IsStaged v.state (state_after v lost) (gone_in v) (v.arrays n) l.added b n
   staged_array some written settled =
       let pool = seated.is_of_pool in
@@ -133,7 +133,7 @@ module _ (v : Raid) (lost on : List ℕ) (l : LogView) (xs : List Target) (b : S
         unmarked = has.unmarked.mark;
       }
 
-module _ (v : Raid) (lost on : List ℕ) {by : List ℕ} (gone : List ℕ) (l : LogView) (xs : List Target) (f : ℕ → View) (b c : Seen)
+module _ (v : Raid) (lost on : List ℕ) {by : List ℕ} (gone : List ℕ) (l : LogView) (xs : List Target) (f : ℕ → View) (b c : RackView)
     (commit : IsCommitBy v lost on by gone l xs f b c) (n : ℕ) (low : n < v.state.made) where
   -- whoever went in the commit is listed
   gone_listed : (f n).went ≡ [] → gone ≡ []

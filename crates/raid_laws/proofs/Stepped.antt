@@ -2,7 +2,7 @@
 use Rattle.std.proofs.Common.{◌≡◌, ◌⊎◌, ℕ, ◌-◌, ◌%◌, ◌^◌, ◌<◌, ◌≤◌, Bool, true, false, ◌==◌, ◌&&◌, if◌then◌else◌, List, Option, Some, unwrap_or, refl, sym, ap, subst, ◌∙◌, inl, inr, eq-eqb, ne_eqb, arith}
 use Rattle.std.proofs.lemmas.Bool.{both_ways, cases_Bool, cases_eq}
 use Rattle.rack.specs.Values.{Values}
-use Rattle.rack.specs.Seen.{Image, Seen}
+use Rattle.rack.specs.Seen.{Image, RackView}
 use Rattle.rack.specs.Joins.{leaves_weaker}
 use Rattle.rack.specs.Moments.{Leaves}
 use Rattle.md_super.specs.declared.superblock.Super.{Super}
@@ -14,23 +14,23 @@ use Rattle.array_image.specs.SoundArray.{first_unsynced}
 use Rattle.array_image.specs.Arrays.{Shape, replayed, shape_in}
 use Rattle.array_image.specs.Left.{IsInside, IsLeft}
 use Rattle.array_image.proofs.Frames.{state_same, super_of_sector, truth_by_supers}
-use Rattle.log_laws.specs.Kept.{LogKept}
+use Rattle.log_laws.specs.Kept.{LogInvariant}
 use Rattle.log_laws.specs.View.{names}
 use Rattle.log_laws.proofs.KeptAfter.{kept_more}
 use Rattle.array_model.specs.View.{View, has_gone, is_whole_array, shape_of}
-use Rattle.array_model.specs.Says.{Holds, IsOpen, Says}
+use Rattle.array_model.specs.Says.{ArrayInvariant, IsOpen, ImageShowsArray}
 use Rattle.array_model.specs.Members.{Notes}
-use Rattle.array_model.specs.ArrayCalls.{Covers, HasFields, KeepsSupers, Turns}
-use Rattle.array_model.proofs.Moves.{Moves as CallMoves, moves_by}
+use Rattle.array_model.specs.ArrayCalls.{IncludesSpent, HasFields, KeepsSupers, ImageInCall}
+use Rattle.array_model.proofs.Moves.{CallRefines as CallMoves, moves_by}
 use Rattle.array_model.proofs.Keeping.{keeping_calls}
 use Rattle.array_core.specs.Pool.{Goes}
 use Rattle.array_core.specs.Superblocks.{is_settled}
 use Rattle.array_core.specs.Writing.{KeepsElsewhere}
 use Rattle.sync_laws.specs.Steps.{MayStep, Stepped, Steps, as_it_was, done, if_done}
-use Rattle.raid_laws.specs.Raid.{Raid, gone_in, is_left, is_over}
+use Rattle.raid_laws.specs.Raid.{Raid, gone_in, is_left, is_failed}
 use Rattle.raid_laws.specs.Reach.{KeepsReach, KeepsReachOn, reach_same}
 use Rattle.raid_laws.specs.Laws.{stood_left}
-use Rattle.raid_laws.specs.Moves.{AreMarked, Brings, IsAmid, IsHeeded, IsSet, LosesOnly}
+use Rattle.raid_laws.specs.Moves.{AreMarked, ChangesData, IsTrackedInCall, IsHeeded, IsSet, OnlyFailures}
 use Rattle.raid_laws.specs.Rows.{KeepsLacking, KeepsRows, LackingFrom, LeavesFrom, LeavesLacking, LeavesRows, from_lower}
 use Rattle.raid_laws.specs.Works.{stepped}
 use Rattle.raid_laws.proofs.Added.{names_current}
@@ -48,12 +48,12 @@ use Rattle.raid_laws.proofs.Frames.{view_frame}
 use Rattle.raid_laws.proofs.Written.{ActsOne, may_commit, one_brings, opened, own_part}
 
 -- what was noted, by the array as it was or as the step made it
-step_notes : (is_done : Bool) (u next w : View) (a b : Seen) → Stepped u next w a b is_done → Notes (if_done is_done u next) w a b
+step_notes : (is_done : Bool) (u next w : View) (a b : RackView) → Stepped u next w a b is_done → Notes (if_done is_done u next) w a b
 step_notes false u next w a b (as_it_was notes) = notes
 step_notes true u next w a b (done notes) = notes
 
 -- A step of array m on the places `on`, which makes `next` of it.
-pub record StepCall (v : Raid) (f : ℕ → View) (next : View) (number m : ℕ) (a b : Seen) (on : List ℕ) (answered : Bool) : Type 0 where
+pub record StepCall (v : Raid) (f : ℕ → View) (next : View) (number m : ℕ) (a b : RackView) (on : List ℕ) (answered : Bool) : Type 0 where
   pub heeded : IsHeeded v
   pub low : m < v.state.made
   pub others : (n : ℕ) → (n ≡ m → ⊥) → f n ≡ v.arrays n
@@ -85,7 +85,7 @@ from_fields s row n t r state low fields q u is truth =
     let first = ap first_unsynced (fields u (subst (λ k. truth_in k r n ≡ Some u) same truth)) in
     subst (λ k. row ≤ k) (sym first) low
 
-module _ (v : Raid) (f : ℕ → View) (next : View) (number m : ℕ) (a b : Seen) (on : List ℕ) (answered : Bool) (set : IsSet v a)
+module _ (v : Raid) (f : ℕ → View) (next : View) (number m : ℕ) (a b : RackView) (on : List ℕ) (answered : Bool) (set : IsSet v a)
     (call : StepCall v f next number m a b on answered) where
   -- the array before it, and the one that it was or that the step made of it
   abbrev u : View
@@ -129,11 +129,11 @@ module _ (v : Raid) (f : ℕ → View) (next : View) (number m : ℕ) (a b : See
   marked : (p : ℕ) → is_current v.state p ≡ true → gone_in v p ≡ false
   marked p current = heeded_gone v call.heeded p
 
-  may_step : (n : ℕ) (vals : ℕ → Values) (spent : ℕ → Bool) → n < v.state.made → is_over (called v f number) n ≡ false → IsAmid v a n vals spent
+  may_step : (n : ℕ) (vals : ℕ → Values) (spent : ℕ → Bool) → n < v.state.made → is_failed (called v f number) n ≡ false → IsTrackedInCall v a n vals spent
       → MayStep v.state (v.arrays m) next (f m) v.number on a
   may_step n vals spent below goes amid = record {
     commit = may_commit v f number m n a b on set call.heeded views call.later call.on_is below goes amid.slices
-        (subst (λ g. LogKept v.state v.number g a) (λ i p. heeded_gone v call.heeded p i) amid.stood.log);
+        (subst (λ g. LogInvariant v.state v.number g a) (λ i p. heeded_gone v call.heeded p i) amid.stood.log);
     opened = subst (λ k. IsOpen (shape_of next) k a) (call.is_next.seated.number ∙ sym (set.arrays m call.low).number)
         (opened v.state v.state.made m next a call.is_next.seated amid.slices call.low);
     whole = call.whole;
@@ -142,12 +142,12 @@ module _ (v : Raid) (f : ℕ → View) (next : View) (number m : ℕ) (a b : See
   -- what contents say of the array meanwhile
   abbrev Either : (ℕ → Values) → (ℕ → Bool) → Image → Type 0
   Either vals spent r =
-      (Says v.state (v.arrays m).number (shape_of (v.arrays m)) vals spent r × KeepsSupers (v.arrays m).number a r)
-      ⊎ (Says v.state (v.arrays m).number (shape_of next) vals spent r × HasFields v.state (v.arrays m).number next.truth r)
+      (ImageShowsArray v.state (v.arrays m).number (shape_of (v.arrays m)) vals spent r × KeepsSupers (v.arrays m).number a r)
+      ⊎ (ImageShowsArray v.state (v.arrays m).number (shape_of next) vals spent r × HasFields v.state (v.arrays m).number next.truth r)
 
   -- what the array holds before it
   abbrev Held : (ℕ → Values) → (ℕ → Bool) → Type 0
-  Held vals spent = Holds v.state (shape_of (v.arrays m)) (v.arrays m) vals spent a
+  Held vals spent = ArrayInvariant v.state (shape_of (v.arrays m)) (v.arrays m) vals spent a
 
   grows_if : (d : Bool) → KeepsReach v.state (shape_of (v.arrays m)) (if_done d (shape_of (v.arrays m)) (shape_of next))
   grows_if true = call.grows
@@ -176,14 +176,14 @@ module _ (v : Raid) (f : ℕ → View) (next : View) (number m : ℕ) (a b : See
         }
   ]
 
-  step_acts : (vals : ℕ → Values) (spent : ℕ → Bool) → Covers (f m) spent → MayStep v.state (v.arrays m) next (f m) v.number on a
+  step_acts : (vals : ℕ → Values) (spent : ℕ → Bool) → IncludesSpent (f m) spent → MayStep v.state (v.arrays m) next (f m) v.number on a
       → CallMoves (v.arrays m).number a b (Held vals spent)
       (SaysSome v.state (v.arrays m).number (shape_of (v.arrays m)) (if_done call.steps.is_done (shape_of (v.arrays m)) (shape_of next)) vals spent)
-      (Holds v.state (if_done call.steps.is_done (shape_of (v.arrays m)) (shape_of next)) (f m) vals spent b)
+      (ArrayInvariant v.state (if_done call.steps.is_done (shape_of (v.arrays m)) (shape_of next)) (f m) vals spent b)
   step_acts vals spent covers able =
       let moving = call.steps.moving v.state vals spent covers able in
       let H = Held vals spent in
-      let Q : Type 0 = Holds v.state (if_done call.steps.is_done (shape_of (v.arrays m)) (shape_of next)) (f m) vals spent b in
+      let Q : Type 0 = ArrayInvariant v.state (if_done call.steps.is_done (shape_of (v.arrays m)) (shape_of next)) (f m) vals spent b in
       let During : Bool → Image → Type 0 = λ d.
       SaysSome v.state (v.arrays m).number (shape_of (v.arrays m)) (if_done d (shape_of (v.arrays m)) (shape_of next)) vals spent in
       elim (cases_Bool call.steps.is_done) [
@@ -198,7 +198,7 @@ module _ (v : Raid) (f : ℕ → View) (next : View) (number m : ℕ) (a b : See
             record {
               stays = moving.stays;
               leaves = λ traced.
-                  subst (λ (d : Bool). Leaves a b (λ c. IsInside a.sectors c → Turns (v.arrays m).number a b (λ r. Held vals spent → During d r) c)) (sym not_done)
+                  subst (λ (d : Bool). Leaves a b (λ c. IsInside a.sectors c → ImageInCall (v.arrays m).number a b (λ r. Held vals spent → During d r) c)) (sym not_done)
                   (quiet.leaves traced);
               holds = moving.holds;
               apart = moving.apart;
@@ -231,18 +231,18 @@ module _ (v : Raid) (f : ℕ → View) (next : View) (number m : ℕ) (a b : See
   -- ---- the rows that images leave
 
   -- contents that a stop leaves before it have its state
-  state_before : (n : ℕ) (vals : ℕ → Values) (spent : ℕ → Bool) (r : Image) → IsAmid v a n vals spent → IsLeft a r → state_in r ≡ Some v.state
+  state_before : (n : ℕ) (vals : ℕ → Values) (spent : ℕ → Bool) (r : Image) → IsTrackedInCall v a n vals spent → IsLeft a r → state_in r ≡ Some v.state
   state_before n vals spent r amid left =
       state_same r (replayed a.sectors left.0) (λ place. left.2 (log_slice place) 0)
       ∙ (stood_left v.state amid.durable vals spent (gone_in v) v a n left.0 amid.stood left.1).0
 
-  held_before : (vals : ℕ → Values) (spent : ℕ → Bool) → IsAmid v a m vals spent → Held vals spent
+  held_before : (vals : ℕ → Values) (spent : ℕ → Bool) → IsTrackedInCall v a m vals spent → Held vals spent
   held_before vals spent amid =
-      subst (λ (s : Shape). Holds v.state s (v.arrays m) vals spent a) (amid.marked marked) amid.stood.holds
+      subst (λ (s : Shape). ArrayInvariant v.state s (v.arrays m) vals spent a) (amid.marked marked) amid.stood.holds
 
   -- once it is done, images leave the rows that are left after it
   pub done_rows : call.steps.is_done ≡ true → is_settled next ≡ true → next.young ≡ false
-      → (vals : ℕ → Values) (spent : ℕ → Bool) → is_over (called v f number) m ≡ false → Covers (f m) spent → IsAmid v a m vals spent
+      → (vals : ℕ → Values) (spent : ℕ → Bool) → is_failed (called v f number) m ≡ false → IncludesSpent (f m) spent → IsTrackedInCall v a m vals spent
       → LeavesRows (called v f number) b m
   done_rows is settled young vals spent goes covers amid =
       let noted : Notes next (f m) a b = subst (λ (d : Bool). Notes (if_done d (v.arrays m) next) (f m) a b) is notes in
@@ -261,8 +261,8 @@ module _ (v : Raid) (f : ℕ → View) (next : View) (number m : ℕ) (a b : See
             (call.steps.durable is v.state vals spent covers able (held_before vals spent amid) r left)));
       }
 
-  moment : (vals : ℕ → Values) (spent : ℕ → Bool) → IsAmid v a m vals spent → LeavesRows v a m → (c : Image)
-      → Turns (v.arrays m).number a b (λ r. Held vals spent → Either vals spent r) c
+  moment : (vals : ℕ → Values) (spent : ℕ → Bool) → IsTrackedInCall v a m vals spent → LeavesRows v a m → (c : Image)
+      → ImageInCall (v.arrays m).number a b (λ r. Held vals spent → Either vals spent r) c
       → LeavesFrom (v.arrays m).resync m (replayed a.sectors c)
   moment vals spent amid rows c turns =
       let number_is = (set.arrays m call.low).number in
@@ -282,8 +282,8 @@ module _ (v : Raid) (f : ℕ → View) (next : View) (number m : ℕ) (a b : See
             (subst (λ k. HasFields v.state k next.truth r) number_is new.1))
       ]
 
-  own_rows : (vals : ℕ → Values) (spent : ℕ → Bool) → is_over (called v f number) m ≡ false → Covers (f m) spent
-      → IsAmid v a m vals spent → LeavesRows v a m → KeepsRows v (called v f number) a b m
+  own_rows : (vals : ℕ → Values) (spent : ℕ → Bool) → is_failed (called v f number) m ≡ false → IncludesSpent (f m) spent
+      → IsTrackedInCall v a m vals spent → LeavesRows v a m → KeepsRows v (called v f number) a b m
   own_rows vals spent goes covers amid rows =
       elim (cases_Bool call.steps.is_done) [
         | inr not_done ↦
@@ -297,7 +297,7 @@ module _ (v : Raid) (f : ℕ → View) (next : View) (number m : ℕ) (a b : See
               later = let more = call.rows in let same = noted.same.resync in omega (arith, more, same);
               leaves = λ traced.
                   leaves_weaker
-                  (λ c. IsInside a.sectors c → Turns (v.arrays m).number a b (λ r. Held vals spent → Either vals spent r) c)
+                  (λ c. IsInside a.sectors c → ImageInCall (v.arrays m).number a b (λ r. Held vals spent → Either vals spent r) c)
                   (λ c. IsInside a.sectors c → LeavesFrom (v.arrays m).resync m (replayed a.sectors c))
                   (λ c turn inside. moment vals spent amid rows c (turn inside))
                   (moving.leaves traced);
@@ -322,8 +322,8 @@ module _ (v : Raid) (f : ℕ → View) (next : View) (number m : ℕ) (a b : See
             ]
       ]
 
-  moment_lacking : (vals : ℕ → Values) (spent : ℕ → Bool) → IsAmid v a m vals spent → LeavesLacking v a m → (c : Image)
-      → Turns (v.arrays m).number a b (λ r. Held vals spent → Either vals spent r) c
+  moment_lacking : (vals : ℕ → Values) (spent : ℕ → Bool) → IsTrackedInCall v a m vals spent → LeavesLacking v a m → (c : Image)
+      → ImageInCall (v.arrays m).number a b (λ r. Held vals spent → Either vals spent r) c
       → LackingFrom (v.arrays m).resync m (replayed a.sectors c)
   moment_lacking vals spent amid leaves c turns =
       let number_is = (set.arrays m call.low).number in
@@ -343,8 +343,8 @@ module _ (v : Raid) (f : ℕ → View) (next : View) (number m : ℕ) (a b : See
             (subst (λ k. HasFields v.state k next.truth r) number_is new.1)
       ]
 
-  own_lacking : (vals : ℕ → Values) (spent : ℕ → Bool) → is_over (called v f number) m ≡ false → Covers (f m) spent
-      → IsAmid v a m vals spent → LeavesLacking v a m → KeepsLacking v (called v f number) a b m
+  own_lacking : (vals : ℕ → Values) (spent : ℕ → Bool) → is_failed (called v f number) m ≡ false → IncludesSpent (f m) spent
+      → IsTrackedInCall v a m vals spent → LeavesLacking v a m → KeepsLacking v (called v f number) a b m
   own_lacking vals spent goes covers amid leaves =
       elim (cases_Bool call.steps.is_done) [
         | inr not_done ↦
@@ -361,7 +361,7 @@ module _ (v : Raid) (f : ℕ → View) (next : View) (number m : ℕ) (a b : See
               later = let more = call.rows in let same = noted.same.resync in omega (arith, more, same);
               leaves = λ traced.
                   leaves_weaker
-                  (λ c. IsInside a.sectors c → Turns (v.arrays m).number a b (λ r. Held vals spent → Either vals spent r) c)
+                  (λ c. IsInside a.sectors c → ImageInCall (v.arrays m).number a b (λ r. Held vals spent → Either vals spent r) c)
                   (λ c. IsInside a.sectors c → LackingFrom (v.arrays m).resync m (replayed a.sectors c))
                   (λ c turn inside. moment_lacking vals spent amid leaves c (turn inside))
                   (moving.leaves traced);
@@ -391,22 +391,22 @@ module _ (v : Raid) (f : ℕ → View) (next : View) (number m : ℕ) (a b : See
       of true = refl
       of false = refl
 
-  pub step_brings : Brings v (called v f number) a b (λ n vals. vals)
+  pub step_brings : ChangesData v (called v f number) a b (λ n vals. vals)
   step_brings =
-      subst (Brings v (called v f number) a b) (λ i n vals. same_values n vals i)
+      subst (ChangesData v (called v f number) a b) (λ i n vals. same_values n vals i)
       (one_brings v f number m a b (λ vals. vals) after (MayStep v.state (v.arrays m) next (f m) v.number on a) set acts
       (λ same vals spent goes covers amid rows. own_rows vals spent goes covers amid rows) own_lacking)
 
   -- no array has changed but by the step and its losses
-  pub step_arrays : (n : ℕ) → n < v.state.made → LosesOnly (stepped v m next call.steps.is_done n) (f n)
+  pub step_arrays : (n : ℕ) → n < v.state.made → OnlyFailures (stepped v m next call.steps.is_done n) (f n)
   step_arrays n low =
       elim (cases_eq n m) [
         | inl same ↦
-            subst (λ k. LosesOnly (stepped v m next call.steps.is_done k) (f k)) (sym same)
-            (subst (λ (t : Bool). LosesOnly (if t && call.steps.is_done then next else v.arrays m) (f m)) (sym (eq-eqb m m refl))
-            (subst (λ (k : View). LosesOnly k (f m)) (is_it call.steps.is_done) (only_notes (if_done call.steps.is_done (v.arrays m) next) (f m) a b notes)))
+            subst (λ k. OnlyFailures (stepped v m next call.steps.is_done k) (f k)) (sym same)
+            (subst (λ (t : Bool). OnlyFailures (if t && call.steps.is_done then next else v.arrays m) (f m)) (sym (eq-eqb m m refl))
+            (subst (λ (k : View). OnlyFailures k (f m)) (is_it call.steps.is_done) (only_notes (if_done call.steps.is_done (v.arrays m) next) (f m) a b notes)))
         | inr apart ↦
-            subst (λ (t : Bool). LosesOnly (if t && call.steps.is_done then next else v.arrays n) (f n)) (sym (ne_eqb n m apart))
+            subst (λ (t : Bool). OnlyFailures (if t && call.steps.is_done then next else v.arrays n) (f n)) (sym (ne_eqb n m apart))
             (only_same (v.arrays n) (f n) (call.others n apart))
       ]
     where

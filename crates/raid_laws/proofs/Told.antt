@@ -1,23 +1,23 @@
 -- An array that stands with some values stands with what it holds.
 use Rattle.std.proofs.Common.{◌≡◌, ℕ, Bool, false, None, sym, ◌∙◌}
 use Rattle.rack.specs.Values.{Values, Keeps}
-use Rattle.rack.specs.Seen.{Seen}
+use Rattle.rack.specs.Seen.{RackView}
 use Rattle.pool_state.specs.declared.contents.State.{State}
 use Rattle.array_image.specs.Arrays.{Shape}
-use Rattle.array_image.specs.Held.{held_by, IsSettled}
+use Rattle.array_image.specs.Held.{held_by, IsSynced}
 use Rattle.array_image.proofs.Sources.{source_of, picked_value, held_current, source_counts}
 use Rattle.array_model.specs.View.{View, shape_of, may_vary}
-use Rattle.array_model.specs.Says.{HoldsShape, Holds}
+use Rattle.array_model.specs.Says.{ShapeInvariant, ArrayInvariant}
 use Rattle.array_model.proofs.Losses.{left_picks}
-use Rattle.raid_laws.specs.Raid.{Raid, Stood}
+use Rattle.raid_laws.specs.Raid.{Raid, InvariantInCall}
 
 -- where a sector has no source, its array's members have one value a sector
-abbrev pub IsSourced : View → (ℕ → Bool) → Seen → Type 0
-IsSourced v spent x = (y : ℕ) → spent y ≡ false → source_of (shape_of v) y ≡ None → IsSettled (shape_of v) v.number x.held
+abbrev pub IsSourced : View → (ℕ → Bool) → RackView → Type 0
+IsSourced v spent x = (y : ℕ) → spent y ≡ false → source_of (shape_of v) y ≡ None → IsSynced (shape_of v) v.number x.held
 
-own_shape : (s : State) (v : View) (vals : ℕ → Values) (spent : ℕ → Bool) (x : Seen) → IsSourced v spent x
-    → HoldsShape s v.number (shape_of v) (shape_of v) v.resync (may_vary v) vals spent x
-    → HoldsShape s v.number (shape_of v) (shape_of v) v.resync (may_vary v) (held_by (shape_of v) x.held v.number) spent x
+own_shape : (s : State) (v : View) (vals : ℕ → Values) (spent : ℕ → Bool) (x : RackView) → IsSourced v spent x
+    → ShapeInvariant s v.number (shape_of v) (shape_of v) v.resync (may_vary v) vals spent x
+    → ShapeInvariant s v.number (shape_of v) (shape_of v) v.resync (may_vary v) (held_by (shape_of v) x.held v.number) spent x
 own_shape s v vals spent x sourced holds =
     let n = v.number in
     let shape = shape_of v in
@@ -40,8 +40,8 @@ own_shape s v vals spent x sourced holds =
     }
 
 -- the values that it holds are among those
-pub own_keeps : (s : State) (v : View) (vals : ℕ → Values) (spent : ℕ → Bool) (x : Seen) (y : ℕ)
-    → HoldsShape s v.number (shape_of v) (shape_of v) v.resync (may_vary v) vals spent x
+pub own_keeps : (s : State) (v : View) (vals : ℕ → Values) (spent : ℕ → Bool) (x : RackView) (y : ℕ)
+    → ShapeInvariant s v.number (shape_of v) (shape_of v) v.resync (may_vary v) vals spent x
     → spent y ≡ false → Keeps (vals y) (held_by (shape_of v) x.held v.number y)
 own_keeps s v vals spent x y holds alive =
     record {
@@ -49,8 +49,8 @@ own_keeps s v vals spent x y holds alive =
       within = λ u left. holds.within y alive u left (λ m is. (source_counts (shape_of v) y m is).among);
     }
 
-pub own_holds : (s : State) (v : View) (vals : ℕ → Values) (spent : ℕ → Bool) (x : Seen) → IsSourced v spent x
-    → Holds s (shape_of v) v vals spent x → Holds s (shape_of v) v (held_by (shape_of v) x.held v.number) spent x
+pub own_holds : (s : State) (v : View) (vals : ℕ → Values) (spent : ℕ → Bool) (x : RackView) → IsSourced v spent x
+    → ArrayInvariant s (shape_of v) v vals spent x → ArrayInvariant s (shape_of v) v (held_by (shape_of v) x.held v.number) spent x
 own_holds s v vals spent x sourced holds =
     record {
       shape = own_shape s v vals spent x sourced holds.shape;
@@ -63,8 +63,8 @@ own_holds s v vals spent x sourced holds =
 -- ---- fewer sectors
 
 -- what holds of some sectors holds of fewer
-pub fewer_holds : (s : State) (durable : Shape) (v : View) (vals : ℕ → Values) (spent now : ℕ → Bool) (x : Seen)
-    → ((y : ℕ) → now y ≡ false → spent y ≡ false) → Holds s durable v vals spent x → Holds s durable v vals now x
+pub fewer_holds : (s : State) (durable : Shape) (v : View) (vals : ℕ → Values) (spent now : ℕ → Bool) (x : RackView)
+    → ((y : ℕ) → now y ≡ false → spent y ≡ false) → ArrayInvariant s durable v vals spent x → ArrayInvariant s durable v vals now x
 fewer_holds s durable v vals spent now x fewer holds =
     let shape = holds.shape in
     record {
@@ -87,8 +87,8 @@ fewer_holds s durable v vals spent now x fewer holds =
       closed = holds.closed;
     }
 
-pub fewer_stood : (s : State) (durable : Shape) (vals : ℕ → Values) (spent now gone : ℕ → Bool) (v : Raid) (x : Seen) (n : ℕ)
-    → ((y : ℕ) → now y ≡ false → spent y ≡ false) → Stood s durable vals spent gone v x n → Stood s durable vals now gone v x n
+pub fewer_stood : (s : State) (durable : Shape) (vals : ℕ → Values) (spent now gone : ℕ → Bool) (v : Raid) (x : RackView) (n : ℕ)
+    → ((y : ℕ) → now y ≡ false → spent y ≡ false) → InvariantInCall s durable vals spent gone v x n → InvariantInCall s durable vals now gone v x n
 fewer_stood s durable vals spent now gone v x n fewer stood =
     record {
       joined = stood.joined;

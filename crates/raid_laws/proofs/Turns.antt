@@ -1,7 +1,7 @@
 -- The arrays are settled, and one commit marks the losses.
 use Rattle.std.proofs.Common.{◌≡◌, ◌⊎◌, ℕ, ◌<◌, Bool, true, false, ◌&&◌, ◌||◌, not, List, [], ◌∷◌, refl, sym, ap, subst, ◌∙◌, inl, inr, arith}
 use Rattle.std.proofs.lemmas.Bool.{cases_Bool, both_ways, and_parts}
-use Rattle.rack.specs.Seen.{Seen}
+use Rattle.rack.specs.Seen.{RackView}
 use Rattle.rack.specs.Joins.{stays_then, leaves_then, keeps_then, live_first, live_second, rose_later, rose_early}
 use Rattle.rack.specs.Targets.{Target}
 use Rattle.array_image.specs.Places.{place_of}
@@ -12,10 +12,10 @@ use Rattle.commit_log.proofs.Deciding.{names_first}
 use Rattle.array_model.specs.View.{View, shape_of}
 use Rattle.array_image.specs.Held.{Among}
 use Rattle.array_image.proofs.Marked.{among_lowered}
-use Rattle.array_model.specs.ArrayCalls.{Covers}
+use Rattle.array_model.specs.ArrayCalls.{IncludesSpent}
 use Rattle.raid_laws.specs.Raid.{Raid, gone_in, is_left}
 use Rattle.raid_laws.specs.Book.{after_then}
-use Rattle.raid_laws.specs.Moves.{AreMarked, Moves}
+use Rattle.raid_laws.specs.Moves.{AreMarked, ChangesNoData}
 use Rattle.raid_laws.specs.Agreeing.{MakesAgree}
 use Rattle.raid_laws.specs.Cleaning.{NoneFails}
 use Rattle.raid_laws.specs.Settling.{SettlesTo, state_after}
@@ -30,9 +30,9 @@ use Rattle.raid_laws.proofs.Committed.{IsCommit, commit_unwritten, raid_after, a
 use Rattle.raid_laws.proofs.Carried.{commit_agrees, commit_left, commit_lacking, commit_part, commit_rows}
 use Rattle.raid_laws.specs.Rows.{lacking_then, rows_then}
 
-pub moves_commit : (u v : Raid) (lost on gone : List ℕ) (l : LogView) (xs : List Target) (f : ℕ → View) (a b c : Seen)
+pub moves_commit : (u v : Raid) (lost on gone : List ℕ) (l : LogView) (xs : List Target) (f : ℕ → View) (a b c : RackView)
     → SettlesTo u v a b v.state.made xs → IsCommit v lost on gone l xs f b c
-    → Moves u (raid_after v lost (next_number l.number) f) a c
+    → ChangesNoData u (raid_after v lost (next_number l.number) f) a c
 moves_commit u v lost on gone l xs f a b c settles commit =
     let one = settles.moves in
     let w = raid_after v lost (next_number l.number) f in
@@ -86,7 +86,7 @@ moves_commit u v lost on gone l xs f a b c settles commit =
       parts = λ n vals spent joined made goes covers.
           let low = made_still n made in
           let mid_goes = over_still v w (after_further v lost on gone l xs f b c commit) n low goes in
-          let covered : Covers (v.arrays n) spent = λ y alive.
+          let covered : IncludesSpent (v.arrays n) spent = λ y alive.
           losing_spent (v.arrays n) (f n) (names gone) (commit.marking.set.arrays n low).is_array (commit_losing v lost on gone l xs f b c commit n low) y (covers y alive) in
           let first = one.parts n vals spent joined made mid_goes covered in
           parts_within u v w a b c n vals vals spent one.stays one.book second call.leaves first
@@ -96,7 +96,7 @@ moves_commit u v lost on gone l xs f a b c settles commit =
       rows = λ n vals spent joined made goes covers amid rows.
           let low = made_still n made in
           let mid_goes = over_still v w (after_further v lost on gone l xs f b c commit) n low goes in
-          let covered : Covers (v.arrays n) spent = λ y alive.
+          let covered : IncludesSpent (v.arrays n) spent = λ y alive.
           losing_spent (v.arrays n) (f n) (names gone) (commit.marking.set.arrays n low).is_array (commit_losing v lost on gone l xs f b c commit n low) y (covers y alive) in
           let first = one.rows n vals spent joined made mid_goes covered amid rows in
           rows_then u v w a b c n one.stays.sectors one.stays.traced first
@@ -105,7 +105,7 @@ moves_commit u v lost on gone l xs f a b c settles commit =
       lacking = λ n vals spent joined made goes covers amid leaves.
           let low = made_still n made in
           let mid_goes = over_still v w (after_further v lost on gone l xs f b c commit) n low goes in
-          let covered : Covers (v.arrays n) spent = λ y alive.
+          let covered : IncludesSpent (v.arrays n) spent = λ y alive.
           losing_spent (v.arrays n) (f n) (names gone) (commit.marking.set.arrays n low).is_array (commit_losing v lost on gone l xs f b c commit n low) y (covers y alive) in
           let first = one.lacking n vals spent joined made mid_goes covered amid leaves in
           lacking_then u v w a b c n one.stays.sectors one.stays.traced first
@@ -114,14 +114,14 @@ moves_commit u v lost on gone l xs f a b c settles commit =
     }
 
 -- and it makes the superblocks agree
-pub agrees_commit : (u v : Raid) (lost on gone : List ℕ) (l : LogView) (xs : List Target) (f : ℕ → View) (a b c : Seen)
+pub agrees_commit : (u v : Raid) (lost on gone : List ℕ) (l : LogView) (xs : List Target) (f : ℕ → View) (a b c : RackView)
     → SettlesTo u v a b v.state.made xs → IsCommit v lost on gone l xs f b c
     → MakesAgree u (raid_after v lost (next_number l.number) f) a c
 agrees_commit u v lost on gone l xs f a b c settles commit none n vals spent joined made goes covers amid r left =
     let one = settles.moves in
     let low : n < v.state.made = subst (λ k. n < k) (sym one.book.same.made) made in
     let mid_goes = over_still v (raid_after v lost (next_number l.number) f) (after_further v lost on gone l xs f b c commit) n low goes in
-    let covered : Covers (v.arrays n) spent = λ y alive.
+    let covered : IncludesSpent (v.arrays n) spent = λ y alive.
     losing_spent (v.arrays n) (f n) (names gone) (commit.marking.set.arrays n low).is_array (commit_losing v lost on gone l xs f b c commit n low) y (covers y alive) in
     let ready : n < v.state.joined = subst (λ k. n < k) (sym one.book.same.joined) joined in
     let stood = (one.parts n vals spent joined made mid_goes covered).holds amid in
@@ -133,7 +133,7 @@ agrees_commit u v lost on gone l xs f a b c settles commit none n vals spent joi
     }
 
 -- where no drive refused a call in it, whoever went is marked
-pub commit_marked : (v : Raid) (lost on gone : List ℕ) (l : LogView) (xs : List Target) (f : ℕ → View) (b c : Seen) → IsCommit v lost on gone l xs f b c
+pub commit_marked : (v : Raid) (lost on gone : List ℕ) (l : LogView) (xs : List Target) (f : ℕ → View) (b c : RackView) → IsCommit v lost on gone l xs f b c
     → NoneFails b c → AreMarked (raid_after v lost (next_number l.number) f)
 commit_marked v lost on gone l xs f b c commit none p current =
     elim (cases_Bool (gone_in (raid_after v lost (next_number l.number) f) p)) [
@@ -144,7 +144,7 @@ commit_marked v lost on gone l xs f b c commit none p current =
     ]
 
 -- whoever was left and went in the commit
-pub commit_progress : (v : Raid) (lost on gone : List ℕ) (l : LogView) (xs : List Target) (f : ℕ → View) (b c : Seen) → IsCommit v lost on gone l xs f b c
+pub commit_progress : (v : Raid) (lost on gone : List ℕ) (l : LogView) (xs : List Target) (f : ℕ → View) (b c : RackView) → IsCommit v lost on gone l xs f b c
     → (one : ℕ) → names lost one ≡ true
     → AreMarked (raid_after v lost (next_number l.number) f)
     ⊎ ((p : ℕ) × (is_left v p ≡ true) × (is_left (raid_after v lost (next_number l.number) f) p ≡ false))

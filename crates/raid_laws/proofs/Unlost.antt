@@ -2,7 +2,7 @@
 use Rattle.std.proofs.Common.{◌≡◌, ℕ, Bool, true, false, ◌&&◌, not, List, refl, sym, ap, subst, ◌∙◌, inl, inr, arith}
 use Rattle.std.proofs.lemmas.Bool.{and_parts, both_ways, cases_eq}
 use Rattle.rack.specs.Values.{Keeps}
-use Rattle.rack.specs.Seen.{Seen, IsLive, Stays}
+use Rattle.rack.specs.Seen.{RackView, IsLive, SameRack}
 use Rattle.rack.specs.Sequences.{OnlyReads}
 use Rattle.rack.specs.Joins.{keeps_same, keeps_then, live_first, live_second}
 use Rattle.rack.specs.Targets.{Target}
@@ -11,7 +11,7 @@ use Rattle.array_image.specs.Places.{log_slice, place_of}
 use Rattle.array_image.specs.States.{is_current}
 use Rattle.array_model.specs.View.{View}
 use Rattle.log_laws.specs.View.{LogView, names}
-use Rattle.raid_laws.specs.Book.{IsAfter}
+use Rattle.raid_laws.specs.Book.{OnlyMarksSince}
 use Rattle.raid_laws.specs.Missing.{marked}
 use Rattle.raid_laws.specs.Raid.{Raid, gone_in}
 use Rattle.raid_laws.specs.Settling.{state_after}
@@ -19,19 +19,19 @@ use Rattle.raid_laws.specs.Unlost.{KeepsUnlost}
 use Rattle.raid_laws.proofs.Committed.{IsCommit, commit_unmarked}
 use Rattle.raid_laws.proofs.Missing.{current_marked}
 
-pub unlost_same : (s : State) (a : Seen) → KeepsUnlost s s a a
+pub unlost_same : (s : State) (a : RackView) → KeepsUnlost s s a a
 unlost_same s a = record { state = λ keeps. refl; copies = λ p others live. keeps_same (a.held (log_slice p) 0) }
 
 -- the state stays, and so do the copies
-pub unlost_still : (s t : State) (a b : Seen) → t ≡ s → ((p : ℕ) → IsLive a b (log_slice p) 0 → Keeps (a.held (log_slice p) 0) (b.held (log_slice p) 0))
+pub unlost_still : (s t : State) (a b : RackView) → t ≡ s → ((p : ℕ) → IsLive a b (log_slice p) 0 → Keeps (a.held (log_slice p) 0) (b.held (log_slice p) 0))
     → KeepsUnlost s t a b
 unlost_still s t a b same kept = record { state = λ keeps. same; copies = λ p others live. kept p live }
 
-pub unlost_reads : (s t : State) (a b : Seen) → t ≡ s → OnlyReads a b → KeepsUnlost s t a b
+pub unlost_reads : (s t : State) (a b : RackView) → t ≡ s → OnlyReads a b → KeepsUnlost s t a b
 unlost_reads s t a b same reads = unlost_still s t a b same (λ p live. reads.keeps.held (log_slice p) 0 live)
 
 -- calls in a row: nobody is lost by the first that isn't by both, nor by the second
-pub unlost_then : (s t u : State) (a b c : Seen) → Stays a b → Stays b c → IsAfter s t → IsAfter t u → KeepsUnlost s t a b → KeepsUnlost t u b c
+pub unlost_then : (s t u : State) (a b c : RackView) → SameRack a b → SameRack b c → OnlyMarksSince s t → OnlyMarksSince t u → KeepsUnlost s t a b → KeepsUnlost t u b c
     → KeepsUnlost s u a c
 unlost_then s t u a b c first second before after one two = record {
   state = λ keeps.
@@ -43,7 +43,7 @@ unlost_then s t u a b c first second before after one two = record {
 }
 
 -- a place is marked, and copies of places that aren't current any more stay
-pub unlost_marked : (s t : State) (lost : List ℕ) (one : ℕ) (a b : Seen) → t ≡ marked lost s → is_current s one ≡ true → names lost one ≡ true
+pub unlost_marked : (s t : State) (lost : List ℕ) (one : ℕ) (a b : RackView) → t ≡ marked lost s → is_current s one ≡ true → names lost one ≡ true
     → ((p : ℕ) → is_current t p ≡ false → IsLive a b (log_slice p) 0 → Keeps (a.held (log_slice p) 0) (b.held (log_slice p) 0))
     → KeepsUnlost s t a b
 unlost_marked s t lost one a b is current named kept = record {
@@ -65,7 +65,7 @@ unlost_marked s t lost one a b is current named kept = record {
         ∙ and_none (is_current s one)
 
 -- reads, and the commit that marks some place
-pub unlost_commit : (s : State) (v : Raid) (lost on gone : List ℕ) (l : LogView) (xs : List Target) (f : ℕ → View) (one : ℕ) (a b c : Seen) → v.state ≡ s → OnlyReads a b
+pub unlost_commit : (s : State) (v : Raid) (lost on gone : List ℕ) (l : LogView) (xs : List Target) (f : ℕ → View) (one : ℕ) (a b c : RackView) → v.state ≡ s → OnlyReads a b
     → IsCommit v lost on gone l xs f b c → names lost one ≡ true → KeepsUnlost s (state_after v lost) a c
 unlost_commit s v lost on gone l xs f one a b c same reads commit named =
     subst (λ u. KeepsUnlost u (state_after v lost) a c) same

@@ -1,7 +1,7 @@
 -- What is known of an array after calls that restate it or do a step of it, and in which places went.
 use Rattle.std.proofs.Common.{◌≡◌, ℕ, zero, suc, ◌-◌, ◌/◌, ◌%◌, ◌^◌, ◌<◌, ◌≤◌, Bool, true, false, ◌||◌, nat_lt, if◌then◌else◌, List, [], ◌∷◌, length, slice_get, Option, Some, None, option_map, ◌⊎◌, refl, sym, ap, subst, ◌∙◌, inl, inr, arith}
 use Rattle.std.proofs.lemmas.Bool.{cases_Bool, cases_lt, both_ways}
-use Rattle.rack.specs.Seen.{Seen, Stays}
+use Rattle.rack.specs.Seen.{RackView, SameRack}
 use Rattle.md_super.specs.declared.superblock.Super.{Super}
 use Rattle.array_image.specs.Stripes.{capacity}
 use Rattle.pool_state.specs.declared.contents.State.{State}
@@ -19,7 +19,7 @@ use Rattle.array_model.proofs.Views.{shape_then, fewer_left}
 use Rattle.array_model.proofs.Noting.{losing_by}
 use Rattle.raid_laws.specs.Raid.{Raid, gone_in, IsWritten}
 use Rattle.log_laws.specs.View.{names}
-use Rattle.raid_laws.specs.Moves.{IsSet, IsSeated, AreMarked, LosesOnly}
+use Rattle.raid_laws.specs.Moves.{IsSet, IsSeated, AreMarked, OnlyFailures}
 use Rattle.raid_laws.proofs.Changed.{LosesOne, ViewsOne, lowered_none, or_left}
 use Rattle.raid_laws.specs.Losing.{only_then}
 use Rattle.raid_laws.proofs.Losing.{only_notes}
@@ -65,7 +65,7 @@ shape_still u w lost is_array truth loses missing =
 -- ---- an array that a step has changed, and places lost
 
 -- Array z is one that a step makes of an array u: one of the pool as well, of as many sectors, with no more members and no fewer events.
-pub record IsNext (s : State) (m : ℕ) (u z : View) (x : Seen) : Type 0 where
+pub record IsNext (s : State) (m : ℕ) (u z : View) (x : RackView) : Type 0 where
   pub seated : IsSeated s m z x
   pub went : z.went ≡ u.went
   pub sectors : sectors_of z ≡ sectors_of u
@@ -75,7 +75,7 @@ pub record IsNext (s : State) (m : ℕ) (u z : View) (x : Seen) : Type 0 where
   pub was : z.marked ≡ true → (u.marked ≡ true) ⊎ (is_whole_array u ≡ true)
   pub whole : is_whole_array u ≡ true → is_whole_array z ≡ true
 
-pub next_same : (s : State) (m : ℕ) (u : View) (x : Seen) → IsSeated s m u x → IsNext s m u u x
+pub next_same : (s : State) (m : ℕ) (u : View) (x : RackView) → IsSeated s m u x → IsNext s m u u x
 next_same s m u x seated = record {
   seated = seated;
   went = refl;
@@ -87,7 +87,7 @@ next_same s m u x seated = record {
   whole = λ all. all;
 }
 
-module _ (v : Raid) (f : ℕ → View) (m : ℕ) (a b : Seen) (z : View) (set : IsSet v a) (low : m < v.state.made) (stays : Stays a b)
+module _ (v : Raid) (f : ℕ → View) (m : ℕ) (a b : RackView) (z : View) (set : IsSet v a) (low : m < v.state.made) (stays : SameRack a b)
     (next : IsNext v.state m (v.arrays m) z a) (notes : Notes z (f m) a b) where
   -- the places that went in it
   next_went : (place : ℕ) → has_gone (f m) place ≡ (notes.lost place || has_gone (v.arrays m) place)
@@ -148,7 +148,7 @@ pub record MayRestate (u : View) (events offset : ℕ) : Type 0 where
       u.young ≡ false → is_whole_array u ≡ false → first_unsynced u.truth ≡ u.resync
       → (if nat_lt offset u.truth.size then offset / 128 else u.truth.size / 128) ≡ u.resync
 
-pub seated_restated : (s : State) (n : ℕ) (u : View) (events offset : ℕ) (mark : Bool) (x : Seen) → MayRestate u events offset
+pub seated_restated : (s : State) (n : ℕ) (u : View) (events offset : ℕ) (mark : Bool) (x : RackView) → MayRestate u events offset
     → IsSeated s n u x → IsSeated s n (restated u events offset mark) x
 seated_restated s n u events offset mark x may seated =
     let a = seated.is_array in
@@ -209,7 +209,7 @@ unfolding shape_of
 restated_spent u events offset mark y = refl
 
 -- an array as it was but for its superblock is one that a step makes of it
-next_restated : (s : State) (m : ℕ) (u : View) (events offset : ℕ) (mark : Bool) (x : Seen) → IsSeated s m u x → MayRestate u events offset
+next_restated : (s : State) (m : ℕ) (u : View) (events offset : ℕ) (mark : Bool) (x : RackView) → IsSeated s m u x → MayRestate u events offset
     → (mark ≡ true → (u.marked ≡ true) ⊎ (is_whole_array u ≡ true)) → IsNext s m u (restated u events offset mark) x
 next_restated s m u events offset mark x seated may was = record {
   seated = seated_restated s m u events offset mark x may seated;
@@ -223,11 +223,11 @@ next_restated s m u events offset mark x seated may was = record {
 }
 
 -- a call that restates it and notes who went
-pub record NotesOne (v : Raid) (f : ℕ → View) (m : ℕ) (a b : Seen) : Type 0 where
+pub record NotesOne (v : Raid) (f : ℕ → View) (m : ℕ) (a b : RackView) : Type 0 where
   pub views : ViewsOne v f m a b
   pub loses : LosesOne v f m
 
-pub views_notes : (v : Raid) (f : ℕ → View) (m : ℕ) (a b : Seen) (events offset : ℕ) (mark : Bool) → IsSet v a → m < v.state.made → Stays a b
+pub views_notes : (v : Raid) (f : ℕ → View) (m : ℕ) (a b : RackView) (events offset : ℕ) (mark : Bool) → IsSet v a → m < v.state.made → SameRack a b
     → ((n : ℕ) → (n ≡ m → ⊥) → f n ≡ v.arrays n) → MayRestate (v.arrays m) events offset
     → (mark ≡ true → ((v.arrays m).marked ≡ true) ⊎ (is_whole_array (v.arrays m) ≡ true))
     → Notes (restated (v.arrays m) events offset mark) (f m) a b
@@ -250,7 +250,7 @@ views_notes v f m a b events offset mark set low stays others may was notes =
       };
     }
   where
-    only_restated : (u : View) (events offset : ℕ) (mark : Bool) → LosesOnly u (restated u events offset mark)
+    only_restated : (u : View) (events offset : ℕ) (mark : Bool) → OnlyFailures u (restated u events offset mark)
     only_restated u events offset mark = record {
       same = record {
         number = refl;

@@ -2,21 +2,21 @@
 use Rattle.std.proofs.Common.{◌≡◌, ℕ, ◌<◌, ◌≤◌, Bool, true, false, not, Option, Some, unwrap_or, refl, sym, ap, subst, ◌∙◌, inl, inr}
 use Rattle.std.proofs.lemmas.Bool.{cases_Bool, cases_lt, both_ways, and_from}
 use Rattle.rack.specs.Values.{Values, Keeps}
-use Rattle.rack.specs.Seen.{Held, Image, Seen}
+use Rattle.rack.specs.Seen.{Held, Image, RackView}
 use Rattle.rack.specs.Moments.{Leaves}
 use Rattle.pool_state.specs.declared.contents.State.{State}
 use Rattle.array_image.specs.Arrays.{Shape, replayed, shape_in}
 use Rattle.array_image.specs.Held.{held_by}
 use Rattle.array_image.specs.States.{is_current}
 use Rattle.array_model.specs.View.{has_gone, is_whole_array, shape_of, spent_in}
-use Rattle.array_model.specs.Says.{Holds}
+use Rattle.array_model.specs.Says.{ArrayInvariant}
 use Rattle.array_core.specs.Seats.{names}
-use Rattle.raid_laws.specs.Raid.{Raid, gone_in, is_left, is_over, spent_of, held_in, Stood, StopsInside, IsTold}
+use Rattle.raid_laws.specs.Raid.{Raid, gone_in, is_left, is_failed, spent_of, held_in, InvariantInCall, StopsInside, IsTracked}
 use Rattle.raid_laws.specs.Marking.{TiedBetween}
 use Rattle.raid_laws.specs.Reach.{KeepsReach, ReachBetween, reach_same}
 use Rattle.raid_laws.specs.Acts.{RaidStays, RaidActs}
 use Rattle.raid_laws.specs.Agreeing.{HasOwnRows}
-use Rattle.raid_laws.specs.Moves.{IsAmid, IsHeeded, IsMarkedWhole, IsSet, Brings, PartOf}
+use Rattle.raid_laws.specs.Moves.{IsTrackedInCall, IsHeeded, IsMarkedWhole, IsSet, ChangesData, SubCall}
 use Rattle.raid_laws.proofs.Noted.{gone_some}
 use Rattle.raid_laws.proofs.Over.{or_from}
 use Rattle.raid_laws.specs.Laws.{live_parts}
@@ -48,7 +48,7 @@ heeded_whole v n heeded whole marked =
     ]
 
 -- so an array has its own rows
-pub own_rows : (v : Raid) (x : Seen) (n : ℕ) → IsSet v x → IsHeeded v → n < v.state.made → HasOwnRows (v.arrays n)
+pub own_rows : (v : Raid) (x : RackView) (n : ℕ) → IsSet v x → IsHeeded v → n < v.state.made → HasOwnRows (v.arrays n)
 own_rows v x n set heeded low =
     let seated = set.arrays n low in
     record {
@@ -61,12 +61,12 @@ own_rows v x n set heeded low =
     }
 
 -- an array between calls, as one at some point of a call
-pub told_amid : (v : Raid) (x : Seen) (n : ℕ) (spent : ℕ → Bool) → IsHeeded v → IsTold v x n → is_over v n ≡ false
-    → ((y : ℕ) → spent y ≡ false → spent_of v n y ≡ false) → IsAmid v x n (held_in v x n) spent
+pub told_amid : (v : Raid) (x : RackView) (n : ℕ) (spent : ℕ → Bool) → IsHeeded v → IsTracked v x n → is_failed v n ≡ false
+    → ((y : ℕ) → spent y ≡ false → spent_of v n y ≡ false) → IsTrackedInCall v x n (held_in v x n) spent
 told_amid v x n spent heeded told goes fewer =
     record {
       durable = shape_of (v.arrays n);
-      stood = subst (λ g. Stood v.state (shape_of (v.arrays n)) (held_in v x n) spent g v x n) (λ i p. sym (heeded_gone v heeded p) i)
+      stood = subst (λ g. InvariantInCall v.state (shape_of (v.arrays n)) (held_in v x n) spent g v x n) (λ i p. sym (heeded_gone v heeded p) i)
           (fewer_stood v.state (shape_of (v.arrays n)) (held_in v x n) (spent_of v n) spent (λ place. false) v x n fewer (told.stood goes));
       slices = told.slices goes;
       marked = λ are. refl;
@@ -74,16 +74,16 @@ told_amid v x n spent heeded told goes fewer =
     }
 
 -- and the other way round, by its own shape
-pub amid_stood : (v : Raid) (x : Seen) (n : ℕ) (vals : ℕ → Values) (spent : ℕ → Bool) → IsHeeded v → IsAmid v x n vals spent
-    → Stood v.state (shape_of (v.arrays n)) vals spent (λ place. false) v x n
+pub amid_stood : (v : Raid) (x : RackView) (n : ℕ) (vals : ℕ → Values) (spent : ℕ → Bool) → IsHeeded v → IsTrackedInCall v x n vals spent
+    → InvariantInCall v.state (shape_of (v.arrays n)) vals spent (λ place. false) v x n
 amid_stood v x n vals spent heeded amid =
-    subst (λ g. Stood v.state (shape_of (v.arrays n)) vals spent g v x n) (λ i p. heeded_gone v heeded p i)
-    (subst (λ (shape : Shape). Stood v.state shape vals spent (gone_in v) v x n) (amid.marked (λ p current. heeded_gone v heeded p)) amid.stood)
+    subst (λ g. InvariantInCall v.state (shape_of (v.arrays n)) vals spent g v x n) (λ i p. heeded_gone v heeded p i)
+    (subst (λ (shape : Shape). InvariantInCall v.state shape vals spent (gone_in v) v x n) (amid.marked (λ p current. heeded_gone v heeded p)) amid.stood)
 
 -- an array that stands between calls stands so with what its sectors hold
-pub stood_own : (v : Raid) (x : Seen) (n : ℕ) (vals : ℕ → Values) → IsHeeded v → IsSet v x → n < v.state.made
-    → Stood v.state (shape_of (v.arrays n)) vals (spent_of v n) (λ place. false) v x n
-    → Stood v.state (shape_of (v.arrays n)) (held_in v x n) (spent_of v n) (λ place. false) v x n
+pub stood_own : (v : Raid) (x : RackView) (n : ℕ) (vals : ℕ → Values) → IsHeeded v → IsSet v x → n < v.state.made
+    → InvariantInCall v.state (shape_of (v.arrays n)) vals (spent_of v n) (λ place. false) v x n
+    → InvariantInCall v.state (shape_of (v.arrays n)) (held_in v x n) (spent_of v n) (λ place. false) v x n
 stood_own v x n vals heeded set low stood =
     let source = sourced (v.arrays n) (spent_of v n) x (set.arrays n low).is_array (heeded_whole v n heeded (set.marked n low))
     (λ y alive. (live_parts v n y alive).1) stood.holds.shape.settled in
@@ -94,12 +94,12 @@ stood_own v x n vals heeded set low stood =
       log = stood.log;
       someone = stood.someone;
       written = stood.written;
-      holds = subst (λ k. Holds v.state (shape_of (v.arrays n)) (v.arrays n) (held_by (shape_of (v.arrays n)) x.held k) (spent_of v n) x) stood.number
+      holds = subst (λ k. ArrayInvariant v.state (shape_of (v.arrays n)) (v.arrays n) (held_by (shape_of (v.arrays n)) x.held k) (spent_of v n) x) stood.number
           (own_holds v.state (v.arrays n) vals (spent_of v n) x source stood.holds);
     }
 
 -- and these are among the values with which it stands
-pub stood_keeps : (v : Raid) (x : Seen) (n y : ℕ) (vals : ℕ → Values) → Stood v.state (shape_of (v.arrays n)) vals (spent_of v n) (λ place. false) v x n
+pub stood_keeps : (v : Raid) (x : RackView) (n y : ℕ) (vals : ℕ → Values) → InvariantInCall v.state (shape_of (v.arrays n)) vals (spent_of v n) (λ place. false) v x n
     → spent_of v n y ≡ false → Keeps (vals y) (held_in v x n y)
 stood_keeps v x n y vals stood alive =
     subst (λ k. Keeps (vals y) (held_by (shape_of (v.arrays n)) x.held k y)) stood.number
@@ -108,16 +108,16 @@ stood_keeps v x n y vals stood alive =
 -- ---- a whole call
 
 -- what it does to the arrays that are ready for the volume, where the pool isn't at its end after it
-pub record IsWholeCall (v w : Raid) (a b : Seen) (vals : Held) : Type 0 where
+pub record IsWholeCall (v w : Raid) (a b : RackView) (vals : Held) : Type 0 where
   pub stays : RaidStays v w a b
   pub leaves : a.traced → Leaves a b (λ c. Unit {0})
-  pub still : (n : ℕ) → is_over w n ≡ false → is_over v n ≡ false
+  pub still : (n : ℕ) → is_failed w n ≡ false → is_failed v n ≡ false
   pub joined : w.state.joined ≡ v.state.joined
-  pub low : (n : ℕ) → is_over w n ≡ false → n < w.state.made
+  pub low : (n : ℕ) → is_failed w n ≡ false → n < w.state.made
   pub before : IsHeeded v
   pub after : IsHeeded w
   pub set : IsSet w b
-  pub parts : (n : ℕ) → n < v.state.joined → is_over w n ≡ false → PartOf v w a b n (held_in v a n) (vals n) (spent_of w n)
+  pub parts : (n : ℕ) → n < v.state.joined → is_failed w n ≡ false → SubCall v w a b n (held_in v a n) (vals n) (spent_of w n)
 
 -- how far members count by the shape that contents say
 pub tied_reach : (v w : Raid) (n : ℕ) (vals : ℕ → Values) (spent : ℕ → Bool) (r : Image)
@@ -131,28 +131,28 @@ tied_reach v w n vals spent r at s shape state is =
       subst (λ (z : Shape). KeepsReach w.state z (shape_of (w.arrays n))) same_shape at.to,
     )
 
-module _ (v w : Raid) (a b : Seen) (vals : Held) (call : IsWholeCall v w a b vals) where
+module _ (v w : Raid) (a b : RackView) (vals : Held) (call : IsWholeCall v w a b vals) where
   -- what an array that was told stands for before it and after it
-  pub before_amid : (n : ℕ) → IsTold v a n → is_over w n ≡ false → IsAmid v a n (held_in v a n) (spent_of w n)
+  pub before_amid : (n : ℕ) → IsTracked v a n → is_failed w n ≡ false → IsTrackedInCall v a n (held_in v a n) (spent_of w n)
   before_amid n told goes = told_amid v a n (spent_of w n) call.before told (call.still n goes) (λ y alive. call.stays.spent n y alive)
 
-  after_amid : (n : ℕ) → IsTold v a n → is_over w n ≡ false → IsAmid w b n (vals n) (spent_of w n)
+  after_amid : (n : ℕ) → IsTracked v a n → is_failed w n ≡ false → IsTrackedInCall w b n (vals n) (spent_of w n)
   after_amid n told goes = (call.parts n told.joined goes).holds (before_amid n told goes)
 
   -- images go by the run's own shape before it, and after it
-  pub ends_by : (X : Shape → Shape → Type 0) (n : ℕ) (told : IsTold v a n) (goes : is_over w n ≡ false)
+  pub ends_by : (X : Shape → Shape → Type 0) (n : ℕ) (told : IsTracked v a n) (goes : is_failed w n ≡ false)
       → X (before_amid n told goes).durable ((call.parts n told.joined goes).holds (before_amid n told goes)).durable → X (shape_of (v.arrays n)) (shape_of (w.arrays n))
   ends_by X n told goes by =
       subst (λ (last : Shape). X (shape_of (v.arrays n)) last) (((call.parts n told.joined goes).holds (before_amid n told goes)).marked (λ p current. heeded_gone w call.after p))
       (subst (λ (first : Shape). X first ((call.parts n told.joined goes).holds (before_amid n told goes)).durable)
       ((before_amid n told goes).marked (λ p current. heeded_gone v call.before p)) by)
 
-  after_stood : (n : ℕ) → IsTold v a n → is_over w n ≡ false → Stood w.state (shape_of (w.arrays n)) (vals n) (spent_of w n) (λ place. false) w b n
+  after_stood : (n : ℕ) → IsTracked v a n → is_failed w n ≡ false → InvariantInCall w.state (shape_of (w.arrays n)) (vals n) (spent_of w n) (λ place. false) w b n
   after_stood n told goes = amid_stood w b n (vals n) (spent_of w n) call.after (after_amid n told goes)
 
   -- the same, with what its sectors hold
-  own_stood : (n : ℕ) → IsTold v a n → is_over w n ≡ false
-      → Stood w.state (shape_of (w.arrays n)) (held_in w b n) (spent_of w n) (λ place. false) w b n
+  own_stood : (n : ℕ) → IsTracked v a n → is_failed w n ≡ false
+      → InvariantInCall w.state (shape_of (w.arrays n)) (held_in w b n) (spent_of w n) (λ place. false) w b n
   own_stood n told goes = stood_own w b n (vals n) call.after call.set (call.low n goes) (after_stood n told goes)
 
   pub raid_acts : RaidActs v w a b vals
@@ -183,8 +183,8 @@ module _ (v w : Raid) (a b : Seen) (vals : Held) (call : IsWholeCall v w a b val
       }
 
 -- a call that may write
-pub brings_whole : (v w : Raid) (a b : Seen) (now : ℕ → (ℕ → Values) → ℕ → Values) → Brings v w a b now → IsHeeded v → IsHeeded w → StopsInside b
-    → ((n : ℕ) → w.state.made ≤ n → is_over w n ≡ true) → IsWholeCall v w a b (λ n. now n (held_in v a n))
+pub brings_whole : (v w : Raid) (a b : RackView) (now : ℕ → (ℕ → Values) → ℕ → Values) → ChangesData v w a b now → IsHeeded v → IsHeeded w → StopsInside b
+    → ((n : ℕ) → w.state.made ≤ n → is_failed w n ≡ true) → IsWholeCall v w a b (λ n. now n (held_in v a n))
 brings_whole v w a b now brings before after inside none =
     record {
       stays = record {
@@ -195,7 +195,7 @@ brings_whole v w a b now brings before after inside none =
         sectors = brings.sectors;
         spent = λ n y alive.
             let parts = live_parts w n y alive in
-            or_from (is_over v n) (spent_in (v.arrays n) y) (brings.still n (low n parts.0) parts.0) (brings.spent n y (low n parts.0) parts.1);
+            or_from (is_failed v n) (spent_in (v.arrays n) y) (brings.still n (low n parts.0) parts.0) (brings.spent n y (low n parts.0) parts.1);
       };
       leaves = brings.leaves;
       still = λ n goes. brings.still n (low n goes) goes;
@@ -207,8 +207,8 @@ brings_whole v w a b now brings before after inside none =
       parts = λ n joined goes. brings.parts n (held_in v a n) (spent_of w n) joined (low n goes) goes (λ y alive. (live_parts w n y alive).1);
     }
   where
-    low : (n : ℕ) → is_over w n ≡ false → n < v.state.made
+    low : (n : ℕ) → is_failed w n ≡ false → n < v.state.made
     low n goes = elim (cases_lt n w.state.made) [
       | inl below ↦ subst (λ k. n < k) brings.book.same.made below
-      | inr past ↦ absurd (both_ways (is_over w n) goes (none n past))
+      | inr past ↦ absurd (both_ways (is_failed w n) goes (none n past))
     ]

@@ -3,30 +3,30 @@ use Rattle.std.proofs.Common.{◌≡◌, ◌≢◌, ℕ, ◌+◌, ◌<◌, ◌�
 use Rattle.std.proofs.lemmas.Bool.{both_ways, cases_Bool, cases_eq}
 use Rattle.std.specs.Option.{option_map_or}
 use Rattle.rack.specs.Values.{Values, append}
-use Rattle.rack.specs.Seen.{Image, Seen, IsLive}
+use Rattle.rack.specs.Seen.{Image, RackView, IsLive}
 use Rattle.pool_state.specs.declared.contents.State.{State}
 use Rattle.array_image.specs.Places.{member_slice, data_sector, place_of, slice_of, super_sector}
 use Rattle.array_image.specs.States.{is_current, current_places}
 use Rattle.array_image.specs.Arrays.{Member, Shape}
-use Rattle.log_laws.specs.Kept.{LogKept}
+use Rattle.log_laws.specs.Kept.{LogInvariant}
 use Rattle.log_laws.specs.View.{names}
 use Rattle.log_laws.proofs.KeptAfter.{kept_more}
 use Rattle.array_model.specs.declared.Seat.{Seat}
 use Rattle.array_model.specs.declared.Seat.TheVariants.{Whole, Missing, Rebuilding}
 use Rattle.array_model.specs.View.{View, has_gone, is_missing_seat, is_whole_array, member_on, place_at, seat_reach, shape_of, spent_in}
-use Rattle.array_model.specs.Says.{Holds, IsOpen}
+use Rattle.array_model.specs.Says.{ArrayInvariant, IsOpen}
 use Rattle.array_model.specs.Stages.{IsStateOf}
-use Rattle.array_model.specs.ArrayCalls.{Covers, WritesArray, appended_at}
+use Rattle.array_model.specs.ArrayCalls.{IncludesSpent, WritesArray, appended_at}
 use Rattle.array_model.proofs.Firsts.{position_of}
-use Rattle.array_model.proofs.Moves.{Moves as CallMoves}
+use Rattle.array_model.proofs.Moves.{CallRefines as CallMoves}
 use Rattle.array_core.specs.Pool.{Goes, MayCommit, MayRenew}
 use Rattle.array_core.specs.TruthLeft.{LeavesTruth}
 use Rattle.array_core.specs.Writing.{IsElsewhere, KeepsElsewhere}
 use Rattle.raid_laws.specs.Book.{after_same}
 use Rattle.raid_laws.specs.Marking.{Part}
-use Rattle.raid_laws.specs.Raid.{Raid, AreLive, gone_in, is_left, is_over, held_in}
+use Rattle.raid_laws.specs.Raid.{Raid, AreLive, gone_in, is_left, is_failed, held_in}
 use Rattle.raid_laws.specs.Reach.{KeepsReach, KeepsReachOn, reach_fewer, reach_same}
-use Rattle.raid_laws.specs.Moves.{AreMarked, Brings, IsAmid, IsHeeded, IsSeated, IsSet, KeepsMarked, PartOf, written_at}
+use Rattle.raid_laws.specs.Moves.{AreMarked, ChangesData, IsTrackedInCall, IsHeeded, IsSeated, IsSet, KeepsMarked, SubCall, written_at}
 use Rattle.raid_laws.proofs.Added.{names_current}
 use Rattle.raid_laws.proofs.Staged.{seat_marks}
 use Rattle.raid_laws.proofs.Changed.{LosesOne, ViewsOne, called, left_before, part_if, marked_before, further, views_set, views_sectors, views_spent}
@@ -46,7 +46,7 @@ use Rattle.raid_laws.proofs.Whole.{heeded_gone, heeded_whole}
 -- ---- what it needs
 
 -- the sectors of members that count are told
-pub opened : (s : State) (made n : ℕ) (u : View) (x : Seen) → IsSeated s n u x → AreLive made x → n < made → IsOpen (shape_of u) u.number x
+pub opened : (s : State) (made n : ℕ) (u : View) (x : RackView) → IsSeated s n u x → AreLive made x → n < made → IsOpen (shape_of u) u.number x
 unfolding shape_of
 opened s made n u x seated live low m sector among counts =
     let at = position_of u u.truth.raid_disks m among in
@@ -70,7 +70,7 @@ opened s made n u x seated live low m sector among counts =
         (λ missing. absurd (let bad : Some (Rebuilding to) ≡ Some Missing = sym is ∙ missing in cc), omega (arith, reach, low_to))
 
 -- its members that are missing are those whose places are marked
-pub state_of : (v : Raid) (x : Seen) (n : ℕ) → IsSet v x → IsHeeded v → n < v.state.made → IsStateOf (v.arrays n) v.state
+pub state_of : (v : Raid) (x : RackView) (n : ℕ) → IsSet v x → IsHeeded v → n < v.state.made → IsStateOf (v.arrays n) v.state
 state_of v x n set heeded low =
     let seated = set.arrays n low in
     let pool = seated.is_of_pool in
@@ -89,7 +89,7 @@ state_of v x n set heeded low =
     }
 
 -- what superblocks that are written directly need
-pub may_renew : (v : Raid) (a : Seen) (m n : ℕ) → IsSet v a → IsHeeded v → m < v.state.made → AreLive v.state.made a → is_over v n ≡ false
+pub may_renew : (v : Raid) (a : RackView) (m n : ℕ) → IsSet v a → IsHeeded v → m < v.state.made → AreLive v.state.made a → is_failed v n ≡ false
     → MayRenew v.state (v.arrays m) a
 may_renew v a m n set heeded low live goes =
     let seated = set.arrays m low in
@@ -104,7 +104,7 @@ may_renew v a m n set heeded low live goes =
     }
 
 -- the slices of a drive that is marked are none that a call of an array writes
-marked_elsewhere : (s : State) (n : ℕ) (u : View) (x : Seen) (on : List ℕ) (d : ℕ) → IsSeated s n u x → ((p : ℕ) → is_current s p ≡ false → names on p ≡ false)
+marked_elsewhere : (s : State) (n : ℕ) (u : View) (x : RackView) (on : List ℕ) (d : ℕ) → IsSeated s n u x → ((p : ℕ) → is_current s p ≡ false → names on p ≡ false)
     → is_current s (place_of d) ≡ false → IsElsewhere false u on d
 marked_elsewhere s n u x on d seated unnamed gone =
     elim (cases_eq (slice_of d) 0) [
@@ -125,7 +125,7 @@ marked_elsewhere s n u x on d seated unnamed gone =
 
 -- `now` are its values after the call, by those before, `after` is its shape by the marks that images go by, and `Able` is what the
 -- call needs of the pool.
-pub record ActsOne (v : Raid) (f : ℕ → View) (number m : ℕ) (a b : Seen) (now : (ℕ → Values) → ℕ → Values) (after : Shape) (Able : Type 0) : Type 0 where
+pub record ActsOne (v : Raid) (f : ℕ → View) (number m : ℕ) (a b : RackView) (now : (ℕ → Values) → ℕ → Values) (after : Shape) (Able : Type 0) : Type 0 where
   pub heeded : IsHeeded v
   pub views : ViewsOne v f m a b
   pub shape : AreMarked (called v f number) → after ≡ shape_of (f m)
@@ -134,18 +134,18 @@ pub record ActsOne (v : Raid) (f : ℕ → View) (number m : ℕ) (a b : Seen) (
   pub frame : frame_of (f m).truth ≡ frame_of (v.arrays m).truth
   pub goes : Goes a b
   pub later : v.number ≤ number
-  pub able : (n : ℕ) (vals : ℕ → Values) (spent : ℕ → Bool) → n < v.state.made → is_over (called v f number) n ≡ false → IsAmid v a n vals spent → Able
+  pub able : (n : ℕ) (vals : ℕ → Values) (spent : ℕ → Bool) → n < v.state.made → is_failed (called v f number) n ≡ false → IsTrackedInCall v a n vals spent → Able
   pub acts :
-      (vals : ℕ → Values) (spent : ℕ → Bool) → Covers (f m) spent → Able
-      → CallMoves (v.arrays m).number a b (Holds v.state (shape_of (v.arrays m)) (v.arrays m) vals spent a) (SaysSome v.state (v.arrays m).number (shape_of (v.arrays m)) after (now vals) spent)
-      (Holds v.state after (f m) (now vals) spent b)
-  pub kept : Able → LogKept v.state v.number (λ place. false) a → LogKept v.state number (gone_in (called v f number)) b
+      (vals : ℕ → Values) (spent : ℕ → Bool) → IncludesSpent (f m) spent → Able
+      → CallMoves (v.arrays m).number a b (ArrayInvariant v.state (shape_of (v.arrays m)) (v.arrays m) vals spent a) (SaysSome v.state (v.arrays m).number (shape_of (v.arrays m)) after (now vals) spent)
+      (ArrayInvariant v.state after (f m) (now vals) spent b)
+  pub kept : Able → LogInvariant v.state v.number (λ place. false) a → LogInvariant v.state number (gone_in (called v f number)) b
   pub elsewhere : (on : List ℕ) × ((p : ℕ) → is_current v.state p ≡ false → names on p ≡ false) × KeepsElsewhere false (v.arrays m) on a b
 
-module _ (v : Raid) (f : ℕ → View) (number m : ℕ) (a b : Seen) (now : (ℕ → Values) → ℕ → Values) (after : Shape) (Able : Type 0) (set : IsSet v a)
+module _ (v : Raid) (f : ℕ → View) (number m : ℕ) (a b : RackView) (now : (ℕ → Values) → ℕ → Values) (after : Shape) (Able : Type 0) (set : IsSet v a)
     (call : ActsOne v f number m a b now after Able) where
-  log_after : Able → LogKept v.state v.number (gone_in v) a → LogKept v.state number (gone_in (called v f number)) b
-  log_after able log = call.kept able (subst (λ g. LogKept v.state v.number g a) (λ i p. heeded_gone v call.heeded p i) log)
+  log_after : Able → LogInvariant v.state v.number (gone_in v) a → LogInvariant v.state number (gone_in (called v f number)) b
+  log_after able log = call.kept able (subst (λ g. LogInvariant v.state v.number g a) (λ i p. heeded_gone v call.heeded p i) log)
 
   -- whoever went is marked before it
   marked : (p : ℕ) → is_current v.state p ≡ true → gone_in v p ≡ false
@@ -156,16 +156,16 @@ module _ (v : Raid) (f : ℕ → View) (number m : ℕ) (a b : Seen) (now : (ℕ
 
   -- what the array holds before the call and after it, and what contents say meanwhile
   abbrev OwnBefore : (ℕ → Values) → Type 0
-  OwnBefore own = Holds v.state (shape_of (v.arrays m)) (v.arrays m) own (spent_in (f m)) a
+  OwnBefore own = ArrayInvariant v.state (shape_of (v.arrays m)) (v.arrays m) own (spent_in (f m)) a
 
   abbrev OwnDuring : (ℕ → Values) → Image → Type 0
   OwnDuring own = SaysSome v.state (v.arrays m).number (shape_of (v.arrays m)) after (now own) (spent_in (f m))
 
   abbrev OwnAfter : (ℕ → Values) → Type 0
-  OwnAfter own = Holds v.state after (f m) (now own) (spent_in (f m)) b
+  OwnAfter own = ArrayInvariant v.state after (f m) (now own) (spent_in (f m)) b
 
-  pub own_part : (vals : ℕ → Values) (spent : ℕ → Bool) → is_over (called v f number) m ≡ false → Covers (f m) spent
-      → PartOf v (called v f number) a b m vals (now vals) spent
+  pub own_part : (vals : ℕ → Values) (spent : ℕ → Bool) → is_failed (called v f number) m ≡ false → IncludesSpent (f m) spent
+      → SubCall v (called v f number) a b m vals (now vals) spent
   own_part vals spent goes covers =
       part_if v (called v f number) a b m vals (now vals) spent call.goes.stays set.lasting call.goes.leaves
       (λ amid.
@@ -179,17 +179,17 @@ module _ (v : Raid) (f : ℕ → View) (number m : ℕ) (a b : Seen) (now : (ℕ
             call.grows (call.acts vals spent covers able) (call.views.seated.number ∙ sym (set.arrays m call.views.low).number) (λ log. log_after able log)
             (someone_left (called v f number) m goes) call.views.written
             (λ copies stood.
-            logs_call v.state v.number (gone_in v) (v.arrays m).number a b (Holds v.state shape (v.arrays m) vals spent a) (Holds v.state after (f m) (now vals) spent b)
+            logs_call v.state v.number (gone_in v) (v.arrays m).number a b (ArrayInvariant v.state shape (v.arrays m) vals spent a) (ArrayInvariant v.state after (f m) (now vals) spent b)
             (SaysSome v.state (v.arrays m).number shape after (now vals) spent) set.lasting marked (call.acts vals spent covers able) stood.log stood.someone copies)
             (λ g framed stood.
-            frame_by v.state shape after g shape vals (now vals) spent (gone_in v) v (f m) a b m (Holds v.state after (f m) (now vals) spent b)
+            frame_by v.state shape after g shape vals (now vals) spent (gone_in v) v (f m) a b m (ArrayInvariant v.state after (f m) (now vals) spent b)
             (call.acts vals spent covers able) (view_frame (v.arrays m) ∙ framed) (call.frame ∙ framed) stood));
         marked = call.shape;
         noted = call.noted;
       })
 
-  pub other_part : (n : ℕ) (vals : ℕ → Values) (spent : ℕ → Bool) → (n ≡ m → ⊥) → n < v.state.made → is_over (called v f number) n ≡ false
-      → PartOf v (called v f number) a b n vals vals spent
+  pub other_part : (n : ℕ) (vals : ℕ → Values) (spent : ℕ → Bool) → (n ≡ m → ⊥) → n < v.state.made → is_failed (called v f number) n ≡ false
+      → SubCall v (called v f number) a b n vals vals spent
   other_part n vals spent apart below goes =
       part_if v (called v f number) a b n vals vals spent call.goes.stays set.lasting call.goes.leaves
       (λ amid.
@@ -207,7 +207,7 @@ module _ (v : Raid) (f : ℕ → View) (number m : ℕ) (a b : Seen) (now : (ℕ
         marked = λ are. amid.marked (marked_before v f m a b set call.views are) ∙ sym (ap shape_of (call.views.others n apart));
       })
 
-  pub one_still : (n : ℕ) → n < v.state.made → is_over (called v f number) n ≡ false → is_over v n ≡ false
+  pub one_still : (n : ℕ) → n < v.state.made → is_failed (called v f number) n ≡ false → is_failed v n ≡ false
   one_still n low goes = over_still v (called v f number) (further v f m a b set call.views number call.later) n low goes
 
   pub one_unwritten : KeepsMarked v a b
@@ -215,8 +215,8 @@ module _ (v : Raid) (f : ℕ → View) (number m : ℕ) (a b : Seen) (now : (ℕ
       call.elsewhere.2 d t live (marked_elsewhere v.state m (v.arrays m) a call.elsewhere.0 d (set.arrays m call.views.low) call.elsewhere.1 gone)
 
   -- an array that isn't called leaves the rows that it left
-  pub other_rows : (n : ℕ) (vals : ℕ → Values) (spent : ℕ → Bool) → (n ≡ m → ⊥) → n < v.state.made → is_over (called v f number) n ≡ false
-      → IsAmid v a n vals spent → LeavesRows v a n → KeepsRows v (called v f number) a b n
+  pub other_rows : (n : ℕ) (vals : ℕ → Values) (spent : ℕ → Bool) → (n ≡ m → ⊥) → n < v.state.made → is_failed (called v f number) n ≡ false
+      → IsTrackedInCall v a n vals spent → LeavesRows v a n → KeepsRows v (called v f number) a b n
   other_rows n vals spent apart low goes amid rows =
       let able = call.able n vals spent low goes amid in
       let own = held_in v a m in
@@ -228,12 +228,12 @@ module _ (v : Raid) (f : ℕ → View) (number m : ℕ) (a b : Seen) (now : (ℕ
   -- where its values stay, what images leave of its own rows is to be shown
   abbrev pub OwnRows : Type 0
   OwnRows =
-      ((was : ℕ → Values) → now was ≡ was) → (vals : ℕ → Values) (spent : ℕ → Bool) → is_over (called v f number) m ≡ false → Covers (f m) spent
-      → IsAmid v a m vals spent → LeavesRows v a m → KeepsRows v (called v f number) a b m
+      ((was : ℕ → Values) → now was ≡ was) → (vals : ℕ → Values) (spent : ℕ → Bool) → is_failed (called v f number) m ≡ false → IncludesSpent (f m) spent
+      → IsTrackedInCall v a m vals spent → LeavesRows v a m → KeepsRows v (called v f number) a b m
 
   -- and of an array that isn't called whatever it left where a member is lacking
-  pub other_lacking : (n : ℕ) (vals : ℕ → Values) (spent : ℕ → Bool) → (n ≡ m → ⊥) → n < v.state.made → is_over (called v f number) n ≡ false
-      → IsAmid v a n vals spent → LeavesLacking v a n → KeepsLacking v (called v f number) a b n
+  pub other_lacking : (n : ℕ) (vals : ℕ → Values) (spent : ℕ → Bool) → (n ≡ m → ⊥) → n < v.state.made → is_failed (called v f number) n ≡ false
+      → IsTrackedInCall v a n vals spent → LeavesLacking v a n → KeepsLacking v (called v f number) a b n
   other_lacking n vals spent apart low goes amid leaves =
       let able = call.able n vals spent low goes amid in
       let own = held_in v a m in
@@ -245,10 +245,10 @@ module _ (v : Raid) (f : ℕ → View) (number m : ℕ) (a b : Seen) (now : (ℕ
   -- what they leave of its own is to be shown too
   abbrev pub OwnLacking : Type 0
   OwnLacking =
-      (vals : ℕ → Values) (spent : ℕ → Bool) → is_over (called v f number) m ≡ false → Covers (f m) spent
-      → IsAmid v a m vals spent → LeavesLacking v a m → KeepsLacking v (called v f number) a b m
+      (vals : ℕ → Values) (spent : ℕ → Bool) → is_failed (called v f number) m ≡ false → IncludesSpent (f m) spent
+      → IsTrackedInCall v a m vals spent → LeavesLacking v a m → KeepsLacking v (called v f number) a b m
 
-  pub one_brings : OwnRows → OwnLacking → Brings v (called v f number) a b (λ n vals. if n == m then now vals else vals)
+  pub one_brings : OwnRows → OwnLacking → ChangesData v (called v f number) a b (λ n vals. if n == m then now vals else vals)
   one_brings own_rows own_lacking =
       record {
         stays = call.goes.stays;
@@ -262,18 +262,18 @@ module _ (v : Raid) (f : ℕ → View) (number m : ℕ) (a b : Seen) (now : (ℕ
         still = one_still;
         spent = λ n y low alive. views_spent v f m a b set call.views n y alive;
         parts = λ n vals spent joined low goes covers.
-            let Goal : Bool → Type 0 = λ t. PartOf v (called v f number) a b n vals (if t then now vals else vals) spent in
+            let Goal : Bool → Type 0 = λ t. SubCall v (called v f number) a b n vals (if t then now vals else vals) spent in
             elim (cases_eq n m) [
               | inl same ↦
                   subst Goal (sym (eq-eqb n m same))
-                  (subst (λ k. PartOf v (called v f number) a b k vals (now vals) spent) (sym same)
-                  (own_part vals spent (subst (λ k. is_over (called v f number) k ≡ false) same goes) (subst (λ k. Covers (f k) spent) same covers)))
+                  (subst (λ k. SubCall v (called v f number) a b k vals (now vals) spent) (sym same)
+                  (own_part vals spent (subst (λ k. is_failed (called v f number) k ≡ false) same goes) (subst (λ k. IncludesSpent (f k) spent) same covers)))
               | inr apart ↦ subst Goal (sym (ne_eqb n m apart)) (other_part n vals spent apart low goes)
             ];
         rows = λ n vals spent unwritten joined low goes covers amid rows.
             elim (cases_eq n m) [
               | inl same ↦
-                  subst (λ k. is_over (called v f number) k ≡ false → Covers (f k) spent → IsAmid v a k vals spent → LeavesRows v a k → KeepsRows v (called v f number) a b k)
+                  subst (λ k. is_failed (called v f number) k ≡ false → IncludesSpent (f k) spent → IsTrackedInCall v a k vals spent → LeavesRows v a k → KeepsRows v (called v f number) a b k)
                   (sym same)
                   (own_rows (λ was. sym (ap (λ (t : Bool). if t then now was else was) (eq-eqb n m same)) ∙ unwritten was) vals spent) goes covers amid rows
               | inr apart ↦ other_rows n vals spent apart low goes amid rows
@@ -281,7 +281,7 @@ module _ (v : Raid) (f : ℕ → View) (number m : ℕ) (a b : Seen) (now : (ℕ
         lacking = λ n vals spent joined low goes covers amid leaves.
             elim (cases_eq n m) [
               | inl same ↦
-                  subst (λ k. is_over (called v f number) k ≡ false → Covers (f k) spent → IsAmid v a k vals spent → LeavesLacking v a k → KeepsLacking v (called v f number) a b k)
+                  subst (λ k. is_failed (called v f number) k ≡ false → IncludesSpent (f k) spent → IsTrackedInCall v a k vals spent → LeavesLacking v a k → KeepsLacking v (called v f number) a b k)
                   (sym same) (own_lacking vals spent) goes covers amid leaves
               | inr apart ↦ other_lacking n vals spent apart low goes amid leaves
             ];
@@ -293,8 +293,8 @@ and_true : (c : Bool) → (c && true) ≡ c
 and_true true = refl
 and_true false = refl
 
-pub may_commit : (v : Raid) (f : ℕ → View) (number m n : ℕ) (a b : Seen) (on : List ℕ) → IsSet v a → IsHeeded v → ViewsOne v f m a b → v.number ≤ number
-    → on ≡ current_places v.state → n < v.state.made → is_over (called v f number) n ≡ false → AreLive v.state.made a → LogKept v.state v.number (λ place. false) a
+pub may_commit : (v : Raid) (f : ℕ → View) (number m n : ℕ) (a b : RackView) (on : List ℕ) → IsSet v a → IsHeeded v → ViewsOne v f m a b → v.number ≤ number
+    → on ≡ current_places v.state → n < v.state.made → is_failed (called v f number) n ≡ false → AreLive v.state.made a → LogInvariant v.state v.number (λ place. false) a
     → MayCommit v.state (v.arrays m) (f m) v.number on a
 may_commit v f number m n a b on set heeded views later on_is below goes live log =
     let low = views.low in
@@ -312,7 +312,7 @@ may_commit v f number m n a b on set heeded views later on_is below goes live lo
 
 -- ---- a write
 
-pub record WriteCall (v : Raid) (f : ℕ → View) (number m : ℕ) (a b : Seen) (on : List ℕ) (sector : ℕ) (from : List ℕ) : Type 0 where
+pub record WriteCall (v : Raid) (f : ℕ → View) (number m : ℕ) (a b : RackView) (on : List ℕ) (sector : ℕ) (from : List ℕ) : Type 0 where
   pub heeded : IsHeeded v
   pub views : ViewsOne v f m a b
   pub loses : LosesOne v f m
@@ -321,16 +321,16 @@ pub record WriteCall (v : Raid) (f : ℕ → View) (number m : ℕ) (a b : Seen)
   pub on_is : on ≡ current_places v.state
   pub few : (p : ℕ) → has_gone (f m) p ≡ true → p < 16
   pub writes :
-      (vals : ℕ → Values) (spent : ℕ → Bool) → Covers (f m) spent → MayCommit v.state (v.arrays m) (f m) v.number on a
+      (vals : ℕ → Values) (spent : ℕ → Bool) → IncludesSpent (f m) spent → MayCommit v.state (v.arrays m) (f m) v.number on a
       → WritesArray v.state (v.arrays m) (f m) spent a b (shape_of (v.arrays m)) vals sector from
   -- where the array isn't whole, its truth stays
   pub truths :
-      (vals : ℕ → Values) (spent : ℕ → Bool) → Covers (f m) spent → MayCommit v.state (v.arrays m) (f m) v.number on a → is_whole_array (v.arrays m) ≡ false
-      → LeavesTruth v.state (v.arrays m).number (λ t. ⊥) (Holds v.state (shape_of (v.arrays m)) (v.arrays m) vals spent a) a b
-  pub kept : MayCommit v.state (v.arrays m) (f m) v.number on a → LogKept v.state number (has_gone (f m)) b
+      (vals : ℕ → Values) (spent : ℕ → Bool) → IncludesSpent (f m) spent → MayCommit v.state (v.arrays m) (f m) v.number on a → is_whole_array (v.arrays m) ≡ false
+      → LeavesTruth v.state (v.arrays m).number (λ t. ⊥) (ArrayInvariant v.state (shape_of (v.arrays m)) (v.arrays m) vals spent a) a b
+  pub kept : MayCommit v.state (v.arrays m) (f m) v.number on a → LogInvariant v.state number (has_gone (f m)) b
   pub elsewhere : KeepsElsewhere false (v.arrays m) on a b
 
-module _ (v : Raid) (f : ℕ → View) (number m : ℕ) (a b : Seen) (on : List ℕ) (sector : ℕ) (from : List ℕ) (set : IsSet v a) (call : WriteCall v f number m a b on sector from) where
+module _ (v : Raid) (f : ℕ → View) (number m : ℕ) (a b : RackView) (on : List ℕ) (sector : ℕ) (from : List ℕ) (set : IsSet v a) (call : WriteCall v f number m a b on sector from) where
   write_acts : ActsOne v f number m a b (appended_at sector from) (shape_of (v.arrays m)) (MayCommit v.state (v.arrays m) (f m) v.number on a)
   write_acts = record {
     heeded = call.heeded;
@@ -343,7 +343,7 @@ module _ (v : Raid) (f : ℕ → View) (number m : ℕ) (a b : Seen) (on : List 
     later = call.later;
     able = λ n vals spent below goes amid.
         may_commit v f number m n a b on set call.heeded call.views call.later call.on_is below goes amid.slices
-        (subst (λ g. LogKept v.state v.number g a) (λ i p. heeded_gone v call.heeded p i) amid.stood.log);
+        (subst (λ g. LogInvariant v.state v.number g a) (λ i p. heeded_gone v call.heeded p i) amid.stood.log);
     acts = λ vals spent covers given.
         acts_some v.state (v.arrays m) (f m) spent a b (shape_of (v.arrays m)) vals (appended_at sector from vals) (call.writes vals spent covers given);
     kept = λ given log.
@@ -362,8 +362,8 @@ module _ (v : Raid) (f : ℕ → View) (number m : ℕ) (a b : Seen) (on : List 
       absurd (omega (arith, none))
 
   -- no member of a whole array is lacking, and the truth of others stays
-  write_lacking : (vals : ℕ → Values) (spent : ℕ → Bool) → is_over (called v f number) m ≡ false → Covers (f m) spent
-      → IsAmid v a m vals spent → LeavesLacking v a m → KeepsLacking v (called v f number) a b m
+  write_lacking : (vals : ℕ → Values) (spent : ℕ → Bool) → is_failed (called v f number) m ≡ false → IncludesSpent (f m) spent
+      → IsTrackedInCall v a m vals spent → LeavesLacking v a m → KeepsLacking v (called v f number) a b m
   write_lacking vals spent goes covers amid leaves =
       let now = appended_at sector from vals in
       let able = write_acts.able m vals spent call.views.low goes amid in
@@ -376,7 +376,7 @@ module _ (v : Raid) (f : ℕ → View) (number m : ℕ) (a b : Seen) (on : List 
             (call.truths vals spent covers able part) (λ t none. absurd none) leaves
       ]
 
-  pub write_brings : Brings v (called v f number) a b (written_at m sector from)
+  pub write_brings : ChangesData v (called v f number) a b (written_at m sector from)
   write_brings =
       one_brings v f number m a b (appended_at sector from) (shape_of (v.arrays m)) (MayCommit v.state (v.arrays m) (f m) v.number on a) set write_acts
       (λ same vals spent goes covers amid rows.

@@ -1,7 +1,7 @@
 -- Superblocks of an array that agree.
 use Rattle.std.specs.Prelude.{◌≡◌, ℕ, ◌<◌, Bool, true, false, is_some, Some}
 use Rattle.rack.specs.Values.{Values}
-use Rattle.rack.specs.Seen.{Image, Seen}
+use Rattle.rack.specs.Seen.{Image, RackView}
 use Rattle.md_super.specs.declared.superblock.Super.{Super}
 use Rattle.pool_state.specs.declared.contents.State.{State}
 use Rattle.array_image.specs.Arrays.{place_with}
@@ -10,11 +10,11 @@ use Rattle.array_image.specs.SoundArray.{array_fields, first_unsynced}
 use Rattle.array_image.specs.States.{is_current}
 use Rattle.array_image.specs.Supers.{super_in, truth_in}
 use Rattle.array_core.specs.Superblocks.{left_offset}
-use Rattle.array_model.specs.ArrayCalls.{Covers}
+use Rattle.array_model.specs.ArrayCalls.{IncludesSpent}
 use Rattle.array_model.specs.View.{IsArray, View, is_whole_array}
 use Rattle.raid_laws.specs.Cleaning.{NoneFails}
-use Rattle.raid_laws.specs.Moves.{IsAmid}
-use Rattle.raid_laws.specs.Raid.{Raid, is_over}
+use Rattle.raid_laws.specs.Moves.{IsTrackedInCall}
+use Rattle.raid_laws.specs.Raid.{Raid, is_failed}
 
 -- The superblocks of array n agree in these contents: each on a current place has the array's fields of the truth, its events among
 -- them, and the member of each position has one where its place is current.
@@ -43,8 +43,8 @@ pub record AgreeLeaving (v : View) (s : State) (r : Image) (n : ℕ) : Type 0 wh
 
 -- A part of a call after which the superblocks of each array agree, durably: in whatever a stop leaves, once it is replayed. They leave the
 -- rows to resync that were left in the array. So it is of the arrays that stood before it, where no drive refuses a call.
-abbrev pub MakesAgree : Raid → Raid → Seen → Seen → Type 0
+abbrev pub MakesAgree : Raid → Raid → RackView → RackView → Type 0
 MakesAgree v w a b =
     NoneFails a b
-    → (n : ℕ) (vals : ℕ → Values) (spent : ℕ → Bool) → n < v.state.joined → n < v.state.made → is_over w n ≡ false
-    → Covers (w.arrays n) spent → IsAmid v a n vals spent → (r : Image) → IsLeft b r → AgreeLeaving (v.arrays n) w.state r n
+    → (n : ℕ) (vals : ℕ → Values) (spent : ℕ → Bool) → n < v.state.joined → n < v.state.made → is_failed w n ≡ false
+    → IncludesSpent (w.arrays n) spent → IsTrackedInCall v a n vals spent → (r : Image) → IsLeft b r → AgreeLeaving (v.arrays n) w.state r n

@@ -21,7 +21,7 @@ pub record IsSameBook (p q : State) : Type 0 where
   pub serial : q.serial ≡ p.serial
 
 -- marks are only added, and a plan that has ended stays so
-pub record IsAfter (p q : State) : Type 0 where
+pub record OnlyMarksSince (p q : State) : Type 0 where
   pub same : IsSameBook p q
   pub epoch : p.epoch ≤ q.epoch
   -- a change raises the epoch, until epochs are used up
@@ -45,7 +45,7 @@ same_then p q r one two =
       serial = two.serial ∙ one.serial;
     }
 
-pub after_same : (p : State) → IsAfter p p
+pub after_same : (p : State) → OnlyMarksSince p p
 after_same p =
     record {
       same = record { pool = refl; extent = refl; drives = refl; plan = inl refl; made = refl; joined = refl; serial = refl };
@@ -54,7 +54,7 @@ after_same p =
       current = λ place is. is;
     }
 
-raised_then : (p q r : State) → IsAfter p q → IsAfter q r → (r ≡ p) ⊎ (p.epoch < r.epoch) ⊎ (2 ^ 63 - 1 ≤ r.epoch)
+raised_then : (p q r : State) → OnlyMarksSince p q → OnlyMarksSince q r → (r ≡ p) ⊎ (p.epoch < r.epoch) ⊎ (2 ^ 63 - 1 ≤ r.epoch)
 raised_then p q r one two =
     let up = one.epoch in
     let next = two.epoch in
@@ -68,7 +68,7 @@ raised_then p q r one two =
       ]
     ]
 
-pub after_then : (p q r : State) → IsAfter p q → IsAfter q r → IsAfter p r
+pub after_then : (p q r : State) → OnlyMarksSince p q → OnlyMarksSince q r → OnlyMarksSince p r
 after_then p q r one two =
     record {
       same = same_then p q r one.same two.same;
@@ -78,7 +78,7 @@ after_then p q r one two =
     }
 
 -- between books of one plan it is that plan
-pub plan_between : (p q r : State) → IsAfter p q → IsAfter q r → r.plan ≡ p.plan → q.plan ≡ p.plan
+pub plan_between : (p q r : State) → OnlyMarksSince p q → OnlyMarksSince q r → r.plan ≡ p.plan → q.plan ≡ p.plan
 plan_between p q r one two same = elim one.same.plan [
   | inl kept ↦ kept
   | inr ended ↦ elim two.same.plan [ inl kept ↦ sym kept ∙ same | inr gone ↦ ended ∙ sym gone ∙ same ]

@@ -1,7 +1,7 @@
 -- The size of an array, its layout and the places of its members, as its truth has them: no call changes them.
 use Rattle.std.specs.Prelude.{◌≡◌, ℕ, List, map, Some, unwrap_or}
 use Rattle.std.specs.List.{range_with_len}
-use Rattle.rack.specs.Seen.{Image, Seen}
+use Rattle.rack.specs.Seen.{Image, RackView}
 use Rattle.rack.specs.Moments.{Leaves}
 use Rattle.md_super.specs.declared.superblock.Super.{Super}
 use Rattle.pool_state.specs.declared.contents.State.{State}
@@ -30,6 +30,6 @@ abbrev pub HasFrame : Frame → ℕ → Image → Type 0
 HasFrame g n r = (s : State) (t : Super) → state_in r ≡ Some s → truth_in s r n ≡ Some t → frame_of t ≡ g
 
 -- A part of a call, seen from array n: at each moment contents have its frame, and so has the array after it, which is w then.
-pub record KeepsFrame (g : Frame) (n : ℕ) (w : View) (a b : Seen) : Type 0 where
+pub record KeepsFrame (g : Frame) (n : ℕ) (w : View) (a b : RackView) : Type 0 where
   pub leaves : a.traced → Leaves a b (λ c. IsInside a.sectors c → HasFrame g n (replayed a.sectors c))
   pub after : frame_of w.truth ≡ g

@@ -3,7 +3,7 @@ use Rattle.std.proofs.Common.{◌≡◌, ℕ, ◌+◌, ◌<◌, Bool, true, fals
 use Rattle.std.proofs.lemmas.Bool.{both_ways}
 use Rattle.std.specs.Option.{option_map_or}
 use Rattle.rack.specs.Values.{Values, MayLeave}
-use Rattle.rack.specs.Seen.{Image, Seen, IsLive}
+use Rattle.rack.specs.Seen.{Image, RackView, IsLive}
 use Rattle.rack.specs.Moments.{IsSound}
 use Rattle.slice_rack.specs.Slices.{Slices, disk_of, first_of, sectors_of}
 use Rattle.slice_rack.specs.Sliced.{slices_of}
@@ -18,8 +18,8 @@ use Rattle.array_image.proofs.Sources.{held_current}
 use Rattle.array_image.specs.Left.{Picks}
 use Rattle.log_laws.proofs.Kept.{stands_of, kept_replayed}
 use Rattle.array_model.specs.View.{shape_of, spent_in}
-use Rattle.array_model.specs.Says.{Says}
-use Rattle.raid_laws.specs.Raid.{Raid, is_over, live_of, spent_of, held_in, IsTold, Stood, StopsInside, raid_of}
+use Rattle.array_model.specs.Says.{ImageShowsArray}
+use Rattle.raid_laws.specs.Raid.{Raid, is_failed, live_of, spent_of, held_in, IsTracked, InvariantInCall, StopsInside, raid_of}
 
 -- an array's value in contents of a state and a shape
 pub array_value : (s : State) (array : ℕ) (shape : Shape) (c : Image) (y : ℕ)
@@ -30,35 +30,35 @@ array_value s array shape c y state is =
 
 -- contents that say something of an array, and have the state by which they do, give its values
 pub says_value : (s : State) (array : ℕ) (shape : Shape) (vals : ℕ → Values) (spent : ℕ → Bool) (c : Image) (y : ℕ)
-    → state_in c ≡ Some s → Says s array shape vals spent c → spent y ≡ false → MayLeave (vals y) (arrays_in c array y)
+    → state_in c ≡ Some s → ImageShowsArray s array shape vals spent c → spent y ≡ false → MayLeave (vals y) (arrays_in c array y)
 says_value s array shape vals spent c y state says alive =
     subst (MayLeave (vals y)) (sym (array_value s array shape c y state says.shape_is)) (says.value y alive)
 
 -- a sector that isn't spent is of a pool that isn't at its end, and has redundancy
-pub live_parts : (v : Raid) (n y : ℕ) → live_of v n y → (is_over v n ≡ false) × (spent_in (v.arrays n) y ≡ false)
-live_parts v n y alive = parts (is_over v n) (spent_in (v.arrays n) y) alive
+pub live_parts : (v : Raid) (n y : ℕ) → live_of v n y → (is_failed v n ≡ false) × (spent_in (v.arrays n) y ≡ false)
+live_parts v n y alive = parts (is_failed v n) (spent_in (v.arrays n) y) alive
   where
     parts : (b c : Bool) → (b || c) ≡ false → (b ≡ false) × (c ≡ false)
     parts true c is = absurd (both_ways true is refl)
     parts false c is = (refl, is)
 
 -- what an array that is told stands for, where it has a sector that isn't spent
-pub stood_told : (v : Raid) (x : Seen) (n y : ℕ) → IsTold v x n → live_of v n y
-    → Stood v.state (shape_of (v.arrays n)) (held_in v x n) (spent_of v n) (λ place. false) v x n
+pub stood_told : (v : Raid) (x : RackView) (n y : ℕ) → IsTracked v x n → live_of v n y
+    → InvariantInCall v.state (shape_of (v.arrays n)) (held_in v x n) (spent_of v n) (λ place. false) v x n
 stood_told v x n y is_told alive = is_told.stood (live_parts v n y alive).0
 
 -- what a stop leaves of an array, replayed
-pub stood_left : (s : State) (durable : Shape) (vals : ℕ → Values) (spent gone : ℕ → Bool) (v : Raid) (x : Seen) (n : ℕ) (c : Image)
-    → Stood s durable vals spent gone v x n → Picks x c
-    → (state_in (replayed x.sectors c) ≡ Some s) × Says s n durable vals spent (replayed x.sectors c)
+pub stood_left : (s : State) (durable : Shape) (vals : ℕ → Values) (spent gone : ℕ → Bool) (v : Raid) (x : RackView) (n : ℕ) (c : Image)
+    → InvariantInCall s durable vals spent gone v x n → Picks x c
+    → (state_in (replayed x.sectors c) ≡ Some s) × ImageShowsArray s n durable vals spent (replayed x.sectors c)
 stood_left s durable vals spent gone v x n c stood picks = (
   kept_replayed s v.number gone x c stood.someone.0 stood.log (stands_of c picks) stood.someone.1 stood.someone.2,
-  subst (λ k. Says s k durable vals spent (replayed x.sectors c)) stood.number (stood.holds.shape.says (replayed x.sectors c) (c, picks, λ d t. refl)),
+  subst (λ k. ImageShowsArray s k durable vals spent (replayed x.sectors c)) stood.number (stood.holds.shape.says (replayed x.sectors c) (c, picks, λ d t. refl)),
 )
 
 -- so it gives a value that the array's sector holds
-pub stood_value : (s : State) (durable : Shape) (vals : ℕ → Values) (spent gone : ℕ → Bool) (v : Raid) (x : Seen) (n y : ℕ) (c : Image)
-    → Stood s durable vals spent gone v x n → Picks x c → spent y ≡ false → MayLeave (vals y) (arrays_in (replayed x.sectors c) n y)
+pub stood_value : (s : State) (durable : Shape) (vals : ℕ → Values) (spent gone : ℕ → Bool) (v : Raid) (x : RackView) (n y : ℕ) (c : Image)
+    → InvariantInCall s durable vals spent gone v x n → Picks x c → spent y ≡ false → MayLeave (vals y) (arrays_in (replayed x.sectors c) n y)
 stood_value s durable vals spent gone v x n y c stood picks alive =
     let left = stood_left s durable vals spent gone v x n c stood picks in
     says_value s n durable vals spent (replayed x.sectors c) y left.0 left.1 alive
@@ -92,8 +92,8 @@ counted_value shape array x c e same =
     (counted_columns shape array (sector_in layout x) c e same (take (width layout) shape.members) (λ m among. among_take (width layout) shape.members m among))
 
 -- contents that read now agree with what members hold now, where they count
-now_counted : (v : Raid) (x : Seen) (n : ℕ) (now : Image) → Picks x now
-    → Stood v.state (shape_of (v.arrays n)) (held_in v x n) (spent_of v n) (λ place. false) v x n
+now_counted : (v : Raid) (x : RackView) (n : ℕ) (now : Image) → Picks x now
+    → InvariantInCall v.state (shape_of (v.arrays n)) (held_in v x n) (spent_of v n) (λ place. false) v x n
     → ((d s : ℕ) → IsLive x x d s → now d s ≡ (x.held d s).current)
     → AgreeCounted (shape_of (v.arrays n)) n (replayed x.sectors now) (current_in x.held)
 now_counted v x n now picks stood reads =
@@ -102,7 +102,7 @@ now_counted v x n now picks stood reads =
     stood.holds.shape.still now picks m sector among counts
     ∙ reads (member_slice m.place (v.arrays n).number) (data_sector + sector) (stood.holds.shape.open_left m sector among counts))
 
-pub raid_sound : {F : Type 0} {r : ℕ → ℕ} (v : Raid) (x : Seen) → StopsInside x → IsSound x → IsSound (raid_of F r v x)
+pub raid_sound : {F : Type 0} {r : ℕ → ℕ} (v : Raid) (x : RackView) → StopsInside x → IsSound x → IsSound (raid_of F r v x)
 raid_sound v x inside sound =
     let now = sound.now.0 in
     let picks : Picks x now = record { picks = sound.only_held now sound.now.1; inside = inside x.clock now sound.now.1 } in
@@ -127,6 +127,6 @@ raid_sound v x inside sound =
     }
 
 -- what stops leave of slices lies inside them
-pub stops_inside : (t : Slices) (x : Seen) → StopsInside (slices_of t x)
+pub stops_inside : (t : Slices) (x : RackView) → StopsInside (slices_of t x)
 stops_inside t x k c left d s out =
     left.2 d s ∙ ap (λ b. if b then left.0 (disk_of t d) (first_of t d + s) else []) (le-ltb s (sectors_of t d) out)

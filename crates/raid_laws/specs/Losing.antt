@@ -3,11 +3,11 @@ use Rattle.std.proofs.Common.{◌≡◌, ◌<◌, refl, sym, subst, ◌∙◌, i
 use Rattle.md_super.specs.declared.superblock.Super.{Super}
 use Rattle.array_model.specs.View.{View, HasGeometry}
 use Rattle.array_model.proofs.Views.{same_array}
-use Rattle.raid_laws.specs.Moves.{KeepsArrays, LosesOnly}
+use Rattle.raid_laws.specs.Moves.{KeepsArrays, OnlyFailures}
 use Rattle.raid_laws.specs.Raid.{Raid}
 
-pub only_same : (u w : View) → w ≡ u → LosesOnly u w
-only_same u w same = subst (LosesOnly u) (sym same) (record { same = same_array u; seats = λ k. inl refl })
+pub only_same : (u w : View) → w ≡ u → OnlyFailures u w
+only_same u w same = subst (OnlyFailures u) (sym same) (record { same = same_array u; seats = λ k. inl refl })
 
 pub geometry_then : (t u v : Super) → HasGeometry t u → HasGeometry u v → HasGeometry t v
 geometry_then t u v one two = record {
@@ -20,7 +20,7 @@ geometry_then t u v one two = record {
   position = two.position ∙ one.position;
 }
 
-pub only_then : (u v w : View) → LosesOnly u v → LosesOnly v w → LosesOnly u w
+pub only_then : (u v w : View) → OnlyFailures u v → OnlyFailures v w → OnlyFailures u w
 only_then u v w one two = record {
   same = record {
     number = two.same.number ∙ one.same.number;

@@ -2,7 +2,7 @@
 -- that stands.
 use Rattle.std.specs.Prelude.{◌≡◌, ◌⊎◌, ℕ, ◌+◌, ◌<◌, ◌≤◌, ◌^◌, [], Bool, true, false, ◌==◌, ◌&&◌, not, nat_lt, if◌then◌else◌, is_ok, List, length, slice_get, Some, option_map}
 use Rattle.rack.specs.Values.{Values, Keeps}
-use Rattle.rack.specs.Seen.{Seen, IsLive, Stays}
+use Rattle.rack.specs.Seen.{RackView, IsLive, SameRack}
 use Rattle.rack.specs.Moments.{Leaves}
 use Rattle.md_super.specs.Profile.{profiled}
 use Rattle.pool_state.specs.Valid.{is_valid}
@@ -12,17 +12,17 @@ use Rattle.array_image.specs.States.{is_current}
 use Rattle.array_image.specs.Supers.{has_roles, has_whole_row}
 use Rattle.array_image.specs.SoundArray.{first_unsynced}
 use Rattle.array_image.specs.Arrays.{Member, Shape, replayed}
-use Rattle.array_image.specs.Held.{Among, IsSettled}
+use Rattle.array_image.specs.Held.{Among, IsSynced}
 use Rattle.array_image.specs.Left.{IsInside}
 use Rattle.array_model.specs.View.{View, IsArray, IsSameArray, HasFault, has_gone, is_missing_seat, is_whole_array, place_at, rows_of, sectors_of, shape_of, spent_in}
 use Rattle.array_model.specs.declared.Seat.TheVariants.{Missing}
 use Rattle.array_model.specs.Members.{HasSlices}
-use Rattle.array_model.specs.ArrayCalls.{Covers, appended_at}
+use Rattle.array_model.specs.ArrayCalls.{IncludesSpent, appended_at}
 use Rattle.array_core.specs.Staging.{HasRowRebuilds}
 use Rattle.array_core.specs.Seats.{gone}
-use Rattle.raid_laws.specs.Raid.{Raid, AreLive, gone_in, is_left, is_over, Stood}
+use Rattle.raid_laws.specs.Raid.{Raid, AreLive, gone_in, is_left, is_failed, InvariantInCall}
 use Rattle.log_laws.specs.Saying.{HoldsCopies}
-use Rattle.raid_laws.specs.Book.{IsAfter}
+use Rattle.raid_laws.specs.Book.{OnlyMarksSince}
 use Rattle.raid_laws.specs.Frames.{Frame, KeepsFrame, frame_of}
 use Rattle.raid_laws.specs.Logs.{KeepsLogs}
 use Rattle.raid_laws.specs.Marking.{TiedBetween}
@@ -55,7 +55,7 @@ pub record IsUnmarked (v : View) : Type 0 where
 
 -- Array n: it has the slices of its members, and the members that are missing are those whose drive is marked, or has gone in a
 -- call of this array.
-pub record IsSeated (s : State) (n : ℕ) (v : View) (x : Seen) : Type 0 where
+pub record IsSeated (s : State) (n : ℕ) (v : View) (x : RackView) : Type 0 where
   pub is_array : IsArray v
   pub number : v.number ≡ n
   pub slices : HasSlices v x
@@ -71,7 +71,7 @@ IsMarkedWhole v n =
     → (is_whole_array (v.arrays n) ≡ true) ⊎ ((place : ℕ) × (is_current v.state place ≡ true) × (gone_in v place ≡ true))
 
 -- the arrays of a pool over its slices
-pub record IsSet (v : Raid) (x : Seen) : Type 0 where
+pub record IsSet (v : Raid) (x : RackView) : Type 0 where
   pub fit : x.fit
   pub lasting : x.lasting
   pub disks : x.disks ≡ 272
@@ -93,46 +93,46 @@ AreMarked v = (place : ℕ) → is_current v.state place ≡ true → gone_in v 
 -- ---- what holds of an array that stands
 
 -- An array at some point of a call: its sectors hold vals. Where whoever went is marked, images go by its own shape.
-pub record IsAmid (v : Raid) (x : Seen) (n : ℕ) (vals : ℕ → Values) (spent : ℕ → Bool) : Type 0 where
+pub record IsTrackedInCall (v : Raid) (x : RackView) (n : ℕ) (vals : ℕ → Values) (spent : ℕ → Bool) : Type 0 where
   pub durable : Shape
-  pub stood : Stood v.state durable vals spent (gone_in v) v x n
+  pub stood : InvariantInCall v.state durable vals spent (gone_in v) v x n
   pub slices : AreLive v.state.made x
   pub marked : AreMarked v → durable ≡ shape_of (v.arrays n)
   -- and members on places that are left count by the run at least as far as by the shape that images go by
   pub noted : KeepsReachOn (is_left v) durable (shape_of (v.arrays n))
 
 -- A part of a call, seen from an array: it gives its values at each moment, and stands after it with these.
-pub record PartOf (v w : Raid) (a b : Seen) (n : ℕ) (vals now : ℕ → Values) (spent : ℕ → Bool) : Type 0 where
-  pub holds : IsAmid v a n vals spent → IsAmid w b n now spent
+pub record SubCall (v w : Raid) (a b : RackView) (n : ℕ) (vals now : ℕ → Values) (spent : ℕ → Bool) : Type 0 where
+  pub holds : IsTrackedInCall v a n vals spent → IsTrackedInCall w b n now spent
   pub leaves :
       a.traced
-      → Leaves a b (λ c. IsInside a.sectors c → (amid : IsAmid v a n vals spent)
+      → Leaves a b (λ c. IsInside a.sectors c → (amid : IsTrackedInCall v a n vals spent)
       → TiedBetween v.state w.state amid.durable (holds amid).durable n now spent (replayed a.sectors c))
   -- no member counts less far after it by the marks that images go by then
-  pub reach : (amid : IsAmid v a n vals spent) → KeepsReach w.state amid.durable (holds amid).durable
+  pub reach : (amid : IsTrackedInCall v a n vals spent) → KeepsReach w.state amid.durable (holds amid).durable
   -- and so do the log slices, where they hold all copies of the state before it
-  pub logs : HoldsCopies v.state a → IsAmid v a n vals spent → KeepsLogs v.state w.state a b
+  pub logs : HoldsCopies v.state a → IsTrackedInCall v a n vals spent → KeepsLogs v.state w.state a b
   -- its size and its members' places stay
-  pub frame : (g : Frame) → frame_of (v.arrays n).truth ≡ g → IsAmid v a n vals spent → KeepsFrame g n (w.arrays n) a b
+  pub frame : (g : Frame) → frame_of (v.arrays n).truth ≡ g → IsTrackedInCall v a n vals spent → KeepsFrame g n (w.arrays n) a b
 
 -- the slices of drives that are marked missing stay as they are
-abbrev pub KeepsMarked : Raid → Seen → Seen → Type 0
+abbrev pub KeepsMarked : Raid → RackView → RackView → Type 0
 KeepsMarked v a b = (d t : ℕ) → IsLive a b d t → is_current v.state (place_of d) ≡ false → Keeps (a.held d t) (b.held d t)
 
 -- An array as calls leave it that change nothing of it but whom it lost, its events, the rows that its truth leaves, and its mark.
-pub record LosesOnly (u w : View) : Type 0 where
+pub record OnlyFailures (u w : View) : Type 0 where
   pub same : IsSameArray u w
   pub seats : (k : ℕ) → (slice_get w.seats k ≡ slice_get u.seats k) ⊎ (slice_get w.seats k ≡ Some Missing)
 
 -- each of them
 abbrev pub KeepsArrays : Raid → Raid → Type 0
-KeepsArrays v w = (n : ℕ) → n < v.state.made → LosesOnly (v.arrays n) (w.arrays n)
+KeepsArrays v w = (n : ℕ) → n < v.state.made → OnlyFailures (v.arrays n) (w.arrays n)
 
 -- A part of a call that moves no value: reads, syncs, losses that are noted, and commits that mark them.
-pub record Moves (v w : Raid) (a b : Seen) : Type 0 where
-  pub stays : Stays a b
+pub record ChangesNoData (v w : Raid) (a b : RackView) : Type 0 where
+  pub stays : SameRack a b
   pub set : IsSet w b
-  pub book : IsAfter v.state w.state
+  pub book : OnlyMarksSince v.state w.state
   pub leaves : a.traced → Leaves a b (λ c. Unit {0})
   pub number : v.number ≤ w.number
   pub events : (n : ℕ) → n < v.state.made → (v.arrays n).truth.events ≤ (w.arrays n).truth.events
@@ -142,7 +142,7 @@ pub record Moves (v w : Raid) (a b : Seen) : Type 0 where
   -- whoever isn't left any more has a fault, and what is spent stays so
   pub left : (place : ℕ) → is_left w place ≡ true → is_left v place ≡ true
   pub cause : (place : ℕ) → is_left v place ≡ true → is_left w place ≡ false → HasFault a b place
-  pub still : (n : ℕ) → n < v.state.made → is_over w n ≡ false → is_over v n ≡ false
+  pub still : (n : ℕ) → n < v.state.made → is_failed w n ≡ false → is_failed v n ≡ false
   pub spent : (n y : ℕ) → n < v.state.made → spent_in (w.arrays n) y ≡ false → spent_in (v.arrays n) y ≡ false
   -- a member counts where it counted
   pub counted :
@@ -152,14 +152,14 @@ pub record Moves (v w : Raid) (a b : Seen) : Type 0 where
   -- members' data stays as it is
   pub kept : (d t : ℕ) → IsLive a b d t → (slice_of d ≡ 0 → ⊥) → (t ≡ super_sector → ⊥) → Keeps (a.held d t) (b.held d t)
   pub parts :
-      (n : ℕ) (vals : ℕ → Values) (spent : ℕ → Bool) → n < v.state.joined → n < v.state.made → is_over w n ≡ false → Covers (w.arrays n) spent
-      → PartOf v w a b n vals vals spent
+      (n : ℕ) (vals : ℕ → Values) (spent : ℕ → Bool) → n < v.state.joined → n < v.state.made → is_failed w n ≡ false → IncludesSpent (w.arrays n) spent
+      → SubCall v w a b n vals vals spent
   pub rows :
-      (n : ℕ) (vals : ℕ → Values) (spent : ℕ → Bool) → n < v.state.joined → n < v.state.made → is_over w n ≡ false → Covers (w.arrays n) spent
-      → IsAmid v a n vals spent → LeavesRows v a n → KeepsRows v w a b n
+      (n : ℕ) (vals : ℕ → Values) (spent : ℕ → Bool) → n < v.state.joined → n < v.state.made → is_failed w n ≡ false → IncludesSpent (w.arrays n) spent
+      → IsTrackedInCall v a n vals spent → LeavesRows v a n → KeepsRows v w a b n
   pub lacking :
-      (n : ℕ) (vals : ℕ → Values) (spent : ℕ → Bool) → n < v.state.joined → n < v.state.made → is_over w n ≡ false → Covers (w.arrays n) spent
-      → IsAmid v a n vals spent → LeavesLacking v a n → KeepsLacking v w a b n
+      (n : ℕ) (vals : ℕ → Values) (spent : ℕ → Bool) → n < v.state.joined → n < v.state.made → is_failed w n ≡ false → IncludesSpent (w.arrays n) spent
+      → IsTrackedInCall v a n vals spent → LeavesLacking v a n → KeepsLacking v w a b n
 
 -- the log's number, the epoch and each array's events rise by so many at most
 pub record RaisesBy (k : ℕ) (v w : Raid) : Type 0 where
@@ -168,54 +168,54 @@ pub record RaisesBy (k : ℕ) (v w : Raid) : Type 0 where
   pub events : (n : ℕ) → n < v.state.made → (w.arrays n).truth.events ≤ (v.arrays n).truth.events + k
 
 -- Losses are mended: nobody went from then on, and who went is marked.
-pub record Mends (v w : Raid) (a b : Seen) : Type 0 where
-  pub moves : Moves v w a b
+pub record Mends (v w : Raid) (a b : RackView) : Type 0 where
+  pub moves : ChangesNoData v w a b
   pub heeded : IsHeeded w
   pub marked : (place : ℕ) → gone_in v place ≡ true → is_current w.state place ≡ false
 
 -- A call of array n that syncs it: losses are mended, and its members have one value a sector.
-pub record SyncsOne (v w : Raid) (a b : Seen) (n : ℕ) : Type 0 where
-  pub moves : Moves v w a b
+pub record SyncsOne (v w : Raid) (a b : RackView) (n : ℕ) : Type 0 where
+  pub moves : ChangesNoData v w a b
   pub heeded : IsHeeded w
   pub settled :
-      (vals : ℕ → Values) (spent : ℕ → Bool) → n < v.state.joined → is_over w n ≡ false → Covers (w.arrays n) spent
-      → IsAmid v a n vals spent → IsSettled (shape_of (w.arrays n)) n b.held
+      (vals : ℕ → Values) (spent : ℕ → Bool) → n < v.state.joined → is_failed w n ≡ false → IncludesSpent (w.arrays n) spent
+      → IsTrackedInCall v a n vals spent → IsSynced (shape_of (w.arrays n)) n b.held
 
 -- A call of array n that reads a sector: losses are mended. Where the sector isn't spent after that, its current value was read.
-pub record ReadsValue (v w : Raid) (a b : Seen) (n sector : ℕ) (into : List ℕ) : Type 0 where
-  pub moves : Moves v w a b
+pub record ReadsValue (v w : Raid) (a b : RackView) (n sector : ℕ) (into : List ℕ) : Type 0 where
+  pub moves : ChangesNoData v w a b
   pub heeded : IsHeeded w
   pub value :
-      (vals : ℕ → Values) (spent : ℕ → Bool) → n < v.state.joined → is_over w n ≡ false → Covers (w.arrays n) spent → spent sector ≡ false
-      → IsAmid v a n vals spent → into ≡ (vals sector).current
+      (vals : ℕ → Values) (spent : ℕ → Bool) → n < v.state.joined → is_failed w n ≡ false → IncludesSpent (w.arrays n) spent → spent sector ≡ false
+      → IsTrackedInCall v a n vals spent → into ≡ (vals sector).current
 
 -- A part of a call that writes: `now` are each array's values after it, by those before.
-pub record Brings (v w : Raid) (a b : Seen) (now : ℕ → (ℕ → Values) → ℕ → Values) : Type 0 where
-  pub stays : Stays a b
+pub record ChangesData (v w : Raid) (a b : RackView) (now : ℕ → (ℕ → Values) → ℕ → Values) : Type 0 where
+  pub stays : SameRack a b
   pub set : IsSet w b
-  pub book : IsAfter v.state w.state
+  pub book : OnlyMarksSince v.state w.state
   pub leaves : a.traced → Leaves a b (λ c. Unit {0})
   pub number : v.number ≤ w.number
   pub events : (n : ℕ) → n < v.state.made → (v.arrays n).truth.events ≤ (w.arrays n).truth.events
   pub sectors : (n : ℕ) → sectors_of (w.arrays n) ≡ sectors_of (v.arrays n)
   pub unwritten : KeepsMarked v a b
   -- what is spent stays so
-  pub still : (n : ℕ) → n < v.state.made → is_over w n ≡ false → is_over v n ≡ false
+  pub still : (n : ℕ) → n < v.state.made → is_failed w n ≡ false → is_failed v n ≡ false
   pub spent : (n y : ℕ) → n < v.state.made → spent_in (w.arrays n) y ≡ false → spent_in (v.arrays n) y ≡ false
   pub parts :
-      (n : ℕ) (vals : ℕ → Values) (spent : ℕ → Bool) → n < v.state.joined → n < v.state.made → is_over w n ≡ false → Covers (w.arrays n) spent
-      → PartOf v w a b n vals (now n vals) spent
+      (n : ℕ) (vals : ℕ → Values) (spent : ℕ → Bool) → n < v.state.joined → n < v.state.made → is_failed w n ≡ false → IncludesSpent (w.arrays n) spent
+      → SubCall v w a b n vals (now n vals) spent
   -- arrays that aren't written
   pub rows :
-      (n : ℕ) (vals : ℕ → Values) (spent : ℕ → Bool) → ((was : ℕ → Values) → now n was ≡ was) → n < v.state.joined → n < v.state.made → is_over w n ≡ false
-      → Covers (w.arrays n) spent → IsAmid v a n vals spent → LeavesRows v a n → KeepsRows v w a b n
+      (n : ℕ) (vals : ℕ → Values) (spent : ℕ → Bool) → ((was : ℕ → Values) → now n was ≡ was) → n < v.state.joined → n < v.state.made → is_failed w n ≡ false
+      → IncludesSpent (w.arrays n) spent → IsTrackedInCall v a n vals spent → LeavesRows v a n → KeepsRows v w a b n
   -- and all of them, where a member is lacking
   pub lacking :
-      (n : ℕ) (vals : ℕ → Values) (spent : ℕ → Bool) → n < v.state.joined → n < v.state.made → is_over w n ≡ false → Covers (w.arrays n) spent
-      → IsAmid v a n vals spent → LeavesLacking v a n → KeepsLacking v w a b n
+      (n : ℕ) (vals : ℕ → Values) (spent : ℕ → Bool) → n < v.state.joined → n < v.state.made → is_failed w n ≡ false → IncludesSpent (w.arrays n) spent
+      → IsTrackedInCall v a n vals spent → LeavesLacking v a n → KeepsLacking v w a b n
 
 -- whoever isn't left any more has a fault
-pub record AreCaused (v w : Raid) (a b : Seen) : Type 0 where
+pub record AreCaused (v w : Raid) (a b : RackView) : Type 0 where
   pub left : (place : ℕ) → is_left w place ≡ true → is_left v place ≡ true
   pub cause : (place : ℕ) → is_left v place ≡ true → is_left w place ≡ false → HasFault a b place
 
@@ -224,8 +224,8 @@ abbrev pub written_at : ℕ → ℕ → List ℕ → ℕ → (ℕ → Values) �
 written_at m sector from n vals = if n == m then appended_at sector from vals else vals
 
 -- A call that writes a sector of array m: losses are mended.
-pub record WritesOne (v w : Raid) (a b : Seen) (m sector : ℕ) (from : List ℕ) : Type 0 where
-  pub brings : Brings v w a b (written_at m sector from)
+pub record WritesOne (v w : Raid) (a b : RackView) (m sector : ℕ) (from : List ℕ) : Type 0 where
+  pub brings : ChangesData v w a b (written_at m sector from)
   pub arrays : KeepsArrays v w
   pub plan : w.state.plan ≡ v.state.plan
   pub caused : AreCaused v w a b

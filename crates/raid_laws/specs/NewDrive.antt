@@ -3,7 +3,7 @@ use Rattle.std.specs.Prelude.{◌≡◌, ◌≢◌, ◌⊎◌, ℕ, ◌+◌, ◌
 use Rattle.std.specs.Option.{option_map_or}
 use Rattle.std.specs.List.{list_all, range_with_len}
 use Rattle.rack.specs.Values.{IsSingle, MayLeave}
-use Rattle.rack.specs.Seen.{Seen, IsLive, Rose}
+use Rattle.rack.specs.Seen.{RackView, IsLive, Rose}
 use Rattle.rack.specs.Sequences.{WritesOnly}
 use Rattle.rack.specs.declared.Gone.{Gone}
 use Rattle.shr_base.specs.Ids.{name_based, child_name}
@@ -121,7 +121,7 @@ IsOfDrive disk table d s v =
     (d ≡ disk) × (((s ≡ state_sector) × (v ≡ no_state)) ⊎ (((s ≡ gate_at) × (v ≡ first_gate)) ⊎ IsInTable table s v))
 
 -- The table, the cleared sector of the state and the first gate were written on a disk, durably, or its faults rose.
-pub record LaysDrive (a b : Seen) (disk : ℕ) (table : Table) {X : Type 0} (result : Result X Gone) : Type 0 where
+pub record LaysDrive (a b : RackView) (disk : ℕ) (table : Table) {X : Type 0} (result : Result X Gone) : Type 0 where
   pub only : WritesOnly a b (IsOfDrive disk table)
   pub gone : IfErr result (λ e. (e.disk ≡ disk) × Rose (a.faults disk) (b.faults disk))
   pub cleared : OnOk result (IsLive a b disk state_sector → (v : List ℕ) → MayLeave (b.held disk state_sector) v → v ≡ no_state)
@@ -140,7 +140,7 @@ pub record KeepsOthers (place : ℕ) (t u : Slices) : Type 0 where
   pub firsts : (d : ℕ) → place_on d ≢ place → first_of u d ≡ first_of t d
 
 -- the slices of a place's disk below a number are laid, and no others
-pub record AreLaid (x : Seen) (arrays : List View) (place sectors many : ℕ) (t : Slices) : Type 0 where
+pub record AreLaid (x : RackView) (arrays : List View) (place sectors many : ℕ) (t : Slices) : Type 0 where
   pub disk : ℕ
   pub seat : disk_at t place ≡ Some disk
   pub size : sectors ≡ x.sectors disk

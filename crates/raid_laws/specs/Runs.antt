@@ -1,7 +1,7 @@
 -- What calls in a row of a rack of arrays do to its book and to images of its slices.
 use Rattle.std.proofs.Common.{◌≡◌, ℕ, ◌<◌, ◌≤◌, Bool, true, false, Option, Some, unwrap_or, refl, sym, ap, subst, inl, inr, ◌∙◌, arith}
 use Rattle.std.proofs.lemmas.Bool.{cases_Bool, both_ways}
-use Rattle.rack.specs.Seen.{Image, Seen}
+use Rattle.rack.specs.Seen.{Image, RackView}
 use Rattle.rack.specs.Moments.{Leaves}
 use Rattle.rack.specs.Joins.{keeps_same, keeps_then, leaves_same, leaves_then, leaves_weaker, rose_before, rose_since}
 use Rattle.md_super.specs.declared.superblock.Super.{Super}
@@ -13,13 +13,13 @@ use Rattle.array_image.specs.Supers.{truth_in}
 use Rattle.array_image.specs.SoundArray.{IsSoundArray}
 use Rattle.array_image.specs.Arrays.{Shape, shape_in, replayed}
 use Rattle.array_model.specs.View.{shape_of}
-use Rattle.raid_laws.specs.Book.{IsAfter, after_same, after_then}
+use Rattle.raid_laws.specs.Book.{OnlyMarksSince, after_same, after_then}
 use Rattle.raid_laws.specs.Frames.{Frame, HasFrame, frame_of}
 use Rattle.raid_laws.specs.Logs.{LogsBetween}
 use Rattle.raid_laws.specs.Since.{HoldsSince, KeepsSince, since_still, since_then}
 use Rattle.raid_laws.specs.Moves.{AreCaused, KeepsMarked}
 use Rattle.raid_laws.specs.Reach.{KeepsReach, ReachBetween, reach_same, reach_then}
-use Rattle.raid_laws.specs.Raid.{Raid, is_left, is_over, IsTold}
+use Rattle.raid_laws.specs.Raid.{Raid, is_left, is_failed, IsTracked}
 use Rattle.raid_laws.specs.Truths.{KeepsTruths}
 use Rattle.raid_laws.specs.Rows.{KeepsLacking, KeepsRows, LackingFrom, LeavesFrom, LeavesLacking, LeavesRows, lacking_then, rows_then}
 
@@ -27,8 +27,8 @@ use Rattle.raid_laws.specs.Rows.{KeepsLacking, KeepsRows, LackingFrom, LeavesFro
 pub record IsBetween (s t : State) (n : ℕ) (r : Image) : Type 0 where
   pub state : State
   pub is_state : state_in r ≡ Some state
-  pub later : IsAfter s state
-  pub sooner : IsAfter state t
+  pub later : OnlyMarksSince s state
+  pub sooner : OnlyMarksSince state t
   pub shape : Shape
   pub shape_is : shape_in state r n ≡ Some shape
   pub is_sound : (u : Super) → truth_in state r n ≡ Some u → IsSoundArray state r n u
@@ -36,29 +36,29 @@ pub record IsBetween (s t : State) (n : ℕ) (r : Image) : Type 0 where
 -- What stops in a call leave of an array that was told and isn't over after it: by a state between, its superblocks agree, no log is
 -- damaged and the copies of the state agree, and its size and its members' places are those before the call. Copies that were such as calls leave that
 -- began with an earlier state stay so. An array that isn't over after it wasn't so before it, and one that was told is told after it.
-pub record KeepsMoments (v w : Raid) (a b : Seen) : Type 0 where
-  pub still : (n : ℕ) → is_over w n ≡ false → is_over v n ≡ false
-  pub told : (n : ℕ) → IsTold v a n → IsTold w b n
+pub record CrashInvariant (v w : Raid) (a b : RackView) : Type 0 where
+  pub still : (n : ℕ) → is_failed w n ≡ false → is_failed v n ≡ false
+  pub told : (n : ℕ) → IsTracked v a n → IsTracked w b n
   pub images :
-      (n : ℕ) → IsTold v a n → is_over w n ≡ false → a.traced
+      (n : ℕ) → IsTracked v a n → is_failed w n ≡ false → a.traced
       → Leaves a b (λ c. IsBetween v.state w.state n (replayed a.sectors c))
-  pub logs : (n : ℕ) → IsTold v a n → is_over w n ≡ false → a.traced → Leaves a b (LogsBetween v.state w.state a.sectors)
+  pub logs : (n : ℕ) → IsTracked v a n → is_failed w n ≡ false → a.traced → Leaves a b (LogsBetween v.state w.state a.sectors)
   pub since :
-      (n : ℕ) (base : State) → IsTold v a n → is_over w n ≡ false → IsAfter base v.state → HoldsSince base a
+      (n : ℕ) (base : State) → IsTracked v a n → is_failed w n ≡ false → OnlyMarksSince base v.state → HoldsSince base a
       → KeepsSince base a b
-  pub framed : (n : ℕ) → IsTold v a n → is_over w n ≡ false → frame_of (w.arrays n).truth ≡ frame_of (v.arrays n).truth
-  pub frames : (n : ℕ) → IsTold v a n → is_over w n ≡ false → a.traced → Leaves a b (λ c. HasFrame (frame_of (v.arrays n).truth) n (replayed a.sectors c))
+  pub framed : (n : ℕ) → IsTracked v a n → is_failed w n ≡ false → frame_of (w.arrays n).truth ≡ frame_of (v.arrays n).truth
+  pub frames : (n : ℕ) → IsTracked v a n → is_failed w n ≡ false → a.traced → Leaves a b (λ c. HasFrame (frame_of (v.arrays n).truth) n (replayed a.sectors c))
   -- and its members count at least as far as before the call and are there where they were, and no further than after it, by the marks
   -- of the state that contents have and of the one after the call
-  pub reach : (n : ℕ) → IsTold v a n → is_over w n ≡ false → a.traced → Leaves a b (λ c. ReachBetween v w n (replayed a.sectors c))
-  pub reached : (n : ℕ) → IsTold v a n → is_over w n ≡ false → KeepsReach w.state (shape_of (v.arrays n)) (shape_of (w.arrays n))
+  pub reach : (n : ℕ) → IsTracked v a n → is_failed w n ≡ false → a.traced → Leaves a b (λ c. ReachBetween v w n (replayed a.sectors c))
+  pub reached : (n : ℕ) → IsTracked v a n → is_failed w n ≡ false → KeepsReach w.state (shape_of (v.arrays n)) (shape_of (w.arrays n))
   -- Where a member is lacking by the state that contents have, they leave no rows to resync but those that were left before the call.
-  pub lacking : (n : ℕ) → IsTold v a n → is_over w n ≡ false → LeavesLacking v a n → KeepsLacking v w a b n
+  pub lacking : (n : ℕ) → IsTracked v a n → is_failed w n ≡ false → LeavesLacking v a n → KeepsLacking v w a b n
 
 -- Marks are added and nothing else of the book, each with its cause; what stops leave meanwhile has marks between those before and
 -- those after. What is told stays so. `p` and `q` are the arrays that were written before it and after it.
-pub record RaidRuns (p q : ℕ → Bool) (v w : Raid) (a b : Seen) : Type 0 where
-  pub book : IsAfter v.state w.state
+pub record RaidRuns (p q : ℕ → Bool) (v w : Raid) (a b : RackView) : Type 0 where
+  pub book : OnlyMarksSince v.state w.state
   -- nor do the log's number and events fall
   pub number : v.number ≤ w.number
   pub events : (n : ℕ) → n < v.state.made → (v.arrays n).truth.events ≤ (w.arrays n).truth.events
@@ -73,14 +73,14 @@ pub record RaidRuns (p q : ℕ → Bool) (v w : Raid) (a b : Seen) : Type 0 wher
   pub caused : AreCaused v w a b
   -- an array that isn't written leaves no rows to resync but those that are left in it
   pub written : (n : ℕ) → q n ≡ false → p n ≡ false
-  pub rows : (n : ℕ) → q n ≡ false → IsTold v a n → is_over w n ≡ false → LeavesRows v a n → KeepsRows v w a b n
+  pub rows : (n : ℕ) → q n ≡ false → IsTracked v a n → is_failed w n ≡ false → LeavesRows v a n → KeepsRows v w a b n
   -- of arrays that were told: the book and superblocks by a state between, logs, copies and frames
-  pub moments : KeepsMoments v w a b
+  pub moments : CrashInvariant v w a b
   -- superblocks that said an array's truth do so after it
   pub truths : KeepsTruths v w a b
 
 -- so it is where nothing is called
-pub moments_same : (v : Raid) (x : Seen) → KeepsMoments v v x x
+pub moments_same : (v : Raid) (x : RackView) → CrashInvariant v v x x
 moments_same v x = record {
   still = λ n goes. goes;
   told = λ n told. told;
@@ -99,7 +99,7 @@ moments_same v x = record {
 }
 
 -- no call is a run
-pub raid_runs_same : (p : ℕ → Bool) (v : Raid) (x : Seen) → RaidRuns p p v v x x
+pub raid_runs_same : (p : ℕ → Bool) (v : Raid) (x : RackView) → RaidRuns p p v v x x
 raid_runs_same p v x =
     record {
       book = after_same v.state;
@@ -123,7 +123,7 @@ raid_runs_same p v x =
       moments = moments_same v x;
     }
 
-between_sooner : (s t u : State) (n : ℕ) (r : Image) → IsAfter t u → IsBetween s t n r → IsBetween s u n r
+between_sooner : (s t u : State) (n : ℕ) (r : Image) → OnlyMarksSince t u → IsBetween s t n r → IsBetween s u n r
 between_sooner s t u n r after at = record {
   state = at.state;
   is_state = at.is_state;
@@ -134,7 +134,7 @@ between_sooner s t u n r after at = record {
   is_sound = at.is_sound;
 }
 
-between_later : (s t u : State) (n : ℕ) (r : Image) → IsAfter s t → IsBetween t u n r → IsBetween s u n r
+between_later : (s t u : State) (n : ℕ) (r : Image) → OnlyMarksSince s t → IsBetween t u n r → IsBetween s u n r
 between_later s t u n r after at = record {
   state = at.state;
   is_state = at.is_state;
@@ -150,8 +150,8 @@ marked_still was true gone before = absurd (both_ways was gone (before refl))
 marked_still was false gone before = refl
 
 -- calls in a row keep them so
-pub moments_then : (v w z : Raid) (a b c : Seen) → KeepsMoments v w a b → KeepsMoments w z b c → IsAfter v.state w.state → IsAfter w.state z.state
-    → ((d : ℕ) → b.sectors d ≡ a.sectors d) → (a.traced → b.traced) → KeepsMoments v z a c
+pub moments_then : (v w z : Raid) (a b c : RackView) → CrashInvariant v w a b → CrashInvariant w z b c → OnlyMarksSince v.state w.state → OnlyMarksSince w.state z.state
+    → ((d : ℕ) → b.sectors d ≡ a.sectors d) → (a.traced → b.traced) → CrashInvariant v z a c
 moments_then v w z a b c one two book after sectors_same still_traced = record {
   still = λ n goes. one.still n (two.still n goes);
   told = λ n told. two.told n (one.told n told);
@@ -213,7 +213,7 @@ moments_then v w z a b c one two book after sectors_same still_traced = record {
             let at = late.new k i since until stopped in
             let both = from.new k i since until stopped s shape state is in
             let same : at.state ≡ s = ap (λ (o : Option State). unwrap_or o s) (sym at.is_state ∙ state) in
-            let later : IsAfter w.state s = subst (IsAfter w.state) same at.later in
+            let later : OnlyMarksSince w.state s = subst (OnlyMarksSince w.state) same at.later in
             (reach_then (is_current w.state) (is_current s) u x shape later.current (one.reached n told (two.still n goes)) both.0, both.1));
       });
   reached = λ n told goes.
@@ -229,7 +229,7 @@ moments_then v w z a b c one two book after sectors_same still_traced = record {
 }
 
 -- runs in a row are one
-pub raid_runs_then : (p q r : ℕ → Bool) (v w z : Raid) (a b c : Seen) → RaidRuns p q v w a b → RaidRuns q r w z b c → RaidRuns p r v z a c
+pub raid_runs_then : (p q r : ℕ → Bool) (v w z : Raid) (a b c : RackView) → RaidRuns p q v w a b → RaidRuns q r w z b c → RaidRuns p r v z a c
 raid_runs_then p q r v w z a b c one two =
     record {
       book = after_then v.state w.state z.state one.book two.book;

@@ -1,16 +1,16 @@
 -- All arrays are settled: what is added to the log.
 use Rattle.std.specs.Prelude.{◌≡◌, ℕ, ◌+◌, ◌*◌, ◌<◌, ◌≤◌, ◌&&◌, Bool, true, false, List, [], length, slice_get, Some}
 use Rattle.rack.specs.Values.{Values}
-use Rattle.rack.specs.Seen.{Seen}
+use Rattle.rack.specs.Seen.{RackView}
 use Rattle.rack.specs.Targets.{Target}
 use Rattle.rack.specs.Sequences.{OnlyReads}
 use Rattle.array_image.specs.Places.{super_sector}
 use Rattle.array_image.specs.Record.{are_apart}
-use Rattle.array_image.specs.Held.{IsSettled}
+use Rattle.array_image.specs.Held.{IsSynced}
 use Rattle.array_model.specs.declared.Seat.TheVariants.{Missing}
 use Rattle.array_model.specs.View.{View, has_gone, shape_of}
 use Rattle.array_model.specs.Members.{slice_on}
-use Rattle.array_model.specs.ArrayCalls.{Covers}
+use Rattle.array_model.specs.ArrayCalls.{IncludesSpent}
 use Rattle.array_model.specs.Stages.{AmongTargets}
 use Rattle.array_core.specs.Seats.{gone as without}
 use Rattle.array_core.specs.Staging.{AddsSupersOf}
@@ -20,8 +20,8 @@ use Rattle.array_image.specs.States.{is_current, current_places}
 use Rattle.log_laws.specs.View.{LogView, names}
 use Rattle.raid_laws.specs.Missing.{marked}
 use Rattle.raid_laws.specs.Losses.{AddsCopies}
-use Rattle.raid_laws.specs.Raid.{Raid, gone_in, is_over}
-use Rattle.raid_laws.specs.Moves.{IsAmid, IsSet, IsUnmarked, Moves}
+use Rattle.raid_laws.specs.Raid.{Raid, gone_in, is_failed}
+use Rattle.raid_laws.specs.Moves.{IsTrackedInCall, IsSet, IsUnmarked, ChangesNoData}
 
 -- a target is the superblock of a member of one of the first arrays, one that isn't missing
 pub record IsSuperOf (v : Raid) (k : ℕ) (x : Target) : Type 0 where
@@ -49,8 +49,8 @@ pub record HasStaged (v : Raid) (k : ℕ) (xs : List Target) : Type 0 where
   pub few : length xs ≤ 16 * k
 
 -- The first arrays were settled: their members are synced, and their superblocks added.
-pub record SettlesTo (v w : Raid) (a b : Seen) (k : ℕ) (xs : List Target) : Type 0 where
-  pub moves : Moves v w a b
+pub record SettlesTo (v w : Raid) (a b : RackView) (k : ℕ) (xs : List Target) : Type 0 where
+  pub moves : ChangesNoData v w a b
   pub reads : OnlyReads a b
   pub same : w.state ≡ v.state
   pub number : w.number ≡ v.number
@@ -62,15 +62,15 @@ pub record SettlesTo (v w : Raid) (a b : Seen) (k : ℕ) (xs : List Target) : Ty
   pub went : (n p : ℕ) → n < v.state.made → has_gone (v.arrays n) p ≡ true → has_gone (w.arrays n) p ≡ true
   pub staged : HasStaged w k xs
   pub settled :
-      (n : ℕ) (vals : ℕ → Values) (spent : ℕ → Bool) → n < k → n < v.state.joined → is_over w n ≡ false → Covers (w.arrays n) spent
-      → IsAmid v a n vals spent → IsSettled (shape_of (w.arrays n)) n b.held
+      (n : ℕ) (vals : ℕ → Values) (spent : ℕ → Bool) → n < k → n < v.state.joined → is_failed w n ≡ false → IncludesSpent (w.arrays n) spent
+      → IsTrackedInCall v a n vals spent → IsSynced (shape_of (w.arrays n)) n b.held
 
 -- the state that marks the lost places, as the log is to bring it
 abbrev pub state_after : Raid → List ℕ → State
 state_after v lost = marked lost v.state
 
 -- The losses that are noted in all arrays, and the log to be committed: superblocks of all arrays and copies of the marked state.
-pub record IsMarking (v : Raid) (lost on : List ℕ) (l : LogView) (xs : List Target) (x : Seen) : Type 0 where
+pub record IsMarking (v : Raid) (lost on : List ℕ) (l : LogView) (xs : List Target) (x : RackView) : Type 0 where
   pub set : IsSet v x
   pub staged : HasStaged v v.state.made xs
   pub copies : AddsCopies (state_after v lost) on xs l.added

@@ -3,7 +3,7 @@ use Rattle.std.proofs.Common.{◌≡◌, ◌⊎◌, ℕ, ◌<◌, ◌≤◌, Boo
 use Rattle.std.proofs.lemmas.Bool.{both_ways}
 use Rattle.rack.specs.Moments.{Leaves}
 use Rattle.rack.specs.Joins.{leaves_same, leaves_then, leaves_weaker}
-use Rattle.rack.specs.Seen.{Image, Seen}
+use Rattle.rack.specs.Seen.{Image, RackView}
 use Rattle.rack.specs.Values.{MayLeave}
 use Rattle.pool_state.specs.declared.contents.Copied.{Copied}
 use Rattle.pool_state.specs.declared.contents.State.{State}
@@ -11,13 +11,13 @@ use Rattle.pool_state.specs.Sector.{decoded}
 use Rattle.array_image.specs.Left.{IsInside}
 use Rattle.array_image.specs.Places.{log_slice}
 use Rattle.array_image.specs.States.{is_current, id_of}
-use Rattle.raid_laws.specs.Book.{IsAfter}
+use Rattle.raid_laws.specs.Book.{OnlyMarksSince}
 
 -- a copy that names a place's drive, of a state that came of s
 pub record HasOwnSince (s : State) (p : ℕ) (block : List ℕ) : Type 0 where
   pub copy : Copied
   pub is : decoded block ≡ Ok copy
-  pub after : IsAfter s copy.state
+  pub after : OnlyMarksSince s copy.state
   pub drive : id_of copy.state copy.own ≡ id_of s p
 
 -- the sector of a place's copy: one that was current by s has its own since then, one that wasn't an earlier copy at most
@@ -58,11 +58,11 @@ abbrev pub AreEach : (ℕ → List ℕ → Type 0) → (ℕ → ℕ) → Image �
 AreEach P sectors c = (p : ℕ) → p < 16 → 0 < sectors (log_slice p) → P p (c (log_slice p) 0)
 
 -- and in whatever a stop now leaves of them
-abbrev pub HoldsEach : (ℕ → List ℕ → Type 0) → Seen → Type 0
+abbrev pub HoldsEach : (ℕ → List ℕ → Type 0) → RackView → Type 0
 HoldsEach P x = (p : ℕ) (u : List ℕ) → p < 16 → 0 < x.sectors (log_slice p) → MayLeave (x.held (log_slice p) 0) u → P p u
 
 -- A part of a call keeps it so, at each moment and after it.
-pub record KeepsEach (P : ℕ → List ℕ → Type 0) (a b : Seen) : Type 0 where
+pub record KeepsEach (P : ℕ → List ℕ → Type 0) (a b : RackView) : Type 0 where
   pub leaves : a.traced → Leaves a b (λ c. IsInside a.sectors c → AreEach P a.sectors c)
   pub holds : HoldsEach P b
 
@@ -70,34 +70,34 @@ pub record KeepsEach (P : ℕ → List ℕ → Type 0) (a b : Seen) : Type 0 whe
 abbrev pub AreSince : State → (ℕ → ℕ) → Image → Type 0
 AreSince s sectors c = AreEach (IsSince s) sectors c
 
-abbrev pub HoldsSince : State → Seen → Type 0
+abbrev pub HoldsSince : State → RackView → Type 0
 HoldsSince s x = HoldsEach (IsSince s) x
 
-abbrev pub KeepsSince : State → Seen → Seen → Type 0
+abbrev pub KeepsSince : State → RackView → RackView → Type 0
 KeepsSince s a b = KeepsEach (IsSince s) a b
 
 -- copies while a drive joins
 abbrev pub AreJoinSince : (s next : State) → (ℕ → ℕ) → Image → Type 0
 AreJoinSince s next sectors c = AreEach (IsJoinSince s next) sectors c
 
-abbrev pub HoldsJoinSince : (s next : State) → Seen → Type 0
+abbrev pub HoldsJoinSince : (s next : State) → RackView → Type 0
 HoldsJoinSince s next x = HoldsEach (IsJoinSince s next) x
 
-abbrev pub KeepsJoinSince : (s next : State) → Seen → Seen → Type 0
+abbrev pub KeepsJoinSince : (s next : State) → RackView → RackView → Type 0
 KeepsJoinSince s next a b = KeepsEach (IsJoinSince s next) a b
 
 -- copies while places get other drives
 abbrev pub AreTakenSince : (ℕ → Bool) → (s next : State) → (ℕ → ℕ) → Image → Type 0
 AreTakenSince new s next sectors c = AreEach (IsTakenSince new s next) sectors c
 
-abbrev pub HoldsTakenSince : (ℕ → Bool) → (s next : State) → Seen → Type 0
+abbrev pub HoldsTakenSince : (ℕ → Bool) → (s next : State) → RackView → Type 0
 HoldsTakenSince new s next x = HoldsEach (IsTakenSince new s next) x
 
-abbrev pub KeepsTakenSince : (ℕ → Bool) → (s next : State) → Seen → Seen → Type 0
+abbrev pub KeepsTakenSince : (ℕ → Bool) → (s next : State) → RackView → RackView → Type 0
 KeepsTakenSince new s next a b = KeepsEach (IsTakenSince new s next) a b
 
 -- what follows of each
-pub each_weaker : (P Q : ℕ → List ℕ → Type 0) (a b : Seen) → ((p : ℕ) (u : List ℕ) → P p u → Q p u) → KeepsEach P a b → KeepsEach Q a b
+pub each_weaker : (P Q : ℕ → List ℕ → Type 0) (a b : RackView) → ((p : ℕ) (u : List ℕ) → P p u → Q p u) → KeepsEach P a b → KeepsEach Q a b
 each_weaker P Q a b follows keeps = record {
   leaves = λ traced.
       leaves_weaker (λ c. IsInside a.sectors c → AreEach P a.sectors c) (λ c. IsInside a.sectors c → AreEach Q a.sectors c)
@@ -106,11 +106,11 @@ each_weaker P Q a b follows keeps = record {
 }
 
 -- where nothing is called
-pub each_still : (P : ℕ → List ℕ → Type 0) (x : Seen) → HoldsEach P x → KeepsEach P x x
+pub each_still : (P : ℕ → List ℕ → Type 0) (x : RackView) → HoldsEach P x → KeepsEach P x x
 each_still P x holds = record { leaves = λ traced. leaves_same x (λ c. IsInside x.sectors c → AreEach P x.sectors c); holds = holds }
 
 -- parts in a row
-pub each_then : (P : ℕ → List ℕ → Type 0) (a b c : Seen) → ((d : ℕ) → b.sectors d ≡ a.sectors d) → (a.traced → b.traced) → KeepsEach P a b → KeepsEach P b c → KeepsEach P a c
+pub each_then : (P : ℕ → List ℕ → Type 0) (a b c : RackView) → ((d : ℕ) → b.sectors d ≡ a.sectors d) → (a.traced → b.traced) → KeepsEach P a b → KeepsEach P b c → KeepsEach P a c
 each_then P a b c sectors traced one two = record {
   leaves = λ was.
       leaves_then (λ i. IsInside a.sectors i → AreEach P a.sectors i) (one.leaves was)
@@ -121,8 +121,8 @@ each_then P a b c sectors traced one two = record {
   holds = two.holds;
 }
 
-pub since_still : (s : State) (x : Seen) → HoldsSince s x → KeepsSince s x x
+pub since_still : (s : State) (x : RackView) → HoldsSince s x → KeepsSince s x x
 since_still s x holds = each_still (IsSince s) x holds
 
-pub since_then : (s : State) (a b c : Seen) → ((d : ℕ) → b.sectors d ≡ a.sectors d) → (a.traced → b.traced) → KeepsSince s a b → KeepsSince s b c → KeepsSince s a c
+pub since_then : (s : State) (a b c : RackView) → ((d : ℕ) → b.sectors d ≡ a.sectors d) → (a.traced → b.traced) → KeepsSince s a b → KeepsSince s b c → KeepsSince s a c
 since_then s a b c sectors traced one two = each_then (IsSince s) a b c sectors traced one two

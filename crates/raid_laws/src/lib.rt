@@ -1,7 +1,7 @@
 //! What calls do to all arrays of a pool, and what a stop in them leaves. The crate has definitions and lemmas alone, and no code.
 //!
 //! **Its model.** `Raid` (`specs/Raid.antt`) is the state of a pool, each array's `View` and the number of the log; `raid_of` is the rack that
-//! it shows. A part of a call (`specs/Moves.antt`, `Moves`, `Brings`) is said of all arrays at once, and proved of each array by itself.
+//! it shows. A part of a call (`specs/Moves.antt`, `ChangesNoData`, `ChangesData`) is said of all arrays at once, and proved of each array by itself.
 //!
 //! | Module of specs/ | What it defines |
 //! |---|---|
@@ -15,7 +15,7 @@
 //! | `Frames` | an array's size and its members' places, which no call changes |
 //! | `Reach` | how far the members of an array count by two shapes of it |
 //! | `Rows` | rows that images leave to resync |
-//! | `Moves` | a part of a call that moves no value, for all arrays: what it keeps whatever the rack below tells, what each array that stands gives at each moment and after it; losses that are mended |
+//! | `ChangesNoData` | a part of a call that moves no value, for all arrays: what it keeps whatever the rack below tells, what each array that stands gives at each moment and after it; losses that are mended |
 //! | `Losing` | arrays of which nothing has changed but whom they lost, by calls in a row |
 //! | `Settling` | all arrays settled, and the commit that marks losses |
 //! | `Cleaning` | arrays that are ended: settled, with superblocks that leave their rows and no others |

@@ -4,7 +4,7 @@ use Rattle.std.proofs.lemmas.Bool.{and_parts, both_ways, cases_Bool}
 use Rattle.std.proofs.lemmas.Option.{slice_get-get_or}
 use Rattle.std.specs.Option.{option_map_or}
 use Rattle.arrayvec.specs.ArrayVec.{ArrayVec}
-use Rattle.rack.specs.Seen.{Seen, Stays}
+use Rattle.rack.specs.Seen.{RackView, SameRack}
 use Rattle.rack.specs.Joins.{rose_since}
 use Rattle.slice_rack.specs.Slices.{Slices, disk_of}
 use Rattle.slice_rack.specs.Sliced.{slices_of}
@@ -38,7 +38,7 @@ use Rattle.raid_rack.proofs.Renewed.{found_member}
 use Rattle.raid_rack.proofs.Seating.{seats_set}
 
 -- what the code has made before its commit: the state with the drive, and its copies in the log
-pub record IsAdding (a : Arrays) (units : ℕ) (t : State) (on takes : List ℕ) (l : LogView) (x : Seen) : Type 0 where
+pub record IsAdding (a : Arrays) (units : ℕ) (t : State) (on takes : List ℕ) (l : LogView) (x : RackView) : Type 0 where
   pub running : IsRunning a x
   pub heeded : IsHeeded (raid_by a)
   pub some : 0 < length a.state.drives.items
@@ -53,20 +53,20 @@ pub record IsAdding (a : Arrays) (units : ℕ) (t : State) (on takes : List ℕ)
   pub number : l.number ≡ a.log.number
 
 -- what the commit makes of the arrays, before losses are mended
-pub record HasAdded (a b : Arrays) (units : ℕ) (x y : Seen) : Type 0 where
+pub record HasAdded (a b : Arrays) (units : ℕ) (x y : RackView) : Type 0 where
   pub running : IsRunning b y
   pub loses : LosesBook (next_raid (length a.state.drives.items) units (raid_by a)) (raid_by b)
   pub caused : AreCaused (next_raid (length a.state.drives.items) units (raid_by a)) (raid_by b) x y
   pub raises : RaisesBy 2 (raid_by a) (raid_by b)
 
-module _ (a : Arrays) (units : ℕ) (x : Seen) (may : MayBeNext (length a.state.drives.items) units (raid_by a) x) where
+module _ (a : Arrays) (units : ℕ) (x : RackView) (may : MayBeNext (length a.state.drives.items) units (raid_by a) x) where
   -- the places from before are current by the new state
   pub before_current : (on : List ℕ) (p : ℕ) → on ≡ current_places a.state → names on p ≡ true
       → is_current (next_raid (length a.state.drives.items) units (raid_by a)).state p ≡ true
   before_current on p on_is named =
       next_current (length a.state.drives.items) units (raid_by a) x may p (sym (names_current a.state p) ∙ ap (λ ps. names ps p) (sym on_is) ∙ named)
 
-module _ (a : Arrays) (units : ℕ) (t : State) (on takes : List ℕ) (l : LogView) (x : Seen) (adding : IsAdding a units t on takes l x) where
+module _ (a : Arrays) (units : ℕ) (t : State) (on takes : List ℕ) (l : LogView) (x : RackView) (adding : IsAdding a units t on takes l x) where
   pub adding_may : MayBeNext (length a.state.drives.items) units (raid_by a) x
   adding_may = record {
     set = adding.running.set;
@@ -89,7 +89,7 @@ module _ (a : Arrays) (units : ℕ) (t : State) (on takes : List ℕ) (l : LogVi
     copies = subst (λ (s : State). AddsCopies s takes [] l.added) adding.t_is adding.copies;
   }
 
-  pub has_added : (all : ArrayVec View) (log : LogView) (gone : List ℕ) (y : Seen) → CommitCall l on gone x y
+  pub has_added : (all : ArrayVec View) (log : LogView) (gone : List ℕ) (y : RackView) → CommitCall l on gone x y
       → ((n : ℕ) → slice_get all.items n ≡ option_map (without gone) (slice_get a.all.items n)) → length all.items ≡ length a.all.items
       → log.number ≡ next_number l.number → HasAdded a (record a { state = t; all = all; log = log }) units x y
   has_added all log gone y call each count number =
@@ -121,7 +121,7 @@ module _ (a : Arrays) (units : ℕ) (t : State) (on takes : List ℕ) (l : LogVi
       }
 
   -- and then losses are mended
-  pub takes_in : (b c : Arrays) (gone : List ℕ) (y z : Seen) → HasAdded a b units x y → CommitCall l on gone x y → Mends (raid_by b) (raid_by c) y z
+  pub takes_in : (b c : Arrays) (gone : List ℕ) (y z : RackView) → HasAdded a b units x y → CommitCall l on gone x y → Mends (raid_by b) (raid_by c) y z
       → TakesIn (length a.state.drives.items) units (Add (length a.state.drives.items)) (λ n. false) (raid_by a) (raid_by c) x z
   takes_in b c gone y z one call mends =
       let place = length a.state.drives.items in
@@ -142,7 +142,7 @@ module _ (a : Arrays) (units : ℕ) (t : State) (on takes : List ℕ) (l : LogVi
       }
 
 -- by the new tables from before its disk was laid
-pub takes_early : (place units : ℕ) (plan : Plan) (joining : ℕ → Bool) (v w : Raid) (u : Slices) (a m b : Seen) → Stays a m
+pub takes_early : (place units : ℕ) (plan : Plan) (joining : ℕ → Bool) (v w : Raid) (u : Slices) (a m b : RackView) → SameRack a m
     → TakesIn place units plan joining v w (slices_of u m) (slices_of u b) → TakesIn place units plan joining v w (slices_of u a) (slices_of u b)
 takes_early place units plan joining v w u a m b stays takes = record {
   turns = takes.turns;
@@ -156,7 +156,7 @@ takes_early place units plan joining v w u a m b stays takes = record {
 }
 
 -- the arrays over the tables that have the new place's disk
-pub running_next : (r : Arrays) (arrays : List View) (place disk sectors : ℕ) (t u : Slices) (x : Seen) → place ≡ length r.state.drives.items → SeatsDrive arrays place disk sectors t u
+pub running_next : (r : Arrays) (arrays : List View) (place disk sectors : ℕ) (t u : Slices) (x : RackView) → place ≡ length r.state.drives.items → SeatsDrive arrays place disk sectors t u
     → (slices_of u x).fit → IsRunning r (slices_of t x) → IsRunning r (slices_of u x)
 running_next r arrays place disk sectors t u x next seats fit running = record {
   count = running.count;
@@ -164,7 +164,7 @@ running_next r arrays place disk sectors t u x next seats fit running = record {
 }
 
 -- the next place is a member of no array
-pub joins_none : (r : Arrays) (place sectors : ℕ) (x : Seen) → place ≡ length r.state.drives.items → IsRunning r x → (n : ℕ) → joins r.all.items place sectors n ≡ false
+pub joins_none : (r : Arrays) (place sectors : ℕ) (x : RackView) → place ≡ length r.state.drives.items → IsRunning r x → (n : ℕ) → joins r.all.items place sectors n ≡ false
 joins_none r place sectors x next running n =
     elim (cases_Bool (joins r.all.items place sectors n)) [
       | inr none ↦ none
@@ -179,7 +179,7 @@ joins_none r place sectors x next running n =
     ]
 
 -- it was so before its disk was laid, too
-pub lost_early : (v w : Raid) (t : Slices) (a m b : Seen) → Stays a m → Mends v w (slices_of t m) (slices_of t b) → HasLost v w (slices_of t m) (slices_of t b) → IsLost v w (slices_of t a) (slices_of t b)
+pub lost_early : (v w : Raid) (t : Slices) (a m b : RackView) → SameRack a m → Mends v w (slices_of t m) (slices_of t b) → HasLost v w (slices_of t m) (slices_of t b) → IsLost v w (slices_of t a) (slices_of t b)
 lost_early v w t a m b stays mends lost = record {
   loses = loses_mended v w (slices_of t m) (slices_of t b) mends;
   caused = record {

@@ -4,12 +4,12 @@ use Rattle.std.proofs.lemmas.Bool.{cases_Bool, and_parts}
 use Rattle.std.proofs.lemmas.List.{length-map}
 use Rattle.std.specs.List.{range_with_len}
 use Rattle.rack.specs.Values.{MayLeave}
-use Rattle.rack.specs.Seen.{Image, Seen, IsLive}
+use Rattle.rack.specs.Seen.{Image, RackView, IsLive}
 use Rattle.md_super.specs.declared.superblock.Super.{Super}
 use Rattle.pool_state.specs.declared.contents.State.{State}
 use Rattle.array_image.specs.Arrays.{replayed}
 use Rattle.array_image.specs.Foremost.{foremost}
-use Rattle.array_image.specs.Left.{IsClosed, IsLeft, Picks, reading}
+use Rattle.array_image.specs.Left.{NothingPending, IsLeft, Picks, reading}
 use Rattle.array_image.specs.Marks.{Marks}
 use Rattle.array_image.specs.Places.{member_slice, place_of, slice_of}
 use Rattle.array_image.specs.States.{is_current}
@@ -24,7 +24,7 @@ use Rattle.raid_rack.specs.AllRuns.{Spares}
 use Rattle.raid_laws.specs.Book.{drive_of}
 use Rattle.raid_laws.specs.Cleaning.{NoneFails}
 use Rattle.raid_laws.specs.Moves.{IsHeeded, IsSet}
-use Rattle.raid_laws.specs.Raid.{Raid, gone_in, is_left, is_over, IsTold}
+use Rattle.raid_laws.specs.Raid.{Raid, gone_in, is_left, is_failed, IsTracked}
 use Rattle.raid_laws.specs.Runs.{RaidRuns}
 use Rattle.raid_laws.proofs.Agreed.{agree_by}
 use Rattle.raid_laws.proofs.Cleaned.{slice_own}
@@ -59,7 +59,7 @@ agree_marks s t r n marks at = record {
     was p current = sym (marks.current p ∙ and_true (is_current s p)) ∙ current
 
 -- where no drive refuses a call, no place is marked
-marks_none : (p q : ℕ → Bool) (v w : Raid) (a b : Seen) → IsHeeded v → RaidRuns p q v w a b → NoneFails a b → Marks v.state (λ place. false) w.state
+marks_none : (p q : ℕ → Bool) (v w : Raid) (a b : RackView) → IsHeeded v → RaidRuns p q v w a b → NoneFails a b → Marks v.state (λ place. false) w.state
 marks_none p q v w a b heeded runs none = record {
   current = λ place.
       bool_same (is_current w.state place) (is_current v.state place) (runs.book.current place)
@@ -75,23 +75,23 @@ marks_none p q v w a b heeded runs none = record {
 
 -- ---- in contents
 
-module _ (p q : ℕ → Bool) (v w : Raid) (a b : Seen) (set : IsSet v a) (before : IsHeeded v) (after : IsHeeded w) (runs : RaidRuns p q v w a b) (spares : Spares q a b)
-    (none : NoneFails a b) (n : ℕ) (made : n < v.state.made) (unwritten : q n ≡ false) (told : IsTold v a n) (goes : is_over w n ≡ false) where
+module _ (p q : ℕ → Bool) (v w : Raid) (a b : RackView) (set : IsSet v a) (before : IsHeeded v) (after : IsHeeded w) (runs : RaidRuns p q v w a b) (spares : Spares q a b)
+    (none : NoneFails a b) (n : ℕ) (made : n < v.state.made) (unwritten : q n ≡ false) (told : IsTracked v a n) (goes : is_failed w n ≡ false) where
   few : n < 16
   few = let most = set.most in omega (arith, made, most)
 
   made_now : n < w.state.made
   made_now = subst (λ k. n < k) (sym runs.book.same.made) made
 
-  closed_before : IsClosed n a
+  closed_before : NothingPending n a
   closed_before =
       let stood = told.stood (runs.moments.still n goes) in
-      subst (λ k. IsClosed k a) stood.number (stood.holds.closed (before n made))
+      subst (λ k. NothingPending k a) stood.number (stood.holds.closed (before n made))
 
-  closed_after : IsClosed n b
+  closed_after : NothingPending n b
   closed_after =
       let stood = (runs.moments.told n told).stood goes in
-      subst (λ k. IsClosed k b) stood.number (stood.holds.closed (after n made_now))
+      subst (λ k. NothingPending k b) stood.number (stood.holds.closed (after n made_now))
 
   -- the array's slices as a stop left them after it, and all others as they read before it
   abbrev mixed : Image → Image

@@ -4,7 +4,7 @@ use Rattle.std.proofs.lemmas.Bool.{cases_Bool, cases_lt, both_ways}
 use Rattle.std.specs.List.{list_any, range_with_len}
 use Rattle.std.specs.Option.{option_map_or}
 use Rattle.rack.specs.Values.{Values}
-use Rattle.rack.specs.Seen.{Image, Seen, IsLive, Stays}
+use Rattle.rack.specs.Seen.{Image, RackView, IsLive, SameRack}
 use Rattle.pool_state.specs.declared.contents.State.{State}
 use Rattle.md_super.specs.declared.superblock.Super.{Super}
 use Rattle.array_image.specs.Left.{IsLeft}
@@ -15,13 +15,13 @@ use Rattle.array_image.specs.Supers.{is_super_of, only_if, super_in, super_of, t
 use Rattle.array_model.specs.declared.Seat.{Seat}
 use Rattle.array_model.specs.declared.Seat.TheVariants.{Missing}
 use Rattle.array_model.specs.View.{View, has_gone, is_missing_seat, place_at, shape_of}
-use Rattle.array_model.specs.Says.{Holds}
+use Rattle.array_model.specs.Says.{ArrayInvariant}
 use Rattle.array_model.specs.Members.{slice_on}
 use Rattle.array_model.proofs.Keeping.{live_after, live_on, logs_of}
 use Rattle.array_core.specs.Superblocks.{is_settled, left_offset, member_super}
 use Rattle.array_core.proofs.Opened.{current_is, truth_leads}
 use Rattle.raid_rack.specs.declared.arrays.Arrays.{Arrays}
-use Rattle.raid_laws.specs.Raid.{AreLive, is_over, held_in, spent_of, Stood}
+use Rattle.raid_laws.specs.Raid.{AreLive, is_failed, held_in, spent_of, InvariantInCall}
 use Rattle.raid_laws.specs.Moves.{IsSeated}
 use Rattle.raid_laws.specs.Cleaning.{CleansAll, HasSupersOn, IsEnded, LeavesItsRows, as_it_was, restated}
 use Rattle.raid_rack.specs.RaidRack.{IsFit, raid_by}
@@ -45,8 +45,8 @@ there o true true is left marks missing = both_ways true left refl
 there o true false is left marks missing =
     both_ways true (ap (λ (x : Option Bool). unwrap_or x true) (sym (ap (option_map is_missing_seat) missing) ∙ marks)) refl
 
-module _ (s : State) (n : ℕ) (v : View) (durable : Shape) (vals : ℕ → Values) (spent : ℕ → Bool) (a b : Seen) (seated : IsSeated s n v b) (fresh : v.went ≡ [])
-    (holds : Holds s durable v vals spent b) (stays : Stays a b)
+module _ (s : State) (n : ℕ) (v : View) (durable : Shape) (vals : ℕ → Values) (spent : ℕ → Bool) (a b : RackView) (seated : IsSeated s n v b) (fresh : v.went ≡ [])
+    (holds : ArrayInvariant s durable v vals spent b) (stays : SameRack a b)
     (live : (k : ℕ) → k < v.truth.raid_disks → slice_get v.seats k ≢ Some Missing → IsLive a b (slice_on v k) super_sector)
     (supers : HasSupersOn v a b) (r : Image) (left : IsLeft b r) where
   -- the superblock of a member that is left
@@ -90,7 +90,7 @@ module _ (s : State) (n : ℕ) (v : View) (durable : Shape) (vals : ℕ → Valu
 
 -- ---- after a clean end
 
-pub clean_images : (p q : ℕ → Bool) (a b : Arrays) (x y : Seen) → IsFit a x → IsFit b y → CleansAll (raid_by a) (raid_by b) x y → RaidRuns p q (raid_by a) (raid_by b) x y
+pub clean_images : (p q : ℕ → Bool) (a b : Arrays) (x y : RackView) → IsFit a x → IsFit b y → CleansAll (raid_by a) (raid_by b) x y → RaidRuns p q (raid_by a) (raid_by b) x y
     → LeavesItsRows (raid_by a) (raid_by b) x y
 clean_images p q a b x y fit after cleans runs none n told goes unsettled r left u truth =
     let v = raid_by a in
@@ -105,11 +105,11 @@ clean_images p q a b x y fit after cleans runs none n told goes unsettled r left
     by : (n < (raid_by a).state.made) ⊎ ((raid_by a).state.made ≤ n) → n < (raid_by a).state.made
     by (inl low) = low
     by (inr past) =
-        absurd (both_ways (is_over (raid_by b) n) goes
+        absurd (both_ways (is_failed (raid_by b) n) goes
         (none_past b n after.running.count (let same = cleans.moves.book.same.made in omega (arith, past, same))))
 
     rows : IsSeated (raid_by b).state n ((raid_by b).arrays n) y
-        → Stood (raid_by b).state (shape_of ((raid_by b).arrays n)) (held_in (raid_by b) y n) (spent_of (raid_by b) n) (λ place. false) (raid_by b) y n
+        → InvariantInCall (raid_by b).state (shape_of ((raid_by b).arrays n)) (held_in (raid_by b) y n) (spent_of (raid_by b) n) (λ place. false) (raid_by b) y n
         → AreLive (raid_by a).state.made x → IsEnded ((raid_by a).arrays n) ((raid_by b).arrays n) x y
         → u.resync_offset ≡ left_offset ((raid_by a).arrays n)
     rows seated stood was (as_it_was is same) = absurd (both_ways (is_settled ((raid_by a).arrays n)) unsettled is)

@@ -3,17 +3,17 @@ use Rattle.std.proofs.Common.{◌≡◌, ℕ, ◌+◌, ◌<◌, ◌≤◌, Bool,
 use Rattle.std.proofs.lemmas.Bool.{cases_Bool, cases_lt, cases_eq, both_ways}
 use Rattle.arrayvec.specs.ArrayVec.{ArrayVec}
 use Rattle.rack.specs.Values.{Values, Keeps}
-use Rattle.rack.specs.Seen.{Seen, IsLive, Stays}
+use Rattle.rack.specs.Seen.{RackView, IsLive, SameRack}
 use Rattle.rack.specs.Joins.{keeps_same, keeps_then, live_first, live_second}
 use Rattle.pool_state.specs.declared.contents.State.{State}
 use Rattle.array_image.specs.Places.{slice_of, super_sector}
 use Rattle.array_image.specs.Arrays.{Shape}
-use Rattle.array_image.specs.Held.{IsSettled}
+use Rattle.array_image.specs.Held.{IsSynced}
 use Rattle.array_image.specs.SoundArray.{array_fields}
-use Rattle.log_laws.specs.Kept.{LogKept}
+use Rattle.log_laws.specs.Kept.{LogInvariant}
 use Rattle.array_model.specs.View.{View, place_at, shape_of}
-use Rattle.array_model.specs.Says.{Holds}
-use Rattle.array_model.specs.ArrayCalls.{Covers, Keeping}
+use Rattle.array_model.specs.Says.{ArrayInvariant}
+use Rattle.array_model.specs.ArrayCalls.{IncludesSpent, Keeping}
 use Rattle.array_model.specs.Members.{slice_on}
 use Rattle.array_model.proofs.Views.{fault_early, fault_later}
 use Rattle.array_core.specs.Superblocks.{is_settled, settled}
@@ -32,15 +32,15 @@ use Rattle.raid_laws.proofs.Moving.{moves_same, moves_then}
 use Rattle.raid_rack.proofs.Steps.{set_own, set_other, length_set}
 use Rattle.raid_rack.proofs.Synced.{settled_moved}
 
-none_before : (a b c : Seen) → Stays b c → NoneFails a c → NoneFails a b
+none_before : (a b c : RackView) → SameRack b c → NoneFails a c → NoneFails a b
 none_before a b c later none p fault = none p (fault_early a b c p later fault)
 
-none_after : (a b c : Seen) → Stays a b → NoneFails a c → NoneFails b c
+none_after : (a b c : RackView) → SameRack a b → NoneFails a c → NoneFails b c
 none_after a b c first none p fault = none p (fault_later a b c p first fault)
 
 -- ---- one array
 
-pub cleans_one : (v w : Raid) (f : ℕ → View) (m : ℕ) (a b c : Seen) → IsSet v a → CleanCall v f m a b → Mends (called v f v.number) w b c
+pub cleans_one : (v w : Raid) (f : ℕ → View) (m : ℕ) (a b c : RackView) → IsSet v a → CleanCall v f m a b → Mends (called v f v.number) w b c
     → (AreMarked (called v f v.number) → IsIdle (called v f v.number) w × (Ends (λ n. n == m) v w a b → Ends (λ n. n == m) v w a c))
     → Cleans (λ n. n == m) v w a c
 cleans_one v w f m a b c set call mends idle =
@@ -50,7 +50,7 @@ cleans_one v w f m a b c set call mends idle =
       heeded = mends.heeded;
       settled = λ n vals spent on joined low goes covers amid.
           let still = mends.moves.still n low goes in
-          let covered : Covers (f n) spent = λ s alive. mends.moves.spent n s low (covers s alive) in
+          let covered : IncludesSpent (f n) spent = λ s alive. mends.moves.spent n s low (covers s alive) in
           settled_moved (called v f v.number) w b c n vals spent step.set mends.moves low
           ((step.parts n vals spent joined low still covered).holds amid)
           (settled_clean v f m a b set call n vals spent (eqb-true n m on) covered amid);
@@ -62,7 +62,7 @@ cleans_one v w f m a b c set call mends idle =
 
 -- ---- in a row
 
-pub cleans_none : (on : ℕ → Bool) (v : Raid) (x : Seen) → ((n : ℕ) → on n ≡ false) → IsSet v x → IsHeeded v → Cleans on v v x x
+pub cleans_none : (on : ℕ → Bool) (v : Raid) (x : RackView) → ((n : ℕ) → on n ≡ false) → IsSet v x → IsHeeded v → Cleans on v v x x
 cleans_none on v x none set heeded =
     record {
       moves = moves_same v x set;
@@ -76,8 +76,8 @@ cleans_none on v x none set heeded =
       };
     }
 
-ended_early : (u w : View) (n : ℕ) (a b c : Seen) → w.number ≡ n → n < 16 → Stays b c
-    → ((d t : ℕ) → slice_of d ≡ n + 1 → IsLive b c d t → Keeps (b.held d t) (c.held d t)) → Stays a b
+ended_early : (u w : View) (n : ℕ) (a b c : RackView) → w.number ≡ n → n < 16 → SameRack b c
+    → ((d t : ℕ) → slice_of d ≡ n + 1 → IsLive b c d t → Keeps (b.held d t) (c.held d t)) → SameRack a b
     → IsEnded u w a b → IsEnded u w a c
 ended_early u w n a b c number few later keeps first (as_it_was was same) = as_it_was was same
 ended_early u w n a b c number few later keeps first (restated was same on) =
@@ -87,12 +87,12 @@ ended_early u w n a b c number few later keeps first (restated was same on) =
     ((keeps (slice_on w k) super_sector
     (slice_own (place_at w k) w.number (subst (λ j. j < 16) (sym number) few) ∙ ap (λ j. j + 1) number) (live_second first live)).within x may))
 
-ended_late : (u w : View) (a b c : Seen) → Stays a b → IsEnded u w b c → IsEnded u w a c
+ended_late : (u w : View) (a b c : RackView) → SameRack a b → IsEnded u w b c → IsEnded u w a c
 ended_late u w a b c first (as_it_was was same) = as_it_was was same
 ended_late u w a b c first (restated was same on) = restated was same (λ k low left live x may. on k low left (live_second first live) x may)
 
 -- arrays that are cleaned one after the other
-pub cleans_then : (first late on : ℕ → Bool) (v w z : Raid) (a b c : Seen) → ((n : ℕ) → on n ≡ (first n || late n)) → ((n : ℕ) → first n ≡ true → late n ≡ false)
+pub cleans_then : (first late on : ℕ → Bool) (v w z : Raid) (a b c : RackView) → ((n : ℕ) → on n ≡ (first n || late n)) → ((n : ℕ) → first n ≡ true → late n ≡ false)
     → Cleans first v w a b → Cleans late w z b c → Cleans on v z a c
 cleans_then first late on v w z a b c either apart one two =
     record {
@@ -101,7 +101,7 @@ cleans_then first late on v w z a b c either apart one two =
       settled = λ n vals spent is joined low goes covers amid.
           let made = still n low in
           let goes_w = two.moves.still n made goes in
-          let covered : Covers (w.arrays n) spent = λ s alive. two.moves.spent n s made (covers s alive) in
+          let covered : IncludesSpent (w.arrays n) spent = λ s alive. two.moves.spent n s made (covers s alive) in
           let mid = (one.moves.parts n vals spent joined low goes_w covered).holds amid in
           elim (cases_Bool (first n)) [
             | inl early ↦
@@ -188,7 +188,7 @@ first_more n i =
 pub first_apart : (n i : ℕ) → nat_lt n i ≡ true → (n == i) ≡ false
 first_apart n i is = let low = ltb-true n i is in ne_eqb n i (λ same. absurd (omega (arith, low, same)))
 
-pub cleans_all : (v w : Raid) (a b : Seen) (k : ℕ) → v.state.made ≤ k → Cleans (λ n. nat_lt n k) v w a b → CleansAll v w a b
+pub cleans_all : (v w : Raid) (a b : RackView) (k : ℕ) → v.state.made ≤ k → Cleans (λ n. nat_lt n k) v w a b → CleansAll v w a b
 cleans_all v w a b k past cleans =
     record {
       moves = cleans.moves;
@@ -210,22 +210,22 @@ cleans_all v w a b k past cleans =
 -- ---- the code
 
 -- what the cleaning of an array says of it, before it and after it
-pub record CleansArray (old u : View) (x y : Seen) : Type 0 where
+pub record CleansArray (old u : View) (x y : RackView) : Type 0 where
   pub cleans :
-      (s : State) (vals : ℕ → Values) (spent : ℕ → Bool) → Covers u spent → MayRenew s old x → Keeping s old u spent x y (shape_of old) vals
+      (s : State) (vals : ℕ → Values) (spent : ℕ → Bool) → IncludesSpent u spent → MayRenew s old x → Keeping s old u spent x y (shape_of old) vals
   pub truths :
-      (s : State) (vals : ℕ → Values) (spent : ℕ → Bool) → Covers u spent → MayRenew s old x
-      → LeavesTruth s old.number (λ t. array_fields t ≡ array_fields (settled old).truth) (Holds s (shape_of old) old vals spent x) x y
+      (s : State) (vals : ℕ → Values) (spent : ℕ → Bool) → IncludesSpent u spent → MayRenew s old x
+      → LeavesTruth s old.number (λ t. array_fields t ≡ array_fields (settled old).truth) (ArrayInvariant s (shape_of old) old vals spent x) x y
   pub view : ArrayCleans old u x y
   pub goes : Goes x y
   pub elsewhere : (on : List ℕ) → KeepsElsewhere false old on x y
   pub supers : KeepsOthers x y
   pub settled :
-      (s : State) (durable : Shape) (vals : ℕ → Values) (spent : ℕ → Bool) → Covers u spent → Holds s durable old vals spent x
-      → IsSettled (shape_of u) u.number y.held
-  pub kept : (s : State) (number : ℕ) → LogKept s number (λ place. false) x → LogKept s number (λ place. false) y
+      (s : State) (durable : Shape) (vals : ℕ → Values) (spent : ℕ → Bool) → IncludesSpent u spent → ArrayInvariant s durable old vals spent x
+      → IsSynced (shape_of u) u.number y.held
+  pub kept : (s : State) (number : ℕ) → LogInvariant s number (λ place. false) x → LogInvariant s number (λ place. false) y
 
-pub clean_call : (a : Arrays) (all : ArrayVec View) (x y : Seen) (n : ℕ) (old u : View) → IsRunning a x → IsHeeded (raid_by a) → n < a.state.made
+pub clean_call : (a : Arrays) (all : ArrayVec View) (x y : RackView) (n : ℕ) (old u : View) → IsRunning a x → IsHeeded (raid_by a) → n < a.state.made
     → old ≡ get_or a.all.items n no_array → all.items ≡ set a.all.items n u → CleansArray old u x y
     → CleanCall (raid_by a) (λ k. get_or all.items k no_array) n x y
 clean_call a all x y n old u running heeded low old_is all_is cleaned =
@@ -249,7 +249,7 @@ clean_call a all x y n old u running heeded low old_is all_is cleaned =
       settled = λ durable vals spent covers holds. at.settled a.state durable vals spent covers holds;
     }
 
-pub clean_running : (a : Arrays) (all : ArrayVec View) (x y : Seen) (n : ℕ) (u : View) → IsRunning a x → all.items ≡ set a.all.items n u
+pub clean_running : (a : Arrays) (all : ArrayVec View) (x y : RackView) (n : ℕ) (u : View) → IsRunning a x → all.items ≡ set a.all.items n u
     → CleanCall (raid_by a) (λ k. get_or all.items k no_array) n x y → IsRunning (record a { all = all }) y
 clean_running a all x y n u running all_is call = record {
   count = ap length all_is ∙ length_set a.all.items n u ∙ running.count;

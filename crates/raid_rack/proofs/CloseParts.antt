@@ -2,7 +2,7 @@
 use Rattle.std.proofs.Common.{◌≡◌, ℕ, ◌-◌, ◌^◌, ◌<◌, Bool, true, false, ◌&&◌, ◌||◌, not, List, [], length, Option, Some, unwrap_or, refl, sym, ap, subst, ◌∙◌, inl, inr, arith}
 use Rattle.std.proofs.lemmas.Bool.{cases_Bool, both_ways, and_from}
 use Rattle.rack.specs.Values.{Values}
-use Rattle.rack.specs.Seen.{Image, Seen, IsLive}
+use Rattle.rack.specs.Seen.{Image, RackView, IsLive}
 use Rattle.rack.specs.Joins.{leaves_weaker}
 use Rattle.rack.specs.Targets.{look, put}
 use Rattle.md_super.specs.declared.superblock.Super.{Super}
@@ -12,29 +12,29 @@ use Rattle.array_image.specs.States.{is_current, state_in}
 use Rattle.array_image.specs.Supers.{truth_in}
 use Rattle.array_image.specs.Arrays.{Shape, replayed, shape_in, value_by}
 use Rattle.array_image.specs.Held.{current_in}
-use Rattle.array_image.specs.Left.{IsClosed, IsInside, IsLeft, LogsInside, Picks}
+use Rattle.array_image.specs.Left.{NothingPending, IsInside, IsLeft, LogsInside, Picks}
 use Rattle.array_image.specs.Marks.{lowered}
 use Rattle.array_image.proofs.Frames.{Agree, shape_same, state_same, supers_same, truth_by_supers}
 use Rattle.log_laws.specs.View.{LogView, names, next_number}
-use Rattle.log_laws.specs.Commits.{Commits}
-use Rattle.log_laws.specs.Kept.{AreLeft, LogKept, Brings as BringsState}
+use Rattle.log_laws.specs.Commits.{ImageInCommit}
+use Rattle.log_laws.specs.Kept.{AreLeft, LogInvariant, CarriesState as BringsState}
 use Rattle.log_laws.specs.Standing.{IsAlike}
 use Rattle.log_laws.proofs.Kept.{before_inside, brings_to, brought_state, kept_decides, kept_ready, put_none, stands_of}
 use Rattle.log_laws.proofs.KeptAfter.{kept_after}
 use Rattle.array_model.specs.View.{View, may_vary, shape_of}
-use Rattle.array_model.specs.Says.{Holds, HoldsShape, Says}
-use Rattle.array_model.specs.ArrayCalls.{Covers}
+use Rattle.array_model.specs.Says.{ArrayInvariant, ShapeInvariant, ImageShowsArray}
+use Rattle.array_model.specs.ArrayCalls.{IncludesSpent}
 use Rattle.array_model.proofs.Keeping.{KeepsData, even_kept, held_kept, inside_before, logs_of, open_after, same_value, settled_kept}
 use Rattle.array_model.proofs.Losses.{IsLosing, losing_holds}
 use Rattle.array_model.proofs.Noting.{laid_out, unspent_then}
 use Rattle.array_model.proofs.Spared.{lost_value}
-use Rattle.raid_laws.specs.Book.{IsAfter, after_same}
-use Rattle.raid_laws.specs.Raid.{Raid, gone_in, is_over, IsWritten, Stood}
+use Rattle.raid_laws.specs.Book.{OnlyMarksSince, after_same}
+use Rattle.raid_laws.specs.Raid.{Raid, gone_in, is_failed, IsWritten, InvariantInCall}
 use Rattle.raid_laws.specs.Frames.{Frame, HasFrame, frame_of}
 use Rattle.raid_laws.specs.Laws.{stood_left}
 use Rattle.raid_laws.specs.Marking.{Part, TiedBetween}
 use Rattle.raid_laws.specs.Reach.{reach_same}
-use Rattle.raid_laws.specs.Moves.{AreMarked, Brings, IsAmid, IsSeated, KeepsArrays}
+use Rattle.raid_laws.specs.Moves.{AreMarked, ChangesData, IsTrackedInCall, IsSeated, KeepsArrays}
 use Rattle.raid_laws.specs.Rows.{KeepsLacking, KeepsRows, LackingFrom, LeavesFrom, LeavesLacking, LeavesRows}
 use Rattle.raid_laws.specs.Works.{closed}
 use Rattle.raid_laws.proofs.Changed.{PartAmid, lowered_none, part_if}
@@ -68,9 +68,9 @@ and_true false = refl
 abbrev listing : View → List ℕ → View
 listing u gone = record u { went = gone }
 
-module _ (v : Raid) (on gone : List ℕ) (l : LogView) (f : ℕ → View) (b c : Seen) (commit : IsClosing v on gone l f b c)
+module _ (v : Raid) (on gone : List ℕ) (l : LogView) (f : ℕ → View) (b c : RackView) (commit : IsClosing v on gone l f b c)
     (n : ℕ) (vals : ℕ → Values) (spent : ℕ → Bool) (low : n < v.state.made)
-    (goes : is_over (closed_raid v (next_number l.number) f) n ≡ false) (covers : Covers (f n) spent) (amid : IsAmid v b n vals spent) where
+    (goes : is_failed (closed_raid v (next_number l.number) f) n ≡ false) (covers : IncludesSpent (f n) spent) (amid : IsTrackedInCall v b n vals spent) where
   abbrev t : State
   t = closed v.state
 
@@ -87,8 +87,8 @@ module _ (v : Raid) (on gone : List ℕ) (l : LogView) (f : ℕ → View) (b c :
   none_gone p current = heeded_gone v commit.heeded p
 
   -- its shape is that by the marks that images go by
-  stood : Stood v.state (shape_of (v.arrays n)) vals spent (gone_in v) v b n
-  stood = subst (λ (s : Shape). Stood v.state s vals spent (gone_in v) v b n) (amid.marked none_gone) amid.stood
+  stood : InvariantInCall v.state (shape_of (v.arrays n)) vals spent (gone_in v) v b n
+  stood = subst (λ (s : Shape). InvariantInCall v.state s vals spent (gone_in v) v b n) (amid.marked none_gone) amid.stood
 
   someone : (place : ℕ) × (is_current v.state place ≡ true) × (gone_in (closed_raid v (next_number l.number) f) place ≡ false)
   someone = someone_left (closed_raid v (next_number l.number) f) n goes
@@ -108,8 +108,8 @@ module _ (v : Raid) (on gone : List ℕ) (l : LogView) (f : ℕ → View) (b c :
   brings : BringsState v.state (closed v.state) l.added on
   brings = closing_brings v on gone l f b c commit room.1
 
-  kept : LogKept v.state l.number (gone_in v) b
-  kept = subst (λ k. LogKept v.state k (gone_in v) b) (sym commit.number) stood.log
+  kept : LogInvariant v.state l.number (gone_in v) b
+  kept = subst (λ k. LogInvariant v.state k (gone_in v) b) (sym commit.number) stood.log
 
   are_left : AreLeft v.state (gone_in v) on
   are_left q =
@@ -194,7 +194,7 @@ module _ (v : Raid) (on gone : List ℕ) (l : LogView) (f : ℕ → View) (b c :
       ∙ brought_state v.state (closed v.state) (gone_in v) on l.added b before someone.0 kept.logs kept.copies brings (stands_of before picks)
       (kept.few someone.0 someone.1) (kept.there someone.0 someone.1 (none_gone someone.0 someone.1)) someone.1 (none_gone someone.0 someone.1) someone.1
 
-  moment : (i : Image) → IsInside b.sectors i → Commits l.added b i
+  moment : (i : Image) → IsInside b.sectors i → ImageInCommit l.added b i
       → TiedBetween v.state (closed v.state) (shape_of (v.arrays n)) (shape_of (v.arrays n)) n vals spent (replayed b.sectors i)
   moment i inside commits =
       let before = commits.before in
@@ -212,8 +212,8 @@ module _ (v : Raid) (on gone : List ℕ) (l : LogView) (f : ℕ → View) (b c :
             (says_closed v.state n (shape_of (v.arrays n)) vals spent e left.1))
       ]
     where
-      between : (s : State) → state_in (replayed b.sectors i) ≡ Some s → IsAfter v.state s → IsAfter s (closed v.state)
-          → Says s n (shape_of (v.arrays n)) vals spent (replayed b.sectors i)
+      between : (s : State) → state_in (replayed b.sectors i) ≡ Some s → OnlyMarksSince v.state s → OnlyMarksSince s (closed v.state)
+          → ImageShowsArray s n (shape_of (v.arrays n)) vals spent (replayed b.sectors i)
           → TiedBetween v.state (closed v.state) (shape_of (v.arrays n)) (shape_of (v.arrays n)) n vals spent (replayed b.sectors i)
       between s state later sooner says = record {
         says = record { state = s; is_state = state; later = later; sooner = sooner; shape = shape_of (v.arrays n); says = says };
@@ -222,7 +222,7 @@ module _ (v : Raid) (on gone : List ℕ) (l : LogView) (f : ℕ → View) (b c :
       }
 
   -- superblocks stay, so the array has its frame at each moment
-  frame_moment : (g : Frame) → frame_of (v.arrays n).truth ≡ g → (i : Image) → IsInside b.sectors i → Commits l.added b i → HasFrame g n (replayed b.sectors i)
+  frame_moment : (g : Frame) → frame_of (v.arrays n).truth ≡ g → (i : Image) → IsInside b.sectors i → ImageInCommit l.added b i → HasFrame g n (replayed b.sectors i)
   frame_moment g framed i inside commits =
       let before = commits.before in
       let picks = before_inside l.added b i before inside commits.stands commits.either in
@@ -242,13 +242,13 @@ module _ (v : Raid) (on gone : List ℕ) (l : LogView) (f : ℕ → View) (b c :
   losing : IsLosing (v.arrays n) (f n) (names gone)
   losing = closing_losing v on gone l f b c commit n low
 
-  held : HoldsShape v.state n (shape_of (v.arrays n)) (shape_of (v.arrays n)) (v.arrays n).resync (may_vary (v.arrays n)) vals spent b
-  held = subst (λ k. HoldsShape v.state k (shape_of (v.arrays n)) (shape_of (v.arrays n)) (v.arrays n).resync (may_vary (v.arrays n)) vals spent b) seated.number stood.holds.shape
+  held : ShapeInvariant v.state n (shape_of (v.arrays n)) (shape_of (v.arrays n)) (v.arrays n).resync (may_vary (v.arrays n)) vals spent b
+  held = subst (λ k. ShapeInvariant v.state k (shape_of (v.arrays n)) (shape_of (v.arrays n)) (v.arrays n).resync (may_vary (v.arrays n)) vals spent b) seated.number stood.holds.shape
 
   keeps : KeepsData (shape_of (v.arrays n)) n b.held c.held
   keeps = data_kept v.state (closed v.state) (shape_of (v.arrays n)) (gone_in v) l on gone b c n small marks_call held.open_left
 
-  held_after : HoldsShape (closed v.state) n (shape_of (v.arrays n)) (shape_of (v.arrays n)) (v.arrays n).resync (may_vary (v.arrays n)) vals spent c
+  held_after : ShapeInvariant (closed v.state) n (shape_of (v.arrays n)) (shape_of (v.arrays n)) (v.arrays n).resync (may_vary (v.arrays n)) vals spent c
   held_after =
       let shape = shape_of (v.arrays n) in
       let is_open = open_after commit.set.lasting commit.call.stays shape n held.open_left in
@@ -283,10 +283,10 @@ module _ (v : Raid) (on gone : List ℕ) (l : LogView) (f : ℕ → View) (b c :
       or_last true y is = refl
       or_last false y is = is
 
-  holds_listing : Holds (closed v.state) (shape_of (v.arrays n)) (listing (v.arrays n) gone) vals spent c
+  holds_listing : ArrayInvariant (closed v.state) (shape_of (v.arrays n)) (listing (v.arrays n) gone) vals spent c
   unfolding shape_of
   holds_listing = record {
-    shape = subst (λ k. HoldsShape (closed v.state) k (shape_of (v.arrays n)) (shape_of (v.arrays n)) (v.arrays n).resync (may_vary (v.arrays n)) vals spent c)
+    shape = subst (λ k. ShapeInvariant (closed v.state) k (shape_of (v.arrays n)) (shape_of (v.arrays n)) (v.arrays n).resync (may_vary (v.arrays n)) vals spent c)
         (sym seated.number) held_after;
     mark = λ marked r left u is.
         let at = earlier r left in
@@ -303,7 +303,7 @@ module _ (v : Raid) (on gone : List ℕ) (l : LogView) (f : ℕ → View) (b c :
         supers_same v.state r at.e (v.arrays n).number (subst (λ k. Agree k r at.e) (sym seated.number) at.agree) place
         ∙ stood.holds.alone at.e at.left place current other;
     closed = λ none.
-        subst (λ k. IsClosed k c) (sym seated.number)
+        subst (λ k. NothingPending k c) (sym seated.number)
         (closed_after v.state (closed v.state) (gone_in v) l on gone b c n marks_call none);
   }
 
@@ -319,7 +319,7 @@ module _ (v : Raid) (on gone : List ℕ) (l : LogView) (f : ℕ → View) (b c :
     went = gone_listed;
   }
 
-  holds_after : Holds (closed v.state) (shape_of (v.arrays n)) (f n) vals spent c
+  holds_after : ArrayInvariant (closed v.state) (shape_of (v.arrays n)) (f n) vals spent c
   unfolding shape_of
   holds_after =
       losing_holds (closed v.state) (shape_of (v.arrays n)) (listing (v.arrays n) gone) (f n) vals spent c (names gone) losing_listing
@@ -329,12 +329,12 @@ module _ (v : Raid) (on gone : List ℕ) (l : LogView) (f : ℕ → View) (b c :
       (unspent_then (v.arrays n) (f n) (names gone) losing y (covers y alive))))
       holds_listing
 
-  stood_after : Stood (closed v.state) (shape_of (v.arrays n)) vals spent (gone_in (closed_raid v (next_number l.number) f)) (closed_raid v (next_number l.number) f) c n
+  stood_after : InvariantInCall (closed v.state) (shape_of (v.arrays n)) vals spent (gone_in (closed_raid v (next_number l.number) f)) (closed_raid v (next_number l.number) f) c n
   stood_after = record {
     joined = stood.joined;
     few = stood.few;
     number = losing.number ∙ seated.number;
-    log = subst (λ g. LogKept (closed v.state) (next_number l.number) g c)
+    log = subst (λ g. LogInvariant (closed v.state) (next_number l.number) g c)
         (λ i q. (ap (λ (g : Bool). g || names gone q) (heeded_gone v commit.heeded q) ∙ sym (closing_went v on gone l f b c commit n q low)) i)
         (kept_after v.state (closed v.state) (gone_in v) l on gone b c commit.call kept brings are_left marks_call.ready marks_call.decides);
     someone = someone;
@@ -348,8 +348,8 @@ module _ (v : Raid) (on gone : List ℕ) (l : LogView) (f : ℕ → View) (b c :
     stays = commit.call.stays;
     book = after_closed v.state;
     leaves = λ traced.
-        leaves_weaker (λ i. LogsInside b.sectors i → Commits l.added b i)
-        (λ i. IsInside b.sectors i → Stood v.state (shape_of (v.arrays n)) vals spent (gone_in v) v b n
+        leaves_weaker (λ i. LogsInside b.sectors i → ImageInCommit l.added b i)
+        (λ i. IsInside b.sectors i → InvariantInCall v.state (shape_of (v.arrays n)) vals spent (gone_in v) v b n
         → TiedBetween v.state (closed v.state) (shape_of (v.arrays n)) (shape_of (v.arrays n)) n vals spent (replayed b.sectors i))
         (λ i commits inside given. moment i inside (commits (λ place u out. inside (log_slice place) u out)))
         (commit.call.stops traced marks_call.ready marks_call.decides);
@@ -358,7 +358,7 @@ module _ (v : Raid) (on gone : List ℕ) (l : LogView) (f : ℕ → View) (b c :
     logs = λ copies given. logs_commit v.state (closed v.state) (gone_in v) l on gone b c marks_call (after_closed v.state) kept copies;
     frame = λ g before given. record {
       leaves = λ traced.
-          leaves_weaker (λ i. LogsInside b.sectors i → Commits l.added b i)
+          leaves_weaker (λ i. LogsInside b.sectors i → ImageInCommit l.added b i)
           (λ i. IsInside b.sectors i → HasFrame g n (replayed b.sectors i))
           (λ i commits inside. frame_moment g before i inside (commits (λ place u out. inside (log_slice place) u out)))
           (commit.call.stops traced marks_call.ready marks_call.decides);
@@ -394,7 +394,7 @@ module _ (v : Raid) (on gone : List ℕ) (l : LogView) (f : ℕ → View) (b c :
   close_each : (P : Image → Type 0) → GoesBy n P → HasBefore P b → ((r e : Image) → IsLeft b e → Agree n r e → state_in r ≡ Some (closed v.state) → P e → P r) → HasEach P b c
   close_each P by images fresh = record {
     leaves = λ traced.
-        leaves_weaker (λ i. LogsInside b.sectors i → Commits l.added b i) (λ i. IsInside b.sectors i → P (replayed b.sectors i))
+        leaves_weaker (λ i. LogsInside b.sectors i → ImageInCommit l.added b i) (λ i. IsInside b.sectors i → P (replayed b.sectors i))
         (λ i commits inside. at_moment i inside (commits (λ place u out. inside (log_slice place) u out)))
         (commit.call.stops traced marks_call.ready marks_call.decides);
     after = λ r left.
@@ -404,7 +404,7 @@ module _ (v : Raid) (on gone : List ℕ) (l : LogView) (f : ℕ → View) (b c :
         fresh r at.e at.left at.agree state (images at.e at.left);
   }
     where
-      at_moment : (i : Image) → IsInside b.sectors i → Commits l.added b i → P (replayed b.sectors i)
+      at_moment : (i : Image) → IsInside b.sectors i → ImageInCommit l.added b i → P (replayed b.sectors i)
       at_moment i inside commits =
           let before = commits.before in
           let picks = before_inside l.added b i before inside commits.stands commits.either in
@@ -442,8 +442,8 @@ module _ (v : Raid) (on gone : List ℕ) (l : LogView) (f : ℕ → View) (b c :
 
 -- ---- the part for all
 
-pub close_brings : (v : Raid) (on gone : List ℕ) (l : LogView) (f : ℕ → View) (b c : Seen) → IsClosing v on gone l f b c
-    → Brings v (closed_raid v (next_number l.number) f) b c (λ n vals. vals)
+pub close_brings : (v : Raid) (on gone : List ℕ) (l : LogView) (f : ℕ → View) (b c : RackView) → IsClosing v on gone l f b c
+    → ChangesData v (closed_raid v (next_number l.number) f) b c (λ n vals. vals)
 close_brings v on gone l f b c commit =
     let w = closed_raid v (next_number l.number) f in
     let further = closing_further v on gone l f b c commit in
@@ -466,12 +466,12 @@ close_brings v on gone l f b c commit =
       lacking = λ n vals spent joined low goes covers amid leaves. close_lacking v on gone l f b c commit n vals spent low goes covers amid leaves;
     }
 
-pub close_arrays : (v : Raid) (on gone : List ℕ) (l : LogView) (f : ℕ → View) (b c : Seen) → IsClosing v on gone l f b c
+pub close_arrays : (v : Raid) (on gone : List ℕ) (l : LogView) (f : ℕ → View) (b c : RackView) → IsClosing v on gone l f b c
     → KeepsArrays v (closed_raid v (next_number l.number) f)
 close_arrays v on gone l f b c commit n low = only_gone (v.arrays n) (f n) gone (commit.set.arrays n low).is_array (commit.arrays n low)
 
 -- superblocks aren't among its targets
-pub close_truths : (v : Raid) (on gone : List ℕ) (l : LogView) (f : ℕ → View) (b c : Seen) → IsClosing v on gone l f b c
+pub close_truths : (v : Raid) (on gone : List ℕ) (l : LogView) (f : ℕ → View) (b c : RackView) → IsClosing v on gone l f b c
     → KeepsTruths v (closed_raid v (next_number l.number) f) b c
 close_truths v on gone l f b c commit n low held =
     let u = v.arrays n in

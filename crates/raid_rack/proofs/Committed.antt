@@ -3,7 +3,7 @@ use Rattle.std.proofs.Common.{◌≡◌, ℕ, ◌<◌, ◌≤◌, true, false, n
 use Rattle.std.proofs.lemmas.Bool.{and_parts}
 use Rattle.std.specs.List.{list_any, range_with_len}
 use Rattle.arrayvec.specs.ArrayVec.{ArrayVec}
-use Rattle.rack.specs.Seen.{Seen}
+use Rattle.rack.specs.Seen.{RackView}
 use Rattle.pool_state.specs.declared.contents.State.{State}
 use Rattle.array_image.specs.States.{is_current}
 use Rattle.log_laws.specs.View.{LogView, names, next_number}
@@ -25,13 +25,13 @@ use Rattle.raid_rack.proofs.Mended.{each_get}
 use Rattle.raid_rack.proofs.Raises.{raised_up}
 
 -- What it makes of the arrays, before losses are mended: losses alone.
-pub record HasCommitted (a b : Arrays) (x y : Seen) : Type 0 where
+pub record HasCommitted (a b : Arrays) (x y : RackView) : Type 0 where
   pub running : IsRunning b y
   pub loses : LosesBook (raid_by a) (raid_by b)
   pub caused : AreCaused (raid_by a) (raid_by b) x y
   pub raises : RaisesBy 1 (raid_by a) (raid_by b)
 
-pub has_committed : (a : Arrays) (all : ArrayVec View) (log l : LogView) (on gone : List ℕ) (x y : Seen) → length a.all.items ≡ a.state.made
+pub has_committed : (a : Arrays) (all : ArrayVec View) (log l : LogView) (on gone : List ℕ) (x y : RackView) → length a.all.items ≡ a.state.made
     → AreStated (raid_by a) on a.log.added l.added x → l.number ≡ a.log.number → CommitCall l on gone x y
     → ((n : ℕ) → slice_get all.items n ≡ option_map (without gone) (slice_get a.all.items n)) → length all.items ≡ length a.all.items
     → log.number ≡ next_number l.number → HasCommitted a (record a { all = all; log = log }) x y

@@ -4,7 +4,7 @@ use Rattle.std.proofs.lemmas.List.{get_or_past}
 use Rattle.array_image.specs.States.{is_current}
 use Rattle.std.proofs.lemmas.Bool.{cases_lt}
 use Rattle.arrayvec.specs.ArrayVec.{ArrayVec}
-use Rattle.rack.specs.Seen.{Seen}
+use Rattle.rack.specs.Seen.{RackView}
 use Rattle.array_model.specs.View.{View}
 use Rattle.array_core.specs.Seats.{names, gone}
 use Rattle.raid_rack.specs.declared.arrays.Arrays.{Arrays}
@@ -32,7 +32,7 @@ noted_arrays a all places count each same n =
     none xs k past = get_or_past xs k no_array past
 
 -- they are noted, a current one among them
-dropped_noting : (a : Arrays) (all : ArrayVec View) (places : List ℕ) (one : ℕ) (x : Seen) → IsRunning a x
+dropped_noting : (a : Arrays) (all : ArrayVec View) (places : List ℕ) (one : ℕ) (x : RackView) → IsRunning a x
     → ((n : ℕ) → slice_get all.items n ≡ option_map (gone places) (slice_get a.all.items n)) → names places one ≡ true → is_current a.state one ≡ true
     → IsNoting places (raid_by a) (λ n. get_or all.items n no_array)
 dropped_noting a all places one x running each named current =
@@ -45,7 +45,7 @@ dropped_noting a all places one x running each named current =
     }
 
 -- they are those of a pool still
-pub dropped_running : (a : Arrays) (all : ArrayVec View) (places : List ℕ) (one : ℕ) (x : Seen) → IsRunning a x
+pub dropped_running : (a : Arrays) (all : ArrayVec View) (places : List ℕ) (one : ℕ) (x : RackView) → IsRunning a x
     → ((n : ℕ) → slice_get all.items n ≡ option_map (gone places) (slice_get a.all.items n)) → length all.items ≡ length a.all.items
     → names places one ≡ true → is_current a.state one ≡ true
     → IsRunning (record a { all = all }) x

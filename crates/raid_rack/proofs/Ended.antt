@@ -13,7 +13,7 @@ use Rattle.array_model.specs.declared.Seat.{Seat}
 use Rattle.array_model.specs.declared.Seat.TheVariants.{Whole, Missing, Rebuilding}
 use Rattle.array_model.specs.View.{View, IsArray, member_on, present, seat_reach, shape_of, spent_in}
 use Rattle.raid_rack.specs.declared.arrays.Arrays.{Arrays}
-use Rattle.raid_laws.specs.Raid.{Raid, gone_in, is_empty, is_left, is_used_up, is_over, spent_of, last_number}
+use Rattle.raid_laws.specs.Raid.{Raid, gone_in, is_empty, is_left, is_used_up, is_failed, spent_of, last_number}
 use Rattle.raid_laws.specs.Moves.{IsHeeded}
 use Rattle.raid_rack.specs.RaidRack.{raid_by, no_array}
 use Rattle.raid_laws.proofs.Added.{names_current}
@@ -100,7 +100,7 @@ spent_by_code v n y ended spent is_array ended_is spent_is =
     of false false false s all = refl
 
 -- past the arrays that are made there is none
-pub none_past : (a : Arrays) (n : ℕ) → length a.all.items ≡ a.state.made → a.state.made ≤ n → is_over (raid_by a) n ≡ true
+pub none_past : (a : Arrays) (n : ℕ) → length a.all.items ≡ a.state.made → a.state.made ≤ n → is_failed (raid_by a) n ≡ true
 none_past a n count past =
     ap (λ (u : View). is_empty (raid_by a) || (is_used_up (raid_by a) || (present u.seats == 0))) (get_or_past a.all.items n no_array (omega (arith, count, past)))
     ∙ ap (λ b. is_empty (raid_by a) || b) (or_true (is_used_up (raid_by a))) ∙ or_true (is_empty (raid_by a))

@@ -1,6 +1,6 @@
 -- The whole of a call that takes a drive in, from its parts: the disk is laid, the arrays are settled, the slices are added, and one commit has the drive.
 use Rattle.std.proofs.Common.{◌≡◌, ◌≢◌, ℕ, ◌<◌, ◌≤◌, Bool, false, [], ◌∷◌, length, Ok, Some, ap, subst, ◌∙◌, arith}
-use Rattle.rack.specs.Seen.{Seen}
+use Rattle.rack.specs.Seen.{RackView}
 use Rattle.rack.specs.Joins.{stays_then}
 use Rattle.rack.specs.Sequences.{WritesOnly}
 use Rattle.gpt_table.specs.declared.Table.{Table}
@@ -25,7 +25,7 @@ use Rattle.raid_rack.proofs.Renewing.{joins_same, same_members, seats_same}
 use Rattle.raid_rack.proofs.Untouched.{only_moved}
 use Rattle.raid_laws.specs.Truths.{JoinsTruths}
 
-module _ (r q z : Arrays) (place disk units sectors : ℕ) (plan : Plan) (t u : Slices) (a m y b : Seen) (size : sectors ≡ a.sectors disk)
+module _ (r q z : Arrays) (place disk units sectors : ℕ) (plan : Plan) (t u : Slices) (a m y b : RackView) (size : sectors ≡ a.sectors disk)
     (fit : IsFit r (slices_of t a)) (running : IsRunning q (slices_of t y)) (settles : SettlesWhole (raid_by r) (raid_by q) (slices_of t m) (slices_of t y))
     (laid : SeatsDrive q.all.items place disk sectors t u) where
   -- the slices go by the arrays before

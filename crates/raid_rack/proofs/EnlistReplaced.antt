@@ -3,7 +3,7 @@
 use Rattle.std.proofs.Common.{◌≡◌, ◌≢◌, ◌⊎◌, ℕ, ◌+◌, ◌<◌, ◌≤◌, ◌==◌, ◌||◌, nat_lt, Bool, true, false, if◌then◌else◌, List, [], ◌∷◌, length, Ok, Some, sym, ap, ap₂, subst, ◌∙◌, inl, inr, eq-eqb, eqb-true, lt-ltb}
 use Rattle.std.proofs.lemmas.Bool.{both_ways, cases_eq, ne_eqb}
 use Rattle.rack.specs.Values.{MayLeave, Values}
-use Rattle.rack.specs.Seen.{Image, Seen}
+use Rattle.rack.specs.Seen.{Image, RackView}
 use Rattle.rack.specs.Moments.{Leaves}
 use Rattle.rack.specs.Joins.{leaves_weaker}
 use Rattle.rack.specs.Sequences.{IsMix, WritesOnly}
@@ -18,21 +18,21 @@ use Rattle.pool_state.specs.declared.contents.State.{State}
 use Rattle.array_core.specs.Seats.{losing}
 use Rattle.array_core.specs.Superblocks.{is_settled}
 use Rattle.array_image.specs.Arrays.{replayed}
-use Rattle.array_image.specs.Held.{IsSettled}
+use Rattle.array_image.specs.Held.{IsSynced}
 use Rattle.array_image.specs.Left.{IsInside}
 use Rattle.array_image.specs.Places.{log_sectors, log_slice}
 use Rattle.array_image.specs.States.{is_current, state_in}
-use Rattle.array_model.specs.ArrayCalls.{Covers}
+use Rattle.array_model.specs.ArrayCalls.{IncludesSpent}
 use Rattle.array_model.specs.View.{View, shape_of, spent_in}
 use Rattle.array_model.proofs.Keeping.{live_on}
-use Rattle.log_laws.specs.Kept.{LogKept}
+use Rattle.log_laws.specs.Kept.{LogInvariant}
 use Rattle.log_laws.proofs.Kept.{place_of_log}
 use Rattle.raid_laws.specs.Enlisting.{FindsEach, FindsPart, HasNoCopy, IsNewLog, SaysFormer, SaysLatter, enlisted}
 use Rattle.raid_laws.specs.Frames.{frame_of}
 use Rattle.raid_laws.specs.Losses.{has_other}
-use Rattle.raid_laws.specs.Moves.{IsAmid, IsHeeded, IsSet}
+use Rattle.raid_laws.specs.Moves.{IsTrackedInCall, IsHeeded, IsSet}
 use Rattle.raid_laws.specs.NewDrive.{SeatsDrive}
-use Rattle.raid_laws.specs.Raid.{Raid, is_over}
+use Rattle.raid_laws.specs.Raid.{Raid, is_failed}
 use Rattle.raid_laws.specs.Rows.{LeavesFrom, LeavesRows}
 use Rattle.raid_laws.specs.Since.{HoldsTakenSince, IsSince, KeepsTakenSince}
 use Rattle.raid_laws.specs.Vacated.{AgreesOff, DiffersAt, FindsArray, IsFormerly, vacated}
@@ -47,7 +47,7 @@ use Rattle.raid_laws.proofs.Since.{kept_since}
 use Rattle.raid_rack.proofs.Untouched.{disk_still}
 use Rattle.raid_laws.proofs.Whole.{amid_stood}
 
-module _ (arrays : List View) (place disk units : ℕ) (plan : Plan) (t u : Slices) (s w : Raid) (y b : Seen) (sectors : ℕ)
+module _ (arrays : List View) (place disk units : ℕ) (plan : Plan) (t u : Slices) (s w : Raid) (y b : RackView) (sectors : ℕ)
     (orderly : IsOrderly t) (orderly_now : IsOrderly u) (free : (p : ℕ) → seat_of t p ≢ Some disk) (seats : SeatsDrive arrays place disk sectors t u)
     (lasting : y.lasting) (inside_t : AreInside t y) (three : WritesOnly y b (IsSliced u))
     (differs : DiffersAt place (slices_of t y) (slices_of u y)) (new_log : IsNewLog place (slices_of u y)) (size : sectors_of u (log_slice place) ≡ log_sectors)
@@ -55,7 +55,7 @@ module _ (arrays : List View) (place disk units : ℕ) (plan : Plan) (t u : Slic
     (finds : FindsEach place units plan (vacated place s) w (slices_of u y) (slices_of u b)) (other : has_other w.state place ≡ true)
     (someone : (p : ℕ) × (is_current s.state p ≡ true) × (p ≢ place))
     (less : (n k : ℕ) → n < s.state.made → spent_in (w.arrays n) k ≡ false → spent_in (losing (place ∷ []) (s.arrays n)) k ≡ false) where
-  abbrev x : Seen
+  abbrev x : RackView
   x = slices_of t y
 
   -- the old disk has no place by the tables after
@@ -90,15 +90,15 @@ module _ (arrays : List View) (place disk units : ℕ) (plan : Plan) (t u : Slic
     inside = sliced_inside t i;
   }
 
-  module _ (n : ℕ) (vals : ℕ → Values) (spent : ℕ → Bool) (joined : n < s.state.joined) (low : n < s.state.made) (goes : is_over w n ≡ false) (covers : Covers (w.arrays n) spent)
-      (amid : IsAmid s x n vals spent) (settled : IsSettled (shape_of (s.arrays n)) n x.held) where
+  module _ (n : ℕ) (vals : ℕ → Values) (spent : ℕ → Bool) (joined : n < s.state.joined) (low : n < s.state.made) (goes : is_failed w n ≡ false) (covers : IncludesSpent (w.arrays n) spent)
+      (amid : IsTrackedInCall s x n vals spent) (settled : IsSynced (shape_of (s.arrays n)) n x.held) where
     found_array : FindsArray s.state (λ p. p == place) place (vacated place s) (slices_of u y) n vals spent
     found_array = retired_finds place x (slices_of u y) differs s n vals spent set heeded low was someone new_log (λ k alive. less n k low (covers k alive)) amid settled
 
     found : FindsPart place units plan s.state (vacated place s) w (slices_of u y) (slices_of u b) n vals spent
     found = finds new_log other s.state (λ p. p == place) n vals spent joined low goes covers found_array
 
-    pub found_holds : IsAmid w (slices_of u b) n vals spent
+    pub found_holds : IsTrackedInCall w (slices_of u b) n vals spent
     found_holds = found.holds
 
     pub found_frame : frame_of (w.arrays n).truth ≡ frame_of (s.arrays n).truth
@@ -107,7 +107,7 @@ module _ (arrays : List View) (place disk units : ℕ) (plan : Plan) (t u : Slic
     abbrev next : State
     next = enlisted place units plan s.state
 
-    log : LogKept s.state s.number (λ p. false) x
+    log : LogInvariant s.state s.number (λ p. false) x
     log = (amid_stood s x n vals spent heeded amid).log
 
     before : HoldsTakenSince (λ p. p == place) s.state next (slices_of u y)

@@ -2,7 +2,7 @@
 use Rattle.std.proofs.Common.{◌≡◌, ◌≢◌, ℕ, suc, ◌+◌, ◌<◌, Bool, false, List, [], ◌∷◌, get_or, is_some, length, slice_get, Option, Some, None, option_map, refl, sym, ap, subst, ◌∙◌, inl, inr, arith}
 use Rattle.std.proofs.lemmas.Bool.{both_ways, cases_lt}
 use Rattle.std.proofs.lemmas.Option.{slice_get-get_or}
-use Rattle.rack.specs.Seen.{Seen}
+use Rattle.rack.specs.Seen.{RackView}
 use Rattle.pool_state.specs.declared.contents.Plan.{Plan}
 use Rattle.pool_state.specs.declared.contents.State.{State}
 use Rattle.array_image.specs.States.{is_current}
@@ -28,7 +28,7 @@ count_each [] (y ∷ ys) f each = absurd (let bad : Some y ≡ None = each 0 in 
 count_each (x ∷ xs) [] f each = absurd (let bad : None ≡ Some (f x) = each 0 in cc)
 count_each (x ∷ xs) (y ∷ ys) f each = ap suc (count_each xs ys f (λ n. each (suc n)))
 
-module _ (q d : Arrays) (place : ℕ) (x : Seen) (running : IsRunning q x) (heeded_now : IsHeeded (raid_by q))
+module _ (q d : Arrays) (place : ℕ) (x : RackView) (running : IsRunning q x) (heeded_now : IsHeeded (raid_by q))
     (each : (n : ℕ) → slice_get d.all.items n ≡ option_map heeded (option_map (gone (place ∷ [])) (slice_get q.all.items n)))
     (state : d.state ≡ vacated_state place q.state) (number : d.log.number ≡ q.log.number) where
   both : (n : ℕ) → slice_get d.all.items n ≡ option_map (λ u. heeded (gone (place ∷ []) u)) (slice_get q.all.items n)
@@ -87,7 +87,7 @@ module _ (q d : Arrays) (place : ℕ) (x : Seen) (running : IsRunning q x) (heed
 
     -- ---- the commit
 
-    module _ (z : Arrays) (units sectors : ℕ) (plan : Plan) (a b : Seen) (reaches : ReachesAll q.all.items place sectors) where
+    module _ (z : Arrays) (units sectors : ℕ) (plan : Plan) (a b : RackView) (reaches : ReachesAll q.all.items place sectors) where
       abbrev joining : ℕ → Bool
       joining = joins q.all.items place sectors
 

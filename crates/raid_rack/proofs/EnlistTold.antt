@@ -1,7 +1,7 @@
 -- What an array that was told keeps while a drive is taken in, and what stops leave meanwhile.
 use Rattle.std.proofs.Common.{◌≡◌, ◌≢◌, ◌⊎◌, ℕ, ◌+◌, ◌-◌, ◌<◌, ◌≤◌, ◌^◌, ◌==◌, Bool, true, false, ◌||◌, List, [], ◌∷◌, length, Ok, Some, refl, sym, ap, ap₂, subst, ◌∙◌, inl, inr, arith}
 use Rattle.rack.specs.Values.{MayLeave, Values}
-use Rattle.rack.specs.Seen.{Image, IsLive, Seen, Stays}
+use Rattle.rack.specs.Seen.{Image, IsLive, RackView, SameRack}
 use Rattle.rack.specs.Moments.{Leaves}
 use Rattle.rack.specs.Joins.{leaves_then, leaves_weaker, live_second, stays_then}
 use Rattle.rack.specs.Sequences.{IsMix, OnlyReads, WritesOnly}
@@ -14,16 +14,16 @@ use Rattle.slice_rack.specs.Runs.{IsSliced}
 use Rattle.pool_state.specs.declared.contents.Plan.{Plan}
 use Rattle.pool_state.specs.declared.contents.State.{State}
 use Rattle.array_image.specs.Arrays.{replayed}
-use Rattle.array_image.specs.Held.{IsSettled}
+use Rattle.array_image.specs.Held.{IsSynced}
 use Rattle.array_image.specs.Left.{IsInside}
 use Rattle.array_image.specs.Places.{log_sectors, log_slice, slice_of, state_sector}
 use Rattle.array_image.specs.Record.{gate_sector}
 use Rattle.array_image.specs.States.{is_current, state_in}
-use Rattle.array_model.specs.ArrayCalls.{Covers}
+use Rattle.array_model.specs.ArrayCalls.{IncludesSpent}
 use Rattle.array_model.specs.View.{View, shape_of, spent_in}
 use Rattle.array_model.proofs.Keeping.{live_on}
-use Rattle.log_laws.specs.Kept.{LogKept}
-use Rattle.log_laws.specs.Saying.{SaysState}
+use Rattle.log_laws.specs.Kept.{LogInvariant}
+use Rattle.log_laws.specs.Saying.{RecoversTo}
 use Rattle.log_laws.proofs.Kept.{place_of_log}
 use Rattle.log_laws.proofs.HeldCopies.{kept_holds}
 use Rattle.raid_laws.specs.Vacated.{DiffersAt, vacated}
@@ -34,10 +34,10 @@ use Rattle.raid_laws.specs.Frames.{Frame, HasFrame, KeepsFrame, frame_of}
 use Rattle.raid_laws.specs.Logs.{LogsBetween}
 use Rattle.raid_laws.specs.Losses.{has_other}
 use Rattle.raid_laws.specs.Marking.{SaysBetween}
-use Rattle.raid_laws.specs.Moves.{IsAmid, IsHeeded, IsSet, Moves, PartOf}
+use Rattle.raid_laws.specs.Moves.{IsTrackedInCall, IsHeeded, IsSet, ChangesNoData, SubCall}
 use Rattle.raid_laws.specs.NewDrive.{IsOfDrive, LaysDrive, SeatsDrive, first_laid, gate_at, sectors_laid}
 use Rattle.raid_laws.specs.Rows.{KeepsRows, LeavesFrom, LeavesRows, from_lower}
-use Rattle.raid_laws.specs.Raid.{IsTold, Raid, Stood, held_in, is_over, spent_of}
+use Rattle.raid_laws.specs.Raid.{IsTracked, Raid, InvariantInCall, held_in, is_failed, spent_of}
 use Rattle.raid_laws.specs.Since.{AreJoinSince, AreSince, AreTakenSince, KeepsJoinSince, KeepsTakenSince}
 use Rattle.raid_laws.proofs.Apart.{moves_quiet, reads_apart, seat_is}
 use Rattle.raid_rack.proofs.LayingDrive.{copy_agrees, in_disk, of_copy}
@@ -71,7 +71,7 @@ between_same s n vals spent r low at =
     ] in
     subst (λ (q : State). SaysBy q n vals spent r) (sym is) (record { is_state = at.is_state; shape = at.shape; says = at.says })
 
-logs_same : (s : State) (sectors : ℕ → ℕ) (c : Image) → s.epoch < 2 ^ 63 - 1 → LogsBetween s s sectors c → SaysState s sectors c
+logs_same : (s : State) (sectors : ℕ → ℕ) (c : Image) → s.epoch < 2 ^ 63 - 1 → LogsBetween s s sectors c → RecoversTo s sectors c
 logs_same s sectors c low at =
     let is : s ≡ at.state =
     elim at.sooner.raised [
@@ -79,9 +79,9 @@ logs_same s sectors c low at =
       | inr (inl later) ↦ let up = at.later.epoch in absurd (omega (arith, up, later))
       | inr (inr most) ↦ absurd (omega (arith, low, most))
     ] in
-    subst (λ (q : State). SaysState q sectors c) (sym is) at.says
+    subst (λ (q : State). RecoversTo q sectors c) (sym is) at.says
 
-module _ (arrays : List View) (place disk units : ℕ) (plan : Plan) (joining : ℕ → Bool) (t u : Slices) (v s w : Raid) (a m y b : Seen) (table : Table)
+module _ (arrays : List View) (place disk units : ℕ) (plan : Plan) (joining : ℕ → Bool) (t u : Slices) (v s w : Raid) (a m y b : RackView) (table : Table)
     (orderly : IsOrderly t) (orderly_now : IsOrderly u) (few : place < 16) (free : (p : ℕ) → seat_of t p ≢ Some disk)
     (set : IsSet v (slices_of t a)) (heeded : IsHeeded v) (listed : place < length v.state.drives.items) (size : table.sectors ≡ a.sectors disk)
     (room : 10273 ≤ a.sectors disk) (lays : LaysDrive a m disk table {X = Unit {0}} (Ok tt))
@@ -91,17 +91,17 @@ module _ (arrays : List View) (place disk units : ℕ) (plan : Plan) (joining : 
     (finds : FindsEach place units plan (vacated place s) w (slices_of u y) (slices_of u b))
     (less : (n k : ℕ) → n < s.state.made → spent_in (w.arrays n) k ≡ false → spent_in (losing (place ∷ []) (s.arrays n)) k ≡ false)
     (three : WritesOnly y b (IsSliced u)) (set_now : IsSet w (slices_of u b)) where
-  early : Stays a y
+  early : SameRack a y
   early = stays_then lays.only.stays two.stays
 
   -- the parts before the commit write no slice
   laid_reads : OnlyReads (slices_of t a) (slices_of t m)
   laid_reads = reads_apart t a m disk (IsOfDrive disk table) orderly set.fit.1 lays.only (λ d z k at. at.0) free
 
-  quiet : Moves v v (slices_of t a) (slices_of t m)
+  quiet : ChangesNoData v v (slices_of t a) (slices_of t m)
   quiet = moves_quiet v (slices_of t a) (slices_of t m) set laid_reads
 
-  before : Moves v s (slices_of t a) (slices_of t y)
+  before : ChangesNoData v s (slices_of t a) (slices_of t y)
   before = moves_then v v s (slices_of t a) (slices_of t m) (slices_of t y) quiet settles.moves
 
   low_now : (n : ℕ) → n < v.state.made → n < s.state.made
@@ -221,36 +221,36 @@ module _ (arrays : List View) (place disk units : ℕ) (plan : Plan) (joining : 
 
     -- ---- an array
 
-    module _ (n : ℕ) (low : n < v.state.made) (told : IsTold v (slices_of t a) n) (other : has_other w.state place ≡ true) where
+    module _ (n : ℕ) (low : n < v.state.made) (told : IsTracked v (slices_of t a) n) (other : has_other w.state place ≡ true) where
       abbrev vals : ℕ → Values
       vals = held_in v (slices_of t a) n
 
-      module _ (goes : is_over w n ≡ false) where
-        goes_then : is_over s n ≡ false
+      module _ (goes : is_failed w n ≡ false) where
+        goes_then : is_failed s n ≡ false
         goes_then = joined.still n (low_now n low) other goes
 
-        covers : Covers (w.arrays n) (spent_of w n)
+        covers : IncludesSpent (w.arrays n) (spent_of w n)
         covers k alive = (live_parts w n k alive).1
 
-        covers_then : Covers (s.arrays n) (spent_of w n)
+        covers_then : IncludesSpent (s.arrays n) (spent_of w n)
         covers_then k alive = joined.spent n k (low_now n low) (covers k alive)
 
-        stands : IsAmid v (slices_of t a) n vals (spent_of w n)
+        stands : IsTrackedInCall v (slices_of t a) n vals (spent_of w n)
         stands = told_amid v (slices_of t a) n (spent_of w n) heeded told (before.still n low goes_then)
-            (λ k alive. or_from (is_over v n) (spent_in (v.arrays n) k) (before.still n low goes_then) (before.spent n k low (covers_then k alive)))
+            (λ k alive. or_from (is_failed v n) (spent_in (v.arrays n) k) (before.still n low goes_then) (before.spent n k low (covers_then k alive)))
 
-        part : PartOf v s (slices_of t a) (slices_of t y) n vals vals (spent_of w n)
+        part : SubCall v s (slices_of t a) (slices_of t y) n vals vals (spent_of w n)
         part = before.parts n vals (spent_of w n) told.joined low goes_then covers_then
 
         joined_then : n < s.state.joined
         joined_then = subst (λ (q : State). n < q.joined) (sym settles.same) told.joined
 
-        settled : IsSettled (shape_of (s.arrays n)) n (slices_of t y).held
+        settled : IsSynced (shape_of (s.arrays n)) n (slices_of t y).held
         settled =
             settles.settled n vals (spent_of w n) low told.joined goes_then covers_then
             ((quiet.parts n vals (spent_of w n) told.joined low (before.still n low goes_then) (λ k alive. before.spent n k low (covers_then k alive))).holds stands)
 
-        early_amid : IsAmid s (slices_of t y) n vals (spent_of w n)
+        early_amid : IsTrackedInCall s (slices_of t y) n vals (spent_of w n)
         early_amid = part.holds stands
 
         -- ---- stops before the commit
@@ -276,7 +276,7 @@ module _ (arrays : List View) (place disk units : ℕ) (plan : Plan) (joining : 
         early_leaves : a.traced → Leaves a y laying
         early_leaves traced =
             let Said : Image → Type 0 =
-            λ c. IsInside (sectors_of t) c → IsAmid v (slices_of t a) n vals (spent_of w n) → SaysBetween v.state s.state n vals (spent_of w n) (replayed (sectors_of t) c) in
+            λ c. IsInside (sectors_of t) c → IsTrackedInCall v (slices_of t a) n vals (spent_of w n) → SaysBetween v.state s.state n vals (spent_of w n) (replayed (sectors_of t) c) in
             let Rows : Image → Type 0 = λ c. IsInside (sectors_of t) c → LeavesFrom (v.arrays n).resync n (replayed (sectors_of t) c) in
             let Logs : Image → Type 0 = λ c. IsInside (sectors_of t) c → LogsBetween v.state s.state (sectors_of t) c in
             let Since : Image → Type 0 = λ c. IsInside (sectors_of t) c → AreSince v.state (sectors_of t) c in
@@ -313,7 +313,7 @@ module _ (arrays : List View) (place disk units : ℕ) (plan : Plan) (joining : 
           rows = λ rows.
               let first = early_rows rows in
               from_lower (v.arrays n).resync (s.arrays n).resync n (replayed (sectors_of t) (sliced t i)) first.later (former.rows first.after);
-          logs = subst (λ (q : State). SaysState q (sectors_of t) (sliced t i)) settles.same former.logs;
+          logs = subst (λ (q : State). RecoversTo q (sectors_of t) (sliced t i)) settles.same former.logs;
           since = subst (λ (q : State). AreSince q (sectors_of t) (sliced t i)) settles.same former.since;
           frame = subst (λ f. HasFrame f n (replayed (sectors_of t) (sliced t i))) early_frame.after former.frame;
         }
@@ -324,11 +324,11 @@ module _ (arrays : List View) (place disk units : ℕ) (plan : Plan) (joining : 
           missing_then : is_current s.state place ≡ false
           missing_then = current_then place ∙ missing
 
-          then_amid : IsAmid s (slices_of u y) n vals (spent_of w n)
+          then_amid : IsTrackedInCall s (slices_of u y) n vals (spent_of w n)
           then_amid =
               reseated_amid s (slices_of t y) (slices_of u y) place n vals (spent_of w n) differs set_then settles.heeded missing_then (λ there. new_log.state) (low_now n low) (part.holds stands)
 
-          then_settled : IsSettled (shape_of (s.arrays n)) n (slices_of u y).held
+          then_settled : IsSynced (shape_of (s.arrays n)) n (slices_of u y).held
           then_settled = reseated_settled s (slices_of t y) (slices_of u y) place n differs set_then missing_then (low_now n low) settled
 
           joins_part : JoinsPart place units plan s w (slices_of u y) (slices_of u b) n vals (spent_of w n)
@@ -344,7 +344,7 @@ module _ (arrays : List View) (place disk units : ℕ) (plan : Plan) (joining : 
           late_frame : KeepsFrame g n (w.arrays n) (slices_of u y) (slices_of u b)
           late_frame = joins_part.frame g early_frame.after
 
-          then_log : LogKept s.state s.number (λ p. false) (slices_of u y)
+          then_log : LogInvariant s.state s.number (λ p. false) (slices_of u y)
           then_log = (amid_stood s (slices_of u y) n vals (spent_of w n) settles.heeded then_amid).log
 
           -- the copies of states that stand
@@ -358,7 +358,7 @@ module _ (arrays : List View) (place disk units : ℕ) (plan : Plan) (joining : 
               let Said : Image → Type 0 = λ c. IsInside (sectors_of u) c → SaysBy s.state n vals (spent_of w n) (replayed (sectors_of u) c)
               ⊎ SaysBetween (enlisted place units plan s.state) w.state n vals (spent_of w n) (replayed (sectors_of u) c) in
               let Rows : Image → Type 0 = λ c. IsInside (sectors_of u) c → LeavesFrom (s.arrays n).resync n (replayed (sectors_of u) c) in
-              let Logs : Image → Type 0 = λ c. IsInside (sectors_of u) c → SaysState s.state (sectors_of u) c
+              let Logs : Image → Type 0 = λ c. IsInside (sectors_of u) c → RecoversTo s.state (sectors_of u) c
               ⊎ LogsBetween (enlisted place units plan s.state) w.state (sectors_of u) c in
               let Since : Image → Type 0 = λ c. IsInside (sectors_of u) c → AreJoinSince v.state (enlisted place units plan v.state) (sectors_of u) c in
               let Framed : Image → Type 0 = λ c. IsInside (sectors_of u) c → HasFrame g n (replayed (sectors_of u) c) in
@@ -371,7 +371,7 @@ module _ (arrays : List View) (place disk units : ℕ) (plan : Plan) (joining : 
                 rows = λ rows. from_lower (v.arrays n).resync (s.arrays n).resync n (replayed (sectors_of u) (sliced u c)) (early_rows rows).later (at.1.1.1.1.1 rows (sliced_inside u c));
                 since = at.1.0 (sliced_inside u c);
                 frame = at.1.1.0 (sliced_inside u c);
-                logs = subst (λ (q : State). SaysState q (sectors_of u) (sliced u c) ⊎ LogsBetween (enlisted place units plan q) w.state (sectors_of u) (sliced u c))
+                logs = subst (λ (q : State). RecoversTo q (sectors_of u) (sliced u c) ⊎ LogsBetween (enlisted place units plan q) w.state (sectors_of u) (sliced u c))
                     settles.same (at.1.1.1.0 (sliced_inside u c));
               })
               (leaves_below u y b (λ c. Since c × (Framed c × (Logs c × (Said c × (clean → Rows c))))) (IsMix y b (IsSliced u)) (three.stops traced)
@@ -395,7 +395,7 @@ module _ (arrays : List View) (place disk units : ℕ) (plan : Plan) (joining : 
                 at.2,
               )
 
-          replaced_amid : IsAmid w (slices_of u b) n vals (spent_of w n)
+          replaced_amid : IsTrackedInCall w (slices_of u b) n vals (spent_of w n)
           replaced_amid =
               found_holds arrays place disk units plan t u s w y b (a.sectors disk) orderly orderly_now free seats (early.lasting set.lasting) set_then.fit.1 three differs new_log log_size set_then
               settles.heeded listed_then was_then finds other someone less n vals (spent_of w n) joined_then (low_now n low) goes covers early_amid settled
@@ -451,7 +451,7 @@ module _ (arrays : List View) (place disk units : ℕ) (plan : Plan) (joining : 
 
         -- ---- after it
 
-        after_amid : IsAmid w (slices_of u b) n vals (spent_of w n)
+        after_amid : IsTrackedInCall w (slices_of u b) n vals (spent_of w n)
         after_amid = elim (cases_Bool (is_current v.state place)) [ inl was ↦ replaced_amid was | inr missing ↦ (joins_part missing).holds ]
 
         after_frame : frame_of (w.arrays n).truth ≡ g
@@ -466,7 +466,7 @@ module _ (arrays : List View) (place disk units : ℕ) (plan : Plan) (joining : 
           )
         ]
 
-        after_stood : Stood w.state (shape_of (w.arrays n)) vals (spent_of w n) (λ p. false) w (slices_of u b) n
+        after_stood : InvariantInCall w.state (shape_of (w.arrays n)) vals (spent_of w n) (λ p. false) w (slices_of u b) n
         after_stood = amid_stood w (slices_of u b) n vals (spent_of w n) joined.heeded after_amid
 
         made_after : n < w.state.made

@@ -1,6 +1,6 @@
 -- A drive is taken in, once all arrays are settled: what that makes of the book, and what of the disks.
 use Rattle.std.proofs.Common.{◌≡◌, ◌≢◌, ℕ, ◌<◌, ◌≤◌, ◌&&◌, Bool, true, false, not, if◌then◌else◌, List, Ok, Some, refl, sym, ap, subst, ◌∙◌, inl, inr, arith}
-use Rattle.rack.specs.Seen.{IsLive, Seen, Stays}
+use Rattle.rack.specs.Seen.{IsLive, RackView, SameRack}
 use Rattle.rack.specs.Values.{IsSingle, Keeps}
 use Rattle.rack.specs.Joins.{live_first, live_second, rose_since, stays_then}
 use Rattle.rack.specs.Sequences.{WritesOnly}
@@ -17,10 +17,10 @@ use Rattle.pool_state.specs.declared.contents.State.{State}
 use Rattle.array_image.specs.States.{is_current}
 use Rattle.array_core.specs.Seats.{renewed}
 use Rattle.array_model.specs.View.{View}
-use Rattle.raid_laws.specs.Book.{IsAfter}
+use Rattle.raid_laws.specs.Book.{OnlyMarksSince}
 use Rattle.raid_laws.specs.Enlisting.{IsEnlisted, IsWrittenBy, SettlesWhole, enlisted, next_drive, with_drive}
 use Rattle.raid_laws.specs.Losing.{only_then as lost_then}
-use Rattle.raid_laws.specs.Moves.{IsHeeded, IsSet, LosesOnly, RaisesBy}
+use Rattle.raid_laws.specs.Moves.{IsHeeded, IsSet, OnlyFailures, RaisesBy}
 use Rattle.raid_laws.specs.NewDrive.{IsOfDrive, LaysDrive, SeatsDrive}
 use Rattle.raid_laws.specs.Raid.{Raid, is_left}
 use Rattle.raid_rack.proofs.LayingDrive.{copy_agrees, of_copy}
@@ -43,7 +43,7 @@ module _ (place units : ℕ) (plan : Plan) (joining : ℕ → Bool) where
   left_with v p heeded =
       ap (λ g. is_current (enlisted place units plan v.state) p && not g) (heeded_gone (with_drive place units plan joining v) (heeded_with v heeded) p)
 
-  module _ (v s w : Raid) (x y z c : Seen) (same : s.state ≡ v.state) (settles : SettlesWhole v s x y) (heeded : IsHeeded v) where
+  module _ (v s w : Raid) (x y z c : RackView) (same : s.state ≡ v.state) (settles : SettlesWhole v s x y) (heeded : IsHeeded v) where
     left_same : (p : ℕ) → is_left (with_drive place units plan joining s) p ≡ is_left (with_drive place units plan joining v) p
     left_same p =
         left_with s p settles.heeded ∙ ap (λ (q : State). is_current (enlisted place units plan q) p && true) same ∙ sym (left_with v p heeded)
@@ -52,17 +52,17 @@ module _ (place units : ℕ) (plan : Plan) (joining : ℕ → Bool) where
     low_now n low = subst (λ (q : State). n < q.made) (sym same) low
 
     -- by the settling first
-    pub enrolled : (z0 x0 : Seen) → IsSet v x0 → ((d : ℕ) → z0.faults d ≤ z.faults d) → IsEnlisted place units plan joining s w z c
+    pub enrolled : (z0 x0 : RackView) → IsSet v x0 → ((d : ℕ) → z0.faults d ≤ z.faults d) → IsEnlisted place units plan joining s w z c
         → IsEnlisted place units plan joining v w z0 c
     enrolled z0 x0 set faults joined = record {
-      book = subst (λ (q : State). IsAfter (enlisted place units plan q) w.state) same joined.book;
+      book = subst (λ (q : State). OnlyMarksSince (enlisted place units plan q) w.state) same joined.book;
       plan_is = joined.plan_is;
       arrays = λ n low.
           let only = settles.moves.arrays n low in
           let one = (set.arrays n low).is_array in
           let two = (settles.moves.set.arrays n (low_now n low)).is_array in
-          let rest : LosesOnly (if joining n then renewed place (next_drive v.state) (s.arrays n) else s.arrays n) (w.arrays n) =
-          subst (λ (q : State). LosesOnly (if joining n then renewed place (next_drive q) (s.arrays n) else s.arrays n) (w.arrays n)) same (joined.arrays n (low_now n low)) in
+          let rest : OnlyFailures (if joining n then renewed place (next_drive v.state) (s.arrays n) else s.arrays n) (w.arrays n) =
+          subst (λ (q : State). OnlyFailures (if joining n then renewed place (next_drive q) (s.arrays n) else s.arrays n) (w.arrays n)) same (joined.arrays n (low_now n low)) in
           lost_then _ _ (w.arrays n) (renewed_if (v.arrays n) (s.arrays n) place (next_drive v.state) (joining n) one two only) rest;
       sectors = λ n. joined.sectors n ∙ settles.moves.sectors n;
       caused = record {
@@ -88,7 +88,7 @@ module _ (place units : ℕ) (plan : Plan) (joining : ℕ → Bool) where
 -- ---- the disks
 
 -- the new disk was laid, slices were called by the old tables, none of them written, and then by the new ones
-module _ (arrays : List View) (place disk : ℕ) (t u : Slices) (a m y b : Seen) (table : Table) (size : table.sectors ≡ a.sectors disk) (few : place < 16)
+module _ (arrays : List View) (place disk : ℕ) (t u : Slices) (a m y b : RackView) (table : Table) (size : table.sectors ≡ a.sectors disk) (few : place < 16)
     (lays : LaysDrive a m disk table {X = Unit {0}} (Ok tt)) (seats : SeatsDrive arrays place disk (a.sectors disk) t u) where
   pub all_only : WritesOnly m y (IsSliced u) → WritesOnly y b (IsSliced u) → WritesOnly a b (IsWrittenBy u disk table)
   all_only two three =
@@ -99,7 +99,7 @@ module _ (arrays : List View) (place disk : ℕ) (t u : Slices) (a m y b : Seen)
 
   module _ (orderly : IsOrderly t) (orderly_now : IsOrderly u) (room : 10273 ≤ a.sectors disk) (free : (p : ℕ) → seat_of t p ≢ Some disk)
       (two : WritesOnly m y (IsSliced t)) (three : WritesOnly y b (IsSliced u)) where
-    after : Stays m b
+    after : SameRack m b
     after = stays_then two.stays three.stays
 
     table_kept : (s : ℕ) → IsOfTable (a.sectors disk) s → IsLive a b disk s → Keeps (m.held disk s) (b.held disk s)

@@ -2,7 +2,7 @@
 use Rattle.std.proofs.Common.{◌≡◌, ◌<◌, ◌≤◌, ◌+◌, ◌-◌, ◌*◌, ◌/◌, ◌==◌, ◌&&◌, ◌||◌, Bool, true, false, ℕ, zero, suc, length, Result, Ok, Err, Some, List, [], ◌∷◌, not, unwrap_or, if◌then◌else◌, refl, sym, ap, ap₂, subst, ◌∙◌, inl, inr, le-leb, lt-ltb, eqb-true, arith}
 use Rattle.std.specs.List.{slice_index_or}
 use Rattle.std.proofs.lemmas.Bool.{and_parts, both_ways, cases_Bool}
-use Rattle.rack.specs.Seen.{Seen, Rose}
+use Rattle.rack.specs.Seen.{RackView, Rose}
 use Rattle.rack.specs.Joins.{leaves_same, leaves_weaker, rose_before, rose_since, stays_same}
 use Rattle.rack.specs.Sequences.{IsMix}
 use Rattle.commit_log.proofs.Deciding.{names_first}
@@ -39,7 +39,7 @@ use Rattle.raid_rack.proofs.Raises.{raises_more, raises_then}
 use Rattle.raid_laws.specs.NewDrive.{entry_of}
 
 -- a place has a fault where its disk has one
-pub fault_at : (t : Slices) (x y : Seen) (place disk : ℕ) → disk_at t place ≡ Some disk → Rose (x.faults disk) (y.faults disk) → HasFault (slices_of t x) (slices_of t y) place
+pub fault_at : (t : Slices) (x y : RackView) (place disk : ℕ) → disk_at t place ≡ Some disk → Rose (x.faults disk) (y.faults disk) → HasFault (slices_of t x) (slices_of t y) place
 fault_at t x y place disk seat rose =
     let on : (17 * place) / 17 ≡ place = omega arith in
     let is : disk_of t (17 * place) ≡ disk = ap (λ o. unwrap_or o 0) (ap (disk_at t) on ∙ seat) in
@@ -72,7 +72,7 @@ named_at (p ∷ ps) (suc k) low = ap (λ (b : Bool). (p == slice_index_or ps k 0
 
 -- ---- arrays over tables that stay, and a rack below that went on
 
-pub gone_on_set : (t : Slices) (x y : Seen) (v : Raid) → Goes x y → IsSet v (slices_of t x) → IsSet v (slices_of t y)
+pub gone_on_set : (t : Slices) (x y : RackView) (v : Raid) → Goes x y → IsSet v (slices_of t x) → IsSet v (slices_of t y)
 gone_on_set t x y v goes set =
     let fit : (slices_of t y).fit = (goes.stays.fit, inside_still goes.stays set.fit.1) in
     record {
@@ -97,7 +97,7 @@ gone_on_set t x y v goes set =
 
 -- ---- a drive that goes is lost
 
-module _ (a b : Arrays) (place : ℕ) (x y : Seen) (running : IsRunning a x) (current : is_current a.state place ≡ true)
+module _ (a b : Arrays) (place : ℕ) (x y : RackView) (running : IsRunning a x) (current : is_current a.state place ≡ true)
     (mends : Mends (noted_at (place ∷ []) (raid_by a)) (raid_by b) x y) where
   abbrev v : Raid
   v = raid_by a
@@ -144,7 +144,7 @@ module _ (a b : Arrays) (place : ℕ) (x y : Seen) (running : IsRunning a x) (cu
       same true is named = sym (eqb-true place p is)
       same false is named = absurd (both_ways false refl named)
 
-  pub lost_caused : (z : Seen) → FaultsRise z x → FaultsRise x y → HasFault z x place → AreCaused v (raid_by b) z y
+  pub lost_caused : (z : RackView) → FaultsRise z x → FaultsRise x y → HasFault z x place → AreCaused v (raid_by b) z y
   lost_caused z first second fault = record {
     left = λ p is. noted_before (place ∷ []) v noted.arrays noting p (mends.moves.left p is);
     cause = λ p was now.
@@ -157,7 +157,7 @@ module _ (a b : Arrays) (place : ℕ) (x y : Seen) (running : IsRunning a x) (cu
 -- ---- entries of so many members
 
 -- A rack of arrays after k members' entries: drives that went are lost, and all else is as before.
-pub record HasEntered {R : Type 0} (seen : R → Seen) (runs : R → R → Type 0) (k : ℕ) (p q : RaidRack R) : Type 0 where
+pub record HasEntered {R : Type 0} (seen : R → RackView) (runs : R → R → Type 0) (k : ℕ) (p q : RaidRack R) : Type 0 where
   pub fit : IsFit (arrays_in q) (slices_seen seen q)
   pub loses : LosesBook (raid_in p) (raid_in q)
   pub caused : AreCaused (raid_in p) (raid_in q) (slices_seen seen p) (slices_seen seen q)
@@ -169,7 +169,7 @@ pub record HasEntered {R : Type 0} (seen : R → Seen) (runs : R → R → Type 
   pub goes : Goes (seen (below_of (slices_in p))) (seen (below_of (slices_in q)))
   pub below : runs (below_of (slices_in p)) (below_of (slices_in q))
 
-module _ {R : Type 0} (seen : R → Seen) (runs : R → R → Type 0) (join : (r s u : R) → runs r s → runs s u → runs r u) where
+module _ {R : Type 0} (seen : R → RackView) (runs : R → R → Type 0) (join : (r s u : R) → runs r s → runs s u → runs r u) where
   -- one more member's entry, in calls that lose nobody yet
   pub entered_more : (k : ℕ) (p q s : RaidRack R) → HasEntered seen runs k p q → arrays_in s ≡ arrays_in q → ((n : ℕ) → refused_in s n ≡ refused_in q n)
       → ((n : ℕ) → written_in s n ≡ written_in q n) → s.seconds ≡ q.seconds → tables (slices_in s) ≡ tables (slices_in q)
@@ -277,7 +277,7 @@ module _ {R : Type 0} (seen : R → Seen) (runs : R → R → Type 0) (join : (r
   }
 
 -- one member more
-pub more_entered : {R : Type 0} (seen : R → Seen) (runs : R → R → Type 0) (k : ℕ) (p q : RaidRack R) → HasEntered seen runs k p q → HasEntered seen runs (k + 1) p q
+pub more_entered : {R : Type 0} (seen : R → RackView) (runs : R → R → Type 0) (k : ℕ) (p q : RaidRack R) → HasEntered seen runs k p q → HasEntered seen runs (k + 1) p q
 more_entered seen runs k p q was = record {
   fit = was.fit;
   loses = was.loses;

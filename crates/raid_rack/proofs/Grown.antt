@@ -6,7 +6,7 @@ use Rattle.std.proofs.lemmas.Option.{slice_get-get_or}
 use Rattle.std.proofs.lemmas.List.FromFn.{get_or-map-range_with_len, length-map-range_with_len}
 use Rattle.std.specs.List.{list_all, range_with_len}
 use Rattle.arrayvec.specs.ArrayVec.{ArrayVec}
-use Rattle.rack.specs.Seen.{Seen, Stays}
+use Rattle.rack.specs.Seen.{RackView, SameRack}
 use Rattle.pool_state.specs.declared.contents.Work.TheVariants.{Reshape}
 use Rattle.array_image.specs.Places.{log_sectors, log_slice}
 use Rattle.array_image.specs.Spent.{wanting}
@@ -20,7 +20,7 @@ use Rattle.sync_laws.specs.Steps.{Stepped, as_it_was, done, if_done}
 use Rattle.shr_base.specs.declared.Id.{Id}
 use Rattle.reshape_laws.specs.Ahead.{next_row}
 use Rattle.reshape_laws.specs.Reshapes.{Reshapes, joined, lacks_two}
-use Rattle.raid_laws.specs.Moves.{IsHeeded, LosesOnly, Mends}
+use Rattle.raid_laws.specs.Moves.{IsHeeded, OnlyFailures, Mends}
 use Rattle.raid_laws.specs.Raid.{Raid}
 use Rattle.raid_laws.proofs.Noted.{current_few}
 use Rattle.raid_laws.proofs.Whole.{heeded_left}
@@ -52,7 +52,7 @@ views_items a count =
 -- ---- members that are missing
 
 -- an array that doesn't lack two after losses didn't before them
-pub two_less : (u w : View) → LosesOnly u w → lacks_two w ≡ false → lacks_two u ≡ false
+pub two_less : (u w : View) → OnlyFailures u w → lacks_two w ≡ false → lacks_two u ≡ false
 two_less u w only few =
     let t = u.truth.size - 1 in
     let size = only.same.geometry.size in
@@ -72,7 +72,7 @@ not_lacking w n is = by (is_ended w) (lacks_two (w.arrays n)) is
     by false c is = is
 
 -- where it is so after the mending, the call wasn't refused: it is refused of an array that lacks two alone
-pub done_by : (u : View) (w : Raid) (n : ℕ) (ok : Bool) → (ok ≡ false → lacks_two u ≡ true) → LosesOnly u (w.arrays n) → lacks w n ≡ false → ok ≡ true
+pub done_by : (u : View) (w : Raid) (n : ℕ) (ok : Bool) → (ok ≡ false → lacks_two u ≡ true) → OnlyFailures u (w.arrays n) → lacks w n ≡ false → ok ≡ true
 done_by u w n ok refused only is = elim (cases_Bool ok) [
   | inl is_done ↦ is_done
   | inr none ↦ absurd (both_ways (lacks_two u) (two_less u (w.arrays n) only (not_lacking w n is)) (refused none))
@@ -86,14 +86,14 @@ not_clean false c is = refl
 -- ---- the call
 
 -- the arrays after a call of one of them
-pub record HasCalled (a b : Arrays) (x y : Seen) (n : ℕ) (next : View) (is_done : Bool) : Type 0 where
+pub record HasCalled (a b : Arrays) (x y : RackView) (n : ℕ) (next : View) (is_done : Bool) : Type 0 where
   pub calls : CallsTo (raid_by a) (raid_by b) n next x y is_done
   pub running : IsRunning b y
-  pub stays : Stays x y
+  pub stays : SameRack x y
 
-pub has_called : (step : View → View) (a : Arrays) (all : ArrayVec View) (log : LogView) (x y : Seen) (n number : ℕ) (old u : View) (is_done : Bool)
+pub has_called : (step : View → View) (a : Arrays) (all : ArrayVec View) (log : LogView) (x y : RackView) (n number : ℕ) (old u : View) (is_done : Bool)
     → IsRunning a x → IsHeeded (raid_by a) → old ≡ get_or a.all.items n no_array → all.items ≡ set a.all.items n u → number ≡ a.log.number → number ≤ log.number
-    → MayBecome (raid_by a) n (step ((raid_by a).arrays n)) x → Stays x y → Stepped old (step old) u x y is_done
+    → MayBecome (raid_by a) n (step ((raid_by a).arrays n)) x → SameRack x y → Stepped old (step old) u x y is_done
     → HasCalled a (record a { all = all; log = log }) x y n (step ((raid_by a).arrays n)) is_done
 has_called step a all log x y n number old u is_done running heeded old_is all_is number_is later may stays view =
     let f : ℕ → View = λ k. get_or all.items k no_array in
@@ -117,20 +117,20 @@ pub called_own : (a : Arrays) (all : ArrayVec View) (n : ℕ) (u : View) → len
 called_own a all n u count low all_is = ap (λ ys. get_or ys n no_array) all_is ∙ set_own a.all.items n u no_array (omega (arith, low, count))
 
 -- a place of the log's commits has its log slice
-pub logs_there : (a : Arrays) (x : Seen) (on : List ℕ) (j : ℕ) → IsRunning a x → IsHeeded (raid_by a) → on ≡ current_places a.state → j < length on
+pub logs_there : (a : Arrays) (x : RackView) (on : List ℕ) (j : ℕ) → IsRunning a x → IsHeeded (raid_by a) → on ≡ current_places a.state → j < length on
     → (get_or on j 0 < 16) × (x.sectors (log_slice (get_or on j 0)) ≡ log_sectors)
 logs_there a x on j running heeded on_is low =
     let current = on_named a.state on j (get_or on j 0) on_is (slice_get-get_or on j 0 low) in
     (current_few a.state (get_or on j 0) running.set.few current, running.set.logs (get_or on j 0) (heeded_left (raid_by a) (get_or on j 0) heeded current))
 
 -- a step raises events by one at most
-pub step_events : (old next u : View) (x y : Seen) (is_done : Bool) → next.truth.events ≡ raised old.truth.events → Stepped old next u x y is_done
+pub step_events : (old next u : View) (x y : RackView) (is_done : Bool) → next.truth.events ≡ raised old.truth.events → Stepped old next u x y is_done
     → u.truth.events ≤ old.truth.events + 1
 step_events old next u x y false is (as_it_was notes) = let e = ap (λ t. t.events) notes.same.truth in omega (arith, e)
 step_events old next u x y true is (done notes) = let e = ap (λ t. t.events) notes.same.truth in let up = raised_up old.truth.events in omega (arith, e, is, up)
 
 -- the call makes no array
-called_made : (a b : Arrays) (x y : Seen) (n : ℕ) (next : View) (is_done : Bool) → HasCalled a b x y n next is_done → b.state.made ≡ a.state.made
+called_made : (a b : Arrays) (x y : RackView) (n : ℕ) (next : View) (is_done : Bool) → HasCalled a b x y n next is_done → b.state.made ≡ a.state.made
 called_made a b x y n next is_done called = by is_done called.calls.book.marks.same.made
   where
     by : (e : Bool) → b.state.made ≡ (if_done e (raid_by a) (changed (steps n next) (raid_by a))).state.made → b.state.made ≡ a.state.made
@@ -138,14 +138,14 @@ called_made a b x y n next is_done called = by is_done called.calls.book.marks.s
     by false same = same
 
 -- where it is so after the mending, the call wasn't refused
-called_ok : (a b c : Arrays) (x y z : Seen) (n : ℕ) (next u : View) (is_done ok : Bool) → n < a.state.made → HasCalled a b x y n next is_done → get_or b.all.items n no_array ≡ u
+called_ok : (a b c : Arrays) (x y z : RackView) (n : ℕ) (next u : View) (is_done ok : Bool) → n < a.state.made → HasCalled a b x y n next is_done → get_or b.all.items n no_array ≡ u
     → (ok ≡ false → lacks_two u ≡ true) → Mends (raid_by b) (raid_by c) y z → lacks (raid_by c) n ≡ false → ok ≡ true
 called_ok a b c x y z n next u is_done ok low called own refused mends none =
     let there : n < b.state.made = subst (λ k. n < k) (sym (called_made a b x y n next is_done called)) low in
-    done_by u (raid_by c) n ok refused (subst (λ (k : View). LosesOnly k ((raid_by c).arrays n)) own (mends.moves.arrays n there)) none
+    done_by u (raid_by c) n ok refused (subst (λ (k : View). OnlyFailures k ((raid_by c).arrays n)) own (mends.moves.arrays n there)) none
 
 -- THE CALL AND THE MENDING AFTER IT, where it is answered by what the array lacks then
-pub grows_answered : (change : Raid → Change) (Lacking : Raid → Raid → Type 0) (a b c : Arrays) (x y z : Seen) (n : ℕ) (next u : View) (is_done ok answered : Bool)
+pub grows_answered : (change : Raid → Change) (Lacking : Raid → Raid → Type 0) (a b c : Arrays) (x y z : RackView) (n : ℕ) (next u : View) (is_done ok answered : Bool)
     → change (raid_by a) ≡ steps n next → n < a.state.made → HasCalled a b x y n next is_done → get_or b.all.items n no_array ≡ u
     → (ok ≡ true → is_done ≡ true) → (ok ≡ false → lacks_two u ≡ true) → Mends (raid_by b) (raid_by c) y z → GetsLonger (raid_by a) (changed (steps n next) (raid_by a))
     → answered ≡ not (lacks (raid_by c) n) → (lacks (raid_by c) n ≡ true → Lacking (raid_by a) (raid_by c))
@@ -157,7 +157,7 @@ grows_answered change Lacking a b c x y z n next u is_done ok answered change_is
 
 -- ---- a step of a reshape, and what contents hold in it
 
-pub reshape_call : (step : View → View) (a : Arrays) (all : ArrayVec View) (log : LogView) (x y : Seen) (n number : ℕ) (old u : View) (on : List ℕ) (answered : Bool)
+pub reshape_call : (step : View → View) (a : Arrays) (all : ArrayVec View) (log : LogView) (x y : RackView) (n number : ℕ) (old u : View) (on : List ℕ) (answered : Bool)
     → IsRunning a x → IsHeeded (raid_by a) → IsAtRest (raid_by a) n → MayBecome (raid_by a) n (step ((raid_by a).arrays n)) x
     → KeepsMembers ((raid_by a).arrays n) (step ((raid_by a).arrays n)) → old ≡ get_or a.all.items n no_array → all.items ≡ set a.all.items n u
     → number ≡ a.log.number → number ≤ log.number → on ≡ current_places a.state → list_all (λ place. nat_lt place 16) u.went ≡ true → Goes x y
@@ -185,7 +185,7 @@ reshape_call step a all log x y n number old u on answered running heeded rest m
           (subst (λ k. Reshapes old (step old) u k log.number on x y answered) number_is reshapes));
     }
 
-pub reshape_answered : (change : Raid → Change) (Lacking : Raid → Raid → Type 0) (a c : Arrays) (all : ArrayVec View) (log : LogView) (x y z : Seen) (n : ℕ) (next u : View) (on : List ℕ) (ok answered : Bool)
+pub reshape_answered : (change : Raid → Change) (Lacking : Raid → Raid → Type 0) (a c : Arrays) (all : ArrayVec View) (log : LogView) (x y z : RackView) (n : ℕ) (next u : View) (on : List ℕ) (ok answered : Bool)
     (call : ReshapeCall (raid_by a) (λ k. get_or all.items k no_array) next log.number n x y on ok) → change (raid_by a) ≡ steps n next → get_or all.items n no_array ≡ u
     → (ok ≡ false → lacks_two u ≡ true) → Mends (raid_by (record a { all = all; log = log })) (raid_by c) y z → GetsLonger (raid_by a) (changed (steps n next) (raid_by a))
     → answered ≡ not (lacks (raid_by c) n) → (lacks (raid_by c) n ≡ true → Lacking (raid_by a) (raid_by c))
@@ -199,11 +199,11 @@ reshape_answered change Lacking a c all log x y z n next u on ok answered call c
     (record { set = call.set; heeded = call.heeded; may = call.may; others = call.others; stays = call.goes.stays; later = call.later; view = call.reshapes.steps.view }) in
     reshapes_one change Lacking (raid_by a) (raid_by (record a { all = all; log = log })) (raid_by c) n next x y z is_done answered change_is call.goes.stays calls
     (λ done_is. call.reshapes.steps.answer (done_by u (raid_by c) n ok refused
-    (subst (λ (k : View). LosesOnly k ((raid_by c).arrays n)) own (mends.moves.arrays n call.may.low)) (not_of_true (lacks (raid_by c) n) (sym is ∙ done_is))))
+    (subst (λ (k : View). OnlyFailures k ((raid_by c).arrays n)) own (mends.moves.arrays n call.may.low)) (not_of_true (lacks (raid_by c) n) (sym is ∙ done_is))))
     mends longer (λ refuses. lacking (not_of_false (lacks (raid_by c) n) (sym is ∙ refuses))) turn
 
 -- THE SAME FOR ROWS, where it is answered how many they are
-pub rows_answered : (a c : Arrays) (all : ArrayVec View) (log : LogView) (x y z : Seen) (n most : ℕ) (next : ℕ → View) (u : View) (on : List ℕ) {E : Type 0} (did : Result ℕ E) (result : Result ℕ Stuck) (rows : ℕ)
+pub rows_answered : (a c : Arrays) (all : ArrayVec View) (log : LogView) (x y z : RackView) (n most : ℕ) (next : ℕ → View) (u : View) (on : List ℕ) {E : Type 0} (did : Result ℕ E) (result : Result ℕ Stuck) (rows : ℕ)
     → 0 < rows → rows ≤ most → rows ≤ rows_of ((raid_by a).arrays n) - next_row ((raid_by a).arrays n) → IfOk did (λ k. k ≡ rows)
     → (call : ReshapeCall (raid_by a) (λ k. get_or all.items k no_array) (next rows) log.number n x y on (is_ok did)) → moves n rows (raid_by a) ≡ steps n (next rows) → get_or all.items n no_array ≡ u
     → (is_ok did ≡ false → lacks_two u ≡ true) → Mends (raid_by (record a { all = all; log = log })) (raid_by c) y z → GetsLonger (raid_by a) (changed (steps n (next rows)) (raid_by a))
@@ -228,11 +228,11 @@ rows_answered a c all log x y z n most next u on did result rows some few left n
       | inl lacking ↦ sym (ap not lacking)
       | inr has ↦
           absurd (both_ways (is_ok did) none
-          (done_by u (raid_by c) n (is_ok did) refused (subst (λ (k : View). LosesOnly k ((raid_by c).arrays n)) own (mends.moves.arrays n call.may.low)) has))
+          (done_by u (raid_by c) n (is_ok did) refused (subst (λ (k : View). OnlyFailures k ((raid_by c).arrays n)) own (mends.moves.arrays n call.may.low)) has))
     ]
 
 -- one row at most is one
-pub one_moved : (n : ℕ) (v w : Raid) (x y : Seen) {E : Type 0} (result : Result ℕ E) → MovesRows n 1 v w x y result → MakesReshape (moves n 1) (Lacks (Reshape n)) n v w x y (is_ok result)
+pub one_moved : (n : ℕ) (v w : Raid) (x y : RackView) {E : Type 0} (result : Result ℕ E) → MovesRows n 1 v w x y result → MakesReshape (moves n 1) (Lacks (Reshape n)) n v w x y (is_ok result)
 one_moved n v w x y result does =
     let some = does.some in
     let few = does.few in
@@ -241,7 +241,7 @@ one_moved n v w x y result does =
 -- ---- a drive that joins
 
 -- what a call asks for by these places and this drive is what the book asks for
-pub begun_view : (old u : View) (on places : List ℕ) (place : ℕ) (drive id : Id) (x y : Seen) (is_done : Bool) → on ≡ places → drive ≡ id
+pub begun_view : (old u : View) (on places : List ℕ) (place : ℕ) (drive id : Id) (x y : RackView) (is_done : Bool) → on ≡ places → drive ≡ id
     → Stepped old (joined old on place drive) u x y is_done → Stepped old (joined old places place id) u x y is_done
 begun_view old u on places place drive id x y is_done on_is drive_is view =
     subst (λ (ps : List ℕ). Stepped old (joined old ps place id) u x y is_done) on_is

@@ -4,7 +4,7 @@ use Rattle.std.specs.Option.{option_map_or}
 use Rattle.std.proofs.lemmas.Bool.{cases_Bool, cases_lt}
 use Rattle.std.proofs.lemmas.Option.{slice_get-get_or, slice_get_past}
 use Rattle.arrayvec.specs.ArrayVec.{ArrayVec}
-use Rattle.rack.specs.Seen.{Seen}
+use Rattle.rack.specs.Seen.{RackView}
 use Rattle.rack.specs.Targets.{Target}
 use Rattle.pool_state.specs.declared.contents.Plan.{Plan}
 use Rattle.pool_state.specs.declared.contents.Plan.TheVariants.{Replace}
@@ -33,7 +33,7 @@ use Rattle.raid_laws.specs.Truths.{JoinsTruths, KeepsTruths}
 use Rattle.raid_rack.proofs.Truths.{makes_commit, makes_kept}
 
 -- a new drive may join, over slices that it has
-pub record HasSeats (a : Arrays) (place units sectors : ℕ) (plan : Plan) (x : Seen) : Type 0 where
+pub record HasSeats (a : Arrays) (place units sectors : ℕ) (plan : Plan) (x : RackView) : Type 0 where
   pub running : IsRunning a x
   pub heeded : IsHeeded (raid_by a)
   pub unmarked : (n : ℕ) → n < a.state.made → IsUnmarked ((raid_by a).arrays n)
@@ -46,7 +46,7 @@ pub record HasSeats (a : Arrays) (place units sectors : ℕ) (plan : Plan) (x : 
   pub slices : HasNewSlices a.all.items place sectors x
   pub reaches : ReachesAll a.all.items place sectors
 
-pub may_join : (a : Arrays) (place units sectors : ℕ) (plan : Plan) (x : Seen) → HasSeats a place units sectors plan x
+pub may_join : (a : Arrays) (place units sectors : ℕ) (plan : Plan) (x : RackView) → HasSeats a place units sectors plan x
     → MayJoinPool place units plan (joins a.all.items place sectors) (raid_by a) x
 may_join a place units sectors plan x has = record {
   set = has.running.set;
@@ -80,7 +80,7 @@ may_join a place units sectors plan x has = record {
         ]
 
 -- what the code has made before its commit: `d` are the arrays with the new members, `t` is the state, `l` the log with `xs` staged first
-pub record IsJoining (a d : Arrays) (place units sectors : ℕ) (plan : Plan) (joining : ℕ → Bool) (t : State) (on takes : List ℕ) (l : LogView) (xs : List Target) (x : Seen)
+pub record IsJoining (a d : Arrays) (place units sectors : ℕ) (plan : Plan) (joining : ℕ → Bool) (t : State) (on takes : List ℕ) (l : LogView) (xs : List Target) (x : RackView)
     : Type 0 where
   pub has : HasSeats a place units sectors plan x
   pub joining_are : (n : ℕ) → joining n ≡ joins a.all.items place sectors n
@@ -92,7 +92,7 @@ pub record IsJoining (a d : Arrays) (place units sectors : ℕ) (plan : Plan) (j
   pub copies : AddsCopies t takes xs l.added
   pub number : l.number ≡ a.log.number
 
-module _ (a d : Arrays) (place units sectors : ℕ) (plan : Plan) (joining : ℕ → Bool) (t : State) (on takes : List ℕ) (l : LogView) (xs : List Target) (x : Seen)
+module _ (a d : Arrays) (place units sectors : ℕ) (plan : Plan) (joining : ℕ → Bool) (t : State) (on takes : List ℕ) (l : LogView) (xs : List Target) (x : RackView)
     (is : IsJoining a d place units sectors plan joining t on takes l xs x) where
   abbrev v : Raid
   v = raid_by a
@@ -130,7 +130,7 @@ module _ (a d : Arrays) (place units sectors : ℕ) (plan : Plan) (joining : ℕ
 
   -- ---- the commit, and who went in it noted
 
-  module _ (gone : List ℕ) (y : Seen) (call : CommitCall l on gone x y) (all : ArrayVec View)
+  module _ (gone : List ℕ) (y : RackView) (call : CommitCall l on gone x y) (all : ArrayVec View)
       (each : (n : ℕ) → slice_get all.items n ≡ option_map (without gone) (slice_get d.all.items n)) (same_count : length all.items ≡ length d.all.items)
       (log : LogView) (number : log.number ≡ next_number l.number) where
     abbrev f : ℕ → View
@@ -166,7 +166,7 @@ module _ (a d : Arrays) (place units sectors : ℕ) (plan : Plan) (joining : ℕ
 
     -- ---- and then whoever went is marked
 
-    module _ (b : Arrays) (z : Seen) (mends : Mends (raid_by (record d { state = t; all = all; log = log })) (raid_by b) y z) where
+    module _ (b : Arrays) (z : RackView) (mends : Mends (raid_by (record d { state = t; all = all; log = log })) (raid_by b) y z) where
       mends_m : Mends m (raid_by b) y z
       mends_m = subst (λ (r : Raid). Mends r (raid_by b) y z) (sym whole) mends
 

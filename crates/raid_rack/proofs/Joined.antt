@@ -4,7 +4,7 @@ use Rattle.std.proofs.Common.{◌≡◌, ◌≢◌, ℕ, ◌+◌, ◌-◌, ◌^�
 use Rattle.std.specs.Option.{option_map_or}
 use Rattle.std.proofs.lemmas.Bool.{and_from, both_ways, cases_Bool, cases_eq, ne_eqb}
 use Rattle.rack.specs.Values.{Values}
-use Rattle.rack.specs.Seen.{Image, Seen}
+use Rattle.rack.specs.Seen.{Image, RackView}
 use Rattle.rack.specs.Targets.{Target, put}
 use Rattle.md_super.specs.declared.superblock.Super.{Super}
 use Rattle.pool_state.specs.declared.contents.Plan.{Plan}
@@ -17,17 +17,17 @@ use Rattle.array_image.specs.Supers.{is_super_of, only_if, super_in, super_of}
 use Rattle.array_image.specs.Arrays.{place_with, replayed}
 use Rattle.array_image.specs.Spent.{spent_by}
 use Rattle.array_image.specs.Even.{AreEven}
-use Rattle.array_image.specs.Held.{IsSettled, current_in}
+use Rattle.array_image.specs.Held.{IsSynced, current_in}
 use Rattle.array_image.specs.Left.{Picks}
 use Rattle.array_image.specs.Marks.{lowered}
 use Rattle.array_image.proofs.Frames.{super_of_sector}
 use Rattle.array_image.proofs.Marked.{marked_super}
 use Rattle.log_laws.specs.View.{LogView, names, next_number}
 use Rattle.log_laws.specs.Standing.{IsAlike}
-use Rattle.log_laws.specs.Kept.{AreLeft, Brings, BringsTo, LogKept, MayJoin, gone_but}
+use Rattle.log_laws.specs.Kept.{AreLeft, CarriesState, BringsTo, LogInvariant, MayJoin, gone_but}
 use Rattle.log_laws.proofs.Kept.{joined_decides, joined_ready, put_none}
 use Rattle.array_model.specs.View.{View, may_vary, place_at, shape_of}
-use Rattle.array_model.specs.ArrayCalls.{Covers}
+use Rattle.array_model.specs.ArrayCalls.{IncludesSpent}
 use Rattle.array_model.specs.Says.{HasNoOthers, HoldsData}
 use Rattle.array_model.proofs.Losses.{IsLosing}
 use Rattle.array_model.proofs.Noting.{laid_out, unspent_then}
@@ -36,9 +36,9 @@ use Rattle.raid_laws.specs.Enlisting.{IsNewLog, SaysBy, next_drive}
 use Rattle.raid_laws.specs.Losses.{AddsCopies, has_other}
 use Rattle.array_core.specs.Seats.{renewed}
 use Rattle.raid_laws.specs.Marking.{Restates}
-use Rattle.raid_laws.specs.Moves.{IsAmid, Mends}
+use Rattle.raid_laws.specs.Moves.{IsTrackedInCall, Mends}
 use Rattle.log_laws.proofs.FirstGate.{closed_gate}
-use Rattle.raid_laws.specs.Raid.{Raid, IsWritten, Stood, gone_in, is_over}
+use Rattle.raid_laws.specs.Raid.{Raid, IsWritten, InvariantInCall, gone_in, is_failed}
 use Rattle.raid_laws.specs.Settling.{state_after}
 use Rattle.raid_laws.specs.Vacated.{FindsArray}
 use Rattle.raid_laws.proofs.Added.{marks_bring, names_current}
@@ -64,12 +64,12 @@ none_there : super_of [] ≡ None
 unfolding bytes_at number_at
 none_there = refl
 
-module _ (place units : ℕ) (plan : Plan) (joining : ℕ → Bool) (v : Raid) (on takes gone : List ℕ) (l : LogView) (xs : List Target) (f : ℕ → View) (x y : Seen)
+module _ (place units : ℕ) (plan : Plan) (joining : ℕ → Bool) (v : Raid) (on takes gone : List ℕ) (l : LogView) (xs : List Target) (f : ℕ → View) (x y : RackView)
     (may : MayJoinPool place units plan joining v x) (commit : IsCommitBy (listed_raid place units plan joining v) [] takes on gone l xs f x y)
-    (w : Raid) (z : Seen) (mends : Mends (raid_after (listed_raid place units plan joining v) [] (next_number l.number) f) w y z)
+    (w : Raid) (z : RackView) (mends : Mends (raid_after (listed_raid place units plan joining v) [] (next_number l.number) f) w y z)
     (on_are : on ≡ current_places v.state) (new_log : IsNewLog place x) (other : has_other w.state place ≡ true)
     (n : ℕ) (vals : ℕ → Values) (spent : ℕ → Bool) (joined : n < v.state.joined) (low : n < v.state.made)
-    (goes : is_over w n ≡ false) (covers : Covers (w.arrays n) spent)
+    (goes : is_failed w n ≡ false) (covers : IncludesSpent (w.arrays n) spent)
     (s : State) (before : ℕ → Bool) (finds : FindsArray s before place v x n vals spent) where
   abbrev u : Raid
   u = listed_raid place units plan joining v
@@ -133,7 +133,7 @@ module _ (place units : ℕ) (plan : Plan) (joining : ℕ → Bool) (v : Raid) (
 
   -- ---- the commit
 
-  m_goes : is_over m n ≡ false
+  m_goes : is_failed m n ≡ false
   m_goes = mends.moves.still n low goes
 
   room : (l.number < 2 ^ 63 - 1) × (v.state.epoch < 2 ^ 63 - 1)
@@ -147,8 +147,8 @@ module _ (place units : ℕ) (plan : Plan) (joining : ℕ → Bool) (v : Raid) (
       let after = mends.moves.book.epoch in
       (omega (arith, number, up, later), omega (arith, epoch, first, after))
 
-  pub kept : LogKept s l.number before x
-  kept = subst (λ k. LogKept s k before x) (sym commit.marking.number) finds.log
+  pub kept : LogInvariant s l.number before x
+  kept = subst (λ k. LogInvariant s k before x) (sym commit.marking.number) finds.log
 
   pub on_current : (p : ℕ) → names on p ≡ is_current v.state p
   on_current p = ap (λ ps. names ps p) on_are ∙ names_current v.state p
@@ -185,9 +185,9 @@ module _ (place units : ℕ) (plan : Plan) (joining : ℕ → Bool) (v : Raid) (
   was_then : (p : ℕ) → is_current t p ≡ true → p ≢ place → is_current v.state p ≡ true
   was_then p is away = sym (current_then p ∙ ap (λ b. b || is_current v.state p) (ne_eqb p place away)) ∙ is
 
-  new_state : Brings (listed place units plan v.state) t l.added takes
+  new_state : CarriesState (listed place units plan v.state) t l.added takes
   new_state =
-      subst (Brings (listed place units plan v.state) t l.added) (sym commit.marking.on_is)
+      subst (CarriesState (listed place units plan v.state) t l.added) (sym commit.marking.on_is)
       (marks_bring (listed place units plan v.state) [] xs l.added room.1
       (subst (λ ps. AddsCopies t ps xs l.added) commit.marking.on_is commit.marking.copies)
       (supers_inside u [] takes l xs x commit.marking) (supers_calm u [] takes l xs x commit.marking))
@@ -301,7 +301,7 @@ module _ (place units : ℕ) (plan : Plan) (joining : ℕ → Bool) (v : Raid) (
       restates_by (listed place units plan v.state) t (gone_in u) (u.arrays n) l.added x n staged alone holds.open_left
       (subst (λ k. AreEven (shape_of (u.arrays n)) n k (current_in x.held)) (sym resync_same) holds.even)
 
-  settled_now : IsSettled (shape_of (u.arrays n)) n x.held
+  settled_now : IsSynced (shape_of (u.arrays n)) n x.held
   settled_now = staged.settled
 
   -- ---- after it
@@ -312,7 +312,7 @@ module _ (place units : ℕ) (plan : Plan) (joining : ℕ → Bool) (v : Raid) (
   losing : IsLosing (u.arrays n) (f n) (names gone)
   losing = commit_losing u [] takes gone l xs f x y commit n low
 
-  pub stood_after : Stood t (shape_of (u.arrays n)) vals spent (gone_but before takes gone) m y n
+  pub stood_after : InvariantInCall t (shape_of (u.arrays n)) vals spent (gone_but before takes gone) m y n
   unfolding marks_call
   stood_after =
       let noted = shape_of (u.arrays n) in
@@ -326,10 +326,10 @@ module _ (place units : ℕ) (plan : Plan) (joining : ℕ → Bool) (v : Raid) (
       (unspent_then (u.arrays n) (f n) (names gone) losing k (mends.moves.spent n k low (covers k alive)))))
       kept marks_call
 
-  pub amid_after : IsAmid m y n vals spent
+  pub amid_after : IsTrackedInCall m y n vals spent
   amid_after = record {
     durable = shape_of (u.arrays n);
-    stood = subst (λ g. Stood t (shape_of (u.arrays n)) vals spent g m y n) (λ i p. gone_same p i) stood_after;
+    stood = subst (λ g. InvariantInCall t (shape_of (u.arrays n)) vals spent g m y n) (λ i p. gone_same p i) stood_after;
     slices = live_later v.state.made x y commit.call.stays may.set.lasting finds.slices;
     marked = λ are.
         let none : names gone ≡ (λ p. false) = λ i p. none_gone u [] takes gone l xs f x y commit n low are p i in

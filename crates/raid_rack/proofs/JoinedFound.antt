@@ -3,7 +3,7 @@
 use Rattle.std.proofs.Common.{◌≡◌, ◌≢◌, ◌⊎◌, ℕ, ◌+◌, ◌-◌, ◌≤◌, ◌<◌, ◌^◌, if◌then◌else◌, Bool, true, false, List, [], Some, option_map, sym, ap, subst, ◌∙◌, inl, inr, lt-ltb, arith}
 use Rattle.std.specs.Option.{option_map_or}
 use Rattle.rack.specs.Values.{Values}
-use Rattle.rack.specs.Seen.{Image, Seen}
+use Rattle.rack.specs.Seen.{Image, RackView}
 use Rattle.rack.specs.Joins.{leaves_then, leaves_weaker}
 use Rattle.rack.specs.Moments.{Leaves}
 use Rattle.rack.specs.Targets.{Target, look, put}
@@ -19,9 +19,9 @@ use Rattle.array_image.proofs.Frames.{state_same}
 use Rattle.array_image.proofs.Replays.{replayed_as_is}
 use Rattle.array_core.specs.Superblocks.{is_settled}
 use Rattle.array_model.specs.View.{View, shape_of}
-use Rattle.array_model.specs.ArrayCalls.{Covers}
-use Rattle.log_laws.specs.Commits.{Commits, StandsMidway}
-use Rattle.log_laws.specs.Kept.{LogKept, gone_but}
+use Rattle.array_model.specs.ArrayCalls.{IncludesSpent}
+use Rattle.log_laws.specs.Commits.{ImageInCommit, StandsMidway}
+use Rattle.log_laws.specs.Kept.{LogInvariant, gone_but}
 use Rattle.log_laws.specs.Saying.{HoldsCopies}
 use Rattle.log_laws.specs.Standing.{IsAlike}
 use Rattle.log_laws.specs.View.{LogView, names, next_number}
@@ -29,15 +29,15 @@ use Rattle.commit_log.proofs.Amid.{same_replayed}
 use Rattle.log_laws.proofs.Kept.{before_inside, kept_replayed}
 use Rattle.commit_log.proofs.Replaced.{replaced_says}
 use Rattle.commit_log.proofs.Saying.{commit_moments, midway_replaced, midway_yet}
-use Rattle.raid_laws.specs.Book.{IsAfter, after_same}
+use Rattle.raid_laws.specs.Book.{OnlyMarksSince, after_same}
 use Rattle.raid_laws.specs.Enlisting.{FindsPart, IsNewLog, SaysBy, SaysLatter, StandsYet, enlisted, next_drive}
 use Rattle.raid_laws.specs.Frames.{Frame, HasFrame, frame_of}
 use Rattle.raid_laws.specs.Laws.{stood_left}
 use Rattle.raid_laws.specs.Logs.{KeepsLogs, LogsBetween, StandsSince}
 use Rattle.raid_laws.specs.Losses.{has_other}
 use Rattle.raid_laws.specs.Marking.{Restates, SaysBetween}
-use Rattle.raid_laws.specs.Moves.{IsAmid, Mends, PartOf}
-use Rattle.raid_laws.specs.Raid.{Raid, Stood, is_over}
+use Rattle.raid_laws.specs.Moves.{IsTrackedInCall, Mends, SubCall}
+use Rattle.raid_laws.specs.Raid.{Raid, InvariantInCall, is_failed}
 use Rattle.raid_laws.specs.Rows.{LeavesFrom, LeavesRows}
 use Rattle.raid_laws.specs.Settling.{state_after}
 use Rattle.raid_laws.specs.Since.{HoldsTakenSince, IsTakenSince, KeepsTakenSince, each_then}
@@ -58,12 +58,12 @@ use Rattle.raid_laws.proofs.Own.{look_nothing}
 use Rattle.raid_rack.proofs.Renewed.{renewed_clear, renewed_truth}
 use Rattle.raid_laws.proofs.Rows.{KeepsClear}
 
-module _ (place units : ℕ) (plan : Plan) (joining : ℕ → Bool) (v : Raid) (on takes gone : List ℕ) (l : LogView) (xs : List Target) (f : ℕ → View) (x y : Seen)
+module _ (place units : ℕ) (plan : Plan) (joining : ℕ → Bool) (v : Raid) (on takes gone : List ℕ) (l : LogView) (xs : List Target) (f : ℕ → View) (x y : RackView)
     (may : MayJoinPool place units plan joining v x) (commit : IsCommitBy (listed_raid place units plan joining v) [] takes on gone l xs f x y)
-    (w : Raid) (z : Seen) (mends : Mends (raid_after (listed_raid place units plan joining v) [] (next_number l.number) f) w y z)
+    (w : Raid) (z : RackView) (mends : Mends (raid_after (listed_raid place units plan joining v) [] (next_number l.number) f) w y z)
     (on_are : on ≡ current_places v.state) (new_log : IsNewLog place x) (other : has_other w.state place ≡ true)
     (n : ℕ) (vals : ℕ → Values) (spent : ℕ → Bool) (joined : n < v.state.joined) (low : n < v.state.made)
-    (goes : is_over w n ≡ false) (covers : Covers (w.arrays n) spent)
+    (goes : is_failed w n ≡ false) (covers : IncludesSpent (w.arrays n) spent)
     (s : State) (before : ℕ → Bool) (finds : FindsArray s before place v x n vals spent) where
   abbrev u : Raid
   u = listed_raid place units plan joining v
@@ -92,19 +92,19 @@ module _ (place units : ℕ) (plan : Plan) (joining : ℕ → Bool) (v : Raid) (
   unfolding call
   away = call_away place units plan joining v on takes gone l xs f x y may commit w z mends on_are new_log other n vals spent joined low goes covers s before finds
 
-  as_kept : LogKept s l.number before x
+  as_kept : LogInvariant s l.number before x
   as_kept = kept place units plan joining v on takes gone l xs f x y may commit w z mends on_are new_log other n vals spent joined low goes covers s before finds
 
   restated : Restates t (shape_of (u.arrays n)) false (u.arrays n) l.added x n
   restated = restates place units plan joining v on takes gone l xs f x y may commit w z mends on_are new_log other n vals spent joined low goes covers s before finds
 
-  stood : Stood t (shape_of (u.arrays n)) vals spent (gone_but before takes gone) m y n
+  stood : InvariantInCall t (shape_of (u.arrays n)) vals spent (gone_but before takes gone) m y n
   stood = stood_after place units plan joining v on takes gone l xs f x y may commit w z mends on_are new_log other n vals spent joined low goes covers s before finds
 
-  after : IsAmid m y n vals spent
+  after : IsTrackedInCall m y n vals spent
   after = amid_after place units plan joining v on takes gone l xs f x y may commit w z mends on_are new_log other n vals spent joined low goes covers s before finds
 
-  later : PartOf m w y z n vals vals spent
+  later : SubCall m w y z n vals vals spent
   later = mends.moves.parts n vals spent joined low goes covers
 
   truth_same : (u.arrays n).truth ≡ (v.arrays n).truth
@@ -123,7 +123,7 @@ module _ (place units : ℕ) (plan : Plan) (joining : ℕ → Bool) (v : Raid) (
 
   -- ---- at a moment of it
 
-  module _ (c : Image) (inside : IsInside x.sectors c) (commits : Commits l.added x c) (mid : StandsMidway l on x c) where
+  module _ (c : Image) (inside : IsInside x.sectors c) (commits : ImageInCommit l.added x c) (mid : StandsMidway l on x c) where
     picks : Picks x commits.before
     picks = before_inside l.added x c commits.before inside commits.stands commits.either
 
@@ -168,7 +168,7 @@ module _ (place units : ℕ) (plan : Plan) (joining : ℕ → Bool) (v : Raid) (
           ]
 
       -- as they stand they say it too, or the state before, and then the record is pending
-      stands : (stood : State) → state_in c ≡ Some stood → IsAfter t stood ⊎ StandsYet s t v.number x.sectors c stood
+      stands : (stood : State) → state_in c ≡ Some stood → OnlyMarksSince t stood ⊎ StandsYet s t v.number x.sectors c stood
       stands stood at = elim (midway_stands s t before l on gone x y call as_kept c mid) [
         | inr now ↦ inl (stands_same t c now stood at)
         | inl yet ↦
@@ -270,13 +270,13 @@ module _ (place units : ℕ) (plan : Plan) (joining : ℕ → Bool) (v : Raid) (
   moments : x.traced → Leaves x z (λ c. Leaves_now t c)
   moments traced =
       let Clean : Type 0 = (is_settled (v.arrays n) ≡ true) × ((v.arrays n).young ≡ false) in
-      let Said : Image → Type 0 = λ c. IsInside y.sectors c → IsAmid m y n vals spent → SaysBetween t w.state n vals spent (replayed y.sectors c) in
+      let Said : Image → Type 0 = λ c. IsInside y.sectors c → IsTrackedInCall m y n vals spent → SaysBetween t w.state n vals spent (replayed y.sectors c) in
       let Logs : Image → Type 0 = λ c. IsInside y.sectors c → LogsBetween t w.state y.sectors c in
       let Stands_now : Image → Type 0 = λ c. IsInside y.sectors c → StandsSince t c in
       let Framed : Image → Type 0 = λ c. IsInside y.sectors c → HasFrame g n (replayed y.sectors c) in
       let Rows : Image → Type 0 = λ c. IsInside y.sectors c → LeavesFrom (f n).resync n (replayed y.sectors c) in
       leaves_then (λ c. Leaves_now t c)
-      (leaves_weaker (λ c. LogsInside x.sectors c → Commits l.added x c × StandsMidway l on x c) (λ c. Leaves_now t c)
+      (leaves_weaker (λ c. LogsInside x.sectors c → ImageInCommit l.added x c × StandsMidway l on x c) (λ c. Leaves_now t c)
       (λ c found inside.
       let both = found (λ p i out. inside (log_slice p) i out) in
       elim both.0.either [

@@ -3,7 +3,7 @@
 use Rattle.std.proofs.Common.{◌≡◌, ◌⊎◌, ℕ, ◌≤◌, ◌<◌, ◌&&◌, ◌||◌, not, Bool, true, false, List, [], None, refl, sym, ap, subst, ◌∙◌, inl, inr, arith}
 use Rattle.std.proofs.lemmas.Bool.{both_ways, cases_eq, ne_eqb}
 use Rattle.rack.specs.Values.{MayLeave, Values}
-use Rattle.rack.specs.Seen.{Image, Seen}
+use Rattle.rack.specs.Seen.{Image, RackView}
 use Rattle.rack.specs.Joins.{leaves_then, leaves_weaker}
 use Rattle.rack.specs.Moments.{Leaves}
 use Rattle.rack.specs.Targets.{Target}
@@ -13,17 +13,17 @@ use Rattle.array_image.specs.Places.{log_slice, member_slice, place_of, super_se
 use Rattle.array_image.specs.States.{current_places, is_current}
 use Rattle.array_image.specs.Supers.{super_in}
 use Rattle.array_image.specs.Arrays.{replayed}
-use Rattle.array_image.specs.Held.{IsSettled}
+use Rattle.array_image.specs.Held.{IsSynced}
 use Rattle.array_image.specs.Left.{IsInside, LogsInside, Picks}
 use Rattle.array_image.proofs.Frames.{super_of_sector}
 use Rattle.log_laws.specs.View.{LogView, names, next_number}
-use Rattle.log_laws.specs.Commits.{Commits}
+use Rattle.log_laws.specs.Commits.{ImageInCommit}
 use Rattle.log_laws.specs.Standing.{IsAlike}
-use Rattle.log_laws.specs.Kept.{LogKept, gone_but}
-use Rattle.log_laws.specs.Saying.{HoldsCopies, KeepsDrives, SaysState}
+use Rattle.log_laws.specs.Kept.{LogInvariant, gone_but}
+use Rattle.log_laws.specs.Saying.{HoldsCopies, KeepsDrives, RecoversTo}
 use Rattle.log_laws.proofs.Kept.{before_inside, stands_of}
 use Rattle.array_model.specs.View.{View, shape_of}
-use Rattle.array_model.specs.ArrayCalls.{Covers}
+use Rattle.array_model.specs.ArrayCalls.{IncludesSpent}
 use Rattle.array_model.specs.Says.{HoldsData}
 use Rattle.array_model.proofs.Losses.{data_of}
 use Rattle.raid_laws.specs.Book.{after_same}
@@ -33,8 +33,8 @@ use Rattle.raid_laws.specs.Laws.{stood_left}
 use Rattle.raid_laws.specs.Logs.{LogsBetween}
 use Rattle.raid_laws.specs.Losses.{has_other}
 use Rattle.raid_laws.specs.Marking.{SaysBetween}
-use Rattle.raid_laws.specs.Moves.{IsAmid, Mends}
-use Rattle.raid_laws.specs.Raid.{Raid, gone_in, is_over}
+use Rattle.raid_laws.specs.Moves.{IsTrackedInCall, Mends}
+use Rattle.raid_laws.specs.Raid.{Raid, gone_in, is_failed}
 use Rattle.raid_laws.specs.Rows.{KeepsRows, LeavesRows, rows_then}
 use Rattle.raid_laws.specs.Settling.{state_after}
 use Rattle.raid_laws.specs.Since.{HoldsSince, HoldsTakenSince, IsJoinSince, IsTakenSince, KeepsJoinSince, KeepsTakenSince, each_then, each_weaker, taken_join}
@@ -55,13 +55,13 @@ use Rattle.raid_laws.proofs.ReseatedLogs.{no_copy}
 use Rattle.raid_rack.proofs.Renewed.{renewed_clear, renewed_truth}
 use Rattle.raid_laws.proofs.Whole.{heeded_gone}
 
-module _ (place units : ℕ) (plan : Plan) (joining : ℕ → Bool) (v : Raid) (on takes gone : List ℕ) (l : LogView) (xs : List Target) (f : ℕ → View) (x y : Seen)
+module _ (place units : ℕ) (plan : Plan) (joining : ℕ → Bool) (v : Raid) (on takes gone : List ℕ) (l : LogView) (xs : List Target) (f : ℕ → View) (x y : RackView)
     (may : MayJoinPool place units plan joining v x) (commit : IsCommitBy (listed_raid place units plan joining v) [] takes on gone l xs f x y)
-    (w : Raid) (z : Seen) (mends : Mends (raid_after (listed_raid place units plan joining v) [] (next_number l.number) f) w y z)
+    (w : Raid) (z : RackView) (mends : Mends (raid_after (listed_raid place units plan joining v) [] (next_number l.number) f) w y z)
     (on_are : on ≡ current_places v.state) (new_log : IsNewLog place x) (other : has_other w.state place ≡ true)
     (n : ℕ) (vals : ℕ → Values) (spent : ℕ → Bool) (joined : n < v.state.joined) (low : n < v.state.made)
-    (goes : is_over w n ≡ false) (covers : Covers (w.arrays n) spent)
-    (amid : IsAmid v x n vals spent) (settled : IsSettled (shape_of (v.arrays n)) n x.held) where
+    (goes : is_failed w n ≡ false) (covers : IncludesSpent (w.arrays n) spent)
+    (amid : IsTrackedInCall v x n vals spent) (settled : IsSynced (shape_of (v.arrays n)) n x.held) where
   abbrev u : Raid
   u = listed_raid place units plan joining v
 
@@ -97,7 +97,7 @@ module _ (place units : ℕ) (plan : Plan) (joining : ℕ → Bool) (v : Raid) (
         (amid.stood.holds.alone (replayed x.sectors c) (c, picks, λ e i. refl) p current foreign);
   }
 
-  after : IsAmid m y n vals spent
+  after : IsTrackedInCall m y n vals spent
   after = amid_after place units plan joining v on takes gone l xs f x y may commit w z mends on_are new_log other n vals spent joined low goes covers v.state (gone_in v) finds
 
   -- by the state before it says what it said
@@ -135,8 +135,8 @@ module _ (place units : ℕ) (plan : Plan) (joining : ℕ → Bool) (v : Raid) (
 
   -- ---- the copies of states
 
-  kept : LogKept v.state l.number (gone_in v) x
-  kept = subst (λ k. LogKept v.state k (gone_in v) x) (sym commit.marking.number) amid.stood.log
+  kept : LogInvariant v.state l.number (gone_in v) x
+  kept = subst (λ k. LogInvariant v.state k (gone_in v) x) (sym commit.marking.number) amid.stood.log
 
   drives : KeepsDrives v.state t on
   drives =
@@ -144,7 +144,7 @@ module _ (place units : ℕ) (plan : Plan) (joining : ℕ → Bool) (v : Raid) (
       (enlisted_drives place units plan v.state on (ap (λ ps. names ps place) on_are ∙ names_current v.state place ∙ may.missing))
 
   made : HoldsCopies v.state x
-      → (x.traced → Leaves x y (λ c. IsInside x.sectors c → SaysState v.state x.sectors c ⊎ SaysState t x.sectors c)) × HoldsCopies t y
+      → (x.traced → Leaves x y (λ c. IsInside x.sectors c → RecoversTo v.state x.sectors c ⊎ RecoversTo t x.sectors c)) × HoldsCopies t y
   made copies = logs_made v.state t (gone_in v) l on gone x y call drives kept copies
 
   -- the new drive has none
@@ -173,7 +173,7 @@ module _ (place units : ℕ) (plan : Plan) (joining : ℕ → Bool) (v : Raid) (
       (each_then (IsTakenSince none v.state t) x y z commit.call.stays.sectors commit.call.stays.traced first (later.joining none v.state t (after_same t) first.holds)))
 
   abbrev Logs : Image → Type 0
-  Logs c = IsInside x.sectors c → SaysState v.state x.sectors c ⊎ LogsBetween (enlisted place units plan v.state) w.state x.sectors c
+  Logs c = IsInside x.sectors c → RecoversTo v.state x.sectors c ⊎ LogsBetween (enlisted place units plan v.state) w.state x.sectors c
 
   logs_then : HoldsCopies v.state x → x.traced → Leaves x z (λ c. Logs c)
   logs_then copies traced =
@@ -181,7 +181,7 @@ module _ (place units : ℕ) (plan : Plan) (joining : ℕ → Bool) (v : Raid) (
       let now : (c : Image) → LogsBetween t w.state x.sectors c → LogsBetween (enlisted place units plan v.state) w.state x.sectors c =
       λ c says. subst (λ (k : State). LogsBetween k w.state x.sectors c) (sym (enlisted_marked place units plan v.state)) says in
       leaves_then (λ c. Logs c)
-      (leaves_weaker (λ c. IsInside x.sectors c → SaysState v.state x.sectors c ⊎ SaysState t x.sectors c) (λ c. Logs c)
+      (leaves_weaker (λ c. IsInside x.sectors c → RecoversTo v.state x.sectors c ⊎ RecoversTo t x.sectors c) (λ c. Logs c)
       (λ c says inside. elim (says inside) [
         | inl old ↦ inl old
         | inr new ↦ inr (now c (record { state = t; later = after_same t; sooner = mends.moves.book; says = new }))
@@ -208,7 +208,7 @@ module _ (place units : ℕ) (plan : Plan) (joining : ℕ → Bool) (v : Raid) (
       frame_then g n (m.arrays n) (w.arrays n) x y z commit.call.stays
       (record {
         leaves = λ traced.
-            leaves_weaker (λ c. LogsInside x.sectors c → Commits l.added x c)
+            leaves_weaker (λ c. LogsInside x.sectors c → ImageInCommit l.added x c)
             (λ c. IsInside x.sectors c → HasFrame g n (replayed x.sectors c))
             (λ c commits inside.
             frame_moment g v.state t amid.durable (shape_of (u.arrays n)) false (u.arrays n) vals spent (gone_in v) v l on gone x y n c small call
@@ -229,7 +229,7 @@ module _ (place units : ℕ) (plan : Plan) (joining : ℕ → Bool) (v : Raid) (
       record {
         leaves = λ traced.
             leaves_then Says
-            (leaves_weaker (λ c. LogsInside x.sectors c → Commits l.added x c) Says
+            (leaves_weaker (λ c. LogsInside x.sectors c → ImageInCommit l.added x c) Says
             (λ c commits inside.
             let found = commits (λ p i out. inside (log_slice p) i out) in
             let picks = before_inside l.added x c found.before inside found.stands found.either in
@@ -241,7 +241,7 @@ module _ (place units : ℕ) (plan : Plan) (joining : ℕ → Bool) (v : Raid) (
                   c found.before picks new)))
             ])
             (commit.call.stops traced call.ready call.decides))
-            (leaves_weaker (λ c. IsInside y.sectors c → IsAmid m y n vals spent → SaysBetween t w.state n vals spent (replayed y.sectors c)) Says
+            (leaves_weaker (λ c. IsInside y.sectors c → IsTrackedInCall m y n vals spent → SaysBetween t w.state n vals spent (replayed y.sectors c)) Says
             (λ c says inside.
             inr (as_enlisted (replayed x.sectors c)
             (subst (λ (sectors : ℕ → ℕ). SaysBetween t w.state n vals spent (replayed sectors c)) (λ k d. commit.call.stays.sectors d k)

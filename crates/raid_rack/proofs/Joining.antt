@@ -2,7 +2,7 @@
 -- the drives that the pool had before.
 use Rattle.std.proofs.Common.{◌≡◌, ◌≢◌, ◌⊎◌, ℕ, ◌+◌, ◌<◌, ◌^◌, ◌==◌, ◌&&◌, ◌||◌, not, Bool, true, false, if◌then◌else◌, List, [], is_some, length, refl, sym, ap, subst, ◌∙◌, inl, inr, arith}
 use Rattle.std.proofs.lemmas.Bool.{and_parts, both_ways, cases_Bool, cases_eq, ne_eqb}
-use Rattle.rack.specs.Seen.{Seen}
+use Rattle.rack.specs.Seen.{RackView}
 use Rattle.rack.specs.Joins.{rose_early, rose_later}
 use Rattle.rack.specs.Targets.{Target}
 use Rattle.pool_state.specs.Valid.{is_valid}
@@ -18,12 +18,12 @@ use Rattle.array_image.specs.States.{current_places, is_current}
 use Rattle.log_laws.specs.View.{LogView, names, next_number}
 use Rattle.array_model.specs.View.{View, HasFault, place_at, present, shape_of, spent_in}
 use Rattle.array_core.specs.Seats.{renewed, seat_of}
-use Rattle.raid_laws.specs.Book.{IsAfter}
+use Rattle.raid_laws.specs.Book.{OnlyMarksSince}
 use Rattle.raid_laws.specs.Enlisting.{IsEnlisted, enlisted, next_drive, with_drive}
 use Rattle.raid_laws.specs.Losing.{only_then}
 use Rattle.raid_laws.specs.Losses.{AddsCopies, has_other}
 use Rattle.raid_laws.specs.Moves.{IsHeeded, IsSeated, IsSet, IsUnmarked, Mends, RaisesBy}
-use Rattle.raid_laws.specs.Raid.{Raid, gone_in, is_empty, is_left, is_over, is_used_up}
+use Rattle.raid_laws.specs.Raid.{Raid, gone_in, is_empty, is_left, is_failed, is_used_up}
 use Rattle.raid_laws.specs.Settling.{HasStaged, IsMarking}
 use Rattle.raid_laws.proofs.Added.{names_current}
 use Rattle.raid_laws.proofs.Alike.{CountAlike, alike_same, spent_alike}
@@ -55,7 +55,7 @@ lists_listed place units plan s low = record {
 }
 
 -- The arrays of a pool of which one drive is missing, over slices that its new disk has already: those of the arrays that it is a member of.
-pub record MayJoinPool (place units : ℕ) (plan : Plan) (joining : ℕ → Bool) (v : Raid) (x : Seen) : Type 0 where
+pub record MayJoinPool (place units : ℕ) (plan : Plan) (joining : ℕ → Bool) (v : Raid) (x : RackView) : Type 0 where
   pub set : IsSet v x
   pub heeded : IsHeeded v
   pub unmarked : (n : ℕ) → n < v.state.made → IsUnmarked (v.arrays n)
@@ -69,7 +69,7 @@ pub record MayJoinPool (place units : ℕ) (plan : Plan) (joining : ℕ → Bool
   pub joins : (n : ℕ) → n < v.state.made → is_some (seat_of (v.arrays n) place) ≡ joining n
   pub members : (n : ℕ) → n < v.state.made → x.sectors (member_slice place n) ≡ (if joining n then (v.arrays n).truth.size + data_sector else 0)
 
-module _ (place units : ℕ) (plan : Plan) (joining : ℕ → Bool) (v : Raid) (x : Seen) (may : MayJoinPool place units plan joining v x) where
+module _ (place units : ℕ) (plan : Plan) (joining : ℕ → Bool) (v : Raid) (x : RackView) (may : MayJoinPool place units plan joining v x) where
   drive_lists : Lists v.state place (listed place units plan v.state)
   drive_lists = lists_listed place units plan v.state may.listed
 
@@ -188,9 +188,9 @@ staged_like v w k xs same staged = record {
 
 -- ---- the whole call
 
-module _ (place units : ℕ) (plan : Plan) (joining : ℕ → Bool) (v : Raid) (on takes gone : List ℕ) (l : LogView) (xs : List Target) (f : ℕ → View) (x y : Seen)
+module _ (place units : ℕ) (plan : Plan) (joining : ℕ → Bool) (v : Raid) (on takes gone : List ℕ) (l : LogView) (xs : List Target) (f : ℕ → View) (x y : RackView)
     (may : MayJoinPool place units plan joining v x) (commit : IsCommitBy (listed_raid place units plan joining v) [] takes on gone l xs f x y)
-    (w : Raid) (z : Seen) (mends : Mends (raid_after (listed_raid place units plan joining v) [] (next_number l.number) f) w y z) where
+    (w : Raid) (z : RackView) (mends : Mends (raid_after (listed_raid place units plan joining v) [] (next_number l.number) f) w y z) where
   abbrev u : Raid
   u = listed_raid place units plan joining v
 
@@ -223,7 +223,7 @@ module _ (place units : ℕ) (plan : Plan) (joining : ℕ → Bool) (v : Raid) (
       ∙ losing_spent (u.arrays n) (f n) (names gone) (commit.marking.set.arrays n low).is_array (commit_losing u [] takes gone l xs f x y commit n low) k
       (mends.moves.spent n k low alive)
 
-  still_over : (n : ℕ) → n < v.state.made → has_other w.state place ≡ true → is_over w n ≡ false → is_over v n ≡ false
+  still_over : (n : ℕ) → n < v.state.made → has_other w.state place ≡ true → is_failed w n ≡ false → is_failed v n ≡ false
   still_over n low other goes =
       let further = after_further u [] takes gone l xs f x y commit in
       let used = (or_parts (is_used_up u) (present (u.arrays n).seats == 0)
@@ -244,7 +244,7 @@ module _ (place units : ℕ) (plan : Plan) (joining : ℕ → Bool) (v : Raid) (
   is_enlisted =
       let further = after_further u [] takes gone l xs f x y commit in
       record {
-        book = subst (λ (t : State). IsAfter t w.state) (sym (enlisted_marked place units plan v.state)) mends.moves.book;
+        book = subst (λ (t : State). OnlyMarksSince t w.state) (sym (enlisted_marked place units plan v.state)) mends.moves.book;
         plan_is = mends.moves.plan;
         arrays = λ n low.
             only_then (u.arrays n) (f n) (w.arrays n) (only_gone (u.arrays n) (f n) gone (commit.marking.set.arrays n low).is_array (commit.arrays n low))

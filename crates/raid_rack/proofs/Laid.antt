@@ -1,7 +1,7 @@
 -- A slice that is laid for a drive that joins an array, or taken away again: the arrays stand over the other tables as they did.
 use Rattle.std.proofs.Common.{◌≡◌, ℕ, ◌+◌, ◌/◌, ◌<◌, ◌≤◌, Bool, true, false, if◌then◌else◌, Some, None, Result, Ok, Err, is_ok, OnOk, OnErr, unwrap_or, refl, sym, ap, subst, ◌∙◌, inl, inr, eq-eqb, ne_eqb, arith}
 use Rattle.std.proofs.lemmas.Bool.{both_ways}
-use Rattle.rack.specs.Seen.{Seen, Stays}
+use Rattle.rack.specs.Seen.{RackView, SameRack}
 use Rattle.rack.specs.Sequences.{IsMix}
 use Rattle.rack.specs.Joins.{leaves_same, leaves_weaker, stays_same}
 use Rattle.slice_rack.specs.declared.SliceRack.{SliceRack}
@@ -31,7 +31,7 @@ other_sectors : (t u : Slices) (at first sectors d : ℕ) → Adds t u at first 
 other_sectors t u at first sectors d adds other = adds.sectors_are d ∙ ap (λ (b : Bool). if b then sectors else sectors_of t d) (ne_eqb d at other)
 
 -- the arrays over tables of which a slice differs that none of them has
-pub added_set : (t u : Slices) (x : Seen) (v : Raid) (place n first sectors : ℕ) → Adds t u (member_slice place n) first sectors → (slices_of u x).fit
+pub added_set : (t u : Slices) (x : RackView) (v : Raid) (place n first sectors : ℕ) → Adds t u (member_slice place n) first sectors → (slices_of u x).fit
     → n < v.state.made → seat_of (v.arrays n) place ≡ None → IsSet v (slices_of t x) → IsSet v (slices_of u x)
 added_set t u x v place n first sectors adds fit low joins set = record {
   fit = fit;
@@ -73,7 +73,7 @@ added_set t u x v place n first sectors adds fit low joins set = record {
         no_member (v.arrays m) place k at.is_array (subst (λ j. seat_of (v.arrays j) place ≡ None) (sym number_is) joins) inside place_is
 
 -- what an addition of a slice leaves, also where it is refused
-pub fit_laid : {R E : Type 0} (seen : R → Seen) (a : Arrays) (s r : SliceRack R) (place n at first sectors : ℕ) (result : Result (Unit {0}) E) → at ≡ member_slice place n
+pub fit_laid : {R E : Type 0} (seen : R → RackView) (a : Arrays) (s r : SliceRack R) (place n at first sectors : ℕ) (result : Result (Unit {0}) E) → at ≡ member_slice place n
     → OnOk result (Adds (tables s) (tables r) at first sectors) → OnErr result (tables r ≡ tables s) → below_of r ≡ below_of s
     → (slices_of (tables r) (seen (below_of r))).fit → n < a.state.made → seat_of ((raid_by a).arrays n) place ≡ None
     → IsFit a (slices_of (tables s) (seen (below_of s))) → IsFit a (slices_of (tables r) (seen (below_of r)))
@@ -88,7 +88,7 @@ fit_laid seen a s r place n at first sectors result at_is adds err below fit low
     by (Err e) adds err set = subst (λ t. IsSet (raid_by a) (slices_of t (seen (below_of r)))) (sym err) set
 
 -- the slice is there once it is laid
-pub laid_slice : {E : Type 0} (t u : Slices) (x : Seen) (v : Raid) (place n at first sectors : ℕ) (result : Result (Unit {0}) E) → at ≡ member_slice place n
+pub laid_slice : {E : Type 0} (t u : Slices) (x : RackView) (v : Raid) (place n at first sectors : ℕ) (result : Result (Unit {0}) E) → at ≡ member_slice place n
     → OnOk result (Adds t u at first sectors) → is_ok result ≡ true → sectors ≡ slice_length (v.arrays n) → place < 16 → n < 16 → HasJoiningSlice v n place (slices_of u x)
 laid_slice t u x v place n at first sectors (Err e) at_is adds ok long few low = absurd (both_ways false refl ok)
 laid_slice t u x v place n at first sectors (Ok is) at_is adds ok long few low = record {
@@ -100,7 +100,7 @@ laid_slice t u x v place n at first sectors (Ok is) at_is adds ok long few low =
 }
 
 -- and where it is refused it can't be laid
-pub cannot_lay : (t : Slices) (x : Seen) (v : Raid) (place n at first sectors : ℕ) (result : Result (Unit {0}) SliceFault) → at ≡ member_slice place n
+pub cannot_lay : (t : Slices) (x : RackView) (v : Raid) (place n at first sectors : ℕ) (result : Result (Unit {0}) SliceFault) → at ≡ member_slice place n
     → first ≡ first_in (views_of v) n → sectors ≡ slice_length (v.arrays n)
     → (result ≡ Err Unseated → disk_at t place ≡ None) → (result ≡ Err Outside → IsPast t x place first sectors)
     → (result ≡ Err Overlap → IsWithin t x place first sectors × Overlaps t at first sectors) → is_ok result ≡ false → CannotLay t x v place n
@@ -115,29 +115,29 @@ cannot_lay t x v place n at first sectors (Err Overlap) at_is first_is long unse
 -- ---- what goes by the places' disks alone
 
 -- faults are those of the disks
-pub same_faults : (t u : Slices) (x : Seen) → ((p : ℕ) → disk_at u p ≡ disk_at t p) → (d : ℕ) → (slices_of u x).faults d ≡ (slices_of t x).faults d
+pub same_faults : (t u : Slices) (x : RackView) → ((p : ℕ) → disk_at u p ≡ disk_at t p) → (d : ℕ) → (slices_of u x).faults d ≡ (slices_of t x).faults d
 same_faults t u x seats d = ap (λ o. x.faults (unwrap_or o 0)) (seats (d / 17))
 
 -- calls of the slices leave the rack below what it is
-pub runs_stay : (t u : Slices) (a b : Seen) (own : Type 0) → Runs t u a b own → (slices_of t a).fit → Stays a b
+pub runs_stay : (t u : Slices) (a b : RackView) (own : Type 0) → Runs t u a b own → (slices_of t a).fit → SameRack a b
 runs_stay t u a b own runs fit = (runs.apart fit.0 fit.1).stays
 
 -- and its past
-pub runs_goes : (t u : Slices) (a b : Seen) (own : Type 0) → Runs t u a b own → (slices_of t a).fit → Goes a b
+pub runs_goes : (t u : Slices) (a b : RackView) (own : Type 0) → Runs t u a b own → (slices_of t a).fit → Goes a b
 runs_goes t u a b own runs fit =
     let writes = runs.apart fit.0 fit.1 in
     record { stays = writes.stays; leaves = λ traced. leaves_weaker (IsMix a b (IsSliced t)) (λ c. Unit {0}) (λ c mix. tt) (writes.stops traced) }
 
-pub goes_same : (a : Seen) → a.fit → Goes a a
+pub goes_same : (a : RackView) → a.fit → Goes a a
 goes_same a fit = record { stays = stays_same a fit; leaves = λ traced. leaves_same a (λ c. Unit {0}) }
 
 -- what can't be laid after such calls couldn't be before them
-pub cannot_before : (t u : Slices) (x y : Seen) (place n first sectors : ℕ) → u ≡ t → Stays x y → CannotAdd u y place n first sectors → CannotAdd t x place n first sectors
+pub cannot_before : (t u : Slices) (x y : RackView) (place n first sectors : ℕ) → u ≡ t → SameRack x y → CannotAdd u y place n first sectors → CannotAdd t x place n first sectors
 cannot_before t u x y place n first sectors same stays (inl none) = inl (subst (λ k. disk_at k place ≡ None) same none)
 cannot_before t u x y place n first sectors same stays (inr (inl past)) =
     inr (inl (past.0, subst (λ k. disk_at k place ≡ Some past.0) same past.1, subst (λ k. k < first + sectors) (stays.sectors past.0) past.2))
 cannot_before t u x y place n first sectors same stays (inr (inr overlaps)) = inr (inr (subst (λ k. Overlaps k (member_slice place n) first sectors) same overlaps))
 
 -- no disk's faults fall where none of the rack below falls
-pub faults_rise : (t u : Slices) (x y : Seen) → Stays x y → ((p : ℕ) → disk_at u p ≡ disk_at t p) → FaultsRise (slices_of t x) (slices_of u y)
+pub faults_rise : (t u : Slices) (x y : RackView) → SameRack x y → ((p : ℕ) → disk_at u p ≡ disk_at t p) → FaultsRise (slices_of t x) (slices_of u y)
 faults_rise t u x y stays seats d = subst (λ k. x.faults (disk_of t d) ≤ k) (sym (same_faults t u y seats d)) (stays.faults (disk_of t d))

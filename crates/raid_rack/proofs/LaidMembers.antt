@@ -1,7 +1,7 @@
 -- The slices of a new array's members, laid one after the other, or taken away again: slices of other numbers stay.
 use Rattle.std.proofs.Common.{◌≡◌, ◌≢◌, ◌<◌, ◌≤◌, ◌+◌, ◌*◌, ℕ, true, false, None, Result, Ok, Err, is_ok, refl, sym, ap, subst, ◌∙◌, inl, inr, arith}
 use Rattle.std.proofs.lemmas.Bool.{both_ways}
-use Rattle.rack.specs.Seen.{Seen}
+use Rattle.rack.specs.Seen.{RackView}
 use Rattle.array_image.specs.Places.{log_slice, member_slice, slice_of}
 use Rattle.array_model.specs.View.{place_at}
 use Rattle.slice_rack.specs.declared.SliceFault.{SliceFault}
@@ -18,7 +18,7 @@ use Rattle.raid_rack.specs.RaidRack.{IsFit, arrays_in, raid_in, refused_in, slic
 use Rattle.raid_rack.proofs.Laid.{same_faults}
 
 -- where it is refused, it couldn't be laid before others of this number either
-pub cannot_add : (s t : Slices) (x y : Seen) (place n first sectors : ℕ) (result : Result (Unit {0}) SliceFault) → n < 16 → ((d : ℕ) → y.sectors d ≡ x.sectors d)
+pub cannot_add : (s t : Slices) (x y : RackView) (place n first sectors : ℕ) (result : Result (Unit {0}) SliceFault) → n < 16 → ((d : ℕ) → y.sectors d ≡ x.sectors d)
     → KeepsOtherSlices (n + 1) s t → ((p : ℕ) → disk_at t p ≡ disk_at s p)
     → (result ≡ Err Unseated → disk_at t place ≡ None) → (result ≡ Err Outside → IsPast t y place first sectors)
     → (result ≡ Err Overlap → IsWithin t y place first sectors × Overlaps t (17 * place + (n + 1)) first sectors) → is_ok result ≡ false → CannotAdd s x place n first sectors
@@ -52,7 +52,7 @@ cannot_add s t x y place n first sectors (Err Overlap) low size others seats uns
 -- ---- the arrays that are there
 
 -- they stand over the other tables as they did: none of them has a slice of the next number
-pub other_slices_set : (t u : Slices) (x : Seen) (v : Raid) → KeepsOtherSlices (v.state.made + 1) t u → (slices_of u x).fit → IsSet v (slices_of t x) → IsSet v (slices_of u x)
+pub other_slices_set : (t u : Slices) (x : RackView) (v : Raid) → KeepsOtherSlices (v.state.made + 1) t u → (slices_of u x).fit → IsSet v (slices_of t x) → IsSet v (slices_of u x)
 other_slices_set t u x v others fit set = record {
   fit = fit;
   lasting = set.lasting;
@@ -83,7 +83,7 @@ other_slices_set t u x v others fit set = record {
 }
 
 -- A rack of arrays of which only slices of one number may have changed.
-pub record LaysOnly {R : Type 0} (seen : R → Seen) (number : ℕ) (p q : RaidRack R) : Type 0 where
+pub record LaysOnly {R : Type 0} (seen : R → RackView) (number : ℕ) (p q : RaidRack R) : Type 0 where
   pub others : KeepsOtherSlices number (tables (slices_in p)) (tables (slices_in q))
   pub below : below_of (slices_in q) ≡ below_of (slices_in p)
   pub arrays : arrays_in q ≡ arrays_in p
@@ -93,7 +93,7 @@ pub record LaysOnly {R : Type 0} (seen : R → Seen) (number : ℕ) (p q : RaidR
   pub seats : (place : ℕ) → disk_at (tables (slices_in q)) place ≡ disk_at (tables (slices_in p)) place
   pub fit : (slices_seen seen q).fit
 
-pub lays_then : {R : Type 0} (seen : R → Seen) (number : ℕ) (p q s : RaidRack R) → LaysOnly seen number p q → LaysOnly seen number q s → LaysOnly seen number p s
+pub lays_then : {R : Type 0} (seen : R → RackView) (number : ℕ) (p q s : RaidRack R) → LaysOnly seen number p q → LaysOnly seen number q s → LaysOnly seen number p s
 lays_then seen number p q s one two = record {
   others = record { sectors = λ d other. two.others.sectors d other ∙ one.others.sectors d other; firsts = λ d other. two.others.firsts d other ∙ one.others.firsts d other };
   below = two.below ∙ one.below;
@@ -106,7 +106,7 @@ lays_then seen number p q s one two = record {
 }
 
 -- its arrays are fit, where the number is that of the next array's slices
-pub lays_fit : {R : Type 0} (seen : R → Seen) (n : ℕ) (p q : RaidRack R) → LaysOnly seen (n + 1) p q → n ≡ (raid_in p).state.made → IsFit (arrays_in p) (slices_seen seen p)
+pub lays_fit : {R : Type 0} (seen : R → RackView) (n : ℕ) (p q : RaidRack R) → LaysOnly seen (n + 1) p q → n ≡ (raid_in p).state.made → IsFit (arrays_in p) (slices_seen seen p)
     → IsFit (arrays_in q) (slices_seen seen q)
 lays_fit seen n p q lays next was =
     let t = tables (slices_in p) in
@@ -124,7 +124,7 @@ lays_fit seen n p q lays next was =
     })
 
 -- and no disk's faults changed
-pub lays_faults : {R : Type 0} (seen : R → Seen) (number : ℕ) (p q : RaidRack R) → LaysOnly seen number p q → (d : ℕ) → (slices_seen seen q).faults d ≡ (slices_seen seen p).faults d
+pub lays_faults : {R : Type 0} (seen : R → RackView) (number : ℕ) (p q : RaidRack R) → LaysOnly seen number p q → (d : ℕ) → (slices_seen seen q).faults d ≡ (slices_seen seen p).faults d
 lays_faults seen number p q lays d =
     ap (λ r. (slices_of (tables (slices_in q)) (seen r)).faults d) lays.below
     ∙ same_faults (tables (slices_in p)) (tables (slices_in q)) (seen (below_of (slices_in p))) lays.seats d

@@ -8,7 +8,7 @@ use Rattle.std.proofs.lemmas.List.Sums.{sum_by_more}
 use Rattle.std.proofs.lemmas.List.Elements.{filter-append}
 use Rattle.std.proofs.lemmas.Option.{slice_get-get_or, slice_get_past, slice_get_within}
 use Rattle.rack.specs.declared.Gone.{Gone}
-use Rattle.rack.specs.Seen.{Seen, IsLive, Stays}
+use Rattle.rack.specs.Seen.{RackView, IsLive, SameRack}
 use Rattle.rack.specs.Joins.{live_first, live_second, rose_since, stays_then}
 use Rattle.rack.specs.Sequences.{WritesDurably, WritesOnly}
 use Rattle.rack.proofs.Durably.{durable_only}
@@ -69,22 +69,22 @@ module _ (disk : ℕ) (table : Table) where
   abbrev may : ℕ → ℕ → List ℕ → Type 0
   may = IsOfDrive disk table
 
-  only_cleared : (a b : Seen) (r : Result (Unit {0}) Gone) → WritesDurably a b disk state_sector no_state r → WritesOnly a b may
+  only_cleared : (a b : RackView) (r : Result (Unit {0}) Gone) → WritesDurably a b disk state_sector no_state r → WritesOnly a b may
   only_cleared a b r writes =
       only_weaker (λ d s v. (d ≡ disk) × (s ≡ state_sector) × (v ≡ no_state)) may (λ d s v at. (at.0, inl (at.1, at.2))) (durable_only r writes)
 
-  only_gate : (a b : Seen) (r : Result (Unit {0}) Gone) → WritesDurably a b disk gate_at first_gate r → WritesOnly a b may
+  only_gate : (a b : RackView) (r : Result (Unit {0}) Gone) → WritesDurably a b disk gate_at first_gate r → WritesOnly a b may
   only_gate a b r writes =
       only_weaker (λ d s v. (d ≡ disk) × (s ≡ gate_at) × (v ≡ first_gate)) may (λ d s v at. (at.0, inr (inl (at.1, at.2)))) (durable_only r writes)
 
-  only_table : (a b : Seen) (r : Result (Unit {0}) Gone) → WritesTable a b disk table r → WritesOnly a b may
+  only_table : (a b : RackView) (r : Result (Unit {0}) Gone) → WritesTable a b disk table r → WritesOnly a b may
   only_table a b r writes = only_weaker _ may (λ d s v at. (at.0, inr (inr (writes.within s v at.1)))) writes.follows
 
-  pub lays_first : (a b : Seen) (e : Gone) → WritesDurably a b disk state_sector no_state {X = Unit {0}} (Err e) → LaysDrive a b disk table {X = Unit {0}} (Err e)
+  pub lays_first : (a b : RackView) (e : Gone) → WritesDurably a b disk state_sector no_state {X = Unit {0}} (Err e) → LaysDrive a b disk table {X = Unit {0}} (Err e)
   lays_first a b e writes =
       record { only = only_cleared a b (Err e) writes; gone = writes.gone; cleared = tt; gate = tt; mbr = tt; copies = tt; durable = tt }
 
-  pub lays_second : (a m b : Seen) (e : Gone) → WritesDurably a m disk state_sector no_state {X = Unit {0}} (Ok tt) → WritesTable m b disk table {X = Unit {0}} (Err e)
+  pub lays_second : (a m b : RackView) (e : Gone) → WritesDurably a m disk state_sector no_state {X = Unit {0}} (Ok tt) → WritesTable m b disk table {X = Unit {0}} (Err e)
       → LaysDrive a b disk table {X = Unit {0}} (Err e)
   lays_second a m b e one two = record {
     only = only_then may (only_cleared a m (Ok tt) one) (only_table m b (Err e) two);
@@ -96,7 +96,7 @@ module _ (disk : ℕ) (table : Table) where
     durable = tt;
   }
 
-  pub lays_third : (a m n b : Seen) (r : Result (Unit {0}) Gone) → 10273 ≤ table.sectors → WritesDurably a m disk state_sector no_state {X = Unit {0}} (Ok tt)
+  pub lays_third : (a m n b : RackView) (r : Result (Unit {0}) Gone) → 10273 ≤ table.sectors → WritesDurably a m disk state_sector no_state {X = Unit {0}} (Ok tt)
       → WritesTable m n disk table {X = Unit {0}} (Ok tt) → WritesDurably n b disk gate_at first_gate r → LaysDrive a b disk table r
   lays_third a m n b (Err e) room one two three = record {
     only = only_then may (only_cleared a m (Ok tt) one) (only_then may (only_table m n (Ok tt) two) (only_gate n b (Err e) three));
@@ -131,7 +131,7 @@ module _ (disk : ℕ) (table : Table) where
     durable = λ s live. three.synced s (live_second early live);
   }
     where
-      early : Stays a n
+      early : SameRack a n
       early = stays_then one.stays two.follows.stays
 
 -- ---- its table
@@ -297,7 +297,7 @@ module _ (arrays : List View) (place sectors : ℕ) where
           omega (arith, after, size, inside, high)
       of false is inside high = let size = ap (λ b. if b then length_in arrays k else 0) is in omega (arith, size, inside)
 
-  pub laid_more : (x : Seen) (n first size : ℕ) (t u : Slices) (r : Result (Unit {0}) SliceFault) → n < 16 → joins arrays place sectors n ≡ true
+  pub laid_more : (x : RackView) (n first size : ℕ) (t u : Slices) (r : Result (Unit {0}) SliceFault) → n < 16 → joins arrays place sectors n ≡ true
       → first ≡ first_in arrays n → size ≡ length_in arrays n → AreLaid x arrays place sectors (n + 1) t
       → (r ≡ Err Unseated → disk_at t place ≡ None) → (r ≡ Err Outside → IsPast t x place first size)
       → (r ≡ Err Overlap → IsWithin t x place first size × Overlaps t (17 * place + (n + 1)) first size)
@@ -367,7 +367,7 @@ module _ (arrays : List View) (place sectors : ℕ) where
           added.firsts d ∙ ap (λ b. if b then first else first_of t d) (ne_eqb d at other) ∙ laid.firsts d on (omega (arith, low, apart)) (omega (arith, some, kept))
 
   -- all of them
-  pub laid_all : (x : Seen) (disk n : ℕ) (t u : Slices) → length arrays ≤ n → AreLaid x arrays place sectors (n + 1) u → SeatsFirst place disk t u
+  pub laid_all : (x : RackView) (disk n : ℕ) (t u : Slices) → length arrays ≤ n → AreLaid x arrays place sectors (n + 1) u → SeatsFirst place disk t u
       → SeatsDrive arrays place disk sectors t u
   laid_all x disk n t u past laid first = record {
     seats = first.seats;

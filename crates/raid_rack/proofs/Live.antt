@@ -4,7 +4,7 @@ use Rattle.std.specs.List.{list_any, range_with_len}
 use Rattle.std.proofs.lemmas.Bool.{and_from, and_parts, both_ways, cases_Bool}
 use Rattle.std.proofs.lemmas.Option.{slice_get_within}
 use Rattle.arrayvec.specs.ArrayVec.{ArrayVec}
-use Rattle.rack.specs.Seen.{Seen}
+use Rattle.rack.specs.Seen.{RackView}
 use Rattle.array_image.specs.Arrays.{Shape, place_with}
 use Rattle.array_image.specs.Spent.{spent_by}
 use Rattle.array_image.specs.States.{is_current}
@@ -17,7 +17,7 @@ use Rattle.raid_rack.specs.declared.arrays.RaidRack.{RaidRack}
 use Rattle.raid_rack.specs.AllRuns.{AreCalls}
 use Rattle.raid_laws.specs.Laws.{live_parts}
 use Rattle.raid_laws.specs.Moves.{AreCaused, IsHeeded, IsSet, KeepsArrays}
-use Rattle.raid_laws.specs.Raid.{Raid, gone_in, is_empty, is_left, is_over, is_used_up, live_of}
+use Rattle.raid_laws.specs.Raid.{Raid, gone_in, is_empty, is_left, is_failed, is_used_up, live_of}
 use Rattle.raid_rack.specs.RaidRack.{IsFit, arrays_in, raid_in, slices_seen}
 use Rattle.raid_laws.proofs.Over.{not_false, or_from, or_parts, used_still}
 use Rattle.raid_laws.proofs.Ranges.{any_wider}
@@ -43,7 +43,7 @@ not_current false gone none is = refl
 not_current true true none is = absurd (both_ways true none refl)
 not_current true false none is = absurd (let bad : Some true ≡ Some false = is in cc)
 
-module _ (v w : Raid) (a b : Seen) (before : IsSet v a) (after : IsSet w b) (heeded : IsHeeded w) (keeps : KeepsArrays v w)
+module _ (v w : Raid) (a b : RackView) (before : IsSet v a) (after : IsSet w b) (heeded : IsHeeded w) (keeps : KeepsArrays v w)
     (caused : AreCaused v w a b) (made : w.state.made ≡ v.state.made)
     -- whoever went in an array went in each
     (each : (n p : ℕ) → n < v.state.made → gone_in v p ≡ true → has_gone (v.arrays n) p ≡ true)
@@ -92,14 +92,14 @@ module _ (v w : Raid) (a b : Seen) (before : IsSet v a) (after : IsSet w b) (hee
       let seats = same_lists (w.arrays n).seats (v.arrays n).seats (λ k. seat_still n k low) in
       let some = any_wider (is_left v) (is_left w) 0 16 (λ p from below is. left_still p is) (not_false (list_any (is_left v) (range_with_len 0 16)) goes.0) in
       let same = (keeps n low).same in
-      or_from (is_over w n) (spent_in (w.arrays n) y)
+      or_from (is_failed w n) (spent_in (w.arrays n) y)
       (or_from (is_empty w) (is_used_up w || (present (w.arrays n).seats == 0)) (ap not some)
       (or_from (is_used_up w) (present (w.arrays n).seats == 0) fresh (ap (λ (s : List Seat). present s == 0) seats ∙ rest.1)))
       (ap₂ (λ (shape : Shape) (resync : ℕ). spent_by shape resync y) (shape_same (v.arrays n) (w.arrays n) same.geometry seats) same.resync ∙ parts.1)
 
 -- ---- calls of a rack in a row
 
-module _ {R : Type 0} (seen : R → Seen) (runs : R → R → Type 0) (x y : RaidRack R) (kept : AreCalls seen runs x y) where
+module _ {R : Type 0} (seen : R → RackView) (runs : R → R → Type 0) (x y : RaidRack R) (kept : AreCalls seen runs x y) where
   pub runs_unused : is_used_up (raid_in y) ≡ false → is_used_up (raid_in x) ≡ false
   runs_unused fresh =
       let book = kept.1.book in

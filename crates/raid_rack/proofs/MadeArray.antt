@@ -3,7 +3,7 @@ use Rattle.std.proofs.Common.{◌≡◌, ℕ, ◌+◌, ◌-◌, ◌≤◌, Bool,
 use Rattle.std.proofs.lemmas.Bool.{cases_eq, cases_lt, eq-eqb, ne_eqb}
 use Rattle.std.proofs.lemmas.List.{get_or-append_right, get_or_append_left, length-append}
 use Rattle.arrayvec.specs.ArrayVec.{ArrayVec}
-use Rattle.rack.specs.Seen.{Seen, Stays}
+use Rattle.rack.specs.Seen.{RackView, SameRack}
 use Rattle.rack.specs.Targets.{Target}
 use Rattle.pool_state.specs.declared.contents.State.{State}
 use Rattle.pool_state.specs.declared.contents.Work.TheVariants.{Make}
@@ -51,7 +51,7 @@ pushed_get xs u n = elim (cases_eq n (length xs)) [
 ]
 
 -- What is known where an array is made: it is due, one of its members is missing at most, and the others have their slices.
-pub record IsMaking (a : Arrays) (height : ℕ) (x : Seen) : Type 0 where
+pub record IsMaking (a : Arrays) (height : ℕ) (x : RackView) : Type 0 where
   pub running : IsRunning a x
   pub heeded : IsHeeded (raid_by a)
   pub due : is_due (raid_by a) (Make a.state.made height) ≡ true
@@ -67,7 +67,7 @@ pub record HasMade (a : Arrays) (next : View) (t : State) (all : List View) (log
   pub number : log.number ≡ a.log.number
   pub supers : AddsSupersOf next [] log.added
 
-module _ (a : Arrays) (height : ℕ) (x : Seen) (is : IsMaking a height x) where
+module _ (a : Arrays) (height : ℕ) (x : RackView) (is : IsMaking a height x) where
   pub making_may : CanMake (raid_by a) height
   making_may =
       can_make (raid_by a) x height is.running.set is.due (or_parts (is_ended (raid_by a)) (lacks_places (raid_by a) (reaching (raid_by a) height)) is.some).1
@@ -125,8 +125,8 @@ module _ (a : Arrays) (height : ℕ) (x : Seen) (is : IsMaking a height x) where
           (subst IsArray own is_array) (subst (λ (u : View). AddsSupersOf u [] log.added) own made.supers)
 
       -- THE COMMIT AND THE MENDING AFTER IT
-      pub make_grows : (c d : Arrays) (y w : Seen) (answered : Bool) → LosesBook (raid_by (record a { state = t; all = all; log = log })) (raid_by c)
-          → AreCaused (raid_by (record a { state = t; all = all; log = log })) (raid_by c) x y → Stays x y → Mends (raid_by c) (raid_by d) y w
+      pub make_grows : (c d : Arrays) (y w : RackView) (answered : Bool) → LosesBook (raid_by (record a { state = t; all = all; log = log })) (raid_by c)
+          → AreCaused (raid_by (record a { state = t; all = all; log = log })) (raid_by c) x y → SameRack x y → Mends (raid_by c) (raid_by d) y w
           → answered ≡ not (is_ended (raid_by d) || lacks_places (raid_by d) (reaching (raid_by a) height))
           → GrowsBy (λ mid. makes (new_view seconds mid height)) (Lacks (Make a.state.made height)) (raid_by a) (raid_by d) x w answered
       make_grows c d y w answered loses caused stays mends answer =

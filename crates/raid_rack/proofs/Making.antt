@@ -1,6 +1,6 @@
 -- A new array is made, or isn't, once its members' entries are in the tables of their disks.
 use Rattle.std.proofs.Common.{◌≡◌, ◌⊎◌, ℕ, ◌+◌, Bool, true, false, List, refl, sym, ap, subst, ◌∙◌, inl, arith}
-use Rattle.rack.specs.Seen.{Seen, Stays}
+use Rattle.rack.specs.Seen.{RackView, SameRack}
 use Rattle.pool_state.specs.declared.contents.Work.TheVariants.{Make}
 use Rattle.slice_rack.specs.declared.SliceRack.{SliceRack}
 use Rattle.slice_rack.specs.SliceRack.{below_of, tables}
@@ -29,7 +29,7 @@ use Rattle.raid_rack.proofs.LaidMembers.{LaysOnly, lays_faults}
 use Rattle.raid_rack.proofs.Raises.{raises_more, raises_then}
 
 -- a member's slice couldn't be entered or laid where it would lie
-pub cannot_make : {R : Type 0} (seen : R → Seen) (runs : R → R → Type 0) (t : Slices) (r : R) (v w : Raid) (height place first sectors : ℕ) (members : List ℕ) → LosesBook v w
+pub cannot_make : {R : Type 0} (seen : R → RackView) (runs : R → R → Type 0) (t : Slices) (r : R) (v w : Raid) (height place first sectors : ℕ) (members : List ℕ) → LosesBook v w
     → members ≡ reaching v height → first ≡ first_in (views_of v) v.state.made → sectors ≡ new_size v height + 2048 → names members place ≡ true → is_current w.state place ≡ true
     → CannotEnter seen runs t r place first sectors ⊎ CannotAdd t (seen r) place v.state.made first sectors → CannotMake seen runs t r w height
 cannot_make seen runs t r v w height place first sectors members loses members_are first_is sectors_are among current cause =
@@ -50,11 +50,11 @@ cannot_make seen runs t r v w height place first sectors members loses members_a
 abbrev pub making : (seconds height : ℕ) → Raid → Change
 making seconds height mid = makes (new_view seconds mid height)
 
-abbrev pub Refuses : {R : Type 0} → (R → Seen) → (R → R → Type 0) → RaidRack R → (n height : ℕ) → Raid → Raid → Type 0
+abbrev pub Refuses : {R : Type 0} → (R → RackView) → (R → R → Type 0) → RaidRack R → (n height : ℕ) → Raid → Raid → Type 0
 Refuses seen runs p n height mid w = Lacks (Make n height) mid w ⊎ CannotMake seen runs (tables (slices_in p)) (below_of (slices_in p)) mid height
 
 -- A rack of arrays p, after the entries, q, and once slices of the new array's number are laid, or taken away again, s.
-module _ {R : Type 0} (seen : R → Seen) (runs : R → R → Type 0) (join : (r s u : R) → runs r s → runs s u → runs r u) (n height : ℕ) (p q s : RaidRack R)
+module _ {R : Type 0} (seen : R → RackView) (runs : R → R → Type 0) (join : (r s u : R) → runs r s → runs s u → runs r u) (n height : ℕ) (p q s : RaidRack R)
     (entered : HasEntered seen runs 16 p q) (lays : LaysOnly seen (n + 1) q s) where
   -- it isn't made
   pub unmade : Refuses seen runs p n height (raid_in q) (raid_in q)
@@ -81,8 +81,8 @@ module _ {R : Type 0} (seen : R → Seen) (runs : R → R → Type 0) (join : (r
         let x = slices_seen seen p in
         let y = slices_seen seen q in
         let z = slices_of (tables r) (seen (below_of r)) in
-        let stays : Stays (seen (below_of (slices_in q))) (seen (below_of r)) =
-        subst (λ k. Stays (seen k) (seen (below_of r))) lays.below (runs_stay (tables (slices_in s)) (tables r) _ _ _ ran lays.fit) in
+        let stays : SameRack (seen (below_of (slices_in q))) (seen (below_of r)) =
+        subst (λ k. SameRack (seen k) (seen (below_of r))) lays.below (runs_stay (tables (slices_in s)) (tables r) _ _ _ ran lays.fit) in
         let early : FaultsRise x y =
         faults_rise (tables (slices_in p)) (tables (slices_in q)) _ _ entered.goes.stays (λ place. ap (λ t. disk_at t place) entered.tables_are) in
         let late : FaultsRise y z = faults_rise (tables (slices_in q)) (tables r) _ _ stays (λ place. ap (λ t. disk_at t place) ran.tables ∙ lays.seats place) in

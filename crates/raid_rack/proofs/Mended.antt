@@ -7,7 +7,7 @@ use Rattle.std.specs.Option.{option_map_or}
 use Rattle.std.proofs.lemmas.List.{length-append}
 use Rattle.arrayvec.specs.ArrayVec.{ArrayVec, with_items}
 use Rattle.arrayvec.proofs.ArrayVecLemmas.{items-with_items}
-use Rattle.rack.specs.Seen.{Seen}
+use Rattle.rack.specs.Seen.{RackView}
 use Rattle.rack.specs.Targets.{Target}
 use Rattle.pool_state.specs.Valid.{is_valid}
 use Rattle.pool_state.specs.declared.contents.State.{State}
@@ -21,7 +21,7 @@ use Rattle.raid_rack.specs.declared.arrays.Arrays.{Arrays}
 use Rattle.raid_laws.specs.Raid.{Raid, gone_in, is_left}
 use Rattle.raid_laws.specs.Missing.{marked, raised as raised_epoch}
 use Rattle.raid_laws.specs.Losses.{newly_gone, AreCopiesOn, AddsCopies}
-use Rattle.raid_laws.specs.Moves.{IsSet, AreMarked, Moves, RaisesBy}
+use Rattle.raid_laws.specs.Moves.{IsSet, AreMarked, ChangesNoData, RaisesBy}
 use Rattle.raid_laws.specs.Settling.{SettlesTo, HasStaged, IsMarking, state_after}
 use Rattle.raid_rack.specs.RaidRack.{IsRunning, EndsTurn, raid_by, no_array}
 use Rattle.raid_laws.proofs.Missing.{current_marked}
@@ -87,7 +87,7 @@ each_sectors g xs ys n kept each =
 
 -- ---- the places are noted
 
-pub record IsTurn (a : Arrays) (lost : List ℕ) (x : Seen) : Type 0 where
+pub record IsTurn (a : Arrays) (lost : List ℕ) (x : RackView) : Type 0 where
   pub running : IsRunning a x
   pub lost_are : lost ≡ newly_gone a.state a.all.items
   pub some : 0 < length lost
@@ -97,8 +97,8 @@ first_named [] some = absurd (omega (arith, some))
 first_named (p ∷ xs) some = (p, ap (λ b. b || list_any (λ q. q == p) xs) (eq-eqb p p refl))
 
 -- what is known once they are
-pub record HasNoted (a b : Arrays) (lost : List ℕ) (x : Seen) : Type 0 where
-  pub moves : Moves (raid_by a) (raid_by b) x x
+pub record HasNoted (a b : Arrays) (lost : List ℕ) (x : RackView) : Type 0 where
+  pub moves : ChangesNoData (raid_by a) (raid_by b) x x
   pub running : IsRunning b x
   pub same : b.state ≡ a.state
   pub raises : RaisesBy 0 (raid_by a) (raid_by b)
@@ -113,7 +113,7 @@ or_last : (b c : Bool) → c ≡ true → (b || c) ≡ true
 or_last true c is = refl
 or_last false c is = is
 
-pub has_noted : (a : Arrays) (all : ArrayVec View) (log : LogView) (lost : List ℕ) (x : Seen) → IsTurn a lost x
+pub has_noted : (a : Arrays) (all : ArrayVec View) (log : LogView) (lost : List ℕ) (x : RackView) → IsTurn a lost x
     → ((n : ℕ) → slice_get all.items n ≡ option_map (without lost) (slice_get a.all.items n)) → length all.items ≡ length a.all.items
     → log.number ≡ a.log.number
     → HasNoted a (record a { all = all; log = log }) lost x
@@ -137,7 +137,7 @@ has_noted a all log lost x turn each count number =
     let whole : with_arrays (raid_by a) f ≡ raid_by (record a { all = all; log = log }) =
     λ i. record { state = a.state; arrays = f; number = number_back i } in
     record {
-      moves = subst (λ (w : Raid). Moves (raid_by a) w x x) whole step;
+      moves = subst (λ (w : Raid). ChangesNoData (raid_by a) w x x) whole step;
       running = record { count = count ∙ turn.running.count; set = subst (λ (w : Raid). IsSet w x) whole step.set };
       same = refl;
       raises = record {
@@ -157,13 +157,13 @@ has_noted a all log lost x turn each count number =
     }
 
 -- the arrays are settled once they are noted
-pub settles_noted : (a b c : Arrays) (lost : List ℕ) (x y : Seen) → HasNoted a b lost x → SettlesBook (raid_by b) (raid_by c) b.state.made x y → SettlesBook (raid_by a) (raid_by c) a.state.made x y
+pub settles_noted : (a b c : Arrays) (lost : List ℕ) (x y : RackView) → HasNoted a b lost x → SettlesBook (raid_by b) (raid_by c) b.state.made x y → SettlesBook (raid_by a) (raid_by c) a.state.made x y
 settles_noted a b c lost x y noted book =
     settles_behind (raid_by a) (raid_by b) (raid_by c) a.state.made x x y (sym noted.same) noted.makes noted.left
     (subst (λ k. SettlesBook (raid_by b) (raid_by c) k x y) (ap (λ (s : State). s.made) noted.same) book)
 
 -- they are a run of each book that they were one of
-pub settled_run : (d : Raid) (a b c : Arrays) (lost : List ℕ) (x y : Seen) → HasNoted a b lost x → SettlesTo (raid_by b) (raid_by c) x y b.state.made c.log.added
+pub settled_run : (d : Raid) (a b c : Arrays) (lost : List ℕ) (x y : RackView) → HasNoted a b lost x → SettlesTo (raid_by b) (raid_by c) x y b.state.made c.log.added
     → SettlesBook (raid_by b) (raid_by c) b.state.made x y → IsRunOf d (raid_by a) → IsRunOf d (raid_by c)
 settled_run d a b c lost x y noted settles book run =
     run_loses d (raid_by b) (raid_by c) settles.same settles.moves.arrays book.left
@@ -171,7 +171,7 @@ settled_run d a b c lost x y noted settles book run =
 
 -- ---- what is to be committed
 
-pub marking_of : (a b c : Arrays) (lost on : List ℕ) (l : LogView) (t : State) (x y : Seen) → HasNoted a b lost x
+pub marking_of : (a b c : Arrays) (lost on : List ℕ) (l : LogView) (t : State) (x y : RackView) → HasNoted a b lost x
     → SettlesTo (raid_by b) (raid_by c) x y b.state.made c.log.added → IsRunning c y
     → newly_gone c.state c.all.items ≡ lost → t ≡ marked lost c.state → on ≡ current_places t
     → AddsCopies t on c.log.added l.added → l.number ≡ c.log.number
@@ -224,10 +224,10 @@ next_up n = raised_up n
 epoch_up : (n : ℕ) → raised_epoch n ≤ n + 1
 epoch_up n = raised_up n
 
-made_still : (a b : Arrays) {lost : List ℕ} {x : Seen} → HasNoted a b lost x → (n : ℕ) → n < a.state.made → n < b.state.made
+made_still : (a b : Arrays) {lost : List ℕ} {x : RackView} → HasNoted a b lost x → (n : ℕ) → n < a.state.made → n < b.state.made
 made_still a b noted n low = subst (λ (s : State). n < s.made) (sym noted.same) low
 
-pub ends_turn : (a b c : Arrays) (all : ArrayVec View) (log l : LogView) (t : State) (lost on gone : List ℕ) (x y z : Seen)
+pub ends_turn : (a b c : Arrays) (all : ArrayVec View) (log l : LogView) (t : State) (lost on gone : List ℕ) (x y z : RackView)
     → HasNoted a b lost x → SettlesTo (raid_by b) (raid_by c) x y b.state.made c.log.added → SettlesBook (raid_by b) (raid_by c) b.state.made x y → IsRunning c y
     → t ≡ marked lost c.state → IsMarking (raid_by c) lost on l c.log.added y → CommitCall l on gone y z
     → ((n : ℕ) → slice_get all.items n ≡ option_map (without gone) (slice_get c.all.items n)) → length all.items ≡ length c.all.items
@@ -267,7 +267,7 @@ ends_turn a b c all log l t lost on gone x y z noted settles book running t_is m
       unlost =
           subst (λ (w : Raid). KeepsUnlost a.state w.state x z) whole
           (unlost_commit a.state v lost on gone l c.log.added f noted.one x y z (settles.same ∙ noted.same) settles.reads commit noted.named);
-      moves = subst (λ (w : Raid). Moves (raid_by a) w x z) whole step;
+      moves = subst (λ (w : Raid). ChangesNoData (raid_by a) w x z) whole step;
       progress =
           subst (λ (w : Raid). AreMarked w ⊎ ((p : ℕ) × (is_left (raid_by a) p ≡ true) × (is_left w p ≡ false))) whole
           (elim (commit_progress v lost on gone l c.log.added f y z commit noted.one noted.named) [
@@ -301,7 +301,7 @@ ends_turn a b c all log l t lost on gone x y z noted settles book running t_is m
     }
 
 -- nobody is left: the marks are in this run alone
-pub ends_empty : (a b c : Arrays) (t : State) (lost on : List ℕ) (x y : Seen)
+pub ends_empty : (a b c : Arrays) (t : State) (lost on : List ℕ) (x y : RackView)
     → HasNoted a b lost x → SettlesTo (raid_by b) (raid_by c) x y b.state.made c.log.added → SettlesBook (raid_by b) (raid_by c) b.state.made x y → IsRunning c y
     → newly_gone c.state c.all.items ≡ lost → t ≡ marked lost c.state → on ≡ current_places t → length on ≡ 0
     → EndsTurn a (record c { state = t }) x y
@@ -340,7 +340,7 @@ ends_empty a b c t lost on x y noted settles book running same t_is on_is empty 
           subst (λ (s : State). KeepsUnlost s t x y) (settles.same ∙ noted.same)
           (unlost_marked c.state t lost one x y t_is (and_parts (is_current c.state one) (gone_in v one) (sym (lost_is one) ∙ noted.named)).0 noted.named
           (λ p unmarked live. settles.reads.keeps.held (log_slice p) 0 live));
-      moves = subst (λ (w : Raid). Moves (raid_by a) w x y) whole joined;
+      moves = subst (λ (w : Raid). ChangesNoData (raid_by a) w x y) whole joined;
       progress = inl (λ p current. absurd (over p current));
       raises =
           let stays = settles.number in
@@ -363,7 +363,7 @@ ends_empty a b c t lost on x y noted settles book running same t_is on_is empty 
     nothing (x ∷ xs) is = absurd (omega (arith, is))
 
 -- somebody else went while the arrays were settled
-pub ends_early : (a b c : Arrays) (lost : List ℕ) (x y : Seen) → IsTurn a lost x
+pub ends_early : (a b c : Arrays) (lost : List ℕ) (x y : RackView) → IsTurn a lost x
     → HasNoted a b lost x → SettlesTo (raid_by b) (raid_by c) x y b.state.made c.log.added → SettlesBook (raid_by b) (raid_by c) b.state.made x y → IsRunning c y
     → (newly_gone c.state c.all.items ≡ lost → ⊥) → EndsTurn a c x y
 ends_early a b c lost x y turn noted settles book running other =
@@ -397,7 +397,7 @@ ends_early a b c lost x y turn noted settles book running other =
     }
 
 -- a state that marks losses is valid on the places that are left
-pub on_valid : (lost : List ℕ) (c : Arrays) (t : State) (on : List ℕ) (j p : ℕ) (y : Seen) → IsRunning c y → t ≡ marked lost c.state → on ≡ current_places t
+pub on_valid : (lost : List ℕ) (c : Arrays) (t : State) (on : List ℕ) (j p : ℕ) (y : RackView) → IsRunning c y → t ≡ marked lost c.state → on ≡ current_places t
     → slice_get on j ≡ Some p → (is_valid t p ≡ true) × (p < 16)
 on_valid lost c t on j p y running t_is on_is at =
     let current = on_named t on j p on_is at in
@@ -412,7 +412,7 @@ on_valid lost c t on j p y running t_is on_is at =
         ]
 
 -- their log slices are there
-pub on_logs : (lost : List ℕ) (c : Arrays) (t : State) (p : ℕ) (y : Seen) → IsRunning c y → newly_gone c.state c.all.items ≡ lost → t ≡ marked lost c.state
+pub on_logs : (lost : List ℕ) (c : Arrays) (t : State) (p : ℕ) (y : RackView) → IsRunning c y → newly_gone c.state c.all.items ≡ lost → t ≡ marked lost c.state
     → is_current t p ≡ true → y.sectors (log_slice p) ≡ log_sectors
 on_logs lost c t p y running same t_is current =
     let both = and_parts (is_current c.state p) (not (names lost p)) (sym (current_marked lost c.state p) ∙ ap (λ (u : State). is_current u p) (sym t_is) ∙ current) in

@@ -1,6 +1,6 @@
 -- A new drive that was written and isn't taken in: to the slices its writes are reads.
 use Rattle.std.proofs.Common.{◌≢◌, ℕ, List, Some, refl, inl, inr}
-use Rattle.rack.specs.Seen.{Seen, Rose, Stays}
+use Rattle.rack.specs.Seen.{RackView, Rose, SameRack}
 use Rattle.rack.specs.Joins.{rose_since}
 use Rattle.rack.proofs.Writing.{only_then, only_weaker}
 use Rattle.rack.specs.Sequences.{WritesOnly}
@@ -12,10 +12,10 @@ use Rattle.raid_rack.specs.declared.arrays.Arrays.{Arrays}
 use Rattle.raid_laws.specs.Book.{after_same}
 use Rattle.raid_laws.specs.Enlisting.{HasLost, IsNotWhole, IsRefused, IsWrittenBy}
 use Rattle.raid_laws.specs.Laws.{stops_inside}
-use Rattle.raid_laws.specs.Moves.{Mends, Moves, RaisesBy}
+use Rattle.raid_laws.specs.Moves.{Mends, ChangesNoData, RaisesBy}
 use Rattle.raid_laws.specs.NewDrive.{IsOfDrive}
 use Rattle.raid_rack.specs.RaidRack.{IsFit, IsRunning, raid_by}
-use Rattle.raid_laws.specs.Runs.{KeepsMoments}
+use Rattle.raid_laws.specs.Runs.{CrashInvariant}
 use Rattle.raid_laws.proofs.Moving.{moves_bring, moves_then}
 use Rattle.raid_rack.proofs.Serving.{moments_call}
 use Rattle.raid_laws.specs.Truths.{KeepsTruths}
@@ -24,20 +24,20 @@ use Rattle.raid_rack.proofs.Truths.{truths_reads, truths_then}
 use Rattle.raid_laws.proofs.Unlost.{unlost_reads, unlost_then}
 use Rattle.raid_laws.proofs.Apart.{moves_quiet, reads_apart, set_still}
 
-pub running_still : (r : Arrays) (a b : Seen) → Stays a b → IsRunning r a → IsRunning r b
+pub running_still : (r : Arrays) (a b : RackView) → SameRack a b → IsRunning r a → IsRunning r b
 running_still r a b stays running = record { count = running.count; set = set_still (raid_by r) a b stays running.set }
 
-pub fit_still : (r : Arrays) (a b : Seen) → Stays a b → IsFit r a → IsFit r b
+pub fit_still : (r : Arrays) (a b : RackView) → SameRack a b → IsFit r a → IsFit r b
 fit_still r a b stays fit = record { running = running_still r a b stays fit.running; heeded = fit.heeded }
 
 -- what stops leave meanwhile, of calls on the slices by one table
-moments_moves : (t : Slices) (r q : Arrays) (a b : Seen) → IsFit r (slices_of t a) → IsFit q (slices_of t b) → Moves (raid_by r) (raid_by q) (slices_of t a) (slices_of t b)
-    → KeepsMoments (raid_by r) (raid_by q) (slices_of t a) (slices_of t b)
+moments_moves : (t : Slices) (r q : Arrays) (a b : RackView) → IsFit r (slices_of t a) → IsFit q (slices_of t b) → ChangesNoData (raid_by r) (raid_by q) (slices_of t a) (slices_of t b)
+    → CrashInvariant (raid_by r) (raid_by q) (slices_of t a) (slices_of t b)
 moments_moves t r q a b fit after moves =
     moments_call r q (slices_of t a) (slices_of t b) (λ n vals. vals) fit after (stops_inside t b) (moves_bring (raid_by r) (raid_by q) (slices_of t a) (slices_of t b) moves)
 
 -- A disk without a place was written, and refused a call.
-pub refused_lay : (t : Slices) (disk : ℕ) (table : Table) (r : Arrays) (a b : Seen) → IsOrderly t → ((p : ℕ) → seat_of t p ≢ Some disk) → IsFit r (slices_of t a)
+pub refused_lay : (t : Slices) (disk : ℕ) (table : Table) (r : Arrays) (a b : RackView) → IsOrderly t → ((p : ℕ) → seat_of t p ≢ Some disk) → IsFit r (slices_of t a)
     → WritesOnly a b (IsOfDrive disk table) → Rose (a.faults disk) (b.faults disk) → IsRefused t disk table (raid_by r) a b
 refused_lay t disk table r a b orderly free fit only gone =
     let v = raid_by r in
@@ -53,7 +53,7 @@ refused_lay t disk table r a b orderly free fit only gone =
     }
 
 -- A disk without a place was written, and then another drive was found gone: but for its mark all is as before.
-pub not_whole : (t : Slices) (disk : ℕ) (table : Table) (r q : Arrays) (a m b : Seen) → IsOrderly t → ((p : ℕ) → seat_of t p ≢ Some disk) → IsFit r (slices_of t a)
+pub not_whole : (t : Slices) (disk : ℕ) (table : Table) (r q : Arrays) (a m b : RackView) → IsOrderly t → ((p : ℕ) → seat_of t p ≢ Some disk) → IsFit r (slices_of t a)
     → WritesOnly a m (IsOfDrive disk table) → (m.fit → IsInside t m → WritesOnly m b (IsSliced t)) → IsFit q (slices_of t b)
     → Mends (raid_by r) (raid_by q) (slices_of t m) (slices_of t b) → HasLost (raid_by r) (raid_by q) (slices_of t m) (slices_of t b) → RaisesBy 18 (raid_by r) (raid_by q)
     → KeepsTruths (raid_by r) (raid_by q) (slices_of t m) (slices_of t b) → KeepsUnlost r.state q.state (slices_of t m) (slices_of t b) → IsNotWhole t disk table (raid_by r) (raid_by q) a b

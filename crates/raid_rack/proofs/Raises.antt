@@ -1,7 +1,7 @@
 -- How far a call raises the numbers that end: those of the log, of states and of superblocks.
 use Rattle.std.proofs.Common.{◌≡◌, ℕ, ◌+◌, ◌-◌, ◌*◌, ◌^◌, ◌<◌, ◌≤◌, Bool, if◌then◌else◌, List, [], ◌∷◌, length, sym, ap, subst, inl, inr, lt-ltb, le-ltb, arith}
 use Rattle.std.proofs.lemmas.Bool.{cases_eq, cases_lt}
-use Rattle.rack.specs.Seen.{Seen}
+use Rattle.rack.specs.Seen.{RackView}
 use Rattle.rack.specs.Several.{Several, Through}
 use Rattle.array_model.specs.View.{View}
 use Rattle.array_model.specs.Members.{Notes}
@@ -52,20 +52,20 @@ raised_up n = elim (cases_lt n (2 ^ 63 - 1)) [
   | inr last ↦ let e : raised n ≡ n = ap (λ (b : Bool). if b then n + 1 else n) (le-ltb n (2 ^ 63 - 1) last) in omega (arith, e)
 ]
 
-notes_events : (v w : View) (a b : Seen) → Notes v w a b → w.truth.events ≡ v.truth.events
+notes_events : (v w : View) (a b : RackView) → Notes v w a b → w.truth.events ≡ v.truth.events
 notes_events v w a b notes = ap (λ t. t.events) notes.same.truth
 
-pub notes_raise : (v w : View) (a b : Seen) → Notes v w a b → w.truth.events ≤ v.truth.events + 0
+pub notes_raise : (v w : View) (a b : RackView) → Notes v w a b → w.truth.events ≤ v.truth.events + 0
 notes_raise v w a b notes = let e = notes_events v w a b notes in omega (arith, e)
 
-pub settles_raise : (v w : View) (a b : Seen) → Settles v w a b → w.truth.events ≤ v.truth.events + 1
+pub settles_raise : (v w : View) (a b : RackView) → Settles v w a b → w.truth.events ≤ v.truth.events + 1
 settles_raise v w a b settles =
     let e = ap (λ (u : View). u.truth.events) settles.truth in
     let f = notes_events v settles.synced a b settles.notes in
     let up = raised_up settles.synced.truth.events in
     omega (arith, e, f, up)
 
-pub cleans_raise : (v w : View) (a b : Seen) → ArrayCleans v w a b → w.truth.events ≤ v.truth.events + 1
+pub cleans_raise : (v w : View) (a b : RackView) → ArrayCleans v w a b → w.truth.events ≤ v.truth.events + 1
 cleans_raise v w a b cleans =
     let first = notes_events v cleans.synced a b cleans.notes in
     elim cleans.either [
@@ -76,7 +76,7 @@ cleans_raise v w a b cleans =
           omega (arith, e, first, up)
     ]
 
-pub writes_raise : (v w : View) (a b : Seen) → WritesView v w a b → w.truth.events ≤ v.truth.events + 1
+pub writes_raise : (v w : View) (a b : RackView) → WritesView v w a b → w.truth.events ≤ v.truth.events + 1
 writes_raise v w a b (as_it_was why notes) = let e = notes_events v w a b notes in omega (arith, e)
 writes_raise v w a b (newly_marked whole fresh unmarked notes) =
     let e = ap (λ t. t.events) notes.same.truth in

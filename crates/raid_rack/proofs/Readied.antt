@@ -2,7 +2,7 @@
 use Rattle.std.proofs.Common.{◌≡◌, ℕ, true, false, if◌then◌else◌, List, get_or, length, set, refl, sym, ap, subst, ◌∙◌, inl, inr, eq-eqb, ne_eqb, arith}
 use Rattle.std.proofs.lemmas.Bool.{both_ways, cases_eq}
 use Rattle.arrayvec.specs.ArrayVec.{ArrayVec}
-use Rattle.rack.specs.Seen.{Seen, Stays}
+use Rattle.rack.specs.Seen.{RackView, SameRack}
 use Rattle.pool_state.specs.declared.contents.State.{State}
 use Rattle.pool_state.specs.declared.contents.Work.TheVariants.{Ready}
 use Rattle.array_image.specs.States.{is_current}
@@ -25,7 +25,7 @@ use Rattle.raid_rack.proofs.Committed.{committed_raises, current_left}
 use Rattle.raid_rack.proofs.Steps.{length_set, set_other, set_own}
 
 -- What is known where an array gets ready: it may, and somebody is left.
-pub record IsReadying (a : Arrays) (n : ℕ) (x : Seen) : Type 0 where
+pub record IsReadying (a : Arrays) (n : ℕ) (x : RackView) : Type 0 where
   pub running : IsRunning a x
   pub heeded : IsHeeded (raid_by a)
   pub may : MayReady (raid_by a) n
@@ -37,7 +37,7 @@ pub record HasReadied (a : Arrays) (n : ℕ) (t : State) (all : List View) (log 
   pub items : all ≡ set a.all.items n (ready ((raid_by a).arrays n))
   pub number : log.number ≡ a.log.number
 
-module _ (a : Arrays) (n : ℕ) (x : Seen) (is : IsReadying a n x) (t : State) (all : ArrayVec View) (log : LogView) (has : HasReadied a n t all.items log) where
+module _ (a : Arrays) (n : ℕ) (x : RackView) (is : IsReadying a n x) (t : State) (all : ArrayVec View) (log : LogView) (has : HasReadied a n t all.items log) where
   -- the arrays are those of the changed book
   each : (k : ℕ) → get_or all.items k no_array ≡ (changed readied (raid_by a)).arrays k
   each k =
@@ -79,8 +79,8 @@ module _ (a : Arrays) (n : ℕ) (x : Seen) (is : IsReadying a n x) (t : State) (
       (one.0, ap (λ (s : State). is_current s one.0) has.state ∙ one.1)
 
   -- THE COMMIT AND THE MENDING AFTER IT
-  pub ready_grows : (b c : Arrays) (y z : Seen) → LosesBook (raid_by (record a { state = t; all = all; log = log })) (raid_by b)
-      → AreCaused (raid_by (record a { state = t; all = all; log = log })) (raid_by b) x y → Stays x y → Mends (raid_by b) (raid_by c) y z
+  pub ready_grows : (b c : Arrays) (y z : RackView) → LosesBook (raid_by (record a { state = t; all = all; log = log })) (raid_by b)
+      → AreCaused (raid_by (record a { state = t; all = all; log = log })) (raid_by b) x y → SameRack x y → Mends (raid_by b) (raid_by c) y z
       → Grows (Ready n) (Lacks (Ready n)) (raid_by a) (raid_by c) x z true
   ready_grows b c y z loses caused stays mends =
       let v = raid_by a in

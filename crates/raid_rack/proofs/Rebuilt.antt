@@ -4,7 +4,7 @@ use Rattle.std.proofs.lemmas.Bool.{both_ways, cases_Bool, cases_eq, and_parts, a
 use Rattle.std.specs.List.{list_all, range_with_len}
 use Rattle.std.specs.Option.{option_map_or}
 use Rattle.arrayvec.specs.ArrayVec.{ArrayVec}
-use Rattle.rack.specs.Seen.{Seen}
+use Rattle.rack.specs.Seen.{RackView}
 use Rattle.pool_state.specs.declared.contents.State.{State}
 use Rattle.array_image.specs.Arrays.{place_with}
 use Rattle.array_image.specs.States.{current_places, is_current}
@@ -22,8 +22,8 @@ use Rattle.sync_laws.specs.Steps.{HasRowLeft, Stepped, Steps, as_it_was, done, r
 use Rattle.sync_laws.proofs.Rebuilt.{place_found, rebuilt_there}
 use Rattle.raid_laws.proofs.RowsRebuilt.{next_array, next_rows, other_seat, own, own_before, own_seat}
 use Rattle.raid_rack.specs.declared.arrays.Arrays.{Arrays}
-use Rattle.raid_laws.specs.Raid.{Raid, is_empty, is_over, is_used_up}
-use Rattle.raid_laws.specs.Moves.{IsHeeded, IsSeated, LosesOnly, Mends}
+use Rattle.raid_laws.specs.Raid.{Raid, is_empty, is_failed, is_used_up}
+use Rattle.raid_laws.specs.Moves.{IsHeeded, IsSeated, OnlyFailures, Mends}
 use Rattle.raid_rack.specs.RaidRack.{IsRunning, raid_by, no_array}
 use Rattle.raid_laws.specs.Works.{Rebuilds, is_rebuilding, is_rebuilding_seat, is_whole_row, next_row}
 use Rattle.raid_laws.specs.Reach.{KeepsReach}
@@ -39,7 +39,7 @@ use Rattle.raid_laws.proofs.Views.{IsNext}
 -- ---- a member that is being rebuilt
 
 -- it has a row left
-pub row_left : (s : State) (n : ℕ) (u : View) (x : Seen) (place : ℕ) → IsSeated s n u x → option_map_or is_rebuilding_seat (seat_of u place) false ≡ true → HasRowLeft u place
+pub row_left : (s : State) (n : ℕ) (u : View) (x : RackView) (place : ℕ) → IsSeated s n u x → option_map_or is_rebuilding_seat (seat_of u place) false ≡ true → HasRowLeft u place
 row_left s n u x place seated is = by (seat_of u place) refl is
   where
     by : (o : Option Seat) → seat_of u place ≡ o → option_map_or is_rebuilding_seat o false ≡ true → HasRowLeft u place
@@ -70,7 +70,7 @@ all_at (x ∷ xs) zero s all at =
     ap is_whole_seat (sym (ap (λ o. unwrap_or o x) at)) ∙ (and_parts (is_whole_seat x) (list_all is_whole_seat xs) all).0
 all_at (x ∷ xs) (suc k) s all at = all_at xs k s (and_parts (is_whole_seat x) (list_all is_whole_seat xs) all).1 at
 
-module _ (s : State) (m : ℕ) (u : View) (x : Seen) (place rows : ℕ) (seated : IsSeated s m u x) (has : HasRowLeft u place) (left : rows ≤ rows_left u place) where
+module _ (s : State) (m : ℕ) (u : View) (x : RackView) (place rows : ℕ) (seated : IsSeated s m u x) (has : HasRowLeft u place) (left : rows ≤ rows_left u place) where
   -- the member's position, and its seat before them and after them
   abbrev at : ℕ
   at = own u place rows seated.is_array has left
@@ -195,7 +195,7 @@ module _ (s : State) (m : ℕ) (u : View) (x : Seen) (place rows : ℕ) (seated 
 -- ---- members that are missing
 
 -- what the others give after losses they gave before them
-others_less : (u w : View) (place row a n : ℕ) → LosesOnly u w
+others_less : (u w : View) (place row a n : ℕ) → OnlyFailures u w
     → list_all (λ m. (m.place == place) || nat_lt (row * 128 + 127) m.reach) (map (member_on w) (range_with_len a n)) ≡ true
     → list_all (λ m. (m.place == place) || nat_lt (row * 128 + 127) m.reach) (map (member_on u) (range_with_len a n)) ≡ true
 others_less u w place row a zero only all = refl
@@ -219,7 +219,7 @@ others_less u w place row a (suc n) only all =
         or_last (place_at u a == place) (nat_lt (row * 128 + 127) (member_on u a).reach)
         (lt-ltb (row * 128 + 127) (member_on u a).reach (member_less u w a (row * 128 + 127) only (ltb-true (row * 128 + 127) (member_on w a).reach counts)))
 
-pub give_less : (u w : View) (place row : ℕ) → LosesOnly u w → not (others_give w place row) ≡ false → not (others_give u place row) ≡ false
+pub give_less : (u w : View) (place row : ℕ) → OnlyFailures u w → not (others_give w place row) ≡ false → not (others_give u place row) ≡ false
 give_less u w place row only gives =
     let all = and_parts (list_all (λ m. (m.place == place) || nat_lt (row * 128 + 127) m.reach) (members_of w)) (nat_lt row w.resync) (not_false (others_give w place row) gives) in
     ap not
@@ -235,13 +235,13 @@ give_less u w place row only gives =
 -- ---- the code
 
 -- what the rebuild of rows says of the array, before it and after it
-pub record RebuiltRows (old u : View) (place rows number late : ℕ) (on : List ℕ) (x y : Seen) (answered : Bool) : Type 0 where
+pub record RebuiltRows (old u : View) (place rows number late : ℕ) (on : List ℕ) (x y : RackView) (answered : Bool) : Type 0 where
   pub left : rows ≤ rows_left old place
   pub steps : Steps old (rebuilt old place rows) u number late on x y answered
   pub elsewhere : KeepsElsewhere false old on x y
   pub refused : answered ≡ false → not (others_give u place (next_row old place)) ≡ true
 
-pub has_rebuilt : (a : Arrays) (all : ArrayVec View) (log : LogView) (x y : Seen) (n place rows : ℕ) (on : List ℕ) (number : ℕ) (old u : View) (answered : Bool)
+pub has_rebuilt : (a : Arrays) (all : ArrayVec View) (log : LogView) (x y : RackView) (n place rows : ℕ) (on : List ℕ) (number : ℕ) (old u : View) (answered : Bool)
     → IsRunning a x → IsHeeded (raid_by a) → n < a.state.made → HasRowLeft ((raid_by a).arrays n) place
     → ((raid_by a).arrays n).truth.resync_offset ≡ 2 ^ 64 - 1 ⊎ ((raid_by a).arrays n).truth.resync_offset % 128 ≡ 0
     → old ≡ get_or a.all.items n no_array → all.items ≡ set a.all.items n u → number ≡ a.log.number → number ≤ log.number
@@ -292,7 +292,7 @@ has_rebuilt a all log x y n place rows on number old u answered running heeded l
           done_rows v f next log.number n x y on answered running.set call is settled grown vals spent goes covers amid;
     }
 
-pub rebuilt_raise : (old u : View) (place rows : ℕ) (x y : Seen) (is_done : Bool) → Stepped old (rebuilt old place rows) u x y is_done → u.truth.events ≤ old.truth.events + 1
+pub rebuilt_raise : (old u : View) (place rows : ℕ) (x y : RackView) (is_done : Bool) → Stepped old (rebuilt old place rows) u x y is_done → u.truth.events ≤ old.truth.events + 1
 rebuilt_raise old u place rows x y false (as_it_was notes) = let e = ap (λ t. t.events) notes.same.truth in omega (arith, e)
 rebuilt_raise old u place rows x y true (done notes) = let e = ap (λ t. t.events) notes.same.truth in omega (arith, e)
 
@@ -321,7 +321,7 @@ answered_refused_not gives P (Ok x) refused is = absurd (both_ways true is refl)
 answered_refused_not gives P (Err e) refused is = ap not refused.1
 
 -- rows that are rebuilt, and the mending after it
-pub rebuilds_rows : (a b c : Arrays) (x y z : Seen) (m place most rows : ℕ) {E : Type 0} (did : Result ℕ E) (ended : Bool) (result : Result ℕ Stuck) → m < a.state.made
+pub rebuilds_rows : (a b c : Arrays) (x y z : RackView) (m place most rows : ℕ) {E : Type 0} (did : Result ℕ E) (ended : Bool) (result : Result ℕ Stuck) → m < a.state.made
     → 0 < rows → rows ≤ most → rows ≤ rows_left ((raid_by a).arrays m) place → IfOk did (λ k. k ≡ rows)
     → HasStepped a b x y m (rebuilt ((raid_by a).arrays m) place rows) (λ w. not (others_give w place (next_row ((raid_by a).arrays m) place))) (is_ok did)
     → Mends (raid_by b) (raid_by c) y z → ended ≡ (is_empty (raid_by c) || is_used_up (raid_by c))
@@ -337,10 +337,10 @@ rebuilds_rows a b c x y z m place most rows did ended result low some few inside
       refused = refused result none (λ is.
           elim is [
             | inr over ↦
-                or_first (is_over (raid_by c) m) (lacks ((raid_by c).arrays m))
+                or_first (is_failed (raid_by c) m) (lacks ((raid_by c).arrays m))
                 (over_by (is_empty (raid_by c)) (is_used_up (raid_by c)) (present ((raid_by c).arrays m).seats == 0) (sym ended_is ∙ over))
             | inl not_done ↦
-                or_second (is_over (raid_by c) m) (lacks ((raid_by c).arrays m))
+                or_second (is_failed (raid_by c) m) (lacks ((raid_by c).arrays m))
                 (lacks_on (lacks ((raid_by c).arrays m))
                 (λ gives.
                 both_ways (lacks ((raid_by b).arrays m)) (give_less ((raid_by b).arrays m) ((raid_by c).arrays m) place row (mends.moves.arrays m made) gives) (one.refused not_done)))

@@ -5,7 +5,7 @@ use Rattle.std.specs.Option.{option_map_or}
 use Rattle.std.proofs.lemmas.Bool.{and_parts, both_ways, cases_Bool, cases_lt, ne_eqb}
 use Rattle.std.proofs.lemmas.List.{length-map}
 use Rattle.std.proofs.lemmas.Option.{slice_get-get_or, slice_get_past}
-use Rattle.rack.specs.Seen.{Seen}
+use Rattle.rack.specs.Seen.{RackView}
 use Rattle.shr_base.specs.declared.Id.{Id}
 use Rattle.md_super.specs.declared.superblock.Super.{Super}
 use Rattle.md_super.specs.Profile.{is_height_of, profiled, rules}
@@ -56,7 +56,7 @@ missing_of Missing is = refl
 missing_of Whole is = absurd (both_ways false refl is)
 missing_of (Rebuilding to) is = absurd (both_ways false refl is)
 
-pub seat_missing : (s : State) (n : ℕ) (u : View) (x : Seen) (place : ℕ) → IsSeated s n u x → is_current s place ≡ false → is_some (seat_of u place) ≡ true
+pub seat_missing : (s : State) (n : ℕ) (u : View) (x : RackView) (place : ℕ) → IsSeated s n u x → is_current s place ≡ false → is_some (seat_of u place) ≡ true
     → seat_of u place ≡ Some Missing
 seat_missing s n u x place seated gone some = of (slot_at (slots_of u) place) refl some
   where
@@ -74,7 +74,7 @@ seat_missing s n u x place seated gone some = of (slot_at (slots_of u) place) re
         ap (option_map (λ (z : Slot). z.seat)) at ∙ ap Some (missing_of slot.seat (same_seat marks))
 
 -- where its disk is to have a slice, it is
-pub joins_missing : (r : Arrays) (x : Seen) (place sectors n : ℕ) → IsRunning r x → is_current r.state place ≡ false → joins r.all.items place sectors n ≡ true
+pub joins_missing : (r : Arrays) (x : RackView) (place sectors n : ℕ) → IsRunning r x → is_current r.state place ≡ false → joins r.all.items place sectors n ≡ true
     → seat_of ((raid_by r).arrays n) place ≡ Some Missing
 joins_missing r x place sectors n running gone is =
     let low = (joins_fits r.all.items place sectors n is).0 in
@@ -188,7 +188,7 @@ renew_seat place p seat = if names (place ∷ []) p then Rebuilding 0 else seat
 abbrev counting_by : View → ℕ → Option Seat → Member
 counting_by u k o = counting (member_by_seat u.truth.size (place_at u k) o)
 
-module _ (s t : State) (n : ℕ) (u : View) (x : Seen) (place : ℕ) (drive : Id) (lists : Lists s place t) (missing : is_current s place ≡ false)
+module _ (s t : State) (n : ℕ) (u : View) (x : RackView) (place : ℕ) (drive : Id) (lists : Lists s place t) (missing : is_current s place ≡ false)
     (seated : IsSeated s n u x) (heeded : u.went ≡ []) where
   pool_listed : IsUnmarked u → IsOfPool t u
   pool_listed unmarked =

@@ -8,7 +8,7 @@ use Rattle.std.proofs.lemmas.Bool.{cases_lt}
 use Rattle.std.proofs.lemmas.Option.{slice_get-get_or, slice_get_past, slice_get_within}
 use Rattle.arrayvec.specs.ArrayVec.{ArrayVec}
 use Rattle.shr_base.specs.declared.Id.{Id}
-use Rattle.rack.specs.Seen.{Seen}
+use Rattle.rack.specs.Seen.{RackView}
 use Rattle.slice_rack.specs.Slices.{Slices}
 use Rattle.array_image.specs.Arrays.{place_with}
 use Rattle.array_image.specs.Places.{log_sectors, member_id, slice_of, state_sector}
@@ -19,7 +19,7 @@ use Rattle.array_core.specs.declared.slots.Slot.{Slot}
 use Rattle.array_core.specs.Seats.{names, renewed, seat_of, slot_at}
 use Rattle.array_core.specs.Slots.{places_by, slot_with}
 use Rattle.raid_rack.specs.declared.arrays.Arrays.{Arrays}
-use Rattle.raid_laws.specs.Moves.{KeepsArrays, LosesOnly}
+use Rattle.raid_laws.specs.Moves.{KeepsArrays, OnlyFailures}
 use Rattle.raid_laws.specs.NewDrive.{ReachesAll, SeatsDrive, first_in, joins, length_in, slice_length}
 use Rattle.raid_rack.specs.RaidRack.{IsRunning, no_array, raid_by}
 use Rattle.raid_rack.proofs.LayingDrive.{none_joins}
@@ -80,7 +80,7 @@ module _ (place : ℕ) (id : List ℕ) where
 
 -- ---- one array
 
-module _ (u w : View) (one : IsArray u) (two : IsArray w) (only : LosesOnly u w) where
+module _ (u w : View) (one : IsArray u) (two : IsArray w) (only : OnlyFailures u w) where
   places_same : places_by w.truth ≡ places_by u.truth
   places_same =
       ap₂ (λ (r : ArrayVec ℕ) k. map (λ n. unwrap_or (place_with r.items n) 16) (range_with_len 0 k)) only.same.geometry.roles only.same.geometry.disks
@@ -111,7 +111,7 @@ module _ (u w : View) (one : IsArray u) (two : IsArray w) (only : LosesOnly u w)
       ∙ found_same place (places_by u.truth) u.seats w.seats u.devices long_seats long_now long_devices
 
   -- renewed, it has still lost members and nothing else
-  pub renewed_only : (place : ℕ) (drive : Id) → LosesOnly (renewed place drive u) (renewed place drive w)
+  pub renewed_only : (place : ℕ) (drive : Id) → OnlyFailures (renewed place drive u) (renewed place drive w)
   unfolding new_seat new_device
   renewed_only place drive =
       let id = member_id drive.0 u.number in
@@ -137,8 +137,8 @@ module _ (u w : View) (one : IsArray u) (two : IsArray w) (only : LosesOnly u w)
       }
 
 -- one of them, renewed or not
-pub renewed_if : (u w : View) (place : ℕ) (drive : Id) (b : Bool) → IsArray u → IsArray w → LosesOnly u w
-    → LosesOnly (if b then renewed place drive u else u) (if b then renewed place drive w else w)
+pub renewed_if : (u w : View) (place : ℕ) (drive : Id) (b : Bool) → IsArray u → IsArray w → OnlyFailures u w
+    → OnlyFailures (if b then renewed place drive u else u) (if b then renewed place drive w else w)
 renewed_if u w place drive true one two only = renewed_only u w one two only place drive
 renewed_if u w place drive false one two only = only
 
@@ -208,7 +208,7 @@ module _ (xs ys : List View) (are : AreSameMembers xs ys) where
       ∙ reaches n (get_or xs n no_array) (slice_get-get_or xs n no_array before) (sym (are.seat n place before) ∙ ap (λ (v : View). is_some (seat_of v place)) (sym here) ∙ some)
 
 -- settled, the arrays have the same members
-pub same_members : (r q : Arrays) (x y : Seen) → IsRunning r x → IsRunning q y → q.state.made ≡ r.state.made → KeepsArrays (raid_by r) (raid_by q)
+pub same_members : (r q : Arrays) (x y : RackView) → IsRunning r x → IsRunning q y → q.state.made ≡ r.state.made → KeepsArrays (raid_by r) (raid_by q)
     → AreSameMembers r.all.items q.all.items
 same_members r q x y before after same keeps = record {
   count = after.count ∙ same ∙ sym before.count;

@@ -3,28 +3,28 @@ use Rattle.std.proofs.Common.{◌≡◌, ◌≢◌, ℕ, ◌+◌, ◌<◌, Bool,
 use Rattle.std.specs.Option.{option_map_or}
 use Rattle.std.proofs.lemmas.Bool.{both_ways}
 use Rattle.rack.specs.Values.{Values, Keeps, MayLeave}
-use Rattle.rack.specs.Seen.{Image, Seen}
+use Rattle.rack.specs.Seen.{Image, RackView}
 use Rattle.rack.specs.Joins.{keeps_same}
 use Rattle.pool_state.specs.declared.contents.State.{State}
 use Rattle.array_image.specs.Arrays.{Member, Shape, replayed}
-use Rattle.array_image.specs.Held.{Among, IsSettled}
+use Rattle.array_image.specs.Held.{Among, IsSynced}
 use Rattle.array_image.specs.Left.{IsLeft, Picks}
 use Rattle.array_image.specs.Places.{data_sector, log_slice, member_slice, place_of}
 use Rattle.array_image.specs.States.{is_current, state_in}
 use Rattle.array_image.specs.Supers.{truth_in}
 use Rattle.array_image.proofs.Frames.{state_same}
-use Rattle.log_laws.specs.Kept.{LogKept}
+use Rattle.log_laws.specs.Kept.{LogInvariant}
 use Rattle.log_laws.proofs.Kept.{kept_idle, kept_state}
 use Rattle.array_image.proofs.Replays.{replayed_as_is}
-use Rattle.array_model.specs.Says.{Holds, HoldsShape, IsOpen}
+use Rattle.array_model.specs.Says.{ArrayInvariant, ShapeInvariant, IsOpen}
 use Rattle.array_model.specs.View.{View, may_vary, seat_reach, shape_of}
 use Rattle.array_model.proofs.Firsts.{position_of}
 use Rattle.array_model.proofs.Keeping.{KeepsData, even_kept, held_kept, logs_of, same_value, settled_kept}
 use Rattle.array_model.proofs.Views.{shape_members}
 use Rattle.raid_laws.specs.Vacated.{DiffersAt}
-use Rattle.raid_laws.specs.Moves.{IsAmid, IsHeeded, IsSeated, IsSet}
+use Rattle.raid_laws.specs.Moves.{IsTrackedInCall, IsHeeded, IsSeated, IsSet}
 use Rattle.raid_laws.specs.NewDrive.{no_state}
-use Rattle.raid_laws.specs.Raid.{Raid, Stood, gone_in, is_left}
+use Rattle.raid_laws.specs.Raid.{Raid, InvariantInCall, gone_in, is_left}
 use Rattle.raid_laws.specs.Reach.{reach_same}
 use Rattle.raid_laws.specs.Rows.{LeavesFrom, LeavesRows}
 use Rattle.raid_laws.proofs.Own.{look_nothing}
@@ -35,7 +35,7 @@ use Rattle.raid_laws.proofs.Whole.{heeded_gone}
 use Rattle.rack.specs.Targets.{Target, look}
 
 -- a member that counts is on a current place
-pub counts_current : (s : State) (n : ℕ) (v : View) (x : Seen) → IsSeated s n v x → CountsOn s (shape_of v)
+pub counts_current : (s : State) (n : ℕ) (v : View) (x : RackView) → IsSeated s n v x → CountsOn s (shape_of v)
 counts_current s n v x seated m sector among counts =
     let at = position_of v v.truth.raid_disks m (subst (Among m) (shape_members v) among) in
     let k = at.0 in
@@ -45,7 +45,7 @@ counts_current s n v x seated m sector among counts =
     (λ missing. let none = ap (λ o. option_map_or (seat_reach v.truth.size) o 0) missing in omega (arith, none, reach)))
 
 -- its mirror image: those of a member on a place that isn't current don't
-module _ (place : ℕ) (x y : Seen) (differs : DiffersAt place x y) (s : State) (missing : is_current s place ≡ false) where
+module _ (place : ℕ) (x y : RackView) (differs : DiffersAt place x y) (s : State) (missing : is_current s place ≡ false) where
   off_place : (p : ℕ) → is_current s p ≡ true → p ≢ place
   off_place p current same = both_ways (is_current s p) (subst (λ q. is_current s q ≡ false) (sym same) missing) current
 
@@ -63,7 +63,7 @@ module _ (place : ℕ) (x y : Seen) (differs : DiffersAt place x y) (s : State) 
   open_same n shape few counts is_open m sector among reached =
       differs.live (member_slice m.place n) (data_sector + sector) (member_off m.place n few (counts m sector among reached)) (is_open m sector among reached)
 
-  module _ (number : ℕ) (gone : ℕ → Bool) (kept : LogKept s number gone x) (someone : (p : ℕ) × (is_current s p ≡ true) × (gone p ≡ false))
+  module _ (number : ℕ) (gone : ℕ → Bool) (kept : LogInvariant s number gone x) (someone : (p : ℕ) × (is_current s p ≡ true) × (gone p ≡ false))
       (all : (p : ℕ) → is_current s p ≡ true → gone p ≡ false) (cleared : 0 < y.sectors (log_slice place) → (v : List ℕ) → MayLeave (y.held (log_slice place) 0) v → v ≡ no_state) where
     -- replaying changes nothing, neither before nor after
     as_was : (c : Image) (d t : ℕ) → Picks x c → replayed x.sectors c d t ≡ c d t
@@ -87,7 +87,7 @@ module _ (place : ℕ) (x y : Seen) (differs : DiffersAt place x y) (s : State) 
         )
 
     shape_same : (n : ℕ) (shape : Shape) (resync : ℕ) (vary : Bool) (vals : ℕ → Values) (spent : ℕ → Bool) → n < 16 → CountsOn s shape
-        → HoldsShape s n shape shape resync vary vals spent x → HoldsShape s n shape shape resync vary vals spent y
+        → ShapeInvariant s n shape shape resync vary vals spent x → ShapeInvariant s n shape shape resync vary vals spent y
     shape_same n shape resync vary vals spent few counts holds =
         let alike = data_same n shape few counts in
         record {
@@ -105,7 +105,7 @@ module _ (place : ℕ) (x y : Seen) (differs : DiffersAt place x y) (s : State) 
         }
 
     pub holds_same : (v : View) (vals : ℕ → Values) (spent : ℕ → Bool) → v.number < 16 → CountsOn s (shape_of v)
-        → Holds s (shape_of v) v vals spent x → Holds s (shape_of v) v vals spent y
+        → ArrayInvariant s (shape_of v) v vals spent x → ArrayInvariant s (shape_of v) v vals spent y
     holds_same v vals spent few counts holds = record {
       shape = shape_same v.number (shape_of v) v.resync (may_vary v) vals spent few counts holds.shape;
       mark = λ marked r left t is.
@@ -136,19 +136,19 @@ module _ (place : ℕ) (x y : Seen) (differs : DiffersAt place x y) (s : State) 
         let same : q ≡ s = ap (λ o. unwrap_or o q) (sym state ∙ state_now_is) in
         before e at.1 s t state_was (sym (truth_still s n r e at.2) ∙ subst (λ k. truth_in k r n ≡ Some t) same truth)
 
-    pub log_same : LogKept s number gone y
+    pub log_same : LogInvariant s number gone y
     log_same = logs_kept place x y differs s number gone kept missing someone all cleared
 
 -- An array that stands between calls stands so.
-pub reseated_amid : (v : Raid) (x y : Seen) (place n : ℕ) (vals : ℕ → Values) (spent : ℕ → Bool) → DiffersAt place x y → IsSet v x → IsHeeded v
+pub reseated_amid : (v : Raid) (x y : RackView) (place n : ℕ) (vals : ℕ → Values) (spent : ℕ → Bool) → DiffersAt place x y → IsSet v x → IsHeeded v
     → is_current v.state place ≡ false → (0 < y.sectors (log_slice place) → (u : List ℕ) → MayLeave (y.held (log_slice place) 0) u → u ≡ no_state) → n < v.state.made
-    → IsAmid v x n vals spent → IsAmid v y n vals spent
+    → IsTrackedInCall v x n vals spent → IsTrackedInCall v y n vals spent
 reseated_amid v x y place n vals spent differs set heeded missing cleared low amid =
     let s = v.state in
     let u = v.arrays n in
     let all : (p : ℕ) → is_current s p ≡ true → gone_in v p ≡ false = λ p current. heeded_gone v heeded p in
     let shape_is : amid.durable ≡ shape_of u = amid.marked all in
-    let stood = subst (λ (shape : Shape). Stood s shape vals spent (gone_in v) v x n) shape_is amid.stood in
+    let stood = subst (λ (shape : Shape). InvariantInCall s shape vals spent (gone_in v) v x n) shape_is amid.stood in
     let seated = set.arrays n low in
     let few : u.number < 16 = seated.is_array.few in
     record {
@@ -169,8 +169,8 @@ reseated_amid v x y place n vals spent differs set heeded missing cleared low am
     }
 
 -- and its members are settled
-pub reseated_settled : (v : Raid) (x y : Seen) (place n : ℕ) → DiffersAt place x y → IsSet v x → is_current v.state place ≡ false → n < v.state.made
-    → IsSettled (shape_of (v.arrays n)) n x.held → IsSettled (shape_of (v.arrays n)) n y.held
+pub reseated_settled : (v : Raid) (x y : RackView) (place n : ℕ) → DiffersAt place x y → IsSet v x → is_current v.state place ≡ false → n < v.state.made
+    → IsSynced (shape_of (v.arrays n)) n x.held → IsSynced (shape_of (v.arrays n)) n y.held
 reseated_settled v x y place n differs set missing low settled =
     let seated = set.arrays n low in
     let few : n < 16 = let most = set.most in omega (arith, low, most) in
@@ -178,9 +178,9 @@ reseated_settled v x y place n differs set missing low settled =
     (data_same place x y differs v.state missing n (shape_of (v.arrays n)) few (counts_current v.state n (v.arrays n) x seated)) settled
 
 -- and images leave it the rows that they left
-pub reseated_rows : (v : Raid) (x y : Seen) (place n : ℕ) (vals : ℕ → Values) (spent : ℕ → Bool) → DiffersAt place x y → IsSet v x → IsHeeded v
+pub reseated_rows : (v : Raid) (x y : RackView) (place n : ℕ) (vals : ℕ → Values) (spent : ℕ → Bool) → DiffersAt place x y → IsSet v x → IsHeeded v
     → is_current v.state place ≡ false → (0 < y.sectors (log_slice place) → (u : List ℕ) → MayLeave (y.held (log_slice place) 0) u → u ≡ no_state) → n < v.state.made
-    → IsAmid v x n vals spent → LeavesRows v x n → LeavesRows v y n
+    → IsTrackedInCall v x n vals spent → LeavesRows v x n → LeavesRows v y n
 reseated_rows v x y place n vals spent differs set heeded missing cleared low amid rows = record {
   settled = rows.settled;
   young = rows.young;

@@ -2,11 +2,11 @@
 use Rattle.std.proofs.Common.{◌≡◌, ℕ, ◌<◌, Bool, true, false, ◌&&◌, not, List, [], length, get_or, slice_get, Some, option_map, refl, sym, ap, subst, ◌∙◌, arith}
 use Rattle.std.proofs.lemmas.Bool.{both_ways, and_parts}
 use Rattle.arrayvec.specs.ArrayVec.{ArrayVec}
-use Rattle.rack.specs.Seen.{Seen}
+use Rattle.rack.specs.Seen.{RackView}
 use Rattle.rack.specs.Targets.{Target}
 use Rattle.pool_state.specs.declared.contents.State.{State}
 use Rattle.array_image.specs.Arrays.{Shape}
-use Rattle.array_image.specs.Held.{IsSettled}
+use Rattle.array_image.specs.Held.{IsSynced}
 use Rattle.array_image.specs.States.{current_places, is_current}
 use Rattle.log_laws.specs.View.{LogView, names, next_number}
 use Rattle.log_laws.specs.Commits.{CommitCall}
@@ -19,7 +19,7 @@ use Rattle.raid_laws.specs.Agreeing.{MakesAgree}
 use Rattle.raid_laws.specs.Cleaning.{IsIdle, NoneFails}
 use Rattle.raid_laws.specs.Losses.{AddsCopies, newly_gone}
 use Rattle.raid_laws.specs.Missing.{marked}
-use Rattle.raid_laws.specs.Moves.{AreMarked, IsHeeded, IsSet, Mends, Moves, RaisesBy}
+use Rattle.raid_laws.specs.Moves.{AreMarked, IsHeeded, IsSet, Mends, ChangesNoData, RaisesBy}
 use Rattle.raid_laws.specs.Raid.{Raid, gone_in, is_left}
 use Rattle.raid_rack.specs.RaidRack.{IsRunning, no_array, raid_by}
 use Rattle.raid_laws.specs.Settling.{HasStaged, HasSupers, IsMarking, SettlesTo, state_after}
@@ -64,21 +64,21 @@ staged_heeded v f xs arrays staged = record {
 }
 
 -- arrays that are settled, of which nobody is listed
-pub record HasSettled (a d : Arrays) (x y : Seen) : Type 0 where
+pub record HasSettled (a d : Arrays) (x y : RackView) : Type 0 where
   pub before : IsHeeded (raid_by a)
   pub running : IsRunning d y
   pub heeded : IsHeeded (raid_by d)
   pub settles : SettlesTo (raid_by a) (raid_by d) x y d.state.made d.log.added
 
 -- from the log's number alone
-pub settles_from : (a c : Arrays) (log : LogView) (x y : Seen) → log.number ≡ a.log.number
+pub settles_from : (a c : Arrays) (log : LogView) (x y : RackView) → log.number ≡ a.log.number
     → SettlesTo (raid_by (record a { log = log })) (raid_by c) x y a.state.made c.log.added → SettlesTo (raid_by a) (raid_by c) x y a.state.made c.log.added
 settles_from a c log x y number settles =
     let whole : raid_by (record a { log = log }) ≡ raid_by a =
     λ i. record { state = a.state; arrays = λ n. get_or a.all.items n no_array; number = number i } in
     subst (λ (v : Raid). SettlesTo v (raid_by c) x y a.state.made c.log.added) whole settles
 
-pub has_settled : (a c : Arrays) (all : ArrayVec View) (log : LogView) (lost : List ℕ) (x y : Seen) → IsHeeded (raid_by a) → log.number ≡ a.log.number
+pub has_settled : (a c : Arrays) (all : ArrayVec View) (log : LogView) (lost : List ℕ) (x y : RackView) → IsHeeded (raid_by a) → log.number ≡ a.log.number
     → SettlesTo (raid_by (record a { log = log })) (raid_by c) x y a.state.made c.log.added → IsRunning c y
     → lost ≡ newly_gone c.state c.all.items → lost ≡ []
     → ((n : ℕ) → slice_get all.items n ≡ option_map heeded (slice_get c.all.items n)) → length all.items ≡ length c.all.items
@@ -108,7 +108,7 @@ has_settled a c all log lost x y before number from running lost_is none each co
         went = λ n p low is. absurd (both_ways (has_gone ((raid_by a).arrays n) p) (ap (λ ps. names ps p) (before n low)) is);
         staged = staged_heeded v f c.log.added arrays (subst (λ k. HasStaged v k c.log.added) (sym made) one.staged);
         settled = λ n vals spent less joined goes covers amid.
-            subst (λ (shape : Shape). IsSettled shape n y.held) (sym (ap shape_of (arrays n less) ∙ heeded_shape (v.arrays n)))
+            subst (λ (shape : Shape). IsSynced shape n y.held) (sym (ap shape_of (arrays n less) ∙ heeded_shape (v.arrays n)))
             (one.settled n vals spent (subst (λ k. n < k) made less) joined (step.still n less goes) (λ z alive. step.spent n z less (covers z alive)) amid);
       };
     }
@@ -126,7 +126,7 @@ unlisted d lost heeded none p =
 nobody_noted : (d : Arrays) (lost : List ℕ) → lost ≡ [] → (n p : ℕ) → n < d.state.made → names lost p ≡ true → has_gone ((raid_by d).arrays n) p ≡ true
 nobody_noted d lost none n p low is = absurd (both_ways (names lost p) (ap (λ ps. names ps p) none) is)
 
-pub marking_anew : (a d : Arrays) (lost on : List ℕ) (l : LogView) (t : State) (x y : Seen) → HasSettled a d x y → lost ≡ []
+pub marking_anew : (a d : Arrays) (lost on : List ℕ) (l : LogView) (t : State) (x y : RackView) → HasSettled a d x y → lost ≡ []
     → t ≡ marked lost d.state → on ≡ current_places t → AddsCopies t on d.log.added l.added → l.number ≡ d.log.number
     → IsMarking (raid_by d) lost on l d.log.added y
 marking_anew a d lost on l t x y has none t_is on_is copies number = record {
@@ -141,15 +141,15 @@ marking_anew a d lost on l t x y has none t_is on_is copies number = record {
 }
 
 -- what is known once it is done, and before whoever went in it is marked
-pub record HasRestated (a b : Arrays) (x y : Seen) : Type 0 where
-  pub moves : Moves (raid_by a) (raid_by b) x y
+pub record HasRestated (a b : Arrays) (x y : RackView) : Type 0 where
+  pub moves : ChangesNoData (raid_by a) (raid_by b) x y
   pub supers : MakesAgree (raid_by a) (raid_by b) x y
   pub truths : x.lasting → MakesTruths (raid_by a) (raid_by b) x y
   pub marked : NoneFails x y → AreMarked (raid_by b)
   pub raises : RaisesBy 1 (raid_by a) (raid_by b)
   pub running : IsRunning b y
 
-pub has_restated : (a d : Arrays) (all : ArrayVec View) (log l : LogView) (t : State) (lost on gone : List ℕ) (x y z : Seen) → HasSettled a d x y
+pub has_restated : (a d : Arrays) (all : ArrayVec View) (log l : LogView) (t : State) (lost on gone : List ℕ) (x y z : RackView) → HasSettled a d x y
     → t ≡ marked lost d.state → IsMarking (raid_by d) lost on l d.log.added y → CommitCall l on gone y z
     → ((n : ℕ) → slice_get all.items n ≡ option_map (without gone) (slice_get d.all.items n)) → length all.items ≡ length d.all.items
     → log.number ≡ next_number l.number
@@ -170,7 +170,7 @@ has_restated a d all log l t lost on gone x y z has t_is marking call each count
     let whole : w ≡ raid_by (record d { state = t; all = all; log = log }) = λ i. record { state = back i; arrays = f; number = same_number i } in
     let step = moves_commit (raid_by a) v lost on gone l d.log.added f x y z has.settles commit in
     record {
-      moves = subst (λ (r : Raid). Moves (raid_by a) r x z) whole step;
+      moves = subst (λ (r : Raid). ChangesNoData (raid_by a) r x z) whole step;
       supers = subst (λ (r : Raid). MakesAgree (raid_by a) r x z) whole (agrees_commit (raid_by a) v lost on gone l d.log.added f x y z has.settles commit);
       truths = λ lasting.
           subst (λ (r : Raid). MakesTruths (raid_by a) r x z) whole
@@ -203,7 +203,7 @@ has_restated a d all log l t lost on gone x y z has t_is marking call each count
 
 -- ---- the whole call
 
-pub record RestatesAll (a b : Arrays) (x y : Seen) : Type 0 where
+pub record RestatesAll (a b : Arrays) (x y : RackView) : Type 0 where
   pub mends : Mends (raid_by a) (raid_by b) x y
   pub supers : MakesAgree (raid_by a) (raid_by b) x y
   pub raises : RaisesBy 18 (raid_by a) (raid_by b)
@@ -212,7 +212,7 @@ nobody_before : (a : Arrays) (b : Raid) → IsHeeded (raid_by a) → (p : ℕ) �
 nobody_before a b heeded p is = absurd (both_ways (gone_in (raid_by a) p) (heeded_gone (raid_by a) heeded p) is)
 
 -- whoever went in the commit was marked after it
-pub restates_then : (a b c : Arrays) (x y z : Seen) → IsHeeded (raid_by a) → HasRestated a b x y → Mends (raid_by b) (raid_by c) y z
+pub restates_then : (a b c : Arrays) (x y z : RackView) → IsHeeded (raid_by a) → HasRestated a b x y → Mends (raid_by b) (raid_by c) y z
     → (AreMarked (raid_by b) → IsIdle (raid_by b) (raid_by c) × (z ≡ y)) → RaisesBy 17 (raid_by b) (raid_by c) → RestatesAll a c x z
 restates_then a b c x y z heeded one mends idle raises = record {
   mends = record {
@@ -226,7 +226,7 @@ restates_then a b c x y z heeded one mends idle raises = record {
 }
 
 -- somebody went while the arrays were settled
-pub restates_early : (a b c : Arrays) (log : LogView) (lost : List ℕ) (x y z : Seen) → IsHeeded (raid_by a) → log.number ≡ a.log.number
+pub restates_early : (a b c : Arrays) (log : LogView) (lost : List ℕ) (x y z : RackView) → IsHeeded (raid_by a) → log.number ≡ a.log.number
     → SettlesTo (raid_by (record a { log = log })) (raid_by b) x y a.state.made b.log.added → IsRunning b y
     → lost ≡ newly_gone b.state b.all.items → 0 < length lost → Mends (raid_by b) (raid_by c) y z → RaisesBy 17 (raid_by b) (raid_by c)
     → RestatesAll a c x z
@@ -254,7 +254,7 @@ restates_early a b c log lost x y z heeded number from running lost_is some mend
     }
 
 -- nobody is left to write them on
-pub restates_alone : (a d : Arrays) (t : State) (lost on : List ℕ) (x y : Seen) → HasSettled a d x y → lost ≡ [] → t ≡ marked lost d.state
+pub restates_alone : (a d : Arrays) (t : State) (lost on : List ℕ) (x y : RackView) → HasSettled a d x y → lost ≡ [] → t ≡ marked lost d.state
     → on ≡ current_places t → on ≡ [] → RestatesAll a (record d { state = t }) x y × IsRunning (record d { state = t }) y
 restates_alone a d t lost on x y has none t_is on_is empty =
     let v = raid_by d in
@@ -270,7 +270,7 @@ restates_alone a d t lost on x y has none t_is on_is empty =
     let made = ap (λ (s : State). s.made) t_is in (
       record {
         mends = record {
-          moves = subst (λ (w : Raid). Moves (raid_by a) w x y) whole joined;
+          moves = subst (λ (w : Raid). ChangesNoData (raid_by a) w x y) whole joined;
           heeded = λ n low. has.heeded n (subst (λ k. n < k) made low);
           marked = nobody_before a (raid_by (record d { state = t })) has.before;
         };

@@ -5,7 +5,7 @@ use Rattle.std.specs.List.{list_all, range_with_len}
 use Rattle.std.specs.Option.{option_map_or}
 use Rattle.arrayvec.specs.ArrayVec.{ArrayVec}
 use Rattle.rack.specs.Values.{Values}
-use Rattle.rack.specs.Seen.{Seen}
+use Rattle.rack.specs.Seen.{RackView}
 use Rattle.pool_state.specs.declared.contents.State.{State}
 use Rattle.array_image.specs.Spent.{wanting}
 use Rattle.array_image.specs.States.{current_places, is_current}
@@ -14,16 +14,16 @@ use Rattle.log_laws.specs.View.{LogView, emptied, committed}
 use Rattle.array_model.specs.declared.Seat.{Seat}
 use Rattle.array_model.specs.View.{IsArray, View, has_gone, is_whole_seat, member_on, rows_of, seat_reach, shape_of}
 use Rattle.array_model.specs.Members.{members_of}
-use Rattle.array_model.specs.ArrayCalls.{Covers}
+use Rattle.array_model.specs.ArrayCalls.{IncludesSpent}
 use Rattle.array_core.specs.Pool.{Goes}
 use Rattle.array_core.specs.Superblocks.{is_settled, left_offset}
 use Rattle.array_core.specs.Writing.{KeepsElsewhere}
 use Rattle.sync_laws.specs.Rows.{lacks_row}
 use Rattle.sync_laws.specs.Steps.{DoesRows, Stepped, Steps, as_it_was, done, offset_after, resynced}
 use Rattle.raid_rack.specs.declared.arrays.Arrays.{Arrays}
-use Rattle.raid_laws.specs.Raid.{Raid, is_over}
+use Rattle.raid_laws.specs.Raid.{Raid, is_failed}
 use Rattle.raid_laws.specs.Reach.{KeepsReachOn, reach_same}
-use Rattle.raid_laws.specs.Moves.{AreCaused, Brings, IsAmid, IsHeeded, IsSeated, LosesOnly, Mends}
+use Rattle.raid_laws.specs.Moves.{AreCaused, ChangesData, IsTrackedInCall, IsHeeded, IsSeated, OnlyFailures, Mends}
 use Rattle.raid_laws.specs.Rows.{LeavesRows}
 use Rattle.raid_rack.specs.RaidRack.{IsRunning, raid_by, no_array}
 use Rattle.raid_laws.specs.Works.{StepsOne, stepped}
@@ -64,14 +64,14 @@ resynced_settled v rows young =
     eq-eqb (offset_after v (v.resync + rows)) (left_offset (resynced v rows)) (sym (left_old (resynced v rows) young))
 
 -- an array that has a row left isn't young
-pub grown : (s : State) (m : ℕ) (u : View) (x : Seen) → IsSeated s m u x → u.resync < rows_of u → u.young ≡ false
+pub grown : (s : State) (m : ℕ) (u : View) (x : RackView) → IsSeated s m u x → u.resync < rows_of u → u.young ≡ false
 grown s m u x seated row =
     elim (cases_Bool u.young) [
       | inl young ↦ absurd (let none = seated.is_of_pool.zeroed young in omega (arith, none, row))
       | inr not_young ↦ not_young
     ]
 
-next_resynced : (s : State) (m rows : ℕ) (u : View) (x : Seen) → IsSeated s m u x → u.resync < rows_of u → u.resync + rows ≤ rows_of u → IsNext s m u (resynced u rows) x
+next_resynced : (s : State) (m rows : ℕ) (u : View) (x : RackView) → IsSeated s m u x → u.resync < rows_of u → u.resync + rows ≤ rows_of u → IsNext s m u (resynced u rows) x
 next_resynced s m rows u x seated row inside =
     let a = seated.is_array in
     let pool = seated.is_of_pool in
@@ -137,7 +137,7 @@ next_resynced s m rows u x seated row inside =
 -- ---- members that are missing
 
 -- whoever isn't lost counts as far as before
-pub member_less : (u w : View) (k t : ℕ) → LosesOnly u w → t < (member_on w k).reach → t < (member_on u k).reach
+pub member_less : (u w : View) (k t : ℕ) → OnlyFailures u w → t < (member_on w k).reach → t < (member_on u k).reach
 member_less u w k t only counts =
     elim (only.seats k) [
       | inl same ↦
@@ -147,7 +147,7 @@ member_less u w k t only counts =
           absurd (let none = subst (λ (o : Option Seat). t < option_map_or (seat_reach w.truth.size) o 0) lost counts in omega (arith, none))
     ]
 
-pub wanting_less : (u w : View) (t a n : ℕ) → LosesOnly u w → wanting t (map (member_on u) (range_with_len a n)) ≤ wanting t (map (member_on w) (range_with_len a n))
+pub wanting_less : (u w : View) (t a n : ℕ) → OnlyFailures u w → wanting t (map (member_on u) (range_with_len a n)) ≤ wanting t (map (member_on w) (range_with_len a n))
 wanting_less u w t a zero only = omega arith
 wanting_less u w t a (suc n) only =
     let rest = wanting_less u w t (a + 1) n only in
@@ -172,7 +172,7 @@ wanting_less u w t a (suc n) only =
     either false fewer more rest = omega (arith, rest)
 
 -- a row that lacks nobody after losses lacked nobody before them
-pub lacks_less : (u w : View) (row : ℕ) → LosesOnly u w → lacks_row w row ≡ false → lacks_row u row ≡ false
+pub lacks_less : (u w : View) (row : ℕ) → OnlyFailures u w → lacks_row w row ≡ false → lacks_row u row ≡ false
 lacks_less u w row only lacks =
     let t = row * 128 + 127 in
     let less = subst (λ n. wanting t (members_of u) ≤ wanting t (map (member_on w) (range_with_len 0 n))) (sym only.same.geometry.disks) (wanting_less u w t 0 u.truth.raid_disks only) in
@@ -182,33 +182,33 @@ lacks_less u w row only lacks =
 -- ---- the code
 
 -- what the resync of rows says of the array, before it and after it
-pub record ResyncedRows (old u : View) (rows number late : ℕ) (on : List ℕ) (x y : Seen) (answered : Bool) : Type 0 where
+pub record ResyncedRows (old u : View) (rows number late : ℕ) (on : List ℕ) (x y : RackView) (answered : Bool) : Type 0 where
   pub inside : old.resync + rows ≤ rows_of old
   pub steps : Steps old (resynced old rows) u number late on x y answered
   pub elsewhere : KeepsElsewhere false old on x y
   pub refused : answered ≡ false → lacks_row u old.resync ≡ true
 
 -- what a step says of all arrays, where it is refused of an array that lacks somebody
-pub record HasStepped (a b : Arrays) (x y : Seen) (m : ℕ) (next : View) (lacks : View → Bool) (answered : Bool) : Type 0 where
+pub record HasStepped (a b : Arrays) (x y : RackView) (m : ℕ) (next : View) (lacks : View → Bool) (answered : Bool) : Type 0 where
   pub is_done : Bool
   pub refused : answered ≡ false → lacks ((raid_by b).arrays m) ≡ true
   pub answer : answered ≡ true → is_done ≡ true
-  pub brings : Brings (raid_by a) (raid_by b) x y (λ n vals. vals)
+  pub brings : ChangesData (raid_by a) (raid_by b) x y (λ n vals. vals)
   pub caused : AreCaused (raid_by a) (raid_by b) x y
   pub running : IsRunning b y
-  pub arrays : (n : ℕ) → n < a.state.made → LosesOnly (stepped (raid_by a) m next is_done n) ((raid_by b).arrays n)
+  pub arrays : (n : ℕ) → n < a.state.made → OnlyFailures (stepped (raid_by a) m next is_done n) ((raid_by b).arrays n)
   pub plan : b.state.plan ≡ a.state.plan
   pub durable :
       is_done ≡ true → is_settled next ≡ true → next.young ≡ false
-      → (vals : ℕ → Values) (spent : ℕ → Bool) → is_over (raid_by b) m ≡ false → Covers ((raid_by b).arrays m) spent
-      → IsAmid (raid_by a) x m vals spent → LeavesRows (raid_by b) y m
+      → (vals : ℕ → Values) (spent : ℕ → Bool) → is_failed (raid_by b) m ≡ false → IncludesSpent ((raid_by b).arrays m) spent
+      → IsTrackedInCall (raid_by a) x m vals spent → LeavesRows (raid_by b) y m
 
 -- rows that are resynced change no member
 resynced_reach : (on : ℕ → Bool) (u : View) (rows : ℕ) → KeepsReachOn on (shape_of u) (shape_of (resynced u rows))
 unfolding shape_of
 resynced_reach on u rows = reach_same on (shape_of u)
 
-pub has_resynced : (a : Arrays) (all : ArrayVec View) (log : LogView) (x y : Seen) (n rows : ℕ) (on : List ℕ) (number : ℕ) (old u : View) (answered : Bool)
+pub has_resynced : (a : Arrays) (all : ArrayVec View) (log : LogView) (x y : RackView) (n rows : ℕ) (on : List ℕ) (number : ℕ) (old u : View) (answered : Bool)
     → IsRunning a x → IsHeeded (raid_by a) → n < a.state.made → ((raid_by a).arrays n).resync < rows_of ((raid_by a).arrays n)
     → old ≡ get_or a.all.items n no_array → all.items ≡ set a.all.items n u → number ≡ a.log.number → number ≤ log.number
     → on ≡ current_places a.state → list_all (λ place. nat_lt place 16) u.went ≡ true → Goes x y
@@ -260,7 +260,7 @@ has_resynced a all log x y n rows on number old u answered running heeded low ro
     }
 
 -- a row that is resynced changes no member's size
-pub stepped_rows : (v : Raid) (w : View) (n rows : ℕ) (is_done : Bool) → LosesOnly (stepped v n (resynced (v.arrays n) rows) is_done n) w → rows_of w ≡ rows_of (v.arrays n)
+pub stepped_rows : (v : Raid) (w : View) (n rows : ℕ) (is_done : Bool) → OnlyFailures (stepped v n (resynced (v.arrays n) rows) is_done n) w → rows_of w ≡ rows_of (v.arrays n)
 stepped_rows v w n rows is_done only = ap (λ size. size / 128) only.same.geometry.size ∙ of ((n == n) && is_done)
   where
     of : (b : Bool) → rows_of (if b then resynced (v.arrays n) rows else v.arrays n) ≡ rows_of (v.arrays n)
@@ -276,12 +276,12 @@ pub step_raise : (before after : LogView) → (after ≡ emptied before) ⊎ (af
 step_raise before after (inl same) = let is = ap (λ (l : LogView). l.number) same in omega (arith, is)
 step_raise before after (inr next) = let is = ap (λ (l : LogView). l.number) next in let up = raised_up before.number in omega (arith, is, up)
 
-pub resynced_raise : (old u : View) (rows : ℕ) (x y : Seen) (is_done : Bool) → Stepped old (resynced old rows) u x y is_done → u.truth.events ≤ old.truth.events + 1
+pub resynced_raise : (old u : View) (rows : ℕ) (x y : RackView) (is_done : Bool) → Stepped old (resynced old rows) u x y is_done → u.truth.events ≤ old.truth.events + 1
 resynced_raise old u rows x y false (as_it_was notes) = let e = ap (λ t. t.events) notes.same.truth in omega (arith, e)
 resynced_raise old u rows x y true (done notes) = let e = ap (λ t. t.events) notes.same.truth in let up = raised_up old.truth.events in omega (arith, e, up)
 
 -- a step, and the mending after it: what is answered after that to have been done was
-pub step_mended : (a b c : Arrays) (x y z : Seen) (m : ℕ) (next : View) (lacks : View → Bool) (did answered : Bool) → m < a.state.made → HasStepped a b x y m next lacks did
+pub step_mended : (a b c : Arrays) (x y z : RackView) (m : ℕ) (next : View) (lacks : View → Bool) (did answered : Bool) → m < a.state.made → HasStepped a b x y m next lacks did
     → Mends (raid_by b) (raid_by c) y z → (answered ≡ true → did ≡ true)
     → StepsOne (raid_by a) (raid_by c) x z m next answered
 step_mended a b c x y z m next lacks did answered low one mends served =
@@ -299,7 +299,7 @@ step_mended a b c x y z m next lacks did answered low one mends served =
       durable = λ is settled young vals spent joined goes covers amid.
           let there = made m low in
           let mid_goes = mends.moves.still m there goes in
-          let covered : Covers ((raid_by b).arrays m) spent = λ y alive. mends.moves.spent m y there (covers y alive) in
+          let covered : IncludesSpent ((raid_by b).arrays m) spent = λ y alive. mends.moves.spent m y there (covers y alive) in
           (mends.moves.rows m vals spent (subst (λ k. m < k) (sym one.brings.book.same.joined) joined) there goes covers
           ((one.brings.parts m vals spent joined low mid_goes covered).holds amid)
           (one.durable is settled young vals spent mid_goes covered amid)).after;
@@ -311,7 +311,7 @@ told_rows did rows (Ok k) number is = subst (λ d. IfOk d (λ n. n ≡ rows)) is
 told_rows did rows (Err e) number is = tt
 
 -- Rows by a step, and the mending after it: what is answered once that is known. What lacks nobody after losses lacked nobody before them.
-pub rows_mended : (a b c : Arrays) (x y z : Seen) (m left most : ℕ) (next : ℕ → View) (lacks : View → Bool) {E : Type 0} (did : Result ℕ E) (result : Result ℕ Stuck)
+pub rows_mended : (a b c : Arrays) (x y z : RackView) (m left most : ℕ) (next : ℕ → View) (lacks : View → Bool) {E : Type 0} (did : Result ℕ E) (result : Result ℕ Stuck)
     → m < a.state.made → (rows : ℕ) → 0 < rows → rows ≤ most → rows ≤ left → IfOk did (λ k. k ≡ rows)
     → HasStepped a b x y m (next rows) lacks (is_ok did) → Mends (raid_by b) (raid_by c) y z
     → IfOk result (λ k. did ≡ Ok k)
@@ -335,7 +335,7 @@ done_alone did stuck (Ok k) is = is.0
 done_alone did stuck (Err e) is = tt
 
 -- a row that is lacking before losses is after them
-pub lacks_then : (u w : View) (row : ℕ) → LosesOnly u w → lacks_row u row ≡ true → lacks_row w row ≡ true
+pub lacks_then : (u w : View) (row : ℕ) → OnlyFailures u w → lacks_row u row ≡ true → lacks_row w row ≡ true
 lacks_then u w row only lacks = elim (cases_Bool (lacks_row w row)) [
   | inl still ↦ still
   | inr none ↦ absurd (both_ways (lacks_row u row) (lacks_less u w row only none) lacks)

@@ -5,7 +5,7 @@ use Rattle.std.specs.List.{list_any, range_with_len}
 use Rattle.std.specs.Option.{option_map_or}
 use Rattle.std.proofs.lemmas.Bool.{and_parts, both_ways, cases_lt, ne_eqb}
 use Rattle.std.proofs.lemmas.Option.{slice_get_past}
-use Rattle.rack.specs.Seen.{Seen}
+use Rattle.rack.specs.Seen.{RackView}
 use Rattle.rack.specs.Joins.{stays_same}
 use Rattle.shr_base.specs.declared.Id.{Id}
 use Rattle.pool_state.specs.declared.contents.Drive.{Drive}
@@ -19,10 +19,10 @@ use Rattle.array_model.proofs.Losses.{IsLosing}
 use Rattle.array_core.specs.Seats.{gone, heeded, losing, names, renewed}
 use Rattle.array_core.specs.Slots.{place_by}
 use Rattle.sync_laws.proofs.Adopted.{same_lists}
-use Rattle.raid_laws.specs.Book.{IsAfter}
+use Rattle.raid_laws.specs.Book.{OnlyMarksSince}
 use Rattle.raid_laws.specs.Enlisting.{IsEnlisted, enlisted, next_drive, with_drive}
 use Rattle.raid_laws.specs.Missing.{marked, marked_from, missing_if}
-use Rattle.raid_laws.specs.Moves.{IsHeeded, IsSeated, IsSet, IsUnmarked, LosesOnly, RaisesBy}
+use Rattle.raid_laws.specs.Moves.{IsHeeded, IsSeated, IsSet, IsUnmarked, OnlyFailures, RaisesBy}
 use Rattle.raid_laws.specs.Raid.{Raid, gone_in, is_left}
 use Rattle.raid_laws.specs.Truths.{JoinsTruths, TellsThere}
 use Rattle.raid_laws.specs.Vacated.{vacated, vacated_state}
@@ -131,7 +131,7 @@ module _ (place : ℕ) (u : View) (is_array : IsArray u) where
             | inr past ↦ inr (slice_get_past u.seats k (let many = is_array.seats in omega (arith, past, many)))
           ])
 
-  pub losing_only : LosesOnly u (losing (place ∷ []) u)
+  pub losing_only : OnlyFailures u (losing (place ∷ []) u)
   losing_only =
       let only = only_gone u (gone (place ∷ []) u) (place ∷ []) is_array refl in
       record {
@@ -188,7 +188,7 @@ heeded_losing place u none = λ i. record (losing (place ∷ []) u) { went = sym
 
 -- ---- the pool
 
-module _ (place : ℕ) (v : Raid) (x : Seen) (few : place < 16) (set : IsSet v x) (heeded_now : IsHeeded v) (unmarked : (n : ℕ) → n < v.state.made → IsUnmarked (v.arrays n)) where
+module _ (place : ℕ) (v : Raid) (x : RackView) (few : place < 16) (set : IsSet v x) (heeded_now : IsHeeded v) (unmarked : (n : ℕ) → n < v.state.made → IsUnmarked (v.arrays n)) where
   current_now : (p : ℕ) → is_current (vacated place v).state p ≡ true → (is_current v.state p ≡ true) × (names (place ∷ []) p ≡ false)
   current_now p is =
       let both = and_parts (is_current v.state p) (not (names (place ∷ []) p)) (sym (current_marked (place ∷ []) v.state p) ∙ is) in
@@ -305,11 +305,11 @@ module _ (place : ℕ) (v : Raid) (x : Seen) (few : place < 16) (set : IsSet v x
     left_same : (p : ℕ) → is_left (with_drive place units plan joining (vacated place v)) p ≡ is_left (with_drive place units plan joining v) p
     left_same p = λ i. is_current (enlisted_vacated place units plan v.state i) p && not (gone_same p i)
 
-    pub enlisted_back : (w : Raid) (a b : Seen) → IsEnlisted place units plan joining (vacated place v) w a b → IsEnlisted place units plan joining v w a b
+    pub enlisted_back : (w : Raid) (a b : RackView) → IsEnlisted place units plan joining (vacated place v) w a b → IsEnlisted place units plan joining v w a b
     enlisted_back w a b is = record {
-      book = subst (λ (s : State). IsAfter s w.state) (enlisted_vacated place units plan v.state) is.book;
+      book = subst (λ (s : State). OnlyMarksSince s w.state) (enlisted_vacated place units plan v.state) is.book;
       plan_is = is.plan_is;
-      arrays = λ n low. subst (λ (u : View). LosesOnly u (w.arrays n)) (with_same n low) (is.arrays n low);
+      arrays = λ n low. subst (λ (u : View). OnlyFailures u (w.arrays n)) (with_same n low) (is.arrays n low);
       sectors = is.sectors;
       caused = record {
         left = λ p left. sym (left_same p) ∙ is.caused.left p left;
@@ -324,7 +324,7 @@ module _ (place : ℕ) (v : Raid) (x : Seen) (few : place < 16) (set : IsSet v x
       still = λ n low other goes. over_still v (vacated place v) vacated_further n low (is.still n low other goes);
     }
 
-    pub truths_back : (w : Raid) (a b : Seen) → JoinsTruths (with_drive place units plan joining (vacated place v)) w a b → JoinsTruths (with_drive place units plan joining v) w a b
+    pub truths_back : (w : Raid) (a b : RackView) → JoinsTruths (with_drive place units plan joining (vacated place v)) w a b → JoinsTruths (with_drive place units plan joining v) w a b
     truths_back w a b truths n low tells = truths n low (subst (λ (u : View). TellsThere u a) (sym (with_same n low)) tells)
 
 pub raises_back : (k place : ℕ) (v w : Raid) → RaisesBy k (vacated place v) w → RaisesBy k v w

@@ -3,7 +3,7 @@ use Rattle.std.proofs.Common.{◌≡◌, ◌⊎◌, ℕ, zero, suc, ◌+◌, ◌
 use Rattle.std.proofs.lemmas.Bool.{cases_Bool, cases_eq, both_ways, and_parts, and_from}
 use Rattle.std.specs.List.{range_with_len}
 use Rattle.arrayvec.specs.ArrayVec.{ArrayVec}
-use Rattle.rack.specs.Seen.{Seen}
+use Rattle.rack.specs.Seen.{RackView}
 use Rattle.array_image.specs.States.{is_current}
 use Rattle.log_laws.specs.View.{names}
 use Rattle.array_model.specs.View.{View}
@@ -11,7 +11,7 @@ use Rattle.array_core.specs.Seats.{heeded}
 use Rattle.raid_rack.specs.declared.arrays.Arrays.{Arrays}
 use Rattle.raid_laws.specs.Raid.{Raid, gone_in, is_left}
 use Rattle.raid_laws.specs.Losses.{newly_gone}
-use Rattle.raid_laws.specs.Moves.{AreMarked, Moves, Mends, RaisesBy}
+use Rattle.raid_laws.specs.Moves.{AreMarked, ChangesNoData, Mends, RaisesBy}
 use Rattle.raid_laws.specs.Cleaning.{IsIdle}
 use Rattle.raid_rack.specs.RaidRack.{IsRunning, raid_by, no_array}
 use Rattle.raid_laws.specs.Agreeing.{MakesAgree}
@@ -85,15 +85,15 @@ unfolding HasTurns count_left
 turns_first v = inr (let few = few_of_range (is_left v) 0 16 in omega (arith, few))
 
 -- a place that newly went isn't marked
-pub newly_unmarked : (a : Arrays) (lost : List ℕ) (x : Seen) → IsRunning a x → lost ≡ newly_gone a.state a.all.items → 0 < length lost → AreMarked (raid_by a) → ⊥
+pub newly_unmarked : (a : Arrays) (lost : List ℕ) (x : RackView) → IsRunning a x → lost ≡ newly_gone a.state a.all.items → 0 < length lost → AreMarked (raid_by a) → ⊥
 newly_unmarked a lost x running lost_are some are =
     let first = first_named lost some in
     let both = and_parts (is_current a.state first.0) (gone_in (raid_by a) first.0)
     (sym (ap (λ ps. names ps first.0) lost_are ∙ newly_named a first.0 running.count running.set.few) ∙ first.1) in
     both_ways (gone_in (raid_by a) first.0) (are first.0 both.0) both.1
 
-pub turns_next : (a e : Arrays) (lost : List ℕ) (i : ℕ) (x z : Seen) → IsRunning a x → lost ≡ newly_gone a.state a.all.items → 0 < length lost
-    → Moves (raid_by a) (raid_by e) x z
+pub turns_next : (a e : Arrays) (lost : List ℕ) (i : ℕ) (x z : RackView) → IsRunning a x → lost ≡ newly_gone a.state a.all.items → 0 < length lost
+    → ChangesNoData (raid_by a) (raid_by e) x z
     → AreMarked (raid_by e) ⊎ ((p : ℕ) × (is_left (raid_by a) p ≡ true) × (is_left (raid_by e) p ≡ false))
     → HasTurns (raid_by a) i → HasTurns (raid_by e) (i + 1)
 unfolding HasTurns count_left
@@ -110,14 +110,14 @@ turns_done v i end (inl are) = are
 turns_done v i end (inr room) = absurd (omega (arith, end, room))
 
 -- after them superblocks agree, where somebody wasn't marked before them
-pub done_agree : (a b : Arrays) (x y : Seen) → AreMarked (raid_by b) → (b ≡ a) ⊎ MakesAgree (raid_by a) (raid_by b) x y → (AreMarked (raid_by a) → ⊥)
+pub done_agree : (a b : Arrays) (x y : RackView) → AreMarked (raid_by b) → (b ≡ a) ⊎ MakesAgree (raid_by a) (raid_by b) x y → (AreMarked (raid_by a) → ⊥)
     → MakesAgree (raid_by a) (raid_by b) x y
 done_agree a b x y are (inl same) some = absurd (some (subst (λ (c : Arrays). AreMarked (raid_by c)) same are))
 done_agree a b x y are (inr agree) some = agree
 
 -- ---- and then they are heeded
 
-pub heeds : (a b : Arrays) (all : ArrayVec View) (x y : Seen) → Moves (raid_by a) (raid_by b) x y → IsRunning b y → AreMarked (raid_by b)
+pub heeds : (a b : Arrays) (all : ArrayVec View) (x y : RackView) → ChangesNoData (raid_by a) (raid_by b) x y → IsRunning b y → AreMarked (raid_by b)
     → ((n : ℕ) → slice_get all.items n ≡ option_map heeded (slice_get b.all.items n)) → length all.items ≡ length b.all.items
     → Mends (raid_by a) (raid_by (record b { all = all })) x y × IsRunning (record b { all = all }) y
 heeds a b all x y moves running are each count =
@@ -139,7 +139,7 @@ heeds a b all x y moves running are each count =
       record { count = count ∙ running.count; set = step.set },
     )
 
-pub heeds_agree : (a b : Arrays) (all : ArrayVec View) (x y : Seen) → Moves (raid_by a) (raid_by b) x y → IsRunning b y → AreMarked (raid_by b)
+pub heeds_agree : (a b : Arrays) (all : ArrayVec View) (x y : RackView) → ChangesNoData (raid_by a) (raid_by b) x y → IsRunning b y → AreMarked (raid_by b)
     → ((n : ℕ) → slice_get all.items n ≡ option_map heeded (slice_get b.all.items n))
     → MakesAgree (raid_by a) (raid_by b) x y → MakesAgree (raid_by a) (raid_by (record b { all = all })) x y
 heeds_agree a b all x y moves running are each agree =
@@ -148,7 +148,7 @@ heeds_agree a b all x y moves running are each agree =
     (λ n. each_sectors heeded b.all.items all.items n (λ u. refl) each) are in
     agree_still (raid_by a) (raid_by b) (with_arrays (raid_by b) f) x y y moves step (λ none. (refl, refl)) agree
 
-pub heeds_raise : (k : ℕ) (a b : Arrays) (all : ArrayVec View) (x y : Seen) → Moves (raid_by a) (raid_by b) x y → IsRunning b y
+pub heeds_raise : (k : ℕ) (a b : Arrays) (all : ArrayVec View) (x y : RackView) → ChangesNoData (raid_by a) (raid_by b) x y → IsRunning b y
     → ((n : ℕ) → slice_get all.items n ≡ option_map heeded (slice_get b.all.items n)) → RaisesBy k (raid_by a) (raid_by b) → RaisesBy k (raid_by a) (raid_by (record b { all = all }))
 heeds_raise k a b all x y moves running each one =
     record {
@@ -162,7 +162,7 @@ heeds_raise k a b all x y moves running each one =
           omega (arith, e, was);
     }
 
-pub heeds_losses : (d : Raid) (a b : Arrays) (all : ArrayVec View) (x y : Seen) → IsRunning b y → AreMarked (raid_by b)
+pub heeds_losses : (d : Raid) (a b : Arrays) (all : ArrayVec View) (x y : RackView) → IsRunning b y → AreMarked (raid_by b)
     → ((n : ℕ) → slice_get all.items n ≡ option_map heeded (slice_get b.all.items n)) → MakesLosses d (raid_by a) (raid_by b) x y
     → MakesLosses d (raid_by a) (raid_by (record b { all = all })) x y
 heeds_losses d a b all x y running are each made =
@@ -170,7 +170,7 @@ heeds_losses d a b all x y running are each made =
     (λ n low. each_get heeded b.all.items all.items n each (let same = running.count in omega (arith, low, same)))
 
 -- where whoever went is marked, that is all
-pub idle_by : (a b : Arrays) (all : ArrayVec View) (y : Seen) → IsRunning b y → ((n : ℕ) → slice_get all.items n ≡ option_map heeded (slice_get b.all.items n))
+pub idle_by : (a b : Arrays) (all : ArrayVec View) (y : RackView) → IsRunning b y → ((n : ℕ) → slice_get all.items n ≡ option_map heeded (slice_get b.all.items n))
     → b ≡ a → IsIdle (raid_by a) (raid_by (record b { all = all }))
 idle_by a b all y running each same =
     record {

@@ -1,7 +1,7 @@
 -- A place whose drive is missing has got a disk: the arrays are over the slices by the new tables as they were over the old ones.
 use Rattle.std.proofs.Common.{◌≡◌, ◌≢◌, ℕ, ◌+◌, ◌<◌, ◌≤◌, ◌^◌, ◌&&◌, not, Bool, true, false, List, All, slice_get, Option, Some, None, option_map, refl, sym, ap, subst, ◌∙◌, inl, inr, arith}
 use Rattle.std.proofs.lemmas.Bool.{and_parts, both_ways, cases_Bool}
-use Rattle.rack.specs.Seen.{Seen}
+use Rattle.rack.specs.Seen.{RackView}
 use Rattle.slice_rack.specs.Slices.{Slices, place_of, sectors_of}
 use Rattle.slice_rack.specs.Sliced.{slices_of}
 use Rattle.pool_state.specs.declared.contents.State.{State}
@@ -20,7 +20,7 @@ use Rattle.raid_rack.proofs.LayingDrive.{laid_member}
 use Rattle.raid_rack.proofs.Steps.{same_element}
 
 -- a member that isn't missing is on a current place
-pub current_seat : (s : State) (n : ℕ) (v : View) (x : Seen) (k : ℕ) → IsSeated s n v x → k < v.truth.raid_disks → (slice_get v.seats k ≡ Some Missing → ⊥)
+pub current_seat : (s : State) (n : ℕ) (v : View) (x : RackView) (k : ℕ) → IsSeated s n v x → k < v.truth.raid_disks → (slice_get v.seats k ≡ Some Missing → ⊥)
     → is_current s (place_at v k) ≡ true
 current_seat s n v x k seated low there = of (slice_get v.seats k) refl (seated.marks k low)
   where
@@ -42,7 +42,7 @@ current_seat s n v x k seated low there = of (slice_get v.seats k) refl (seated.
         missing (Rebuilding to) is = absurd (both_ways false refl is)
 
 -- the arrays over other tables, by which all places but one have their slices
-pub others_set : (place : ℕ) (t u : Slices) (x : Seen) (v : Raid) → ((d : ℕ) → place_of d ≢ place → sectors_of u d ≡ sectors_of t d)
+pub others_set : (place : ℕ) (t u : Slices) (x : RackView) (v : Raid) → ((d : ℕ) → place_of d ≢ place → sectors_of u d ≡ sectors_of t d)
     → (slices_of u x).fit → is_current v.state place ≡ false → IsSet v (slices_of t x) → IsSet v (slices_of u x)
 others_set place t u x v others fit missing set = record {
   fit = fit;
@@ -78,7 +78,7 @@ others_set place t u x v others fit missing set = record {
   marked = set.marked;
 }
 
-module _ (arrays : List View) (place disk sectors : ℕ) (t u : Slices) (x : Seen) (seats : SeatsDrive arrays place disk sectors t u) where
+module _ (arrays : List View) (place disk sectors : ℕ) (t u : Slices) (x : RackView) (seats : SeatsDrive arrays place disk sectors t u) where
   -- the arrays over the new tables
   pub seats_set : (v : Raid) → (slices_of u x).fit → is_current v.state place ≡ false → IsSet v (slices_of t x) → IsSet v (slices_of u x)
   seats_set v fit missing set = others_set place t u x v seats.others fit missing set
@@ -92,7 +92,7 @@ module _ (arrays : List View) (place disk sectors : ℕ) (t u : Slices) (x : See
   }
 
 -- the arrays' members are small
-pub all_small : (r : Arrays) (x : Seen) → IsRunning r x → All (λ (u : View). u.truth.size < 2 ^ 48) r.all.items
+pub all_small : (r : Arrays) (x : RackView) → IsRunning r x → All (λ (u : View). u.truth.size < 2 ^ 48) r.all.items
 all_small r x running k d low =
     subst (λ (u : View). u.truth.size < 2 ^ 48) (same_element r.all.items r.all.items k no_array d refl low)
     (running.set.arrays k (let count = running.count in omega (arith, low, count))).is_array.small

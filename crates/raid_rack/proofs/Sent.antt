@@ -4,21 +4,21 @@ use Rattle.std.proofs.lemmas.Bool.{cases_Bool, both_ways, and_parts}
 use Rattle.std.specs.List.{list_any, list_all}
 use Rattle.arrayvec.specs.ArrayVec.{ArrayVec}
 use Rattle.rack.specs.Values.{Values}
-use Rattle.rack.specs.Seen.{Seen, Stays}
+use Rattle.rack.specs.Seen.{RackView, SameRack}
 use Rattle.pool_state.specs.declared.contents.State.{State}
 use Rattle.array_image.specs.States.{current_places}
 use Rattle.log_laws.specs.View.{LogView, committed}
-use Rattle.log_laws.specs.Kept.{LogKept}
+use Rattle.log_laws.specs.Kept.{LogInvariant}
 use Rattle.array_model.specs.View.{View, has_gone, is_whole_array, shape_of}
-use Rattle.array_model.specs.Says.{Holds}
-use Rattle.array_model.specs.ArrayCalls.{Covers, WritesArray}
+use Rattle.array_model.specs.Says.{ArrayInvariant}
+use Rattle.array_model.specs.ArrayCalls.{IncludesSpent, WritesArray}
 use Rattle.array_core.specs.Pool.{Goes, MayCommit}
 use Rattle.array_core.specs.Superblocks.{raised}
 use Rattle.array_core.specs.TruthLeft.{LeavesTruth}
 use Rattle.array_core.specs.Writing.{KeepsElsewhere, WritesView, as_it_was, newly_marked}
 use Rattle.raid_rack.specs.declared.arrays.Arrays.{Arrays}
 use Rattle.raid_laws.specs.Raid.{Raid}
-use Rattle.raid_laws.specs.Moves.{AreCaused, Brings, IsHeeded, IsSet, KeepsArrays, Mends, WritesOne, written_at}
+use Rattle.raid_laws.specs.Moves.{AreCaused, ChangesData, IsHeeded, IsSet, KeepsArrays, Mends, WritesOne, written_at}
 use Rattle.raid_rack.specs.RaidRack.{IsRunning, raid_by, no_array}
 use Rattle.raid_laws.proofs.Calls.{raised_low, unsynced_by}
 use Rattle.raid_laws.proofs.Changed.{caused, keeps_arrays, left_before}
@@ -30,7 +30,7 @@ use Rattle.raid_laws.proofs.Views.{NotesOne, views_notes}
 use Rattle.raid_laws.proofs.Written.{WriteCall, write_brings}
 
 -- what it makes of the array
-views_write : (v : Raid) (f : ℕ → View) (m : ℕ) (a b : Seen) → IsSet v a → m < v.state.made → Stays a b
+views_write : (v : Raid) (f : ℕ → View) (m : ℕ) (a b : RackView) → IsSet v a → m < v.state.made → SameRack a b
     → ((n : ℕ) → (n ≡ m → ⊥) → f n ≡ v.arrays n) → WritesView (v.arrays m) (f m) a b → NotesOne v f m a b
 views_write v f m a b set low stays others (as_it_was why notes) =
     let u = v.arrays m in
@@ -64,25 +64,25 @@ low_named (q ∷ ps) p all is =
     ]
 
 -- what the write of an array says of it, before it and after it
-pub record WroteArray (old u : View) (number late : ℕ) (on : List ℕ) (x y : Seen) (sector : ℕ) (from : List ℕ) : Type 0 where
+pub record WroteArray (old u : View) (number late : ℕ) (on : List ℕ) (x y : RackView) (sector : ℕ) (from : List ℕ) : Type 0 where
   pub writes :
-      (s : State) (vals : ℕ → Values) (spent : ℕ → Bool) → Covers u spent → MayCommit s old u number on x
+      (s : State) (vals : ℕ → Values) (spent : ℕ → Bool) → IncludesSpent u spent → MayCommit s old u number on x
       → WritesArray s old u spent x y (shape_of old) vals sector from
-  pub kept : (s : State) → MayCommit s old u number on x → LogKept s late (has_gone u) y
+  pub kept : (s : State) → MayCommit s old u number on x → LogInvariant s late (has_gone u) y
   pub truths :
-      (s : State) (vals : ℕ → Values) (spent : ℕ → Bool) → Covers u spent → MayCommit s old u number on x → is_whole_array old ≡ false
-      → LeavesTruth s old.number (λ t. ⊥) (Holds s (shape_of old) old vals spent x) x y
+      (s : State) (vals : ℕ → Values) (spent : ℕ → Bool) → IncludesSpent u spent → MayCommit s old u number on x → is_whole_array old ≡ false
+      → LeavesTruth s old.number (λ t. ⊥) (ArrayInvariant s (shape_of old) old vals spent x) x y
   pub view : WritesView old u x y
   pub elsewhere : KeepsElsewhere false old on x y
 
-pub record HasWritten (a b : Arrays) (x y : Seen) (n sector : ℕ) (from : List ℕ) : Type 0 where
-  pub brings : Brings (raid_by a) (raid_by b) x y (written_at n sector from)
+pub record HasWritten (a b : Arrays) (x y : RackView) (n sector : ℕ) (from : List ℕ) : Type 0 where
+  pub brings : ChangesData (raid_by a) (raid_by b) x y (written_at n sector from)
   pub arrays : KeepsArrays (raid_by a) (raid_by b)
   pub plan : b.state.plan ≡ a.state.plan
   pub caused : AreCaused (raid_by a) (raid_by b) x y
   pub running : IsRunning b y
 
-pub has_written : (a : Arrays) (all : ArrayVec View) (log : LogView) (x y : Seen) (n sector : ℕ) (from on : List ℕ) (number : ℕ) (old u : View)
+pub has_written : (a : Arrays) (all : ArrayVec View) (log : LogView) (x y : RackView) (n sector : ℕ) (from on : List ℕ) (number : ℕ) (old u : View)
     → IsRunning a x → IsHeeded (raid_by a) → n < a.state.made
     → old ≡ get_or a.all.items n no_array → all.items ≡ set a.all.items n u → number ≡ a.log.number → number ≤ log.number
     → on ≡ current_places a.state → list_all (λ place. nat_lt place 16) u.went ≡ true → Goes x y
@@ -128,7 +128,7 @@ pub later_number : (before after : LogView) → (after ≡ before) ⊎ (after �
 later_number before after (inl same) = let is = ap (λ (l : LogView). l.number) same in omega (arith, is)
 later_number before after (inr next) = subst (λ (l : LogView). before.number ≤ l.number) (sym next) (next_later before.number)
 
-pub writes_one : (a b c : Arrays) (x y z : Seen) (n sector : ℕ) (from : List ℕ) → HasWritten a b x y n sector from → Mends (raid_by b) (raid_by c) y z
+pub writes_one : (a b c : Arrays) (x y z : RackView) (n sector : ℕ) (from : List ℕ) → HasWritten a b x y n sector from → Mends (raid_by b) (raid_by c) y z
     → WritesOne (raid_by a) (raid_by c) x z n sector from
 writes_one a b c x y z n sector from wrote mends =
     record {

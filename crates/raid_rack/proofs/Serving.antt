@@ -4,7 +4,7 @@ use Rattle.std.proofs.lemmas.Bool.{cases_eq, cases_lt, both_ways}
 use Rattle.std.proofs.Common.{◌≡◌, ℕ, ◌<◌, ◌≤◌, Bool, true, false, ◌==◌, ◌&&◌, nat_lt, List, [], ◌∷◌, length, Ok, Err, refl, sym, ap, subst, ◌∙◌, inl, inr, lt-ltb, ne_eqb, if◌then◌else◌, arith}
 use Rattle.rack.specs.declared.Gone.{Gone}
 use Rattle.rack.specs.Values.{Values, Keeps, append}
-use Rattle.rack.specs.Seen.{Held, Seen, Rose, appended}
+use Rattle.rack.specs.Seen.{Held, RackView, Rose, appended}
 use Rattle.rack.specs.Calls.{Reads, Syncs, Writes}
 use Rattle.rack.proofs.Writing.{appended_elsewhere}
 use Rattle.array_image.proofs.Sources.{held_single}
@@ -16,13 +16,13 @@ use Rattle.array_core.specs.Seats.{gone}
 use Rattle.array_model.specs.View.{View, shape_of, sectors_of as array_sectors}
 use Rattle.array_model.specs.ArrayCalls.{appended_at}
 use Rattle.raid_rack.specs.declared.arrays.Arrays.{Arrays}
-use Rattle.raid_laws.specs.Raid.{Raid, is_over, live_of, spent_of, held_in, StopsInside, raid_of}
+use Rattle.raid_laws.specs.Raid.{Raid, is_failed, live_of, spent_of, held_in, StopsInside, raid_of}
 use Rattle.raid_laws.specs.Acts.{RaidActs}
 use Rattle.raid_laws.specs.Marking.{TiedBetween}
 use Rattle.raid_laws.specs.Reach.{KeepsReach}
-use Rattle.raid_laws.specs.Moves.{AreCaused, Brings, KeepsArrays, Mends, Moves, ReadsValue, SyncsOne, WritesOne, noted_at, written_at}
+use Rattle.raid_laws.specs.Moves.{AreCaused, ChangesData, KeepsArrays, Mends, ChangesNoData, ReadsValue, SyncsOne, WritesOne, noted_at, written_at}
 use Rattle.raid_laws.specs.Frames.{frame_of}
-use Rattle.raid_laws.specs.Runs.{KeepsMoments, RaidRuns}
+use Rattle.raid_laws.specs.Runs.{CrashInvariant, RaidRuns}
 use Rattle.raid_laws.specs.Truths.{KeepsTruths}
 use Rattle.raid_rack.specs.RaidRack.{IsFit, IsRunning, KeepsRack, raid_by}
 use Rattle.raid_rack.specs.AllRuns.{Serves}
@@ -33,16 +33,16 @@ use Rattle.raid_laws.proofs.Noted.{IsNoting, current_few, noted_brings}
 use Rattle.raid_laws.proofs.Raid.{keeps_raid, reads_raid, refused_raid, stays_raid, syncs_raid, writes_raid}
 use Rattle.raid_laws.proofs.Whole.{IsWholeCall, before_amid, brings_whole, ends_by, raid_acts, tied_reach}
 
-pub whole_call : (a b : Arrays) (x y : Seen) (now : ℕ → (ℕ → Values) → ℕ → Values) → IsFit a x → IsFit b y → Brings (raid_by a) (raid_by b) x y now → StopsInside y
+pub whole_call : (a b : Arrays) (x y : RackView) (now : ℕ → (ℕ → Values) → ℕ → Values) → IsFit a x → IsFit b y → ChangesData (raid_by a) (raid_by b) x y now → StopsInside y
     → IsWholeCall (raid_by a) (raid_by b) x y (λ n. now n (held_in (raid_by a) x n))
 whole_call a b x y now fit after brings inside =
     brings_whole (raid_by a) (raid_by b) x y now brings fit.heeded after.heeded inside (λ n past. none_past b n after.running.count past)
 
-keeps_call : (a b : Arrays) (x y : Seen) → IsFit a x → IsFit b y → Moves (raid_by a) (raid_by b) x y → StopsInside y
+keeps_call : (a b : Arrays) (x y : RackView) → IsFit a x → IsFit b y → ChangesNoData (raid_by a) (raid_by b) x y → StopsInside y
     → IsWholeCall (raid_by a) (raid_by b) x y (held_in (raid_by a) x)
 keeps_call a b x y fit after moves inside = whole_call a b x y (λ n vals. vals) fit after (moves_bring (raid_by a) (raid_by b) x y moves) inside
 
-pub read_call : {r q : ℕ → ℕ} (a b : Arrays) (x y : Seen) (n s : ℕ) (into : List ℕ) (result : Result (Unit {0}) Gone)
+pub read_call : {r q : ℕ → ℕ} (a b : Arrays) (x y : RackView) (n s : ℕ) (into : List ℕ) (result : Result (Unit {0}) Gone)
     → IsFit a x → IsFit b y → StopsInside y → ReadsValue (raid_by a) (raid_by b) x y n s into
     → OnOk result (spent_of (raid_by b) n s ≡ false)
     → IfErr result (λ e. (e.disk ≡ n) × (spent_of (raid_by b) n s ≡ true) × Rose (r n) (q n))
@@ -59,7 +59,7 @@ read_call a b x y n s into result fit after inside reads served refused more =
     (before_amid v w x y (held_in v x) call n told goes))
     served refused
 
-pub sync_call : {r : ℕ → ℕ} (a b : Arrays) (x y : Seen) (n : ℕ) → IsFit a x → IsFit b y → StopsInside y → SyncsOne (raid_by a) (raid_by b) x y n
+pub sync_call : {r : ℕ → ℕ} (a b : Arrays) (x y : RackView) (n : ℕ) → IsFit a x → IsFit b y → StopsInside y → SyncsOne (raid_by a) (raid_by b) x y n
     → Syncs (raid_of (IsFit a x) r (raid_by a) x) (raid_of (IsFit b y) r (raid_by b) y) n {X = Unit {0}} (Ok tt)
 sync_call {r} a b x y n fit after inside syncs =
     let v = raid_by a in
@@ -80,7 +80,7 @@ written_appended held n s from k z = of (k == n)
     of true = refl
     of false = refl
 
-pub write_call : {r q : ℕ → ℕ} (a b : Arrays) (x y : Seen) (n s : ℕ) (from : List ℕ) (result : Result (Unit {0}) Gone)
+pub write_call : {r q : ℕ → ℕ} (a b : Arrays) (x y : RackView) (n s : ℕ) (from : List ℕ) (result : Result (Unit {0}) Gone)
     → IsFit a x → IsFit b y → StopsInside y → WritesOne (raid_by a) (raid_by b) x y n s from
     → OnOk result (spent_of (raid_by b) n s ≡ false)
     → IfErr result (λ e. (e.disk ≡ n) × (spent_of (raid_by b) n s ≡ true) × Rose (r n) (q n))
@@ -119,8 +119,8 @@ write_call {r} {q} a b x y n s from result fit after inside writes =
 
 -- ---- a drive that its owner loses
 
-pub lose_brings : (a b : Arrays) (place : ℕ) (x y : Seen) → IsRunning a x → is_current a.state place ≡ true
-    → Mends (noted_at (place ∷ []) (raid_by a)) (raid_by b) x y → Brings (raid_by a) (raid_by b) x y (λ n vals. vals)
+pub lose_brings : (a b : Arrays) (place : ℕ) (x y : RackView) → IsRunning a x → is_current a.state place ≡ true
+    → Mends (noted_at (place ∷ []) (raid_by a)) (raid_by b) x y → ChangesData (raid_by a) (raid_by b) x y (λ n vals. vals)
 lose_brings a b place x y running current mends =
     let v = raid_by a in
     let lost = place ∷ [] in
@@ -144,7 +144,7 @@ lose_brings a b place x y running current mends =
 
 -- ---- a call that moves no value
 
-pub brings_keep : {r : ℕ → ℕ} (a b : Arrays) (x y : Seen) → IsFit a x → IsFit b y → StopsInside y → Brings (raid_by a) (raid_by b) x y (λ n vals. vals)
+pub brings_keep : {r : ℕ → ℕ} (a b : Arrays) (x y : RackView) → IsFit a x → IsFit b y → StopsInside y → ChangesData (raid_by a) (raid_by b) x y (λ n vals. vals)
     → KeepsRack (raid_of (IsFit a x) r (raid_by a) x) (raid_of (IsFit b y) r (raid_by b) y)
 brings_keep a b x y fit after inside brings =
     let v = raid_by a in
@@ -155,27 +155,27 @@ brings_keep a b x y fit after inside brings =
       keeps = keeps_raid v w x y acts;
     }
 
-pub moves_keep : {r : ℕ → ℕ} (a b : Arrays) (x y : Seen) → IsFit a x → IsFit b y → StopsInside y → Moves (raid_by a) (raid_by b) x y
+pub moves_keep : {r : ℕ → ℕ} (a b : Arrays) (x y : RackView) → IsFit a x → IsFit b y → StopsInside y → ChangesNoData (raid_by a) (raid_by b) x y
     → KeepsRack (raid_of (IsFit a x) r (raid_by a) x) (raid_of (IsFit b y) r (raid_by b) y)
 moves_keep a b x y fit after inside moves = brings_keep a b x y fit after inside (moves_bring (raid_by a) (raid_by b) x y moves)
 
-pub lose_stays : {r : ℕ → ℕ} (a b : Arrays) (place : ℕ) (x y : Seen) → IsFit a x → IsFit b y → StopsInside y → is_current a.state place ≡ true
+pub lose_stays : {r : ℕ → ℕ} (a b : Arrays) (place : ℕ) (x y : RackView) → IsFit a x → IsFit b y → StopsInside y → is_current a.state place ≡ true
     → Mends (noted_at (place ∷ []) (raid_by a)) (raid_by b) x y → KeepsRack (raid_of (IsFit a x) r (raid_by a) x) (raid_of (IsFit b y) r (raid_by b) y)
 lose_stays a b place x y fit after inside current mends = brings_keep a b x y fit after inside (lose_brings a b place x y fit.running current mends)
 
 -- ---- what calls do to the book and to images
 
 -- an array that isn't over is one of those that are made
-made_by : (a b : Arrays) (n : ℕ) → length b.all.items ≡ b.state.made → b.state.made ≡ a.state.made → is_over (raid_by b) n ≡ false → n < a.state.made
+made_by : (a b : Arrays) (n : ℕ) → length b.all.items ≡ b.state.made → b.state.made ≡ a.state.made → is_failed (raid_by b) n ≡ false → n < a.state.made
 made_by a b n count same goes =
     elim (cases_lt n a.state.made) [
       | inl low ↦ low
-      | inr past ↦ absurd (both_ways (is_over (raid_by b) n) goes (none_past b n count (omega (arith, past, same))))
+      | inr past ↦ absurd (both_ways (is_failed (raid_by b) n) goes (none_past b n count (omega (arith, past, same))))
     ]
 
 -- what stops in a call leave
-pub moments_call : (a b : Arrays) (x y : Seen) (now : ℕ → (ℕ → Values) → ℕ → Values) → IsFit a x → IsFit b y → StopsInside y
-    → Brings (raid_by a) (raid_by b) x y now → KeepsMoments (raid_by a) (raid_by b) x y
+pub moments_call : (a b : Arrays) (x y : RackView) (now : ℕ → (ℕ → Values) → ℕ → Values) → IsFit a x → IsFit b y → StopsInside y
+    → ChangesData (raid_by a) (raid_by b) x y now → CrashInvariant (raid_by a) (raid_by b) x y
 moments_call a b x y now fit after inside brings =
     let v = raid_by a in
     let w = raid_by b in
@@ -252,14 +252,14 @@ moments_call a b x y now fit after inside brings =
           (λ z unspent. (live_parts w n z unspent).1) (before_amid v w x y vals call n told goes);
     }
 
-pub lose_moments : (a b : Arrays) (place : ℕ) (x y : Seen) → IsFit a x → IsFit b y → StopsInside y → is_current a.state place ≡ true
-    → Mends (noted_at (place ∷ []) (raid_by a)) (raid_by b) x y → KeepsMoments (raid_by a) (raid_by b) x y
+pub lose_moments : (a b : Arrays) (place : ℕ) (x y : RackView) → IsFit a x → IsFit b y → StopsInside y → is_current a.state place ≡ true
+    → Mends (noted_at (place ∷ []) (raid_by a)) (raid_by b) x y → CrashInvariant (raid_by a) (raid_by b) x y
 lose_moments a b place x y fit after inside current mends =
     moments_call a b x y (λ n vals. vals) fit after inside (lose_brings a b place x y fit.running current mends)
 
-pub runs_call : (p q : ℕ → Bool) (a b : Arrays) (x y : Seen) (now : ℕ → (ℕ → Values) → ℕ → Values)
+pub runs_call : (p q : ℕ → Bool) (a b : Arrays) (x y : RackView) (now : ℕ → (ℕ → Values) → ℕ → Values)
     → ((n : ℕ) → q n ≡ false → (p n ≡ false) × ((was : ℕ → Values) → now n was ≡ was)) → IsFit a x → IsFit b y → StopsInside y
-    → Brings (raid_by a) (raid_by b) x y now → AreCaused (raid_by a) (raid_by b) x y → KeepsTruths (raid_by a) (raid_by b) x y
+    → ChangesData (raid_by a) (raid_by b) x y now → AreCaused (raid_by a) (raid_by b) x y → KeepsTruths (raid_by a) (raid_by b) x y
     → RaidRuns p q (raid_by a) (raid_by b) x y
 runs_call p q a b x y now unwritten fit after inside brings cause truths =
     let v = raid_by a in
@@ -295,7 +295,7 @@ flags_kept p q m sector from noted others n not =
       λ was. ap (λ (t : Bool). if t then appended_at sector from was else was) (ne_eqb n m apart),
     )
 
-pub runs_moves : (p : ℕ → Bool) (a b : Arrays) (x y : Seen) → IsFit a x → IsFit b y → StopsInside y → Moves (raid_by a) (raid_by b) x y → KeepsTruths (raid_by a) (raid_by b) x y
+pub runs_moves : (p : ℕ → Bool) (a b : Arrays) (x y : RackView) → IsFit a x → IsFit b y → StopsInside y → ChangesNoData (raid_by a) (raid_by b) x y → KeepsTruths (raid_by a) (raid_by b) x y
     → RaidRuns p p (raid_by a) (raid_by b) x y
 runs_moves p a b x y fit after inside moves truths =
     runs_call p p a b x y (λ n vals. vals) (λ n not. (not, λ was. refl)) fit after inside (moves_bring (raid_by a) (raid_by b) x y moves) (record { left = moves.left; cause = moves.cause })

@@ -1,7 +1,7 @@
 -- All arrays are settled, and nobody went; or somebody did, and is marked.
 use Rattle.std.proofs.Common.{◌≡◌, ◌<◌, ℕ, false, List, ◌&&◌, not, length, get_or, sym, ap, subst, ◌∙◌, arith}
 use Rattle.std.proofs.lemmas.Bool.{and_parts}
-use Rattle.rack.specs.Seen.{Seen}
+use Rattle.rack.specs.Seen.{RackView}
 use Rattle.rack.specs.Joins.{rose_before}
 use Rattle.pool_state.specs.declared.contents.State.{State}
 use Rattle.array_image.specs.States.{is_current}
@@ -19,7 +19,7 @@ use Rattle.raid_rack.proofs.Turned.{newly_named}
 use Rattle.raid_laws.proofs.Whole.{heeded_left}
 
 -- whoever newly went was one that is left before, and is marked by the mending
-pub lost_marked : (a b c : Arrays) (log : LogView) (lost : List ℕ) (x y z : Seen) → IsHeeded (raid_by a) → log.number ≡ a.log.number
+pub lost_marked : (a b c : Arrays) (log : LogView) (lost : List ℕ) (x y z : RackView) → IsHeeded (raid_by a) → log.number ≡ a.log.number
     → SettlesTo (raid_by (record a { log = log })) (raid_by b) x y a.state.made b.log.added → IsRunning b y
     → lost ≡ newly_gone b.state b.all.items → 0 < length lost → Mends (raid_by b) (raid_by c) y z
     → HasLost (raid_by a) (raid_by c) x z
@@ -39,7 +39,7 @@ lost_marked a b c log lost x y z heeded number from running lost_is some mends =
     )
 
 -- the log that is emptied
-pub settles_whole : (a d : Arrays) (log : LogView) (x y : Seen) → HasSettled a d x y → log.number ≡ d.log.number
+pub settles_whole : (a d : Arrays) (log : LogView) (x y : RackView) → HasSettled a d x y → log.number ≡ d.log.number
     → SettlesWhole (raid_by a) (raid_by (record d { log = log })) x y × (RaisesBy 18 (raid_by a) (raid_by (record d { log = log })) × IsRunning (record d { log = log }) y)
 settles_whole a d log x y has number =
     let back = sym number in

@@ -4,14 +4,14 @@ use Rattle.std.proofs.lemmas.Option.{slice_get-get_or}
 use Rattle.arrayvec.specs.ArrayVec.{ArrayVec, with_items}
 use Rattle.arrayvec.proofs.ArrayVecLemmas.{items-with_items}
 use Rattle.rack.specs.Values.{Values}
-use Rattle.rack.specs.Seen.{Seen}
+use Rattle.rack.specs.Seen.{RackView}
 use Rattle.rack.specs.Sequences.{OnlyReads}
 use Rattle.pool_state.specs.declared.contents.State.{State}
 use Rattle.array_image.specs.Arrays.{Shape}
 use Rattle.log_laws.specs.View.{LogView}
 use Rattle.array_model.specs.View.{View}
 use Rattle.array_model.specs.Members.{HasSlices}
-use Rattle.array_model.specs.ArrayCalls.{Covers, SyncsArray}
+use Rattle.array_model.specs.ArrayCalls.{IncludesSpent, SyncsArray}
 use Rattle.array_core.specs.Settling.{Settles}
 use Rattle.array_core.specs.Staging.{AddsSupersOf}
 use Rattle.array_core.specs.Superblocks.{left_offset}
@@ -58,15 +58,15 @@ items_set v xs n u same =
 
 -- ---- settling
 
-pub settle_slices : (a b : Arrays) (x y : Seen) (n : ℕ) (u : View) → IsRunning a x → SettlesTo (raid_by a) (raid_by b) x y n b.log.added
+pub settle_slices : (a b : Arrays) (x y : RackView) (n : ℕ) (u : View) → IsRunning a x → SettlesTo (raid_by a) (raid_by b) x y n b.log.added
     → n < a.state.made → u ≡ get_or b.all.items n no_array → HasSlices u y
 settle_slices a b x y n u running settles low is =
     subst (λ z. HasSlices z y) (sym is) (settles.moves.set.arrays n (subst (λ (s : State). n < s.made) (sym settles.same) low)).slices
 
-pub settle_step : (a b : Arrays) (all : ArrayVec View) (log : LogView) (x y z : Seen) (n : ℕ) (old u : View)
+pub settle_step : (a b : Arrays) (all : ArrayVec View) (log : LogView) (x y z : RackView) (n : ℕ) (old u : View)
     → IsRunning a x → SettlesTo (raid_by a) (raid_by b) x y n b.log.added → SettlesBook (raid_by a) (raid_by b) n x y → length b.all.items ≡ a.state.made
     → n < a.state.made → old ≡ get_or b.all.items n no_array → all.items ≡ set b.all.items n u
-    → ((s : State) (durable : Shape) (vals : ℕ → Values) (spent : ℕ → Bool) → Covers u spent → SyncsArray s old u spent y z durable vals)
+    → ((s : State) (durable : Shape) (vals : ℕ → Values) (spent : ℕ → Bool) → IncludesSpent u spent → SyncsArray s old u spent y z durable vals)
     → OnlyReads y z → Settles old u y z → AddsSupersOf u b.log.added log.added → log ≡ record b.log { added = log.added }
     → SettlesTo (raid_by a) (raid_by (record b { all = all; log = log })) x z (n + 1) log.added × SettlesBook (raid_by a) (raid_by (record b { all = all; log = log })) (n + 1) x z
 settle_step a b all log x y z n old u running settles book count low old_is all_is syncs reads view adds log_is =
@@ -75,10 +75,10 @@ settle_step a b all log x y z n old u running settles book count low old_is all_
     let own : f n ≡ u = ap (λ ys. get_or ys n no_array) all_is ∙ set_own b.all.items n u no_array (omega (arith, low, count)) in
     let others : (k : ℕ) → (k ≡ n → ⊥) → f k ≡ v.arrays k = λ k other. ap (λ ys. get_or ys k no_array) all_is ∙ set_other b.all.items n k u no_array other in
     let made : n < v.state.made = subst (λ (s : State). n < s.made) (sym settles.same) low in
-    let synced : (s : State) (durable : Shape) (vals : ℕ → Values) (spent : ℕ → Bool) → Covers (f n) spent → SyncsArray s (v.arrays n) (f n) spent y z durable vals =
+    let synced : (s : State) (durable : Shape) (vals : ℕ → Values) (spent : ℕ → Bool) → IncludesSpent (f n) spent → SyncsArray s (v.arrays n) (f n) spent y z durable vals =
     λ s durable vals spent covers.
     subst (λ w. SyncsArray s w (f n) spent y z durable vals) old_is
-    (subst (λ w. SyncsArray s old w spent y z durable vals) (sym own) (syncs s durable vals spent (subst (λ w. Covers w spent) own covers))) in
+    (subst (λ w. SyncsArray s old w spent y z durable vals) (sym own) (syncs s durable vals spent (subst (λ w. IncludesSpent w spent) own covers))) in
     let settled : Settles (v.arrays n) (f n) y z = subst (λ w. Settles w (f n) y z) old_is (subst (λ w. Settles old w y z) (sym own) view) in
     let call = reads_settled v f n y z settles.moves.set made reads others settled (λ s durable vals spent covers. (synced s durable vals spent covers).acts) in
     let number : v.number ≡ log.number = sym (ap (λ (m : LogView). m.number) log_is) in

@@ -3,7 +3,7 @@ use Rattle.std.proofs.Common.{◌≡◌, ◌≢◌, ℕ, ◌-◌, ◌*◌, ◌^�
 use Rattle.std.proofs.lemmas.Bool.{both_ways, cases_Bool}
 use Rattle.std.specs.List.{list_any, range_with_len}
 use Rattle.arrayvec.specs.ArrayVec.{ArrayVec}
-use Rattle.rack.specs.Seen.{Image, Seen}
+use Rattle.rack.specs.Seen.{Image, RackView}
 use Rattle.md_super.specs.declared.superblock.Super.{Super}
 use Rattle.array_image.specs.Arrays.{place_with, shape_by}
 use Rattle.array_image.specs.Left.{IsLeft}
@@ -25,13 +25,13 @@ use Rattle.array_core.proofs.TruthValid.{says_valid}
 use Rattle.raid_laws.specs.Agreeing.{AgreeLeaving, SayTruth, SupersAgree}
 use Rattle.raid_laws.specs.Cleaning.{Cleans, IsEnded, NoneFails, as_it_was, restated}
 use Rattle.raid_laws.specs.Moves.{IsHeeded, IsSeated, IsSet}
-use Rattle.raid_laws.specs.Raid.{IsTold, Raid, Stood, held_in, is_over, spent_of}
+use Rattle.raid_laws.specs.Raid.{IsTracked, Raid, InvariantInCall, held_in, is_failed, spent_of}
 use Rattle.raid_laws.proofs.Ranges.{any_none, any_some}
 use Rattle.raid_laws.proofs.Seated.{place_few, view_with}
 use Rattle.raid_rack.proofs.Truths.{pool_bits}
 use Rattle.raid_laws.proofs.Written.{state_of}
 
-module _ (v : Raid) (x : Seen) (n : ℕ) (set : IsSet v x) (heeded : IsHeeded v) (low : n < v.state.made) (told : IsTold v x n) (goes : is_over v n ≡ false)
+module _ (v : Raid) (x : RackView) (n : ℕ) (set : IsSet v x) (heeded : IsHeeded v) (low : n < v.state.made) (told : IsTracked v x n) (goes : is_failed v n ≡ false)
     (held : HoldTruth (v.arrays n) x) (r : Image) (left : IsLeft x r) where
   abbrev u : View
   u = v.arrays n
@@ -42,7 +42,7 @@ module _ (v : Raid) (x : Seen) (n : ℕ) (set : IsSet v x) (heeded : IsHeeded v)
   state : IsStateOf (v.arrays n) v.state
   state = state_of v x n set heeded low
 
-  stood : Stood v.state (shape_of (v.arrays n)) (held_in v x n) (spent_of v n) (λ place. false) v x n
+  stood : InvariantInCall v.state (shape_of (v.arrays n)) (held_in v x n) (spent_of v n) (λ place. false) v x n
   stood = told.stood goes
 
   -- the superblock of a current member
@@ -165,10 +165,10 @@ settled_is u = eq-eqb (left_offset u) (left_offset (settled u)) (of_young u.youn
     of_young true = cut_twice (nat_lt u.truth.resync_offset u.truth.size) refl
     of_young false = refl
 
-ended_settled : (u w : View) (a b : Seen) → IsEnded u w a b → is_settled w ≡ true
+ended_settled : (u w : View) (a b : RackView) → IsEnded u w a b → is_settled w ≡ true
 ended_settled u w a b (as_it_was settled same) = ap is_settled (view_with u w same) ∙ settled
 ended_settled u w a b (restated unsettled same supers) = ap is_settled (view_with (settled u) w same) ∙ settled_is u
 
 -- where no drive refused a call, each array that was ended is settled
-pub cleans_settled : (on : ℕ → Bool) (v w : Raid) (a b : Seen) (n : ℕ) → Cleans on v w a b → NoneFails a b → n < v.state.made → on n ≡ true → is_settled (w.arrays n) ≡ true
+pub cleans_settled : (on : ℕ → Bool) (v w : Raid) (a b : RackView) (n : ℕ) → Cleans on v w a b → NoneFails a b → n < v.state.made → on n ≡ true → is_settled (w.arrays n) ≡ true
 cleans_settled on v w a b n cleans none low is = ended_settled (v.arrays n) (w.arrays n) a b ((cleans.ends none).ended n low is)

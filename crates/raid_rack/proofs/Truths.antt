@@ -3,7 +3,7 @@ use Rattle.std.proofs.Common.{◌≡◌, ◌≢◌, ℕ, ◌+◌, ◌<◌, true,
 use Rattle.std.proofs.lemmas.Bool.{both_ways, and_from, and_parts, cases_eq}
 use Rattle.arrayvec.specs.ArrayVec.{ArrayVec}
 use Rattle.rack.specs.Values.{Keeps}
-use Rattle.rack.specs.Seen.{Seen, IsLive, Stays}
+use Rattle.rack.specs.Seen.{RackView, IsLive, SameRack}
 use Rattle.rack.specs.Sequences.{OnlyReads}
 use Rattle.rack.specs.Targets.{Target}
 use Rattle.array_image.specs.Arrays.{place_with}
@@ -25,7 +25,7 @@ use Rattle.array_core.proofs.TruthStaged.{hold_committed, left_there}
 use Rattle.md_super.specs.Profile.{rules}
 use Rattle.pool_state.specs.declared.contents.State.{State}
 use Rattle.raid_rack.specs.declared.arrays.Arrays.{Arrays}
-use Rattle.raid_laws.specs.Moves.{AreMarked, IsOfPool, IsSet, LosesOnly, Moves}
+use Rattle.raid_laws.specs.Moves.{AreMarked, IsOfPool, IsSet, OnlyFailures, ChangesNoData}
 use Rattle.raid_laws.specs.Raid.{Raid, gone_in, is_left}
 use Rattle.raid_rack.specs.RaidRack.{IsRunning, no_array, raid_by}
 use Rattle.raid_laws.specs.Truths.{KeepsTruths, MakesTruths}
@@ -37,15 +37,15 @@ use Rattle.raid_rack.proofs.Steps.{set_own, set_other}
 
 -- ---- one array
 
-place_same : (u w : View) (k : ℕ) → LosesOnly u w → slice_on w k ≡ slice_on u k
+place_same : (u w : View) (k : ℕ) → OnlyFailures u w → slice_on w k ≡ slice_on u k
 place_same u w k only =
     ap₂ (λ (r : ArrayVec ℕ) (n : ℕ). member_slice (unwrap_or (place_with r.items k) 16) n) only.same.geometry.roles only.same.number
 
-there_before : (u w : View) (k : ℕ) → LosesOnly u w → slice_get w.seats k ≢ Some Missing → slice_get u.seats k ≢ Some Missing
+there_before : (u w : View) (k : ℕ) → OnlyFailures u w → slice_get w.seats k ≢ Some Missing → slice_get u.seats k ≢ Some Missing
 there_before u w k only there gone = elim (only.seats k) [ inl same ↦ there (same ∙ gone) | inr lost ↦ there lost ]
 
 -- what is told stays so in an array that loses members
-pub tells_loses : (u w : View) (a b : Seen) → a.lasting → Stays a b → LosesOnly u w → TellSupers u a → TellSupers w b
+pub tells_loses : (u w : View) (a b : RackView) → a.lasting → SameRack a b → OnlyFailures u w → TellSupers u a → TellSupers w b
 tells_loses u w a b lasting stays only tells k low there =
     subst (λ d. IsLive b b d super_sector) (sym (place_same u w k only))
     (live_now a b (slice_on u k) super_sector lasting stays
@@ -57,33 +57,33 @@ pool_bits s v pool = eqb-true _ 0 (rule_holds 0 (rules v.truth s.extent) pool.pr
 
 -- ---- parts in a row
 
-pub truths_same : (v : Raid) (x : Seen) → KeepsTruths v v x x
+pub truths_same : (v : Raid) (x : RackView) → KeepsTruths v v x x
 truths_same v x n low held = held
 
-pub truths_then : (v w z : Raid) (a b c : Seen) → w.state.made ≡ v.state.made → KeepsTruths v w a b → KeepsTruths w z b c → KeepsTruths v z a c
+pub truths_then : (v w z : Raid) (a b c : RackView) → w.state.made ≡ v.state.made → KeepsTruths v w a b → KeepsTruths w z b c → KeepsTruths v z a c
 truths_then v w z a b c made one two n low held = two n (subst (λ k. n < k) (sym made) low) (one n low held)
 
 -- all are written, and then kept
-pub makes_kept : (v w z : Raid) (a b c : Seen) → w.state.made ≡ v.state.made → MakesTruths v w a b → KeepsTruths w z b c → MakesTruths v z a c
+pub makes_kept : (v w z : Raid) (a b c : RackView) → w.state.made ≡ v.state.made → MakesTruths v w a b → KeepsTruths w z b c → MakesTruths v z a c
 makes_kept v w z a b c made one two n low tells = two n (subst (λ k. n < k) (sym made) low) (one n low tells)
 
 -- they are written in the second part
-pub makes_after : (v w z : Raid) (a b c : Seen) → a.lasting → Moves v w a b → MakesTruths w z b c → MakesTruths v z a c
+pub makes_after : (v w z : Raid) (a b c : RackView) → a.lasting → ChangesNoData v w a b → MakesTruths w z b c → MakesTruths v z a c
 makes_after v w z a b c lasting moves two n low tells =
     two n (subst (λ k. n < k) (sym moves.book.same.made) low) (tells_loses (v.arrays n) (w.arrays n) a b lasting moves.stays (moves.arrays n low) tells)
 
-pub makes_keeps : (v w : Raid) (a b : Seen) → MakesTruths v w a b → KeepsTruths v w a b
+pub makes_keeps : (v w : Raid) (a b : RackView) → MakesTruths v w a b → KeepsTruths v w a b
 makes_keeps v w a b makes n low held = makes n low (hold_tells (v.arrays n) a held)
 
 -- nothing was written
-pub truths_reads : (v : Raid) (a b : Seen) → IsSet v a → OnlyReads a b → KeepsTruths v v a b
+pub truths_reads : (v : Raid) (a b : RackView) → IsSet v a → OnlyReads a b → KeepsTruths v v a b
 truths_reads v a b set reads n low = hold_supers (v.arrays n) a b set.lasting (set.arrays n low).is_array.few reads.stays (reads_supers a b reads)
 
 -- ---- a call of one array
 
 -- it keeps those of its array, and the others' slices as they were
-pub truths_call : (a c : Arrays) (all : ArrayVec View) (log : LogView) (n : ℕ) (old u : View) (x y z : Seen) → IsRunning a x → n < a.state.made
-    → old ≡ get_or a.all.items n no_array → all.items ≡ set a.all.items n u → Stays x y
+pub truths_call : (a c : Arrays) (all : ArrayVec View) (log : LogView) (n : ℕ) (old u : View) (x y z : RackView) → IsRunning a x → n < a.state.made
+    → old ≡ get_or a.all.items n no_array → all.items ≡ set a.all.items n u → SameRack x y
     → (HoldTruth old x → HoldTruth u y)
     → ((d : ℕ) → slice_of d ≢ 0 → slice_of d ≢ n + 1 → IsLive x y d super_sector → Keeps (x.held d super_sector) (y.held d super_sector))
     → KeepsTruths (raid_by (record a { all = all; log = log })) (raid_by c) y z → KeepsTruths (raid_by a) (raid_by c) x z
@@ -108,7 +108,7 @@ truths_call a c all log n old u x y z running low old_is all_is stays own others
         (held k inside there)
 
 -- of another array's slices a call writes nothing
-pub apart_kept : (n : ℕ) (v : View) (on : List ℕ) (x y : Seen) → v.number ≡ n → n < 16 → KeepsElsewhere false v on x y
+pub apart_kept : (n : ℕ) (v : View) (on : List ℕ) (x y : RackView) → v.number ≡ n → n < 16 → KeepsElsewhere false v on x y
     → (d : ℕ) → slice_of d ≢ 0 → slice_of d ≢ n + 1 → IsLive x y d super_sector → Keeps (x.held d super_sector) (y.held d super_sector)
 apart_kept n v on x y number few elsewhere d some other live =
     elsewhere d super_sector live (inr (some, λ k low there at. other (omega (arith, at, number, few))))
@@ -122,7 +122,7 @@ missing_none (Some Whole) is = absurd (let bad : Some false ≡ Some true = is i
 missing_none (Some (Rebuilding to)) is = absurd (let bad : Some false ≡ Some true = is in cc)
 
 -- where no place is current each member is missing
-pub makes_nobody : (v w : Raid) (a b : Seen) → IsSet w b → w.state.made ≡ v.state.made → ((p : ℕ) → is_current w.state p ≡ false) → MakesTruths v w a b
+pub makes_nobody : (v w : Raid) (a b : RackView) → IsSet w b → w.state.made ≡ v.state.made → ((p : ℕ) → is_current w.state p ≡ false) → MakesTruths v w a b
 makes_nobody v w a b set made nobody n less tells k low there =
     let seated = set.arrays n (subst (λ m. n < m) (sym made) less) in
     let p = place_at (w.arrays n) k in
@@ -130,7 +130,7 @@ makes_nobody v w a b set made nobody n less tells k low there =
     (seated.marks k low ∙ ap (λ c. Some (not (c && not (has_gone (w.arrays n) p)))) (nobody p))))
 
 -- the commit has the superblocks of all arrays, and who went in it is noted in each
-pub makes_commit : (v : Raid) (lost on : List ℕ) {by : List ℕ} (gone : List ℕ) (l : LogView) (xs : List Target) (f : ℕ → View) (b c : Seen)
+pub makes_commit : (v : Raid) (lost on : List ℕ) {by : List ℕ} (gone : List ℕ) (l : LogView) (xs : List Target) (f : ℕ → View) (b c : RackView)
     → IsCommitBy v lost on by gone l xs f b c → MakesTruths v (raid_after v lost (next_number l.number) f) b c
 unfolding listed
 makes_commit v lost on {by} gone l xs f b c commit n low tells =
@@ -154,7 +154,7 @@ makes_commit v lost on {by} gone l xs f b c commit n low tells =
 -- ---- places that are noted or heeded
 
 -- where nothing is called
-pub hold_gone : (u : View) (lost : List ℕ) (x : Seen) → IsArray u → HoldTruth u x → HoldTruth (without lost u) x
+pub hold_gone : (u : View) (lost : List ℕ) (x : RackView) → IsArray u → HoldTruth u x → HoldTruth (without lost u) x
 unfolding listed
 hold_gone u lost x is_array held k low there = held k low (missing_before u (listed u lost) k (names lost) (listed_loses u lost is_array) there)
 
@@ -166,5 +166,5 @@ unmarked_early a b p same was now are =
     let current = ap (λ (s : State). is_current s p) same ∙ (and_parts (is_current a.state p) (not (gone_in a p)) was).0 in
     both_ways (is_left b p) now (and_from (is_current b.state p) (not (gone_in b p)) current (ap not (are p current)))
 
-pub early_truths : (a b : Raid) (x y : Seen) → b.state ≡ a.state → (p : ℕ) × (is_left a p ≡ true) × (is_left b p ≡ false) → AreMarked b → MakesTruths a b x y
+pub early_truths : (a b : Raid) (x y : RackView) → b.state ≡ a.state → (p : ℕ) × (is_left a p ≡ true) × (is_left b p ≡ false) → AreMarked b → MakesTruths a b x y
 early_truths a b x y same lost are = absurd (unmarked_early a b lost.0 same lost.1 lost.2 are)

@@ -3,16 +3,16 @@ use Rattle.std.proofs.Common.{◌≡◌, ℕ, zero, suc, ◌+◌, ◌<◌, ◌�
 use Rattle.std.proofs.lemmas.Bool.{cases_Bool, both_ways, and_parts, and_from}
 use Rattle.std.proofs.lemmas.Map.Views.{any-filter_same}
 use Rattle.std.specs.List.{list_any, range_with_len}
-use Rattle.rack.specs.Seen.{Seen}
+use Rattle.rack.specs.Seen.{RackView}
 use Rattle.rack.specs.Joins.{stays_same, leaves_same, keeps_same}
 use Rattle.pool_state.specs.declared.contents.State.{State}
 use Rattle.array_image.specs.States.{is_current, current_places}
 use Rattle.log_laws.specs.View.{names}
 use Rattle.array_model.specs.View.{View, present, has_gone as went_in}
 use Rattle.raid_rack.specs.declared.arrays.Arrays.{Arrays}
-use Rattle.raid_laws.specs.Raid.{Raid, gone_in, is_left, is_over, is_used_up}
+use Rattle.raid_laws.specs.Raid.{Raid, gone_in, is_left, is_failed, is_used_up}
 use Rattle.raid_laws.specs.Losses.{has_gone, newly_gone}
-use Rattle.raid_laws.specs.Moves.{IsSet, IsUnmarked, AreMarked, Moves}
+use Rattle.raid_laws.specs.Moves.{IsSet, IsUnmarked, AreMarked, ChangesNoData}
 use Rattle.raid_laws.specs.Settling.{state_after}
 use Rattle.raid_rack.specs.RaidRack.{raid_by, no_array}
 use Rattle.raid_laws.proofs.Missing.{current_marked, length_marked}
@@ -135,17 +135,17 @@ newly_other a b same count_a count_b few more other =
 
 -- ---- nobody is left
 
-pub moves_emptied : (v : Raid) (lost : List ℕ) (x : Seen) → IsSet v x
+pub moves_emptied : (v : Raid) (lost : List ℕ) (x : RackView) → IsSet v x
     → ((p : ℕ) → names lost p ≡ (is_current v.state p && gone_in v p))
     → ((n p : ℕ) → n < v.state.made → names lost p ≡ true → went_in (v.arrays n) p ≡ true)
     → ((p : ℕ) → is_current (state_after v lost) p ≡ false)
     → ((n : ℕ) → n < v.state.made → IsUnmarked (v.arrays n))
-    → Moves v (record v { state = state_after v lost }) x x
+    → ChangesNoData v (record v { state = state_after v lost }) x x
 moves_emptied v lost x set lost_is noted nobody unmarked =
     let w : Raid = record v { state = state_after v lost } in
     let none : (p : ℕ) → is_left w p ≡ false = λ p. ap (λ b. b && not (gone_in w p)) (nobody p) in
-    let over : (n : ℕ) → is_over w n ≡ false → ⊥ = λ n goes.
-    both_ways (is_over w n) goes (ap (λ b. not b || (is_used_up w || (present (w.arrays n).seats == 0)))
+    let over : (n : ℕ) → is_failed w n ≡ false → ⊥ = λ n goes.
+    both_ways (is_failed w n) goes (ap (λ b. not b || (is_used_up w || (present (w.arrays n).seats == 0)))
     (all_none (is_left w) 0 16 none)) in
     record {
       stays = stays_same x set.fit;

@@ -2,7 +2,7 @@
 use Rattle.std.proofs.Common.{◌≡◌, ◌≢◌, ◌⊎◌, ℕ, zero, suc, ◌+◌, ◌-◌, ◌*◌, ◌<◌, ◌≤◌, Bool, true, false, if◌then◌else◌, List, [], Some, refl, sym, ap, subst, ◌∙◌, inl, inr, unwrap_or, eq-eqb, lt-ltb, arith}
 use Rattle.std.proofs.lemmas.Bool.{cases_eq, cases_lt, ne_eqb}
 use Rattle.rack.specs.Values.{Keeps, MayLeave}
-use Rattle.rack.specs.Seen.{Image, IsLive, Seen}
+use Rattle.rack.specs.Seen.{Image, IsLive, RackView}
 use Rattle.rack.specs.Joins.{keeps_then, live_first, live_second}
 use Rattle.rack.specs.Sequences.{OnlyReads, WritesOnly}
 use Rattle.gpt_table.specs.Plans.{IsOfTable}
@@ -63,7 +63,7 @@ module _ (arrays : List View) (place disk sectors : ℕ) (t u : Slices) (seats :
   }
 
   -- Calls that write slices by the old tables, and none of these, write none by the new ones either but such as both have.
-  module _ (a b : Seen) (few : place < 16) (only : WritesOnly a b (IsSliced t)) (reads : OnlyReads (slices_of t a) (slices_of t b)) where
+  module _ (a b : RackView) (few : place < 16) (only : WritesOnly a b (IsSliced t)) (reads : OnlyReads (slices_of t a) (slices_of t b)) where
     live_above : (d s : ℕ) (v : List ℕ) → (is : IsSliced t d s v) → is.slice < 272 → IsLive a b d s → IsLive (slices_of t a) (slices_of t b) is.slice is.at
     live_above d s v is low live = record {
       disk = low;
@@ -163,7 +163,7 @@ module _ (arrays : List View) (place disk sectors : ℕ) (t u : Slices) (seats :
           off_member j (joins arrays place sectors j) refl (omega (arith, inside, size)) (omega (arith, is, first))
 
   -- so calls on the slices, by the old tables and then by the new ones, leave its tables alone
-  pub tables_kept : (m y b : Seen) → IsOrderly t → IsOrderly u → 10273 ≤ sectors → ((p : ℕ) → seat_of t p ≢ Some disk)
+  pub tables_kept : (m y b : RackView) → IsOrderly t → IsOrderly u → 10273 ≤ sectors → ((p : ℕ) → seat_of t p ≢ Some disk)
       → WritesOnly m y (IsSliced t) → WritesOnly y b (IsSliced u) → (s : ℕ) → IsOfTable sectors s → IsLive m b disk s → Keeps (m.held disk s) (b.held disk s)
   tables_kept m y b orderly orderly_now room free one two s table live =
       keeps_then (m.held disk s) (y.held disk s) (b.held disk s)

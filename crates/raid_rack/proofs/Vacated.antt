@@ -2,7 +2,7 @@
 use Rattle.std.proofs.Common.{◌≡◌, ◌≢◌, ℕ, ◌+◌, ◌<◌, Bool, false, ◌&&◌, not, if◌then◌else◌, List, slice_get, Option, Some, None, sym, ap, ap₂, subst, ◌∙◌, arith, unwrap_or}
 use Rattle.std.proofs.lemmas.Bool.{ne_eqb}
 use Rattle.rack.specs.Values.{Keeps, MayLeave}
-use Rattle.rack.specs.Seen.{Seen}
+use Rattle.rack.specs.Seen.{RackView}
 use Rattle.slice_rack.specs.Changes.{Seats}
 use Rattle.slice_rack.specs.Slices.{Slices, disk_of, place_of, seat_of}
 use Rattle.slice_rack.specs.Sliced.{slices_of}
@@ -15,9 +15,9 @@ use Rattle.array_model.specs.View.{has_gone, place_at}
 use Rattle.array_core.proofs.TruthHeld.{slice_place}
 use Rattle.raid_laws.specs.Vacated.{DiffersAt}
 use Rattle.raid_laws.specs.Laws.{live_parts}
-use Rattle.raid_laws.specs.Moves.{IsAmid, IsHeeded, IsSet}
+use Rattle.raid_laws.specs.Moves.{IsTrackedInCall, IsHeeded, IsSet}
 use Rattle.raid_laws.specs.NewDrive.{no_state}
-use Rattle.raid_laws.specs.Raid.{IsTold, Raid, held_in, is_over, live_of, spent_of}
+use Rattle.raid_laws.specs.Raid.{IsTracked, Raid, held_in, is_failed, live_of, spent_of}
 use Rattle.raid_laws.specs.Rows.{LeavesRows}
 use Rattle.raid_rack.proofs.Reseated.{reseated_amid, reseated_rows}
 use Rattle.raid_laws.specs.Truths.{KeepsTruths}
@@ -25,7 +25,7 @@ use Rattle.raid_rack.proofs.Truths.{missing_none}
 use Rattle.raid_rack.proofs.Seating.{others_set}
 use Rattle.raid_laws.proofs.Whole.{amid_stood, stood_keeps, stood_own, told_amid}
 
-module _ (place : ℕ) (t u : Slices) (x : Seen) (seats : Seats t u place None) where
+module _ (place : ℕ) (t u : Slices) (x : RackView) (seats : Seats t u place None) where
   -- the disk of another place is the one that it was
   pub disk_left : (d : ℕ) → place_of d ≢ place → disk_of u d ≡ disk_of t d
   disk_left d other = ap (λ (o : Option ℕ). unwrap_or o 0) (seats.seats (place_of d) ∙ ap (λ (b : Bool). if b then None else seat_of t (place_of d)) (ne_eqb (place_of d) place other))
@@ -68,20 +68,20 @@ module _ (place : ℕ) (t u : Slices) (x : Seen) (seats : Seats t u place None) 
           says = λ sector leaves. has.says sector (subst (λ h. MayLeave h sector) (differs.held d super_sector other) leaves);
         }
 
-    module _ (fit : (slices_of u x).fit) (n : ℕ) (low : n < v.state.made) (told : IsTold v (slices_of t x) n) where
-      stood : is_over v n ≡ false → IsAmid v (slices_of t x) n (held_in v (slices_of t x) n) (spent_of v n)
+    module _ (fit : (slices_of u x).fit) (n : ℕ) (low : n < v.state.made) (told : IsTracked v (slices_of t x) n) where
+      stood : is_failed v n ≡ false → IsTrackedInCall v (slices_of t x) n (held_in v (slices_of t x) n) (spent_of v n)
       stood goes = told_amid v (slices_of t x) n (spent_of v n) heeded told goes (λ k alive. alive)
 
       -- the place has no log slice
       cleared : 0 < (slices_of u x).sectors (log_slice place) → (k : List ℕ) → MayLeave ((slices_of u x).held (log_slice place) 0) k → k ≡ no_state
       cleared there k left = let none = seats.cleared (log_slice place) (place_of_log place) in absurd (omega (arith, there, none))
 
-      stands : is_over v n ≡ false → IsAmid v (slices_of u x) n (held_in v (slices_of t x) n) (spent_of v n)
+      stands : is_failed v n ≡ false → IsTrackedInCall v (slices_of u x) n (held_in v (slices_of t x) n) (spent_of v n)
       stands goes =
           reseated_amid v (slices_of t x) (slices_of u x) place n (held_in v (slices_of t x) n) (spent_of v n) differs set heeded missing cleared low (stood goes)
 
       -- what is told stays so
-      pub vacated_told : IsTold v (slices_of u x) n
+      pub vacated_told : IsTracked v (slices_of u x) n
       vacated_told = record {
         joined = told.joined;
         stood = λ goes.
@@ -97,6 +97,6 @@ module _ (place : ℕ) (t u : Slices) (x : Seen) (seats : Seats t u place None) 
           (amid_stood v (slices_of u x) n (held_in v (slices_of t x) n) (spent_of v n) heeded (stands (live_parts v n k alive).0)) alive
 
       -- and images leave it no other rows to resync
-      pub vacated_rows : is_over v n ≡ false → LeavesRows v (slices_of t x) n → LeavesRows v (slices_of u x) n
+      pub vacated_rows : is_failed v n ≡ false → LeavesRows v (slices_of t x) n → LeavesRows v (slices_of u x) n
       vacated_rows goes =
           reseated_rows v (slices_of t x) (slices_of u x) place n (held_in v (slices_of t x) n) (spent_of v n) differs set heeded missing cleared low (stood goes)

@@ -5,7 +5,7 @@ use Rattle.std.proofs.lemmas.Option.{slice_get_past}
 use Rattle.std.specs.Option.{option_map_or}
 use Rattle.std.specs.List.{list_all, list_any, range_with_len}
 use Rattle.arrayvec.specs.ArrayVec.{ArrayVec}
-use Rattle.rack.specs.Seen.{Seen}
+use Rattle.rack.specs.Seen.{RackView}
 use Rattle.rack.specs.Joins.{keeps_same, leaves_same, stays_same}
 use Rattle.rack.specs.Targets.{Target, look}
 use Rattle.pool_state.specs.declared.contents.Plan.TheVariants.{Nothing}
@@ -26,9 +26,9 @@ use Rattle.sync_laws.specs.Rows.{lacks_row}
 use Rattle.sync_laws.specs.Steps.{DoesRows, resynced}
 use Rattle.raid_rack.specs.declared.arrays.Arrays.{Arrays}
 use Rattle.raid_laws.specs.Losses.{AddsCopies, AreCopiesOn}
-use Rattle.raid_laws.specs.Raid.{Raid, gone_in, is_empty, is_left, is_over, is_used_up, held_in, spent_of, StopsInside}
+use Rattle.raid_laws.specs.Raid.{Raid, gone_in, is_empty, is_left, is_failed, is_used_up, held_in, spent_of, StopsInside}
 use Rattle.raid_laws.specs.Laws.{live_parts}
-use Rattle.raid_laws.specs.Moves.{AreCaused, Brings, IsHeeded, IsSet, KeepsArrays, Mends, RaisesBy}
+use Rattle.raid_laws.specs.Moves.{AreCaused, ChangesData, IsHeeded, IsSet, KeepsArrays, Mends, RaisesBy}
 use Rattle.transition_laws.specs.Changes.{changed, closed as plan_ends}
 use Rattle.transition_laws.specs.Losses.{IsRunOf, MakesLosses}
 use Rattle.growth_laws.specs.Growing.{AnyValues, MakesTurn}
@@ -58,8 +58,8 @@ use Rattle.raid_laws.proofs.Whole.{before_amid, heeded_left}
 -- ---- a row that is resynced
 
 -- what isn't stuck lacks nobody in the row
-pub unstuck : (v : Raid) (n row : ℕ) → not (is_stuck v n row) ≡ true → (is_over v n ≡ false) × (lacks_row (v.arrays n) row ≡ false)
-unstuck v n row is = or_parts (is_over v n) (lacks_row (v.arrays n) row) (not_true (is_stuck v n row) is)
+pub unstuck : (v : Raid) (n row : ℕ) → not (is_stuck v n row) ≡ true → (is_failed v n ≡ false) × (lacks_row (v.arrays n) row ≡ false)
+unstuck v n row is = or_parts (is_failed v n) (lacks_row (v.arrays n) row) (not_true (is_stuck v n row) is)
 
 -- the code's test is the definition's
 pub stuck_by_code : (v : Raid) (n row : ℕ) (ended lacks : Bool) → IsArray (v.arrays n) → ended ≡ (is_empty v || is_used_up v) → lacks ≡ lacks_row (v.arrays n) row
@@ -79,7 +79,7 @@ stuck_by_code v n row ended lacks is_array ended_is lacks_is =
     of false false false s all = refl
 
 -- rows that aren't stuck are done, and they are stuck where the first was refused
-pub resyncs_rows : (a b c : Arrays) (x y z : Seen) (m most : ℕ) {E : Type 0} (did : Result ℕ E) (result : Result ℕ Stuck) → m < a.state.made
+pub resyncs_rows : (a b c : Arrays) (x y z : RackView) (m most : ℕ) {E : Type 0} (did : Result ℕ E) (result : Result ℕ Stuck) → m < a.state.made
     → (rows : ℕ) → HasStepped a b x y m (resynced ((raid_by a).arrays m) rows) (λ u. lacks_row u ((raid_by a).arrays m).resync) (is_ok did)
     → Mends (raid_by b) (raid_by c) y z
     → (stuck : Bool) → stuck ≡ is_stuck (raid_by c) m ((raid_by a).arrays m).resync
@@ -92,7 +92,7 @@ resyncs_rows a b c x y z m most did (Err e) low rows one mends stuck stuck_is do
     elim refused [
       | inr is ↦ sym (ap not (sym stuck_is ∙ is))
       | inl none ↦
-          sym (ap not (or_second (is_over (raid_by c) m) (lacks_row ((raid_by c).arrays m) row)
+          sym (ap not (or_second (is_failed (raid_by c) m) (lacks_row ((raid_by c).arrays m) row)
           (lacks_then ((raid_by b).arrays m) ((raid_by c).arrays m) row (mends.moves.arrays m made) (one.refused none))))
     ]
   where
@@ -100,7 +100,7 @@ resyncs_rows a b c x y z m most did (Err e) low rows one mends stuck stuck_is do
     or_second true c is = refl
     or_second false c is = is
 
-pub resyncs_one : (a b : Arrays) (x y : Seen) (m most : ℕ) (result : Result ℕ Stuck) → IsFit a x → IsFit b y → StopsInside y
+pub resyncs_one : (a b : Arrays) (x y : RackView) (m most : ℕ) (result : Result ℕ Stuck) → IsFit a x → IsFit b y → StopsInside y
     → m < a.state.made → ((raid_by a).arrays m).resync < rows_of ((raid_by a).arrays m)
     → DoesRows (λ rows. StepsOne (raid_by a) (raid_by b) x y m (resynced ((raid_by a).arrays m) rows)) (rows_of ((raid_by a).arrays m) - ((raid_by a).arrays m).resync) most result
     → is_ok result ≡ not (is_stuck (raid_by b) m ((raid_by a).arrays m).resync)
@@ -122,7 +122,7 @@ resyncs_one a b x y m most result fit after inside low row rows answer =
 -- ---- one work
 
 -- where one was asked for, it is answered that one is done
-pub one_work : (work : Work) (v w : Raid) (a b : Seen) (k : ℕ) → Does work 1 v w a b {E = Stuck} (Ok k) → Does work 1 v w a b {E = Stuck} (Ok 1)
+pub one_work : (work : Work) (v w : Raid) (a b : RackView) (k : ℕ) → Does work 1 v w a b {E = Stuck} (Ok k) → Does work 1 v w a b {E = Stuck} (Ok 1)
 one_work work v w a b k does = subst (λ (n : ℕ). Does work 1 v w a b {E = Stuck} (Ok n)) (number work does) does
   where
     of_rows : {does : ℕ → Bool → Type 0} {left : ℕ} → DoesRows does left 1 {E = Stuck} (Ok k) → k ≡ 1
@@ -144,13 +144,13 @@ one_work work v w a b k does = subst (λ (n : ℕ). Does work 1 v w a b {E = Stu
 -- ---- the end of a plan
 
 -- nobody is left: the plan ends in this run alone
-emptied_brings : (v : Raid) (x : Seen) → IsSet v x → IsHeeded v → ((p : ℕ) → is_current v.state p ≡ false)
-    → Brings v (record v { state = closed v.state }) x x (λ n vals. vals)
+emptied_brings : (v : Raid) (x : RackView) → IsSet v x → IsHeeded v → ((p : ℕ) → is_current v.state p ≡ false)
+    → ChangesData v (record v { state = closed v.state }) x x (λ n vals. vals)
 emptied_brings v x set heeded nobody =
     let w : Raid = record v { state = closed v.state } in
     let none : (p : ℕ) → is_left w p ≡ false = λ p. ap (λ (b : Bool). b && not (gone_in w p)) (nobody p) in
-    let over : (n : ℕ) → is_over w n ≡ false → ⊥ = λ n goes.
-    both_ways (is_over w n) goes (ap (λ (b : Bool). not b || (is_used_up w || (present (w.arrays n).seats == 0))) (all_none (is_left w) 0 16 none)) in
+    let over : (n : ℕ) → is_failed w n ≡ false → ⊥ = λ n goes.
+    both_ways (is_failed w n) goes (ap (λ (b : Bool). not b || (is_used_up w || (present (w.arrays n).seats == 0))) (all_none (is_left w) 0 16 none)) in
     record {
       stays = stays_same x set.fit;
       set = record {
@@ -182,8 +182,8 @@ emptied_brings v x set heeded nobody =
     all_none f a (suc k) none = ap₂ (λ b c. b || c) (none a) (all_none f (a + 1) k none)
 
 -- what a commit without the plan makes of the arrays, or what is changed in this run alone
-pub record HasClosed (a b : Arrays) (x y : Seen) : Type 0 where
-  pub brings : Brings (raid_by a) (raid_by b) x y (λ n vals. vals)
+pub record HasClosed (a b : Arrays) (x y : RackView) : Type 0 where
+  pub brings : ChangesData (raid_by a) (raid_by b) x y (λ n vals. vals)
   pub caused : AreCaused (raid_by a) (raid_by b) x y
   pub arrays : KeepsArrays (raid_by a) (raid_by b)
   pub plan : b.state.plan ≡ Nothing
@@ -192,7 +192,7 @@ pub record HasClosed (a b : Arrays) (x y : Seen) : Type 0 where
   pub truths : KeepsTruths (raid_by a) (raid_by b) x y
   pub book : ClosesBook (raid_by a) (raid_by b) x y
 
-pub closes_empty : (a : Arrays) (t : State) (log : LogView) (on : List ℕ) (x : Seen) → IsRunning a x → IsHeeded (raid_by a)
+pub closes_empty : (a : Arrays) (t : State) (log : LogView) (on : List ℕ) (x : RackView) → IsRunning a x → IsHeeded (raid_by a)
     → t ≡ closed a.state → on ≡ current_places t → length on ≡ 0 → log.number ≡ a.log.number
     → HasClosed a (record a { state = t; log = log }) x x
 closes_empty a t log on x running heeded t_is on_is empty number =
@@ -207,7 +207,7 @@ closes_empty a t log on x running heeded t_is on_is empty number =
     let up = raised_up a.state.epoch in
     let epoch = ap (λ (s : State). s.epoch) t_is in
     record {
-      brings = subst (λ (w : Raid). Brings v w x x (λ n vals. vals)) whole brings;
+      brings = subst (λ (w : Raid). ChangesData v w x x (λ n vals. vals)) whole brings;
       caused = subst (λ (w : Raid). AreCaused v w x x) whole (record {
         left = λ p is. absurd (both_ways (is_current v.state p) (nobody p) (and_parts (is_current v.state p) (not (gone_in v p)) is).0);
         cause = λ p was now. absurd (both_ways (is_current v.state p) (nobody p) (and_parts (is_current v.state p) (not (gone_in v p)) was).0);
@@ -228,7 +228,7 @@ closes_empty a t log on x running heeded t_is on_is empty number =
     nothing (x ∷ xs) is = absurd (omega (arith, is))
 
 -- the commit, and who went in it noted
-pub closing_of : (a : Arrays) (all : ArrayVec View) (t : State) (l : LogView) (on gone : List ℕ) (x y : Seen) → IsRunning a x → IsHeeded (raid_by a)
+pub closing_of : (a : Arrays) (all : ArrayVec View) (t : State) (l : LogView) (on gone : List ℕ) (x y : RackView) → IsRunning a x → IsHeeded (raid_by a)
     → t ≡ closed a.state → on ≡ current_places t → AddsCopies t on [] l.added → l.number ≡ a.log.number → CommitCall l on gone x y
     → ((n : ℕ) → slice_get all.items n ≡ option_map (without gone) (slice_get a.all.items n))
     → IsClosing (raid_by a) on gone l (λ n. get_or all.items n no_array) x y
@@ -243,7 +243,7 @@ closing_of a all t l on gone x y running heeded t_is on_is copies number call ea
   sectors = λ n. each_sectors (without gone) a.all.items all.items n (λ u. refl) each;
 }
 
-pub has_closed : (a : Arrays) (all : ArrayVec View) (t : State) (log l : LogView) (on gone : List ℕ) (x y : Seen) → IsRunning a x
+pub has_closed : (a : Arrays) (all : ArrayVec View) (t : State) (log l : LogView) (on gone : List ℕ) (x y : RackView) → IsRunning a x
     → IsClosing (raid_by a) on gone l (λ n. get_or all.items n no_array) x y
     → t ≡ closed a.state → length all.items ≡ length a.all.items → log.number ≡ next_number l.number
     → HasClosed a (record a { state = t; all = all; log = log }) x y
@@ -260,7 +260,7 @@ has_closed a all t log l on gone x y running commit t_is count number =
     let next = raised_up l.number in
     let same = commit.number in
     record {
-      brings = subst (λ (w : Raid). Brings v w x y (λ n vals. vals)) whole brings;
+      brings = subst (λ (w : Raid). ChangesData v w x y (λ n vals. vals)) whole brings;
       caused = subst (λ (w : Raid). AreCaused v w x y) whole (record { left = closing_left v on gone l f x y commit; cause = closing_cause v on gone l f x y commit });
       arrays = close_arrays v on gone l f x y commit;
       truths = subst (λ (w : Raid). KeepsTruths v w x y) whole (close_truths v on gone l f x y commit);
@@ -277,7 +277,7 @@ has_closed a all t log l on gone x y running commit t_is count number =
       };
     }
 
-pub closes_one : (a b c : Arrays) (x y z : Seen) → HasClosed a b x y → Mends (raid_by b) (raid_by c) y z → ClosesPlan (raid_by a) (raid_by c) x z
+pub closes_one : (a b c : Arrays) (x y z : RackView) → HasClosed a b x y → Mends (raid_by b) (raid_by c) y z → ClosesPlan (raid_by a) (raid_by c) x z
 closes_one a b c x y z one mends = record {
   brings = brings_then (raid_by a) (raid_by b) (raid_by c) x y z (λ n vals. vals) one.brings mends.moves;
   caused = caused_then (raid_by a) (raid_by b) (raid_by c) x y z one.brings.stays mends.moves.stays one.caused
@@ -288,19 +288,19 @@ closes_one a b c x y z one mends = record {
 }
 
 -- and this is all that it makes of the book
-pub closes_turn : (a b c : Arrays) (x y z : Seen) → HasClosed a b x y → ((d : Raid) → IsRunOf d (raid_by b) → MakesLosses d (raid_by b) (raid_by c) y z) → is_plan a.state.plan ≡ true
+pub closes_turn : (a b c : Arrays) (x y z : RackView) → HasClosed a b x y → ((d : Raid) → IsRunOf d (raid_by b) → MakesLosses d (raid_by b) (raid_by c) y z) → is_plan a.state.plan ≡ true
     → MakesTurn plan_ends true AnyValues (raid_by a) (raid_by c) x z
 closes_turn a b c x y z one losses due =
     turn_then plan_ends AnyValues (raid_by a) (raid_by b) (raid_by c) x y z (λ vals fits. one.book.makes due vals) (losses (changed plan_ends (raid_by a)) one.book.run)
 
-pub closes_alone : (a b : Arrays) (x y : Seen) → IsHeeded (raid_by b) → HasClosed a b x y → ClosesPlan (raid_by a) (raid_by b) x y
+pub closes_alone : (a b : Arrays) (x y : RackView) → IsHeeded (raid_by b) → HasClosed a b x y → ClosesPlan (raid_by a) (raid_by b) x y
 closes_alone a b x y heeded one = record { brings = one.brings; caused = one.caused; heeded = heeded; arrays = one.arrays; plan = one.plan }
 
-pub closes_raise : (a b c : Arrays) (x y : Seen) → HasClosed a b x y → RaisesBy 17 (raid_by b) (raid_by c) → RaisesBy 18 (raid_by a) (raid_by c)
+pub closes_raise : (a b c : Arrays) (x y : RackView) → HasClosed a b x y → RaisesBy 17 (raid_by b) (raid_by c) → RaisesBy 18 (raid_by a) (raid_by c)
 closes_raise a b c x y one two = raises_then 1 17 (raid_by a) (raid_by b) (raid_by c) one.brings.book.same.made one.raises two
 
 -- the places that it is written on are valid ones of the state, and their log slices are there
-pub close_places : (a : Arrays) (t : State) (on : List ℕ) (j p : ℕ) (x : Seen) → IsRunning a x → IsHeeded (raid_by a) → t ≡ closed a.state
+pub close_places : (a : Arrays) (t : State) (on : List ℕ) (j p : ℕ) (x : RackView) → IsRunning a x → IsHeeded (raid_by a) → t ≡ closed a.state
     → on ≡ current_places t → slice_get on j ≡ Some p
     → (is_valid t p ≡ true) × (p < 16) × (x.sectors (log_slice p) ≡ log_sectors)
 close_places a t on j p x running heeded t_is on_is at =
@@ -322,14 +322,14 @@ close_places a t on j p x running heeded t_is on_is at =
 -- ---- what its commit asks
 
 -- the copies of a state that are to be committed, on all its current places
-pub record AreCopied (t : State) (on : List ℕ) (l : LogView) (x : Seen) : Type 0 where
+pub record AreCopied (t : State) (on : List ℕ) (l : LogView) (x : RackView) : Type 0 where
   pub few : length t.drives.items ≤ 16
   pub disks : x.disks ≡ 272
   pub logs : (p : ℕ) → is_current t p ≡ true → x.sectors (log_slice p) ≡ log_sectors
   pub on_is : on ≡ current_places t
   pub copies : AddsCopies t on [] l.added
 
-pub closed_copied : (a : Arrays) (t : State) (on : List ℕ) (l : LogView) (x : Seen) → IsRunning a x → IsHeeded (raid_by a) → t ≡ closed a.state
+pub closed_copied : (a : Arrays) (t : State) (on : List ℕ) (l : LogView) (x : RackView) → IsRunning a x → IsHeeded (raid_by a) → t ≡ closed a.state
     → on ≡ current_places t → AddsCopies t on [] l.added → AreCopied t on l x
 closed_copied a t on l x running heeded t_is on_is copies = record {
   few = subst (λ (s : State). length s.drives.items ≤ 16) (sym t_is) running.set.few;
@@ -339,7 +339,7 @@ closed_copied a t on l x running heeded t_is on_is copies = record {
   copies = copies;
 }
 
-module _ (t : State) (on : List ℕ) (l : LogView) (x : Seen) (copied : AreCopied t on l x) where
+module _ (t : State) (on : List ℕ) (l : LogView) (x : RackView) (copied : AreCopied t on l x) where
   are_copies : AreCopiesOn t on l.added
   are_copies = subst (AreCopiesOn t on) (sym copied.copies.appended) copied.copies.copies
 

@@ -2,7 +2,7 @@
 use Rattle.std.proofs.Common.{◌≡◌, ℕ, ◌+◌, ◌*◌, ◌/◌, ◌<◌, ◌≤◌, Bool, true, false, ◌||◌, not, map, refl, sym, ap, subst, ◌∙◌, inl, inr, le-ltb, arith}
 use Rattle.std.proofs.lemmas.Bool.{both_ways, cases_Bool, ltb-false}
 use Rattle.std.specs.List.{range_with_len}
-use Rattle.rack.specs.Seen.{Seen}
+use Rattle.rack.specs.Seen.{RackView}
 use Rattle.pool_state.specs.declared.contents.Work.TheVariants.{Zero}
 use Rattle.array_image.specs.Spent.{wanting}
 use Rattle.array_image.specs.SoundArray.{first_unsynced}
@@ -13,7 +13,7 @@ use Rattle.sync_laws.specs.Steps.{if_done, zeroed}
 use Rattle.raid_rack.specs.declared.arrays.Arrays.{Arrays}
 use Rattle.raid_rack.specs.RaidRack.{raid_by}
 use Rattle.raid_laws.specs.Raid.{Raid}
-use Rattle.raid_laws.specs.Moves.{LosesOnly, Mends}
+use Rattle.raid_laws.specs.Moves.{OnlyFailures, Mends}
 use Rattle.raid_laws.proofs.Over.{not_true, or_parts}
 use Rattle.raid_rack.proofs.Grown.{HasCalled}
 use Rattle.raid_rack.proofs.Mended.{not_of_false}
@@ -24,7 +24,7 @@ use Rattle.transition_laws.specs.Changes.{changed, steps}
 use Rattle.growth_laws.proofs.Steps.{CallsTo, grows_one, step_as_long, stepped_own}
 
 -- two members that don't lack a row after losses didn't before them
-pub lacks_two_less : (u w : View) (row : ℕ) → LosesOnly u w → lacks_two w row ≡ false → lacks_two u row ≡ false
+pub lacks_two_less : (u w : View) (row : ℕ) → OnlyFailures u w → lacks_two w row ≡ false → lacks_two u row ≡ false
 lacks_two_less u w row only lacks =
     let t = row * 128 + 127 in
     let less = subst (λ n. wanting t (members_of u) ≤ wanting t (map (member_on w) (range_with_len 0 n))) (sym only.same.geometry.disks) (wanting_less u w t 0 u.truth.raid_disks only) in
@@ -32,7 +32,7 @@ lacks_two_less u w row only lacks =
     le-ltb 1 (wanting t (members_of u)) (omega (arith, less, none))
 
 -- the call, and the mending after it
-pub zero_grows : (a b c : Arrays) (x y z : Seen) (n : ℕ) (is_done did answered : Bool) → HasCalled a b x y n (zeroed ((raid_by a).arrays n) 1) is_done → n < b.state.made
+pub zero_grows : (a b c : Arrays) (x y z : RackView) (n : ℕ) (is_done did answered : Bool) → HasCalled a b x y n (zeroed ((raid_by a).arrays n) 1) is_done → n < b.state.made
     → (did ≡ true → is_done ≡ true)
     → (did ≡ false → lacks_two ((raid_by b).arrays n) (first_unsynced ((raid_by a).arrays n).truth) ≡ true)
     → Mends (raid_by b) (raid_by c) y z
@@ -54,7 +54,7 @@ zero_grows a b c x y z n is_done did answered one low answer refused mends answe
     mends (step_as_long v n (zeroed u 1) refl) (λ no. not_of_false lost (sym answered_is ∙ no))
 
 -- the array has as many rows after the call
-pub called_rows : (v w : Raid) (n : ℕ) (x y : Seen) (is_done : Bool) → CallsTo v w n (zeroed (v.arrays n) 1) x y is_done → n < v.state.made
+pub called_rows : (v w : Raid) (n : ℕ) (x y : RackView) (is_done : Bool) → CallsTo v w n (zeroed (v.arrays n) 1) x y is_done → n < v.state.made
     → rows_of (w.arrays n) ≡ rows_of (v.arrays n)
 called_rows v w n x y is_done call low = of is_done call.book
   where

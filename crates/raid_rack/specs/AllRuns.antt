@@ -1,7 +1,7 @@
 -- What calls in a row of a rack of arrays keep.
 use Rattle.std.proofs.Common.{◌≡◌, ℕ, ◌+◌, ◌<◌, Bool, false, refl, sym, subst, ◌∙◌}
 use Rattle.rack.specs.Values.{Keeps}
-use Rattle.rack.specs.Seen.{Seen, IsLive}
+use Rattle.rack.specs.Seen.{RackView, IsLive}
 use Rattle.rack.specs.Joins.{keeps_same, keeps_then, rose_before, rose_since}
 use Rattle.slice_rack.specs.SliceRack.{below_of, tables}
 use Rattle.slice_rack.specs.Runs.{runs_join, runs_none}
@@ -41,16 +41,16 @@ serves_then v w z f g h made one two = record {
 }
 
 -- Where no drive refuses a call, the slices of the arrays that aren't written hold what they held, superblocks and all.
-abbrev pub Spares : (ℕ → Bool) → Seen → Seen → Type 0
+abbrev pub Spares : (ℕ → Bool) → RackView → RackView → Type 0
 Spares written a b =
     NoneFails a b → (n d t : ℕ) → written n ≡ false → slice_of d ≡ n + 1 → IsLive a b d t → Keeps (a.held d t) (b.held d t)
 
 -- no call spares all
-pub spares_same : (written : ℕ → Bool) (x : Seen) → Spares written x x
+pub spares_same : (written : ℕ → Bool) (x : RackView) → Spares written x x
 spares_same written x none n d t not own live = keeps_same (x.held d t)
 
 -- calls in a row spare what is written in none of them
-pub spares_then : (p q r : ℕ → Bool) (v w z : Raid) (a b c : Seen) → RaidRuns p q v w a b → RaidRuns q r w z b c → Spares q a b → Spares r b c → Spares r a c
+pub spares_then : (p q r : ℕ → Bool) (v w z : Raid) (a b c : RackView) → RaidRuns p q v w a b → RaidRuns q r w z b c → Spares q a b → Spares r b c → Spares r a c
 spares_then p q r v w z a b c one two first second none n d t not own live =
     keeps_then (a.held d t) (b.held d t) (c.held d t)
     (first (λ place fault. none place (fault.0, fault.1, rose_before (two.faults fault.0) fault.2)) n d t (two.written n not) own
@@ -71,14 +71,14 @@ pub record IsOneCall (v w : Raid) : Type 0 where
   pub plan : w.state.plan ≡ v.state.plan
 
 -- what calls on the slices below keep, what is done to the book and to images, and what is refused
-abbrev pub AreCalls : {R : Type 0} → (R → Seen) → (R → R → Type 0) → RaidRack R → RaidRack R → Type 0
+abbrev pub AreCalls : {R : Type 0} → (R → RackView) → (R → R → Type 0) → RaidRack R → RaidRack R → Type 0
 AreCalls seen runs x y =
     SliceRuns seen runs (slices_in x) (slices_in y)
     × RaidRuns (written_in x) (written_in y) (raid_in x) (raid_in y) (slices_seen seen x) (slices_seen seen y)
     × Serves (raid_in x) (raid_in y) (refused_in x) (refused_in y)
 
 -- no call keeps all
-pub calls_same : {R : Type 0} (seen : R → Seen) (runs : R → R → Type 0) (x : RaidRack R) → runs (below_of (slices_in x)) (below_of (slices_in x)) → AreCalls seen runs x x
+pub calls_same : {R : Type 0} (seen : R → RackView) (runs : R → R → Type 0) (x : RaidRack R) → runs (below_of (slices_in x)) (below_of (slices_in x)) → AreCalls seen runs x x
 calls_same seen runs x same = (
   runs_none (tables (slices_in x)) (seen (below_of (slices_in x))) (runs (below_of (slices_in x)) (below_of (slices_in x))) same,
   raid_runs_same (written_in x) (raid_in x) (slices_seen seen x),
@@ -86,7 +86,7 @@ calls_same seen runs x same = (
 )
 
 -- calls in a row keep what each of them does
-pub calls_then : {R : Type 0} (seen : R → Seen) (runs : R → R → Type 0) (x y z : RaidRack R)
+pub calls_then : {R : Type 0} (seen : R → RackView) (runs : R → R → Type 0) (x y z : RaidRack R)
     → (runs (below_of (slices_in x)) (below_of (slices_in y)) → runs (below_of (slices_in y)) (below_of (slices_in z)) → runs (below_of (slices_in x)) (below_of (slices_in z)))
     → AreCalls seen runs x y → AreCalls seen runs y z → AreCalls seen runs x z
 calls_then seen runs x y z join one two = (
@@ -99,7 +99,7 @@ calls_then seen runs x y z join one two = (
 )
 
 -- what calls on the slices below keep, what is done to the book and to images, what is refused, and what is spared
-abbrev pub AreRuns : {R : Type 0} → (R → Seen) → (R → R → Type 0) → RaidRack R → RaidRack R → Type 0
+abbrev pub AreRuns : {R : Type 0} → (R → RackView) → (R → R → Type 0) → RaidRack R → RaidRack R → Type 0
 AreRuns seen runs x y =
     SliceRuns seen runs (slices_in x) (slices_in y)
     × RaidRuns (written_in x) (written_in y) (raid_in x) (raid_in y) (slices_seen seen x) (slices_seen seen y)

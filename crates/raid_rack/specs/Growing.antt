@@ -1,6 +1,6 @@
 -- What a growth needs of the tables of slices.
 use Rattle.std.specs.Prelude.{◌≡◌, ◌≢◌, ◌⊎◌, ℕ, ◌+◌, true, None, Some}
-use Rattle.rack.specs.Seen.{Seen}
+use Rattle.rack.specs.Seen.{RackView}
 use Rattle.slice_rack.specs.Slices.{Slices, first_of, sectors_of, seat_of}
 use Rattle.slice_rack.specs.Changes.{IsPast, Overlaps}
 use Rattle.gpt_table.specs.Disk.{first_table, now_on}
@@ -13,12 +13,12 @@ use Rattle.growth_laws.specs.Growing.{reaching, views_of}
 use Rattle.growth_laws.specs.NewArrays.{new_size}
 
 -- These sectors can't be the slice of a place's member of array n: the place has no disk, or they end past it or overlap another slice of it.
-abbrev pub CannotAdd : Slices → Seen → (place n first sectors : ℕ) → Type 0
+abbrev pub CannotAdd : Slices → RackView → (place n first sectors : ℕ) → Type 0
 CannotAdd t x place n first sectors =
     (seat_of t place ≡ None) ⊎ (IsPast t x place first sectors ⊎ Overlaps t (member_slice place n) first sectors)
 
 -- The slice of a place's member of array n can't be laid.
-abbrev pub CannotLay : Slices → Seen → Raid → (place n : ℕ) → Type 0
+abbrev pub CannotLay : Slices → RackView → Raid → (place n : ℕ) → Type 0
 CannotLay t x v place n = CannotAdd t x place n (first_in (views_of v) n) (slice_length (v.arrays n))
 
 -- No slices but those of this number may have changed.
@@ -28,7 +28,7 @@ pub record KeepsOtherSlices (number : ℕ) (t u : Slices) : Type 0 where
 
 -- These sectors can't be entered into the table of a place's disk: the place has no disk, or the disk had no valid table when it was read, in
 -- calls on the rack r, or it has no room for them before the backup of its table.
-abbrev pub CannotEnter : {R : Type 0} → (R → Seen) → (R → R → Type 0) → Slices → R → (place first sectors : ℕ) → Type 0
+abbrev pub CannotEnter : {R : Type 0} → (R → RackView) → (R → R → Type 0) → Slices → R → (place first sectors : ℕ) → Type 0
 CannotEnter {R} seen runs t r place first sectors =
     (seat_of t place ≡ None)
     ⊎ (((disk : ℕ) × (seat_of t place ≡ Some disk)
@@ -37,7 +37,7 @@ CannotEnter {R} seen runs t r place first sectors =
 
 -- An array of so many extents can't be made: the slice of a place that is to be its member, and isn't missing, can't be entered into the table
 -- of its disk, or can't be laid there.
-pub record CannotMake {R : Type 0} (seen : R → Seen) (runs : R → R → Type 0) (t : Slices) (r : R) (v : Raid) (height : ℕ) : Type 0 where
+pub record CannotMake {R : Type 0} (seen : R → RackView) (runs : R → R → Type 0) (t : Slices) (r : R) (v : Raid) (height : ℕ) : Type 0 where
   pub place : ℕ
   pub among : names (reaching v height) place ≡ true
   pub current : is_current v.state place ≡ true

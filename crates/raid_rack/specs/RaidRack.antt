@@ -1,6 +1,6 @@
 -- A rack of arrays, as contracts see it.
 use Rattle.std.specs.Prelude.{◌≡◌, ◌⊎◌, ℕ, Bool, pos, true, false, List, [], length, get_or, slice_get, unwrap_or, Result, Ok, Err}
-use Rattle.rack.specs.Seen.{Seen, Stays}
+use Rattle.rack.specs.Seen.{RackView, SameRack}
 use Rattle.rack.specs.Calls.{KeepsAll}
 use Rattle.slice_rack.specs.declared.SliceRack.{SliceRack}
 use Rattle.slice_rack.specs.SliceRack.{tables, below_of}
@@ -14,7 +14,7 @@ use Rattle.raid_laws.specs.Agreeing.{MakesAgree}
 use Rattle.raid_laws.specs.Raid.{Raid, is_left, raid_of}
 use Rattle.raid_laws.specs.Truths.{MakesTruths}
 use Rattle.raid_laws.specs.Unlost.{KeepsUnlost}
-use Rattle.raid_laws.specs.Moves.{AreMarked, IsHeeded, IsSet, Moves, RaisesBy}
+use Rattle.raid_laws.specs.Moves.{AreMarked, IsHeeded, IsSet, ChangesNoData, RaisesBy}
 use Rattle.transition_laws.specs.Losses.{IsRunOf, MakesLosses}
 
 -- a number without an array: nothing is said of it
@@ -69,13 +69,13 @@ abbrev pub slices_in : {R : Type 0} → RaidRack R → SliceRack R
 slices_in rack = rack.slices
 
 -- The arrays of a pool over its slices: those below `made`, each one of the pool.
-pub record IsRunning (a : Arrays) (x : Seen) : Type 0 where
+pub record IsRunning (a : Arrays) (x : RackView) : Type 0 where
   pub count : length a.all.items ≡ a.state.made
   pub set : IsSet (raid_by a) x
 
 -- One turn of the marking of losses: whoever went is marked, or somebody isn't left any more.
-pub record EndsTurn (a b : Arrays) (x y : Seen) : Type 0 where
-  pub moves : Moves (raid_by a) (raid_by b) x y
+pub record EndsTurn (a b : Arrays) (x y : RackView) : Type 0 where
+  pub moves : ChangesNoData (raid_by a) (raid_by b) x y
   pub progress :
       AreMarked (raid_by b) ⊎ ((place : ℕ) × (is_left (raid_by a) place ≡ true) × (is_left (raid_by b) place ≡ false))
   pub raises : RaisesBy 1 (raid_by a) (raid_by b)
@@ -103,26 +103,26 @@ abbrev pub written_in : {R : Type 0} → RaidRack R → ℕ → Bool
 written_in rack = is_written rack.written
 
 -- what its slices show
-abbrev pub slices_seen : {R : Type 0} → (R → Seen) → RaidRack R → Seen
+abbrev pub slices_seen : {R : Type 0} → (R → RackView) → RaidRack R → RackView
 slices_seen seen rack = slices_of (tables (slices_in rack)) (seen (below_of (slices_in rack)))
 
 -- The arrays of a pool between calls: nobody went who isn't heeded.
-pub record IsFit (a : Arrays) (x : Seen) : Type 0 where
+pub record IsFit (a : Arrays) (x : RackView) : Type 0 where
   pub running : IsRunning a x
   pub heeded : IsHeeded (raid_by a)
 
 -- what a rack of arrays shows
-abbrev pub raid_seen : {R : Type 0} → (R → Seen) → RaidRack R → Seen
+abbrev pub raid_seen : {R : Type 0} → (R → RackView) → RaidRack R → RackView
 raid_seen seen rack =
     raid_of (IsFit (arrays_in rack) (slices_seen seen rack)) (refused_in rack) (raid_in rack) (slices_seen seen rack)
 
 -- As a rack, it stays, and no value comes or goes: what it tells, it tells after the call.
-pub record KeepsRack (a b : Seen) : Type 0 where
-  pub stays : Stays a b
+pub record KeepsRack (a b : RackView) : Type 0 where
+  pub stays : SameRack a b
   pub keeps : KeepsAll a b
 
 -- what calls on the slices below keep: where the slices lie, what the rack of drives promises, and all sectors outside slices
-abbrev pub SliceRuns : {R : Type 0} → (R → Seen) → (R → R → Type 0) → SliceRack R → SliceRack R → Type 0
+abbrev pub SliceRuns : {R : Type 0} → (R → RackView) → (R → R → Type 0) → SliceRack R → SliceRack R → Type 0
 SliceRuns seen runs x y = Runs (tables x) (tables y) (seen (below_of x)) (seen (below_of y)) (runs (below_of x) (below_of y))
 
 -- an answer to one work, as the number of works that are done

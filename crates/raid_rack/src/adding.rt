@@ -1,7 +1,7 @@
 //! A drive joins a pool that grows: which arrays it reaches, what is laid on it, and the commit that has it in the list.
 
 ghost use Rattle.std.specs.Prelude.{◌≡◌, ◌≢◌, ◌<◌, ◌≤◌, ◌+◌, ◌-◌, ◌^◌, ℕ, All, Err, Some, OnOk, OnErr, IfErr, true, false, [], length};
-ghost use Rattle.rack.specs.Seen.{Rose, Stays};
+ghost use Rattle.rack.specs.Seen.{Rose, SameRack};
 ghost use Rattle.rack.specs.Sequences.{WritesOnly};
 ghost use Rattle.gpt_table.specs.Format.{IsWritable};
 ghost use Rattle.slice_rack.specs.SliceRack.{below_of, tables};
@@ -350,7 +350,7 @@ impl<R: Rack> RaidRack<R> {
         ensures raises { RaisesBy 36 (raid_in self.old) (raid_in self.new) }
         ensures refused { (n : ℕ) → refused_in self.new n ≡ refused_in self.old n }
         ensures written { (n : ℕ) → written_in self.new n ≡ written_in self.old n }
-        ensures stays { Stays (R.seen (below_of (slices_in self.old))) (R.seen (below_of (slices_in self.new))) }
+        ensures stays { SameRack (R.seen (below_of (slices_in self.old))) (R.seen (below_of (slices_in self.new))) }
         ensures runs { R.runs (below_of (slices_in self.old)) (below_of (slices_in self.new)) }
     {
         let sectors = self.slices.below().sectors(disk);

@@ -46,7 +46,7 @@ impl<R: Rack> RaidRack<R> {
     ghost use Rattle.raid_laws.specs.Moves.{AreMarked, Mends, RaisesBy, noted_at};
     ghost use Rattle.raid_laws.specs.Cleaning.{CleansAll, LeavesItsRows};
     ghost use Rattle.raid_laws.specs.Agreeing.{MakesAgree};
-    ghost use Rattle.raid_laws.specs.Runs.{KeepsMoments, RaidRuns};
+    ghost use Rattle.raid_laws.specs.Runs.{CrashInvariant, RaidRuns};
     ghost use Rattle.raid_laws.specs.Truths.{KeepsTruths, MakesTruths};
     ghost use Rattle.raid_laws.specs.Unlost.{KeepsUnlost};
     ghost use Rattle.raid_rack.specs.RaidRack.{SliceRuns, IsFit, IsRunning, KeepsRack, arrays_in, arrays_of, raid_seen, raid_in, refused_in, slices_in, slices_seen, written_in};
@@ -131,7 +131,7 @@ impl<R: Rack> RaidRack<R> {
         ensures kept { OnErr result (self.new ≡ self.old) }
         ensures mends { OnOk result (Mends (noted_at (place ∷ []) (raid_in self.old)) (raid_in self.new) (slices_seen R.seen self.old) (slices_seen R.seen self.new)) }
         ensures keeps { OnOk result (KeepsRack (raid_seen R.seen self.old) (raid_seen R.seen self.new)) }
-        ensures moments { OnOk result (KeepsMoments (raid_in self.old) (raid_in self.new) (slices_seen R.seen self.old) (slices_seen R.seen self.new)) }
+        ensures moments { OnOk result (CrashInvariant (raid_in self.old) (raid_in self.new) (slices_seen R.seen self.old) (slices_seen R.seen self.new)) }
         ensures raises { RaisesBy 17 (raid_in self.old) (raid_in self.new) }
         ensures truths { KeepsTruths (raid_in self.old) (raid_in self.new) (slices_seen R.seen self.old) (slices_seen R.seen self.new) }
         ensures runs { SliceRuns R.seen R.runs (slices_in self.old) (slices_in self.new) }

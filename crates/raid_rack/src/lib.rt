@@ -9,7 +9,7 @@
 //!
 //! **Its model.** `Raid` of raid_laws is what contracts see of it: the state, each array's `View`, the number of the log. `raid_of` is the rack
 //! that it shows: disk n is array n, a sector is held where no loss spent it, what a stop leaves is what the slices say once their
-//! log is replayed, and an array is told where its slices are and it stands in them (`IsTold`). Its faults are its spent answers.
+//! log is replayed, and an array is told where its slices are and it stands in them (`IsTracked`). Its faults are its spent answers.
 //! Between calls all losses are mended (`IsFit`).
 //!
 //! `specs/RaidRack.antt` is the model of the struct, and `specs/AllRuns.antt` says what calls in a row keep of it: also of the slices below,
@@ -35,7 +35,7 @@
 //! every image at each moment of a call and after it (`KeepsRows`), unless the call writes it. The rack keeps which arrays a run has
 //! written, so all others do so in every image of the run (`RaidRuns`).
 //!
-//! **Stops inside calls.** At each moment of a call, of an array that was told and isn't over after it (`KeepsMoments`): no log is
+//! **Stops inside calls.** At each moment of a call, of an array that was told and isn't over after it (`CrashInvariant`): no log is
 //! damaged; replayed contents say one state between those before and after the call, with each copy of it and no later one
 //! (`LogsBetween`), and by it superblocks that agree, of the size and places from before it, and members that count at least as far as
 //! before it and are there where they were (`ReachBetween`). If by that state a member of an array that
@@ -46,7 +46,7 @@
 //! this (`moments_then` of specs/Runs.antt).
 //!
 //! **Works of maintenance.** A step of an array makes another array of it, by one commit: more rows that agree, or members that count
-//! further. It is a part of a call that writes no value (`Brings`): each array gives its values, by the array before the step or after
+//! further. It is a part of a call that writes no value (`ChangesData`): each array gives its values, by the array before the step or after
 //! it. One lemma (`step_brings`) carries any step of `array_sync` along (`Steps`), where what it makes is an array of the pool
 //! (`IsNext`). Rows are resynced (`Resyncs`), as many as are answered, exactly where the first can be once losses are mended, and where
 //! that is answered no image leaves them any more. Rows of a member are rebuilt (`Rebuilds`) where that is answered, and refused only where
@@ -70,7 +70,7 @@
 //! this place. What the commit needs is less (`FindsArray`): the logs without the place, and the data of the members that are left. While
 //! its record doesn't count (`IsFormerly`) contents are read by the old tables and the state before, the old drive's disk not being
 //! written, and no log is damaged there (`former_says` of proofs/FormerSays.antt); from then on by the new tables and a state with the
-//! drive (`SaysReplacing`). Where the drive isn't taken in, stops leave of the slices what they leave in any call (`KeepsMoments`).
+//! drive (`SaysReplacing`). Where the drive isn't taken in, stops leave of the slices what they leave in any call (`CrashInvariant`).
 //!
 //! **A drive of a growth** ([`RaidRack::add_drive`]) comes to the next place of the list, or to one of the list with other units than the drive before
 //! it. Its table has an entry for each array that it reaches by its units, also for those that it has still to join; where such a slice begins no
@@ -94,7 +94,7 @@
 //! that is marked missing stay as they are (`KeepsMarked`).
 //!
 //! **A read, a sync and a write** are a call of one array and the mending after it. The sector is refused exactly where it is spent
-//! once that is done (`Arrays::is_spent`), and the refusal is counted. A write is one part more (`Brings`): each array gives the
+//! once that is done (`Arrays::is_spent`), and the refusal is counted. A write is one part more (`ChangesData`): each array gives the
 //! values that it had, and the written sector the one from before or the new one.
 //!
 //! **What contents hold of the book.** The mending of losses says what it makes of each book that the run has, whose losses aren't marked in it yet:

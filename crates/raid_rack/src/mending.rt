@@ -2,7 +2,7 @@
 
 ghost use Rattle.std.specs.Prelude.{◌≡◌, ◌⊎◌, ◌<◌, ◌==◌, ℕ, Bool, true, [], ◌∷◌, length};
 ghost use Rattle.array_image.specs.States.{is_current};
-ghost use Rattle.raid_laws.specs.Moves.{AreMarked, Mends, Moves, IsHeeded, RaisesBy, ReadsValue, SyncsOne, WritesOne, noted_at};
+ghost use Rattle.raid_laws.specs.Moves.{AreMarked, Mends, ChangesNoData, IsHeeded, RaisesBy, ReadsValue, SyncsOne, WritesOne, noted_at};
 ghost use Rattle.array_model.specs.View.{sectors_of};
 ghost use Rattle.raid_laws.specs.Settling.{SettlesTo};
 ghost use Rattle.raid_laws.specs.Agreeing.{MakesAgree};
@@ -74,7 +74,7 @@ impl Arrays {
     /// Marks whoever went, and whoever goes meanwhile: each turn but one finds another place gone.
     fn mark_all<S: Rack>(&mut self, rack: &mut S)
         requires running { IsRunning self.old (S.seen rack.old) }
-        ensures moves { Moves (raid_by self.old) (raid_by self.new) (S.seen rack.old) (S.seen rack.new) }
+        ensures moves { ChangesNoData (raid_by self.old) (raid_by self.new) (S.seen rack.old) (S.seen rack.new) }
         ensures marked { AreMarked (raid_by self.new) }
         ensures raises { RaisesBy 17 (raid_by self.old) (raid_by self.new) }
         ensures idle { AreMarked (raid_by self.old) → (self.new ≡ self.old) × (rack.new ≡ rack.old) }

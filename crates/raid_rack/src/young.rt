@@ -193,7 +193,7 @@ impl Arrays {
 }
 
 impl Arrays {
-    ghost use Rattle.rack.specs.Seen.{Stays};
+    ghost use Rattle.rack.specs.Seen.{SameRack};
     ghost use Rattle.rack.specs.Targets.{Target};
     ghost use Rattle.array_image.specs.Record.{are_apart};
     ghost use Rattle.array_model.specs.Stages.{AmongTargets};
@@ -311,7 +311,7 @@ impl Arrays {
         ensures state { self.new.state ≡ self.old.state }
         ensures loses { LosesBook (raid_by self.old) (raid_by self.new) }
         ensures caused { AreCaused (raid_by self.old) (raid_by self.new) (S.seen rack.old) (S.seen rack.new) }
-        ensures stays { Stays (S.seen rack.old) (S.seen rack.new) }
+        ensures stays { SameRack (S.seen rack.old) (S.seen rack.new) }
         ensures raises { RaisesBy 1 (raid_by self.old) (raid_by self.new) }
         ensures running { IsRunning self.new (S.seen rack.new) }
         ensures runs { S.runs rack.old rack.new }

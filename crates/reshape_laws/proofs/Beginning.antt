@@ -3,7 +3,7 @@ use Rattle.std.proofs.Common.{◌≡◌, ◌<◌, ◌≤◌, ℕ, ℤ, pos, Bool
 use Rattle.std.proofs.lemmas.Bool.{both_ways}
 use Rattle.std.proofs.lemmas.Bool.Decides.{Decides-int_eq}
 use Rattle.std.specs.Ordering.{int_eq}
-use Rattle.rack.specs.Seen.{Seen}
+use Rattle.rack.specs.Seen.{RackView}
 use Rattle.rack.specs.Sequences.{OnlyReads}
 use Rattle.shr_base.specs.declared.Id.{Id}
 use Rattle.md_super.specs.Profile.{is_mirror, is_raid5}
@@ -43,7 +43,7 @@ pub record IsBeginning (v : View) (on : List ℕ) (place : ℕ) : Type 0 where
 pub no_mirror_now : (v : View) → is_raid5 v.truth ≡ true → is_mirror v.truth ≡ false
 no_mirror_now v raid5 = ap (λ (level : ℤ). int_eq level (pos 1)) ((Decides-int_eq v.truth.level (pos 5)).0 raid5)
 
-module _ (v : View) (on : List ℕ) (place : ℕ) (drive : Id) (is : IsBeginning v on place) (a : Seen) where
+module _ (v : View) (on : List ℕ) (place : ℕ) (drive : Id) (is : IsBeginning v on place) (a : RackView) where
   abbrev device : Id
   device = record { 0 = member_id drive.0 v.number }
 
@@ -69,7 +69,7 @@ module _ (v : View) (on : List ℕ) (place : ℕ) (drive : Id) (is : IsBeginning
       no_rebuild (joined_few v on place is.few) is.unsynced a a
 
   -- THE WHOLE CALL
-  pub begin_reshapes : (w : View) (c : Seen) (l : LogView) (lost : List ℕ) (number after : ℕ) (answered : Bool)
+  pub begin_reshapes : (w : View) (c : RackView) (l : LogView) (lost : List ℕ) (number after : ℕ) (answered : Bool)
       → AddsSupersOf (joined v on place drive) [] l.added → HasSlices (joined v on place drive) a → OnlyReads a a → CommitCall l on lost a c
       → IsSameButSeats (joined v on place drive) w → LosesPlaces (joined v on place drive) w (names lost) → l.number ≡ number → after ≡ next_number l.number
       → Reshapes v (joined v on place drive) w number after on a c answered

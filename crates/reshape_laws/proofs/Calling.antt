@@ -3,7 +3,7 @@ use Rattle.std.proofs.Common.{length, ◌<◌, ◌≤◌, ◌+◌, ◌-◌, slic
 use Rattle.std.proofs.lemmas.Bool.{both_ways}
 use Rattle.std.proofs.lemmas.List.{length-append}
 use Rattle.std.specs.List.{list_all}
-use Rattle.rack.specs.Seen.{Seen}
+use Rattle.rack.specs.Seen.{RackView}
 use Rattle.rack.specs.Targets.{Target, look}
 use Rattle.rack.specs.Sequences.{OnlyReads}
 use Rattle.shr_base.specs.declared.Id.{Id}
@@ -70,7 +70,7 @@ some_supers g xs is_array adds k low there =
 
 -- ---- what the commit asks of its targets
 
-module _ (v : View) (t : Super) (seats : List Seat) (devices : List Id) (resync : ℕ) (joins : Member → Type 0) (supers own_data xs : List Target) (a b : Seen)
+module _ (v : View) (t : Super) (seats : List Seat) (devices : List Id) (resync : ℕ) (joins : Member → Type 0) (supers own_data xs : List Target) (a b : RackView)
     (step : Step v t seats devices resync joins own_data a b) (adds : AddsSupersOf (changed v t seats devices resync v.marked) [] supers) (added : xs ≡ supers ++ own_data) where
   pub call_on : AreOnMembers (changed v t seats devices resync v.marked) xs
   call_on = subst (AreOnMembers (changed v t seats devices resync v.marked)) (sym added) (on_members v t seats devices resync joins supers own_data a b step adds)
@@ -91,7 +91,7 @@ module _ (v : View) (t : Super) (seats : List Seat) (devices : List Id) (resync 
   call_had slices reads = all_had (changed v t seats devices resync v.marked) a b xs slices reads.stays call_on
 
 -- no other slice is written
-pub call_elsewhere : (v : View) (t : Super) (seats : List Seat) (devices : List Id) (resync : ℕ) (joins : Member → Type 0) (supers own_data : List Target) (a b c : Seen) (l : LogView) (on lost : List ℕ)
+pub call_elsewhere : (v : View) (t : Super) (seats : List Seat) (devices : List Id) (resync : ℕ) (joins : Member → Type 0) (supers own_data : List Target) (a b c : RackView) (l : LogView) (on lost : List ℕ)
     → Step v t seats devices resync joins own_data a b → AddsSupersOf (changed v t seats devices resync v.marked) [] supers → l.added ≡ supers ++ own_data
     → OnlyReads a b → CommitCall l on lost b c
     → KeepsElsewhere false (changed v t seats devices resync v.marked) on a c
@@ -129,7 +129,7 @@ next_lacks v z w t c same z_array keeps change adopts =
     roles = keeps.roles ∙ sym (ap (λ (u : Super). u.roles) same.truth)
 
 -- an array that lacks at most one after losses did so before them
-pub two_before : (v u : View) (a b : Seen) → Notes v u a b → lacks_two u ≡ false → lacks_two v ≡ false
+pub two_before : (v u : View) (a b : RackView) → Notes v u a b → lacks_two u ≡ false → lacks_two v ≡ false
 two_before v u a b notes few =
     let t = v.truth.size - 1 in
     let more : wanting (v.truth.size - 1) (members_of v) ≤ wanting (v.truth.size - 1) (members_of u) =
@@ -140,7 +140,7 @@ two_before v u a b notes few =
     le-ltb 1 (wanting (v.truth.size - 1) (members_of v)) (omega (arith, more, one, same))
 
 -- THE WHOLE CALL: v when it began, u after its reads, z once the places that went in the commit are noted, w in the end
-pub call_reshapes : (v u z w : View) (t : Super) (a b c : Seen) (l : LogView) (on lost : List ℕ) (supers own_data : List Target) (number after : ℕ) (change : Change) (answered : Bool)
+pub call_reshapes : (v u z w : View) (t : Super) (a b c : RackView) (l : LogView) (on lost : List ℕ) (supers own_data : List Target) (number after : ℕ) (change : Change) (answered : Bool)
     → (step : Step v t v.seats v.devices v.resync (λ m. ⊥) own_data a b) → AddsSupersOf (record v { truth = t }) [] supers → l.added ≡ supers ++ own_data
     → KeepsMembers v.truth t → lacks_two v ≡ false → v.resync ≡ rows_of v → (HasFewBits v.truth → HasFewBits t)
     → HasSlices v a → OnlyReads a b → Notes v u a b → CommitCall l on lost b c → IsSameButSeats u z → LosesPlaces u z (names lost) → IsArray z

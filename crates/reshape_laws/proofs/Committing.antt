@@ -2,7 +2,7 @@
 use Rattle.std.proofs.Common.{◌-◌, ◌^◌, ◌%◌, ◌⊎◌, ◌≡◌, ◌≢◌, ℕ, ◌+◌, ◌<◌, ◌≤◌, slice_get, length, Bool, true, false, ◌||◌, List, [], ◌∷◌, ◌++◌, Some, unwrap_or, refl, sym, ap, subst, ◌∙◌, inl, inr, eq-eqb, arith}
 use Rattle.std.proofs.lemmas.Bool.{both_ways}
 use Rattle.rack.specs.Values.{Values, IsSingle}
-use Rattle.rack.specs.Seen.{Image, Seen, IsLive}
+use Rattle.rack.specs.Seen.{Image, RackView, IsLive}
 use Rattle.rack.specs.Targets.{Target, look}
 use Rattle.rack.specs.Sequences.{IsPayload, OnlyReads}
 use Rattle.shr_base.specs.declared.Id.{Id}
@@ -12,23 +12,23 @@ use Rattle.array_image.specs.Places.{member_slice, super_sector, data_sector}
 use Rattle.array_image.specs.Record.{are_apart}
 use Rattle.array_image.specs.Arrays.{Member, replayed}
 use Rattle.array_image.specs.SoundArray.{IsWrittenSuper, first_unsynced}
-use Rattle.array_image.specs.Held.{Among, IsSettled, current_in}
+use Rattle.array_image.specs.Held.{Among, IsSynced, current_in}
 use Rattle.array_image.specs.Left.{IsLeft, PicksLogs}
 use Rattle.log_laws.specs.View.{LogView, names, next_number}
 use Rattle.log_laws.specs.Commits.{CommitCall}
 use Rattle.log_laws.specs.Standing.{IsReady, SomeoneDecides}
-use Rattle.log_laws.specs.Kept.{LogKept, gone_with}
+use Rattle.log_laws.specs.Kept.{LogInvariant, gone_with}
 use Rattle.log_laws.proofs.KeptAfter.{kept_more}
 use Rattle.commit_log.proofs.Story.{payload_is}
 use Rattle.array_model.specs.declared.Seat.{Seat}
 use Rattle.array_model.specs.declared.Seat.TheVariants.{Missing}
 use Rattle.array_model.specs.View.{View, IsArray, LosesPlaces, has_gone, is_missing_seat, place_at, sectors_of, shape_of, spent_in}
-use Rattle.array_model.specs.Says.{Holds, IsOpen}
+use Rattle.array_model.specs.Says.{ArrayInvariant, IsOpen}
 use Rattle.array_model.specs.Members.{HasSlices, IsSameButSeats, Notes, slice_on}
-use Rattle.array_model.specs.ArrayCalls.{Covers, HasFields}
+use Rattle.array_model.specs.ArrayCalls.{IncludesSpent, HasFields}
 use Rattle.array_model.proofs.Keeping.{left_before, live_on, open_after}
 use Rattle.array_model.proofs.Looking.{look_payload}
-use Rattle.array_model.proofs.Moves.{Moves, moves_then}
+use Rattle.array_model.proofs.Moves.{CallRefines, moves_then}
 use Rattle.array_model.proofs.Noting.{covers_before, holds_noted, losing_by, losing_of, read_acts}
 use Rattle.array_model.proofs.Reading.{missing_before}
 use Rattle.array_model.proofs.RowWrites.{gone_none}
@@ -56,7 +56,7 @@ use Rattle.reshape_laws.proofs.Moved.{durable_now, moved}
 
 -- ---- a step that was refused before its commit
 
-pub refused_reshapes : (v g w : View) (number : ℕ) (on : List ℕ) (a b : Seen) (answered : Bool) → a.lasting → IsArray v → OnlyReads a b → Notes v w a b → answered ≡ false
+pub refused_reshapes : (v g w : View) (number : ℕ) (on : List ℕ) (a b : RackView) (answered : Bool) → a.lasting → IsArray v → OnlyReads a b → Notes v w a b → answered ≡ false
     → Reshapes v g w number number on a b answered
 refused_reshapes v g w number on a b answered lasting is_array reads notes refused = record {
   steps = record {
@@ -96,7 +96,7 @@ pub record IsDataOn (g : View) (d s : ℕ) (u : List ℕ) : Type 0 where
   pub long : length u ≡ 512
 
 -- A step makes another truth and other members of an array, and writes these sectors of its members' data. No value changes.
-pub record Step (v : View) (next_truth : Super) (seats : List Seat) (devices : List Id) (resync : ℕ) (joins : Member → Type 0) (own_data : List Target) (a b : Seen) : Type 0 where
+pub record Step (v : View) (next_truth : Super) (seats : List Seat) (devices : List Id) (resync : ℕ) (joins : Member → Type 0) (own_data : List Target) (a b : RackView) : Type 0 where
   pub is_array : IsArray v
   pub next : IsArray (changed v next_truth seats devices resync v.marked)
   pub on : (d t : ℕ) (u : List ℕ) → IsPayload own_data d t u → IsDataOn (changed v next_truth seats devices resync v.marked) d t u
@@ -109,20 +109,20 @@ pub record Step (v : View) (next_truth : Super) (seats : List Seat) (devices : L
   pub some_there : is_missing_seat (slot_on (changed v next_truth seats devices resync v.marked) some).seat ≡ false
   pub joiner : (m : Member) → joins m → Among m (shape_of (changed v next_truth seats devices resync v.marked)).members × (Among m (shape_of v).members → ⊥)
   pub settled :
-      v.marked ≡ false → (s : State) (vals : ℕ → Values) (spent : ℕ → Bool) → Holds s (shape_of v) v vals spent a → Holds s (shape_of v) v vals spent b
-      → IsSettled (shape_of v) v.number b.held
+      v.marked ≡ false → (s : State) (vals : ℕ → Values) (spent : ℕ → Bool) → ArrayInvariant s (shape_of v) v vals spent a → ArrayInvariant s (shape_of v) v vals spent b
+      → IsSynced (shape_of v) v.number b.held
   pub rows : HasRowRebuilds v → HasRowRebuilds (changed v next_truth seats devices resync v.marked)
   pub live :
       HasRowRebuilds v → IsOpen (shape_of v) v.number a → IsOpen (shape_of (changed v next_truth seats devices resync v.marked)) v.number a
       → (d t : ℕ) (u : List ℕ) → IsPayload own_data d t u → IsLive a a d t
   pub moves :
       v.marked ≡ false → HasRowRebuilds v
-      → (s : State) (vals : ℕ → Values) (spent : ℕ → Bool) → Holds s (shape_of v) v vals spent a → Holds s (shape_of v) v vals spent b
+      → (s : State) (vals : ℕ → Values) (spent : ℕ → Bool) → ArrayInvariant s (shape_of v) v vals spent a → ArrayInvariant s (shape_of v) v vals spent b
       → ShapeMoves v.number (shape_of v) (shape_of (changed v next_truth seats devices resync v.marked)) v.resync resync spent joins (current_in b.held) own_data
 
 -- ---- its targets
 
-module _ (v : View) (next_truth : Super) (seats : List Seat) (devices : List Id) (resync : ℕ) (joins : Member → Type 0) (supers own_data : List Target) (a b : Seen)
+module _ (v : View) (next_truth : Super) (seats : List Seat) (devices : List Id) (resync : ℕ) (joins : Member → Type 0) (supers own_data : List Target) (a b : RackView)
     (step : Step v next_truth seats devices resync joins own_data a b)
     (adds : AddsSupersOf (changed v next_truth seats devices resync v.marked) [] supers) where
   abbrev g : View
@@ -192,7 +192,7 @@ none_named : (places : List ℕ) → ((p : ℕ) → names places p ≡ false) �
 none_named [] none = refl
 none_named (p ∷ places) none = absurd (both_ways (names (p ∷ places) p) (none p) (ap (λ (b : Bool). b || names places p) (eq-eqb p p refl)))
 
-module _ (v u w : View) (next_truth : Super) (seats : List Seat) (devices : List Id) (resync : ℕ) (joins : Member → Type 0) (a b c : Seen) (l : LogView) (on lost : List ℕ) (supers own_data : List Target) (number after : ℕ)
+module _ (v u w : View) (next_truth : Super) (seats : List Seat) (devices : List Id) (resync : ℕ) (joins : Member → Type 0) (a b c : RackView) (l : LogView) (on lost : List ℕ) (supers own_data : List Target) (number after : ℕ)
     (step : Step v next_truth seats devices resync joins own_data a b)
     (adds : AddsSupersOf (changed v next_truth seats devices resync v.marked) [] supers) (added : l.added ≡ supers ++ own_data)
     (slices : HasSlices (changed v next_truth seats devices resync v.marked) a) (reads : OnlyReads a b) (notes : Notes v u a b)
@@ -226,9 +226,9 @@ module _ (v u w : View) (next_truth : Super) (seats : List Seat) (devices : List
       all_live v next_truth seats devices resync joins supers own_data a b step adds s w number on slices may.commit
       (step.live may.commit.renew.rows may.commit.opened may.opened) d i x (subst (λ xs. IsPayload xs d i x) added pay)
 
-  module _ (s : State) (vals : ℕ → Values) (spent : ℕ → Bool) (covers : Covers w spent) (may : MayReshape s v (changed v next_truth seats devices resync v.marked) w number on a) where
+  module _ (s : State) (vals : ℕ → Values) (spent : ℕ → Bool) (covers : IncludesSpent w spent) (may : MayReshape s v (changed v next_truth seats devices resync v.marked) w number on a) where
     abbrev Middle : Type 0
-    Middle = Holds s (shape_of v) v vals spent a × Holds s (shape_of v) v vals spent b
+    Middle = ArrayInvariant s (shape_of v) v vals spent a × ArrayInvariant s (shape_of v) v vals spent b
 
     opened_b : Middle → IsOpen (shape_of (changed v next_truth seats devices resync v.marked)) v.number b
     opened_b held = open_after lasting reads.stays (shape_of h) v.number may.opened
@@ -244,7 +244,7 @@ module _ (v u w : View) (next_truth : Super) (seats : List Seat) (devices : List
     moves_b : Middle → ShapeMoves v.number (shape_of v) (shape_of (changed v next_truth seats devices resync v.marked)) v.resync resync spent joins (current_in b.held) own_data
     moves_b held = step.moves may.unmarked may.commit.renew.rows s vals spent held.0 held.1
 
-    single_b : Middle → IsSettled (shape_of v) v.number b.held
+    single_b : Middle → IsSynced (shape_of v) v.number b.held
     single_b held = step.settled may.unmarked s vals spent held.0 held.1
 
     ready : IsReady l on b
@@ -253,13 +253,13 @@ module _ (v u w : View) (next_truth : Super) (seats : List Seat) (devices : List
     decides : SomeoneDecides l.added on lost b
     decides = log_decides s h w a b c l on lost step.next lasting reads members_on (live_all s may) commit (may_log s may) left_w
 
-    kept_log : LogKept s (next_number l.number) (gone_with nobody lost) c
+    kept_log : LogInvariant s (next_number l.number) (gone_with nobody lost) c
     kept_log = log_kept s h w a b c l on lost step.next lasting reads members_on (live_all s may) commit (may_log s may) left_w
 
     quiet : (i : Image) → PicksLogs b i → (d t : ℕ) → replayed b.sectors i d t ≡ i d t
     quiet = log_quiet s h w a b c l on lost step.next lasting reads members_on (live_all s may) commit (may_log s may) left_w
 
-    pub commit_moves : Moves v.number b c Middle (SaysEither s v (changed v next_truth seats devices resync v.marked) a vals spent) (Holds s (shape_of (changed v next_truth seats devices resync v.marked)) w vals spent c)
+    pub commit_moves : CallRefines v.number b c Middle (SaysEither s v (changed v next_truth seats devices resync v.marked) a vals spent) (ArrayInvariant s (shape_of (changed v next_truth seats devices resync v.marked)) w vals spent c)
     commit_moves =
         moved s v w next_truth seats devices resync v.marked joins a b c l on lost (λ place. names lost place || notes.lost place) supers own_data
         is_array step.next may.commit.renew.fresh may.unmarked
@@ -276,12 +276,12 @@ module _ (v u w : View) (next_truth : Super) (seats : List Seat) (devices : List
         (λ none. none_named lost (λ place. left_w place (gone_none w none place)))
         vals spent covers Middle (λ held. held.1) single_b opened_b joined_b moves_b
 
-    pub all_moves : Moves v.number a c (Holds s (shape_of v) v vals spent a) (SaysEither s v (changed v next_truth seats devices resync v.marked) a vals spent) (Holds s (shape_of (changed v next_truth seats devices resync v.marked)) w vals spent c)
+    pub all_moves : CallRefines v.number a c (ArrayInvariant s (shape_of v) v vals spent a) (SaysEither s v (changed v next_truth seats devices resync v.marked) a vals spent) (ArrayInvariant s (shape_of (changed v next_truth seats devices resync v.marked)) w vals spent c)
     all_moves =
-        moves_then v.number a b c (Holds s (shape_of v) v vals spent a) Middle (Holds s (shape_of h) w vals spent c) (SaysEither s v h a vals spent)
+        moves_then v.number a b c (ArrayInvariant s (shape_of v) v vals spent a) Middle (ArrayInvariant s (shape_of h) w vals spent c) (SaysEither s v h a vals spent)
         lasting (λ d t live other. reads.keeps.held d t live) (read_moves s v h a b vals spent lasting reads) commit_moves
 
-    pub all_durable : Holds s (shape_of v) v vals spent a → (r : Image) → IsLeft c r → HasFields s v.number next_truth r
+    pub all_durable : ArrayInvariant s (shape_of v) v vals spent a → (r : Image) → IsLeft c r → HasFields s v.number next_truth r
     all_durable held r left =
         durable_now s v w next_truth seats devices resync v.marked joins a b c l on lost (λ place. names lost place || notes.lost place) supers own_data
         is_array step.next may.commit.renew.fresh may.unmarked
@@ -310,9 +310,9 @@ module _ (v u w : View) (next_truth : Super) (seats : List Seat) (devices : List
     ];
   }
 
-  all_kept : (s : State) → MayReshape s v (changed v next_truth seats devices resync v.marked) w number on a → LogKept s after (has_gone w) c
+  all_kept : (s : State) → MayReshape s v (changed v next_truth seats devices resync v.marked) w number on a → LogInvariant s after (has_gone w) c
   all_kept s may =
-      subst (λ k. LogKept s k (has_gone w) c) (sym after_is)
+      subst (λ k. LogInvariant s k (has_gone w) c) (sym after_is)
       (kept_more s (next_number l.number) (gone_with nobody lost) (has_gone w) c
       (λ place named. loses_g.went place ∙ ap (λ (p : Bool). (p || notes.lost place) || has_gone h place) named)
       (log_kept s h w a b c l on lost step.next lasting reads members_on (live_all s may) commit (may_log s may) left_w))

@@ -1,6 +1,6 @@
 -- The end of a reshape.
 use Rattle.std.proofs.Common.{◌≡◌, ◌-◌, ◌*◌, ◌≤◌, Bool, true, false, if◌then◌else◌, [], refl, arith}
-use Rattle.rack.specs.Seen.{Seen}
+use Rattle.rack.specs.Seen.{RackView}
 use Rattle.md_super.specs.Profile.{is_mirror}
 use Rattle.array_image.specs.Supers.{is_reshaping}
 use Rattle.array_image.specs.SoundArray.{first_unsynced}
@@ -26,5 +26,5 @@ no_mirror v is_array reshaping = by (is_mirror v.truth) is_array.most (is_array.
     by true few many = absurd (omega (arith, few, many))
     by false few many = refl
 
-pub ending_step : (v : View) (a : Seen) → IsEnding v → Step v (finished v (raised v.truth.events)).truth v.seats v.devices v.resync (λ m. ⊥) [] a a
+pub ending_step : (v : View) (a : RackView) → IsEnding v → Step v (finished v (raised v.truth.events)).truth v.seats v.devices v.resync (λ m. ⊥) [] a a
 ending_step v a is = finish_step v (raised v.truth.events) is.is_array is.reshaping (no_mirror v is.is_array is.reshaping) is.whole is.few is.unsynced a a

@@ -2,7 +2,7 @@
 use Rattle.std.proofs.Common.{◌≡◌, ℕ, zero, suc, ◌+◌, ◌<◌, ◌≤◌, Bool, true, false, ◌==◌, if◌then◌else◌, List, ◌∷◌, map, length, refl, ap, ap₂, ◌∙◌, eq-eqb, arith}
 use Rattle.std.proofs.lemmas.Bool.{both_ways}
 use Rattle.std.specs.List.{range_with_len}
-use Rattle.rack.specs.Seen.{Image, Seen}
+use Rattle.rack.specs.Seen.{Image, RackView}
 use Rattle.raid_map.specs.LeftSymmetric.{parity_at}
 use Rattle.parity.specs.Xor.{xor_all, zeros}
 use Rattle.array_image.specs.Places.{member_slice, data_sector}
@@ -16,7 +16,7 @@ use Rattle.array_model.proofs.Spared.{lost_value}
 use Rattle.reshape_laws.specs.Ahead.{data_piece, row_parity, sector_on}
 
 -- a sector that is read after losses, and isn't spent then, has the value that it had before them
-pub read_before : (v u : View) (a b : Seen) (c : Image) (x : ℕ) → IsArray v → Notes v u a b
+pub read_before : (v u : View) (a b : RackView) (c : Image) (x : ℕ) → IsArray v → Notes v u a b
     → ((m : Member) (t : ℕ) → Among m (shape_of v).members → t < m.reach → length (c (member_slice m.place v.number) (data_sector + t)) ≡ 512)
     → AreEven (shape_of v) v.number v.resync c → spent_in u x ≡ false
     → value_by (shape_of u) c v.number x ≡ value_by (shape_of v) c v.number x

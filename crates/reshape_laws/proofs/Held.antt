@@ -1,18 +1,18 @@
 -- What an array holds, of fewer sectors and of all.
 use Rattle.std.proofs.Common.{◌≡◌, ℕ, ◌+◌, Bool, false, sym, subst, ◌∙◌}
 use Rattle.rack.specs.Values.{Values, MayLeave}
-use Rattle.rack.specs.Seen.{Seen}
+use Rattle.rack.specs.Seen.{RackView}
 use Rattle.pool_state.specs.declared.contents.State.{State}
 use Rattle.array_image.specs.Places.{member_slice, data_sector}
 use Rattle.array_image.specs.Arrays.{Shape}
 use Rattle.array_image.specs.Held.{held_by, held_of}
 use Rattle.array_image.proofs.Sources.{held_current, picked_value}
 use Rattle.array_model.specs.View.{View, may_vary, shape_of}
-use Rattle.array_model.specs.Says.{Holds}
+use Rattle.array_model.specs.Says.{ArrayInvariant}
 
 -- where more sectors are spent
-pub holds_fewer : (s : State) (durable : Shape) (v : View) (vals : ℕ → Values) (spent more : ℕ → Bool) (x : Seen)
-    → ((y : ℕ) → more y ≡ false → spent y ≡ false) → Holds s durable v vals spent x → Holds s durable v vals more x
+pub holds_fewer : (s : State) (durable : Shape) (v : View) (vals : ℕ → Values) (spent more : ℕ → Bool) (x : RackView)
+    → ((y : ℕ) → more y ≡ false → spent y ≡ false) → ArrayInvariant s durable v vals spent x → ArrayInvariant s durable v vals more x
 holds_fewer s durable v vals spent more x fewer holds =
     let shape = holds.shape in
     record {
@@ -36,8 +36,8 @@ holds_fewer s durable v vals spent more x fewer holds =
     }
 
 -- Where each sector of a member has one value, whatever a stop leaves gives each sector of the array the value that the members give now.
-pub holds_all : (s : State) (v : View) (vals : ℕ → Values) (spent : ℕ → Bool) (x : Seen) → may_vary v ≡ false → Holds s (shape_of v) v vals spent x
-    → Holds s (shape_of v) v (held_by (shape_of v) x.held v.number) (λ y. false) x
+pub holds_all : (s : State) (v : View) (vals : ℕ → Values) (spent : ℕ → Bool) (x : RackView) → may_vary v ≡ false → ArrayInvariant s (shape_of v) v vals spent x
+    → ArrayInvariant s (shape_of v) v (held_by (shape_of v) x.held v.number) (λ y. false) x
 holds_all s v vals spent x steady holds =
     let shape = holds.shape in
     record {

@@ -4,7 +4,7 @@ use Rattle.std.proofs.Common.{◌≡◌, ℕ, ◌+◌, ◌<◌, ◌≤◌, Bool,
 use Rattle.std.proofs.lemmas.Bool.{both_ways}
 use Rattle.std.specs.Option.{option_map_or}
 use Rattle.rack.specs.Values.{Values, MayLeave, IsSingle, only}
-use Rattle.rack.specs.Seen.{Image, Seen}
+use Rattle.rack.specs.Seen.{Image, RackView}
 use Rattle.rack.specs.Joins.{leaves_weaker}
 use Rattle.rack.specs.Targets.{Target, look, put}
 use Rattle.rack.specs.Sequences.{IsPayload}
@@ -17,10 +17,10 @@ use Rattle.array_image.specs.Supers.{super_in, truth_in}
 use Rattle.array_image.specs.SoundArray.{IsWrittenSuper, first_unsynced}
 use Rattle.array_image.specs.Arrays.{Member, Shape, layout_at, value_by, place_with, replayed, shape_in}
 use Rattle.array_image.specs.Even.{AreEven}
-use Rattle.array_image.specs.Held.{Among, IsSettled, current_in, held_of, held_by}
+use Rattle.array_image.specs.Held.{Among, IsSynced, current_in, held_of, held_by}
 use Rattle.array_image.specs.Marks.{lower, lowered}
 use Rattle.array_image.specs.Spent.{wanting}
-use Rattle.array_image.specs.Left.{LogsInside, IsInside, Picks, PicksLogs, IsLeft, IsApart, IsClosed}
+use Rattle.array_image.specs.Left.{LogsInside, IsInside, Picks, PicksLogs, IsLeft, IsApart, NothingPending}
 use Rattle.array_image.proofs.Frames.{super_of_sector, value_by_data}
 use Rattle.array_image.proofs.Marked.{among_lowered}
 use Rattle.array_image.proofs.Replays.{replayed_as_is}
@@ -28,21 +28,21 @@ use Rattle.array_image.proofs.SoundFrames.{sound_same}
 use Rattle.array_image.proofs.Sources.{source_counts}
 use Rattle.log_laws.specs.View.{LogView, names, next_number}
 use Rattle.log_laws.specs.Standing.{IsLogPart, IsAlike, IsReady, SomeoneDecides}
-use Rattle.log_laws.specs.Commits.{Commits, CommitCall, StandsMidway}
+use Rattle.log_laws.specs.Commits.{ImageInCommit, CommitCall, StandsMidway}
 use Rattle.commit_log.proofs.Saying.{commit_moments, midway_none}
-use Rattle.log_laws.specs.Kept.{LogKept, gone_with}
+use Rattle.log_laws.specs.Kept.{LogInvariant, gone_with}
 use Rattle.log_laws.proofs.Kept.{stands_of, before_inside, put_none, put_some}
 use Rattle.commit_log.proofs.Story.{payload_is}
 use Rattle.array_model.specs.declared.Seat.{Seat}
 use Rattle.array_model.specs.View.{View, IsArray, shape_of, may_vary, is_missing_seat, place_at}
-use Rattle.array_model.specs.Says.{Says, IsOpen, KeepsSource, HoldsShape, Holds, IsEarlier, HasNoOthers}
+use Rattle.array_model.specs.Says.{ImageShowsArray, IsOpen, KeepsSource, ShapeInvariant, ArrayInvariant, IsEarlier, HasNoOthers}
 use Rattle.array_model.specs.Stages.{IsStateOf, NoOthers, HasTargets}
-use Rattle.array_model.specs.ArrayCalls.{Turns, Covers, HasFields}
+use Rattle.array_model.specs.ArrayCalls.{ImageInCall, IncludesSpent, HasFields}
 use Rattle.array_model.specs.Rows.{written, source_at, sector_at}
 use Rattle.array_model.proofs.DataFrames.{SameSectors, shape_at, truth_at}
 use Rattle.array_model.proofs.Keeping.{live_on, open_after, inside_before, logs_of}
 use Rattle.array_model.proofs.Losses.{IsLosing, even_noted}
-use Rattle.array_model.proofs.Moves.{Moves}
+use Rattle.array_model.proofs.Moves.{CallRefines}
 use Rattle.array_model.proofs.Noting.{laid_out, unspent_then}
 use Rattle.array_model.proofs.Opening.{even_counted}
 use Rattle.array_model.proofs.Spared.{lost_value, at_most_one, wanting_lost, wanting_take}
@@ -60,10 +60,10 @@ use Rattle.array_model.proofs.WholeWrites.{own_value}
 use Rattle.shr_base.specs.declared.Id.{Id}
 use Rattle.reshape_laws.specs.Ahead.{ShapeMoves, changed}
 
-module _ (s : State) (v w : View) (next_truth : Super) (seats : List Seat) (devices : List Id) (resync : ℕ) (marked : Bool) (joins : Member → Type 0) (a b c : Seen) (l : LogView) (on lost : List ℕ) (gone : ℕ → Bool) (supers own_data : List Target)
+module _ (s : State) (v w : View) (next_truth : Super) (seats : List Seat) (devices : List Id) (resync : ℕ) (marked : Bool) (joins : Member → Type 0) (a b c : RackView) (l : LogView) (on lost : List ℕ) (gone : ℕ → Bool) (supers own_data : List Target)
     (is_array : IsArray v) (later_array : IsArray (changed v next_truth seats devices resync marked)) (fresh : v.went ≡ [])
     (unmarked : marked ≡ false) (commit : CommitCall l on lost b c) (ready : IsReady l on b) (decides : SomeoneDecides l.added on lost b)
-    (kept : LogKept s (next_number l.number) (gone_with (λ place. false) lost) c)
+    (kept : LogInvariant s (next_number l.number) (gone_with (λ place. false) lost) c)
     (quiet : (i : Image) → PicksLogs b i → (d t : ℕ) → replayed b.sectors i d t ≡ i d t)
     (early : (r : Image) → IsLeft b r → IsLeft a r)
     (added : l.added ≡ supers ++ own_data) (apart : are_apart l.added ≡ true)
@@ -77,8 +77,8 @@ module _ (s : State) (v w : View) (next_truth : Super) (seats : List Seat) (devi
     (unsynced : first_unsynced next_truth ≤ resync)
     (some : ℕ) (some_low : some < next_truth.raid_disks) (some_there : is_missing_seat (slot_on (changed v next_truth seats devices resync marked) some).seat ≡ false)
     (losing : IsLosing (changed v next_truth seats devices resync marked) w gone) (left_too : (place : ℕ) → gone place ≡ false → names lost place ≡ false) (nobody : w.went ≡ [] → lost ≡ [])
-    (vals : ℕ → Values) (spent : ℕ → Bool) (covers : Covers w spent)
-    (H : Type 0) (begins : H → Holds s (shape_of v) v vals spent b) (single : H → IsSettled (shape_of v) v.number b.held)
+    (vals : ℕ → Values) (spent : ℕ → Bool) (covers : IncludesSpent w spent)
+    (H : Type 0) (begins : H → ArrayInvariant s (shape_of v) v vals spent b) (single : H → IsSynced (shape_of v) v.number b.held)
     (opened : H → IsOpen (shape_of (changed v next_truth seats devices resync marked)) v.number b)
     (joined : H → (m : Member) → joins m → (i : ℕ) → i < m.reach
     → IsSingle (b.held (member_slice m.place v.number) (data_sector + i)) × (length (current_in b.held (member_slice m.place v.number) (data_sector + i)) ≡ 512))
@@ -127,7 +127,7 @@ module _ (s : State) (v w : View) (next_truth : Super) (seats : List Seat) (devi
   adds_is = adds.appended
 
   module _ (h : H) where
-    holds : Holds s (shape_of v) v vals spent b
+    holds : ArrayInvariant s (shape_of v) v vals spent b
     holds = begins h
 
     move : ShapeMoves v.number (shape_of v) (shape_of (changed v next_truth seats devices resync marked)) v.resync resync spent joins (current_in b.held) own_data
@@ -182,7 +182,7 @@ module _ (s : State) (v w : View) (next_truth : Super) (seats : List Seat) (devi
       left : IsLeft b (replayed b.sectors all.before)
       left = (all.before, all.picks, λ d t. refl)
 
-      old : Says s v.number (shape_of v) vals spent (replayed b.sectors all.before)
+      old : ImageShowsArray s v.number (shape_of v) vals spent (replayed b.sectors all.before)
       old = holds.shape.says (replayed b.sectors all.before) left
 
       counted : (m : Member) (t : ℕ) → Among m (shape_of (changed v next_truth seats devices resync marked)).members → t < m.reach
@@ -249,7 +249,7 @@ module _ (s : State) (v w : View) (next_truth : Super) (seats : List Seat) (devi
       even_r : AreEven (shape_of (changed v next_truth seats devices resync marked)) v.number resync r
       even_r = even_counted (shape_of g) n resync r now counted even_now
 
-      all_says : Says s v.number (shape_of (changed v next_truth seats devices resync marked)) vals spent r
+      all_says : ImageShowsArray s v.number (shape_of (changed v next_truth seats devices resync marked)) vals spent r
       all_says = record {
         shape_is = shape_now;
         value = λ y alive.
@@ -397,12 +397,12 @@ module _ (s : State) (v w : View) (next_truth : Super) (seats : List Seat) (devi
         ] in
         goal refl may
 
-    pub settled_now : IsSettled (lowered gone (shape_of (changed v next_truth seats devices resync marked))) v.number c.held
+    pub settled_now : IsSynced (lowered gone (shape_of (changed v next_truth seats devices resync marked))) v.number c.held
     settled_now m t among counts u may =
         let shape = shape_of g in
         single_now m t (among_lowered gone t shape.members m among counts) counts (among_kept gone t shape.members m among counts) u may
 
-    shape_held : HoldsShape s v.number (shape_of (changed v next_truth seats devices resync marked)) (lowered gone (shape_of (changed v next_truth seats devices resync marked))) resync (may_vary w) vals spent c
+    shape_held : ShapeInvariant s v.number (shape_of (changed v next_truth seats devices resync marked)) (lowered gone (shape_of (changed v next_truth seats devices resync marked))) resync (may_vary w) vals spent c
     shape_held =
         let shape = shape_of g in
         let left_now : (m : Member) (t : ℕ) → Among m (lowered gone shape).members → t < m.reach → current_in c.held (member_slice m.place n) (data_sector + t) ≡ now (member_slice m.place n) (data_sector + t) =
@@ -424,12 +424,12 @@ module _ (s : State) (v w : View) (next_truth : Super) (seats : List Seat) (devi
           settled = λ same. settled_now;
         }
 
-    holds_now : Holds s (shape_of (changed v next_truth seats devices resync marked)) w vals spent c
+    holds_now : ArrayInvariant s (shape_of (changed v next_truth seats devices resync marked)) w vals spent c
     holds_now = record {
       shape =
-          subst (λ k. HoldsShape s k (shape_of g) (shape_of w) w.resync (may_vary w) vals spent c) (sym losing.number)
-          (subst (λ k. HoldsShape s n (shape_of g) (shape_of w) k (may_vary w) vals spent c) (sym losing.resync)
-          (subst (λ (f : Shape). HoldsShape s n (shape_of g) f resync (may_vary w) vals spent c) (sym losing.shape) shape_held));
+          subst (λ k. ShapeInvariant s k (shape_of g) (shape_of w) w.resync (may_vary w) vals spent c) (sym losing.number)
+          (subst (λ k. ShapeInvariant s n (shape_of g) (shape_of w) k (may_vary w) vals spent c) (sym losing.resync)
+          (subst (λ (f : Shape). ShapeInvariant s n (shape_of g) f resync (may_vary w) vals spent c) (sym losing.shape) shape_held));
       mark = λ is_marked. absurd (both_ways marked unmarked (losing.marked is_marked));
       alone = λ r left place current other.
           subst (λ k. super_in s r k place ≡ None) (sym losing.number)
@@ -437,7 +437,7 @@ module _ (s : State) (v w : View) (next_truth : Super) (seats : List Seat) (devi
           (λ k small at. other k (subst (λ (u : Super). k < u.raid_disks) (sym losing.truth) small)
           (ap (λ (u : Super). unwrap_or (place_with u.roles.items k) 16) losing.truth ∙ at)));
       closed = λ none.
-          subst (λ k. IsClosed k c) (sym losing.number)
+          subst (λ k. NothingPending k c) (sym losing.number)
           (λ i picks place t.
           replayed_as_is c.sectors i (member_slice place n) t
           (ap (λ (ys : List Target). look ys (member_slice place n) t)
@@ -460,12 +460,12 @@ module _ (s : State) (v w : View) (next_truth : Super) (seats : List Seat) (devi
   no_log : (d t : ℕ) → IsApart v.number d t → IsLogPart d t → ⊥
   no_log d t apart_from part = elim apart_from.1 [ inl other ↦ other part.0 | inr first ↦ (let later = part.1 in absurd (omega (arith, first, later))) ]
 
-  pub moved : Moves v.number b c H (SaysEither s v (changed v next_truth seats devices resync marked) a vals spent) (Holds s (shape_of (changed v next_truth seats devices resync marked)) w vals spent c)
+  pub moved : CallRefines v.number b c H (SaysEither s v (changed v next_truth seats devices resync marked) a vals spent) (ArrayInvariant s (shape_of (changed v next_truth seats devices resync marked)) w vals spent c)
   moved = record {
     stays = commit.stays;
     leaves = λ traced.
-        leaves_weaker (λ i. LogsInside b.sectors i → Commits l.added b i × StandsMidway l on b i)
-        (λ i. IsInside b.sectors i → Turns v.number b c (λ r. H → SaysEither s v g a vals spent r) i)
+        leaves_weaker (λ i. LogsInside b.sectors i → ImageInCommit l.added b i × StandsMidway l on b i)
+        (λ i. IsInside b.sectors i → ImageInCall v.number b c (λ r. H → SaysEither s v g a vals spent r) i)
         (λ i found inside.
         let both = found (λ place j out. inside (log_slice place) j out) in
         let commits = both.0 in

@@ -4,7 +4,7 @@ use Rattle.std.proofs.lemmas.Bool.{cases_eq, ne_eqb}
 use Rattle.std.specs.Option.{option_map_or}
 use Rattle.std.specs.List.{range_with_len}
 use Rattle.rack.specs.Values.{Values}
-use Rattle.rack.specs.Seen.{Seen}
+use Rattle.rack.specs.Seen.{RackView}
 use Rattle.rack.specs.Targets.{Target}
 use Rattle.rack.specs.Sequences.{IsPayload, OnlyReads}
 use Rattle.raid_map.specs.LeftSymmetric.{parity_at}
@@ -20,7 +20,7 @@ use Rattle.commit_log.proofs.Story.{payload_is}
 use Rattle.array_model.specs.declared.Seat.{Seat}
 use Rattle.array_model.specs.declared.Seat.TheVariants.{Whole, Missing, Rebuilding}
 use Rattle.array_model.specs.View.{View, IsArray, may_vary, member_on, seat_reach, shape_of}
-use Rattle.array_model.specs.Says.{Holds}
+use Rattle.array_model.specs.Says.{ArrayInvariant}
 use Rattle.array_model.specs.Members.{slice_on}
 use Rattle.array_model.proofs.Keeping.{live_on}
 use Rattle.array_model.proofs.Looking.{look_payload}
@@ -32,7 +32,7 @@ use Rattle.reshape_laws.proofs.Old.{old_value}
 use Rattle.reshape_laws.proofs.StepsOf.{IsRowTarget, reach_low}
 
 -- what is added for so many next rows of an array
-abbrev pub AreRowsOf : View → Seen → ℕ → Option ℕ → List Target → Type 0
+abbrev pub AreRowsOf : View → RackView → ℕ → Option ℕ → List Target → Type 0
 AreRowsOf v a many absent xs = ArePieces v (OfSectors v.truth.raid_disks (next_row v * 128) (many * 128) absent) (IsNewBytes v a) xs
 
 -- members are rebuilt by whole rows
@@ -57,7 +57,7 @@ unfolding data_sum
 sum_is_xor members t bytes = λ i. xor_all 512 (map (λ j. if j == parity_at members t then zeros 512 else bytes j) (range_with_len 0 members))
 
 -- each is one of the rows' targets
-pub row_targets : (v : View) (a : Seen) (many : ℕ) (absent : Option ℕ) (xs : List Target) → IsAbsent v (next_row v) (next_row v + many - 1) absent → AreRowsOf v a many absent xs
+pub row_targets : (v : View) (a : RackView) (many : ℕ) (absent : Option ℕ) (xs : List Target) → IsAbsent v (next_row v) (next_row v + many - 1) absent → AreRowsOf v a many absent xs
     → (d s : ℕ) (u : List ℕ) → IsPayload xs d s u → IsRowTarget v many d s u
 row_targets v a many absent xs lacks row d s u pay =
     let at = row.on d s u pay in
@@ -76,9 +76,9 @@ row_targets v a many absent xs lacks row d s u pay =
       long = at.long;
     }
 
-module _ (v : View) (a b : Seen) (many : ℕ) (absent : Option ℕ) (xs : List Target) (is_array : IsArray v) (reshaping : is_reshaping v.truth ≡ true) (lasting : a.lasting) (reads : OnlyReads a b)
+module _ (v : View) (a b : RackView) (many : ℕ) (absent : Option ℕ) (xs : List Target) (is_array : IsArray v) (reshaping : is_reshaping v.truth ≡ true) (lasting : a.lasting) (reads : OnlyReads a b)
     (lacks : IsAbsent v (next_row v) (next_row v + many - 1) absent) (row : AreRowsOf v a many absent xs)
-    (rows : HasRowRebuilds v) (s : State) (vals : ℕ → Values) (spent : ℕ → Bool) (holds : Holds s (shape_of v) v vals spent a) (steady : may_vary v ≡ false) where
+    (rows : HasRowRebuilds v) (s : State) (vals : ℕ → Values) (spent : ℕ → Bool) (holds : ArrayInvariant s (shape_of v) v vals spent a) (steady : may_vary v ≡ false) where
   -- what was read is what the array has
   piece_is : (x : ℕ) (bytes : List ℕ) → IsOld v a x bytes → bytes ≡ value_by (shape_of v) (current_in b.held) v.number x
   piece_is x bytes old =

@@ -2,7 +2,7 @@
 use Rattle.std.proofs.Common.{◌≡◌, ℕ, ◌≤◌, Bool, true, false, ◌||◌, List, [], refl, sym, subst, ◌∙◌}
 use Rattle.std.proofs.lemmas.Bool.{both_ways}
 use Rattle.rack.specs.Values.{Values, only}
-use Rattle.rack.specs.Seen.{Seen}
+use Rattle.rack.specs.Seen.{RackView}
 use Rattle.rack.specs.Sequences.{OnlyReads}
 use Rattle.md_super.specs.declared.superblock.Super.{Super}
 use Rattle.pool_state.specs.declared.contents.State.{State}
@@ -12,9 +12,9 @@ use Rattle.array_image.specs.Arrays.{Member, Shape, value_by}
 use Rattle.array_image.specs.Held.{Among, current_in, held_by}
 use Rattle.array_image.proofs.Sources.{held_current}
 use Rattle.array_model.specs.View.{View, IsArray, may_vary, sectors_of, shape_of, spent_in}
-use Rattle.array_model.specs.Says.{Holds}
+use Rattle.array_model.specs.Says.{ArrayInvariant}
 use Rattle.array_model.specs.Members.{Notes}
-use Rattle.array_model.specs.ArrayCalls.{Covers, ReadsArray}
+use Rattle.array_model.specs.ArrayCalls.{IncludesSpent, ReadsArray}
 use Rattle.array_model.proofs.Noting.{covers_before, losing_by, read_acts}
 use Rattle.reshape_laws.specs.Rows.{IsOld, past, read}
 use Rattle.reshape_laws.proofs.Held.{holds_all, holds_fewer}
@@ -29,8 +29,8 @@ both_off true q off other = absurd (both_ways true off refl)
 both_off false q off other = other
 
 -- a read of a sector that isn't spent after it
-pub read_old : (v w : View) (a b : Seen) (x : ℕ) (bytes : List ℕ) → Notes v w a b → spent_in w x ≡ false
-    → ((s : State) (durable : Shape) (vals : ℕ → Values) (spent : ℕ → Bool) → Covers w spent → ReadsArray s v w spent a b durable vals x bytes)
+pub read_old : (v w : View) (a b : RackView) (x : ℕ) (bytes : List ℕ) → Notes v w a b → spent_in w x ≡ false
+    → ((s : State) (durable : Shape) (vals : ℕ → Values) (spent : ℕ → Bool) → IncludesSpent w spent → ReadsArray s v w spent a b durable vals x bytes)
     → IsOld v a x bytes
 read_old v w a b x bytes notes unspent reads =
     read
@@ -45,15 +45,15 @@ no_state : State
 no_state = record { pool = record { 0 = [] }; epoch = 0; extent = 0; drives = record { items = [] }; plan = Nothing; made = 0; joined = 0; serial = 0 }
 
 -- it wrote nothing
-pub read_only : (v w : View) (a b : Seen) (x : ℕ) (bytes : List ℕ)
-    → ((s : State) (durable : Shape) (vals : ℕ → Values) (spent : ℕ → Bool) → Covers w spent → ReadsArray s v w spent a b durable vals x bytes)
+pub read_only : (v w : View) (a b : RackView) (x : ℕ) (bytes : List ℕ)
+    → ((s : State) (durable : Shape) (vals : ℕ → Values) (spent : ℕ → Bool) → IncludesSpent w spent → ReadsArray s v w spent a b durable vals x bytes)
     → OnlyReads a b
 read_only v w a b x bytes reads =
     let call = reads no_state (shape_of v) (λ y. only []) (λ y. true) (λ y none. absurd (both_ways true none refl)) in
     record { stays = call.acts.stays; keeps = call.keeps }
 
 -- what was read after losses was so before them
-pub old_before : (v u : View) (a b : Seen) (x : ℕ) (bytes : List ℕ) → IsArray v → a.lasting → OnlyReads a b → Notes v u a b → IsOld u b x bytes → IsOld v a x bytes
+pub old_before : (v u : View) (a b : RackView) (x : ℕ) (bytes : List ℕ) → IsArray v → a.lasting → OnlyReads a b → Notes v u a b → IsOld u b x bytes → IsOld v a x bytes
 old_before v u a b x bytes is_array lasting reads notes (read unspent value) =
     read
     (covers_before v u notes.lost (losing_by v u a b notes) (spent_in u) (λ y alive. alive) x unspent)
@@ -69,9 +69,9 @@ old_before v u a b x bytes is_array lasting reads notes (past end moved are) =
     are
 
 -- they are the bytes that the members give
-pub old_value : (s : State) (v : View) (vals : ℕ → Values) (spent : ℕ → Bool) (a : Seen) (x : ℕ) (bytes : List ℕ) → IsArray v → is_reshaping v.truth ≡ true
+pub old_value : (s : State) (v : View) (vals : ℕ → Values) (spent : ℕ → Bool) (a : RackView) (x : ℕ) (bytes : List ℕ) → IsArray v → is_reshaping v.truth ≡ true
     → ((m : Member) → Among m (shape_of v).members → m.reach ≤ v.truth.size)
-    → may_vary v ≡ false → Holds s (shape_of v) v vals spent a → IsOld v a x bytes → bytes ≡ value_by (shape_of v) (current_in a.held) v.number x
+    → may_vary v ≡ false → ArrayInvariant s (shape_of v) v vals spent a → IsOld v a x bytes → bytes ≡ value_by (shape_of v) (current_in a.held) v.number x
 old_value s v vals spent a x bytes is_array reshaping low steady holds (read unspent value) =
     value s (shape_of v) (held_by (shape_of v) a.held v.number) (λ y. false) (holds_all s v vals spent a steady holds) refl
     ∙ held_current (shape_of v) v.number a.held x

@@ -1,7 +1,7 @@
 -- The call that moves rows: which sectors of the array it reads, who gets a sector, and its commit.
 use Rattle.std.proofs.Common.{◌≡◌, ℕ, ◌+◌, ◌-◌, ◌*◌, ◌/◌, ◌<◌, ◌≤◌, Bool, true, false, ◌==◌, nat_lt, if◌then◌else◌, List, [], length, Option, Some, None, refl, sym, ap, subst, ◌∙◌, inl, inr, eq-eqb, eqb-true, lt-ltb, le-ltb, ltb-false, arith}
 use Rattle.std.proofs.lemmas.Bool.{both_ways, cases_lt}
-use Rattle.rack.specs.Seen.{Seen}
+use Rattle.rack.specs.Seen.{RackView}
 use Rattle.rack.specs.Targets.{Target}
 use Rattle.rack.specs.Sequences.{OnlyReads}
 use Rattle.raid_map.specs.LeftSymmetric.{IsMemberCount, StandsAt, parity_at, parity_of, row_at, row_of, sector_of}
@@ -98,7 +98,7 @@ parity_first n sector first count at =
 
 -- ---- the parity's position adds nothing
 
-pub no_piece : (v : View) (a : Seen) (sector position : ℕ) (absent : Option ℕ) (sum : List ℕ) (xs : List Target) → length sum ≡ 512 → position ≡ parity_at v.truth.raid_disks sector
+pub no_piece : (v : View) (a : RackView) (sector position : ℕ) (absent : Option ℕ) (sum : List ℕ) (xs : List Target) → length sum ≡ 512 → position ≡ parity_at v.truth.raid_disks sector
     → AddsPiece v a sector position absent sum sum xs xs
 no_piece v a sector position absent sum xs long parity = record {
   bytes = [];
@@ -146,7 +146,7 @@ absent_one v row k is_array inside few low lacks = record {
 -- ---- its commit
 
 -- what the call needs of an array, and what it has added for so many rows
-pub record IsMoving (v : View) (many : ℕ) (absent : Option ℕ) (a : Seen) (own_data : List Target) : Type 0 where
+pub record IsMoving (v : View) (many : ℕ) (absent : Option ℕ) (a : RackView) (own_data : List Target) : Type 0 where
   pub is_array : IsArray v
   pub reshaping : is_reshaping v.truth ≡ true
   pub left : next_row v + many ≤ rows_of v
@@ -156,14 +156,14 @@ pub record IsMoving (v : View) (many : ℕ) (absent : Option ℕ) (a : Seen) (ow
   pub absent_is : IsAbsent v (next_row v) (next_row v + many - 1) absent
   pub rows : AreRowsOf v a many absent own_data
 
-pub moving_step : (v : View) (many : ℕ) (absent : Option ℕ) (a b : Seen) (own_data : List Target) → a.lasting → OnlyReads a b → IsMoving v many absent a own_data
+pub moving_step : (v : View) (many : ℕ) (absent : Option ℕ) (a b : RackView) (own_data : List Target) → a.lasting → OnlyReads a b → IsMoving v many absent a own_data
     → Step v (ahead_by v many (raised v.truth.events)).truth v.seats v.devices v.resync (λ m. ⊥) own_data a b
 moving_step v many absent a b own_data lasting reads is =
     rows_step v many (raised v.truth.events) is.is_array is.reshaping (no_mirror v is.is_array is.reshaping) is.left is.few is.unsynced a b own_data is.rows.apart
     (row_targets v a many absent own_data is.absent_is is.rows)
     (λ rows s vals spent holds steady. new_rows_are v a b many absent own_data is.is_array is.reshaping lasting reads is.absent_is is.rows rows s vals spent holds steady)
 
-pub moving_is : (v : View) (many : ℕ) (absent : Option ℕ) (a : Seen) (first : ℕ) (own_data : List Target) → IsArray v → is_reshaping v.truth ≡ true → first + many ≤ rows_of v
+pub moving_is : (v : View) (many : ℕ) (absent : Option ℕ) (a : RackView) (first : ℕ) (own_data : List Target) → IsArray v → is_reshaping v.truth ≡ true → first + many ≤ rows_of v
     → lacks_two v ≡ false → v.resync ≡ rows_of v → first_unsynced v.truth ≤ v.resync → first ≡ next_row v → IsAbsent v first (first + many - 1) absent
     → ArePieces v (OfSectors v.truth.raid_disks (first * 128) (many * 128) absent) (IsNewBytes v a) own_data
     → IsMoving v many absent a own_data

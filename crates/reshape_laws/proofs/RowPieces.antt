@@ -3,7 +3,7 @@ use Rattle.std.proofs.Common.{◌≡◌, ℕ, zero, suc, ◌+◌, ◌-◌, ◌*�
 use Rattle.std.proofs.Math.Nat.{mul-le-mul_right}
 use Rattle.std.proofs.lemmas.Bool.{both_ways, cases_eq, cases_lt, ne_eqb}
 use Rattle.std.specs.List.{range_with_len}
-use Rattle.rack.specs.Seen.{Seen}
+use Rattle.rack.specs.Seen.{RackView}
 use Rattle.rack.specs.Targets.{Target}
 use Rattle.rack.specs.Sequences.{OnlyReads}
 use Rattle.md_super.specs.declared.superblock.Super.{Super}
@@ -89,7 +89,7 @@ put_other bytes many j new apart = ap (λ (b : Bool). if b then new else bytes j
 
 -- ---- one position after the other
 
-pub data_none : (v : View) (a : Seen) (sector : ℕ) (absent : Option ℕ) (sum : List ℕ) (xs : List Target) → sum ≡ zeros 512 → AddsData v a sector 0 absent sum xs xs
+pub data_none : (v : View) (a : RackView) (sector : ℕ) (absent : Option ℕ) (sum : List ℕ) (xs : List Target) → sum ≡ zeros 512 → AddsData v a sector 0 absent sum xs xs
 data_none v a sector absent sum xs blank = record {
   bytes = λ j. [];
   old = λ j low apart. absurd (omega (arith, low));
@@ -97,11 +97,11 @@ data_none v a sector absent sum xs blank = record {
   adds = no_pieces v (OfData v.truth.raid_disks sector 0 absent) (λ t j u. u ≡ []) (data_count v.truth.raid_disks sector 0) xs (λ t j is. let low = is.1 in omega (arith, low));
 }
 
-disks_then : (v u : View) (a b : Seen) → Notes v u a b → u.truth.raid_disks ≡ v.truth.raid_disks
+disks_then : (v u : View) (a b : RackView) → Notes v u a b → u.truth.raid_disks ≡ v.truth.raid_disks
 disks_then v u a b notes = ap (λ (t : Super). t.raid_disks) notes.same.truth
 
 -- a position that was read after losses, by the array before them
-piece_before : (v u : View) (a b : Seen) (sector position : ℕ) (absent : Option ℕ) (sum next : List ℕ) (xs ys : List Target) → IsArray v → a.lasting → OnlyReads a b → Notes v u a b
+piece_before : (v u : View) (a b : RackView) (sector position : ℕ) (absent : Option ℕ) (sum next : List ℕ) (xs ys : List Target) → IsArray v → a.lasting → OnlyReads a b → Notes v u a b
     → AddsPiece u b sector position absent sum next xs ys → AddsPiece v a sector position absent sum next xs ys
 piece_before v u a b sector position absent sum next xs ys is_array lasting reads notes piece =
     let disks = disks_then v u a b notes in
@@ -121,7 +121,7 @@ piece_before v u a b sector position absent sum next xs ys is_array lasting read
           (λ t j w is same. same) piece.adds;
     }
 
-data_more : (v : View) (a : Seen) (sector many : ℕ) (absent : Option ℕ) (sum next : List ℕ) (xs ys zs : List Target) → IsArray v
+data_more : (v : View) (a : RackView) (sector many : ℕ) (absent : Option ℕ) (sum next : List ℕ) (xs ys zs : List Target) → IsArray v
     → AddsData v a sector many absent sum xs ys → AddsPiece v a sector many absent sum next ys zs → AddsData v a sector (many + 1) absent next xs zs
 data_more v a sector many absent sum next xs ys zs is_array so_far piece =
     let k = v.truth.raid_disks in
@@ -165,14 +165,14 @@ data_more v a sector many absent sum next xs ys zs is_array so_far piece =
           (λ t j u is same. same ∙ sym (put_here so_far.bytes many j piece.bytes is.1)) piece.adds));
     }
 
-pub data_next : (v u : View) (a b : Seen) (sector many : ℕ) (absent : Option ℕ) (sum next : List ℕ) (xs ys zs : List Target) → IsArray v → a.lasting → OnlyReads a b → Notes v u a b
+pub data_next : (v u : View) (a b : RackView) (sector many : ℕ) (absent : Option ℕ) (sum next : List ℕ) (xs ys zs : List Target) → IsArray v → a.lasting → OnlyReads a b → Notes v u a b
     → AddsData v a sector many absent sum xs ys → AddsPiece u b sector many absent sum next ys zs → AddsData v a sector (many + 1) absent next xs zs
 data_next v u a b sector many absent sum next xs ys zs is_array lasting reads notes so_far piece =
     data_more v a sector many absent sum next xs ys zs is_array so_far (piece_before v u a b sector many absent sum next ys zs is_array lasting reads notes piece)
 
 -- ---- with the parity
 
-pub sector_pieces : (v : View) (a : Seen) (sector q : ℕ) (absent : Option ℕ) (sum : List ℕ) (xs ys zs : List Target) → IsArray v
+pub sector_pieces : (v : View) (a : RackView) (sector q : ℕ) (absent : Option ℕ) (sum : List ℕ) (xs ys zs : List Target) → IsArray v
     → q ≡ parity_at v.truth.raid_disks sector → q < v.truth.raid_disks
     → AddsData v a sector v.truth.raid_disks absent sum xs ys → AddsPieces v (OfOne sector q absent) (λ t j u. u ≡ sum) 1 ys zs
     → AddsPieces v (OfSector sector v.truth.raid_disks absent) (IsNewBytes v a) v.truth.raid_disks xs zs
@@ -211,13 +211,13 @@ sector_pieces v a sector q absent sum xs ys zs is_array at_parity low found pari
 
 -- ---- one sector after the other
 
-pub no_sectors : (v : View) (a : Seen) (first : ℕ) (absent : Option ℕ) (xs : List Target)
+pub no_sectors : (v : View) (a : RackView) (first : ℕ) (absent : Option ℕ) (xs : List Target)
     → AddsPieces v (OfSectors v.truth.raid_disks first (first - first) absent) (IsNewBytes v a) ((first - first) * v.truth.raid_disks) xs xs
 no_sectors v a first absent xs =
     no_pieces v (OfSectors v.truth.raid_disks first (first - first) absent) (IsNewBytes v a) ((first - first) * v.truth.raid_disks) xs
     (λ t j is. let least = is.0 in let low = is.1 in omega (arith, least, low))
 
-pieces_before : (v u : View) (a b : Seen) (t : ℕ) (bytes : ℕ → List ℕ) → IsArray v → a.lasting → OnlyReads a b → Notes v u a b → HasPieces u b t bytes → HasPieces v a t bytes
+pieces_before : (v u : View) (a b : RackView) (t : ℕ) (bytes : ℕ → List ℕ) → IsArray v → a.lasting → OnlyReads a b → Notes v u a b → HasPieces u b t bytes → HasPieces v a t bytes
 pieces_before v u a b t bytes is_array lasting reads notes has =
     let disks = disks_then v u a b notes in
     record {
@@ -236,7 +236,7 @@ sectors_room some all members less =
     omega (arith, more, sum)
 
 -- one sector more, by a view after losses
-pub sectors_next : (v u : View) (a b : Seen) (first sector : ℕ) (absent : Option ℕ) (xs ys zs : List Target) → IsArray v → a.lasting → OnlyReads a b → Notes v u a b → first ≤ sector
+pub sectors_next : (v u : View) (a b : RackView) (first sector : ℕ) (absent : Option ℕ) (xs ys zs : List Target) → IsArray v → a.lasting → OnlyReads a b → Notes v u a b → first ≤ sector
     → AddsPieces v (OfSectors v.truth.raid_disks first (sector - first) absent) (IsNewBytes v a) ((sector - first) * v.truth.raid_disks) xs ys
     → AddsPieces u (OfSector sector u.truth.raid_disks absent) (IsNewBytes u b) u.truth.raid_disks ys zs
     → AddsPieces v (OfSectors v.truth.raid_disks first (sector + 1 - first) absent) (IsNewBytes v a) ((sector + 1 - first) * v.truth.raid_disks) xs zs

@@ -2,7 +2,7 @@
 use Rattle.std.proofs.Common.{◌≡◌, ◌≢◌, ℕ, zero, suc, ◌+◌, ◌-◌, ◌*◌, ◌%◌, ◌<◌, ◌≤◌, Bool, true, false, ◌&&◌, nat_lt, slice_get, get_or, length, List, [], ◌∷◌, ◌++◌, Option, Some, None, unwrap_or, refl, sym, ap, subst, ◌∙◌, lt-ltb, ltb-true, ltb-false, arith}
 use Rattle.std.proofs.lemmas.Bool.{both_ways}
 use Rattle.rack.specs.Values.{Values}
-use Rattle.rack.specs.Seen.{Seen, IsLive}
+use Rattle.rack.specs.Seen.{RackView, IsLive}
 use Rattle.rack.specs.Targets.{Target}
 use Rattle.rack.specs.Sequences.{IsPayload}
 use Rattle.shr_base.specs.declared.Id.{Id}
@@ -13,12 +13,12 @@ use Rattle.array_image.specs.Record.{are_apart}
 use Rattle.array_image.specs.Supers.{is_reshaping}
 use Rattle.array_image.specs.Arrays.{Member}
 use Rattle.array_image.specs.SoundArray.{first_unsynced}
-use Rattle.array_image.specs.Held.{Among, IsSettled, current_in}
+use Rattle.array_image.specs.Held.{Among, IsSynced, current_in}
 use Rattle.array_image.specs.Spent.{wanting}
 use Rattle.array_model.specs.declared.Seat.{Seat}
 use Rattle.array_model.specs.declared.Seat.TheVariants.{Whole, Missing, Rebuilding}
 use Rattle.array_model.specs.View.{View, IsArray, may_vary, member_on, rows_of, seat_reach, shape_of}
-use Rattle.array_model.specs.Says.{Holds}
+use Rattle.array_model.specs.Says.{ArrayInvariant}
 use Rattle.array_model.specs.Members.{members_of, slice_on}
 use Rattle.array_model.proofs.Firsts.{member_among, position_of}
 use Rattle.array_model.proofs.Noting.{length_members}
@@ -103,7 +103,7 @@ raid5_steady v plain unmarked = by (is_mirror v.truth) v.marked _ plain unmarked
 
 module _ (v : View) (events : ℕ) (is_array : IsArray v) (reshaping : is_reshaping v.truth ≡ true) (plain : is_mirror v.truth ≡ false)
     (whole : v.truth.reshape_position ≡ (v.truth.raid_disks - 1) * v.truth.size) (few : lacks_two v ≡ false)
-    (unsynced : first_unsynced v.truth ≤ v.resync) (a b : Seen) where
+    (unsynced : first_unsynced v.truth ≤ v.resync) (a b : RackView) where
   pub finish_step : Step v (finished v events).truth v.seats v.devices v.resync (λ m. ⊥) [] a b
   finish_step =
       let one = one_counts v is_array few in
@@ -129,9 +129,9 @@ module _ (v : View) (events : ℕ) (is_array : IsArray v) (reshaping : is_reshap
 
 module _ (v : View) (events : ℕ) (is_array : IsArray v) (mirrored : is_mirror v.truth ≡ true) (still : is_reshaping v.truth ≡ false) (few : lacks_two v ≡ false)
     (synced : v.resync ≡ rows_of v) (unsynced : first_unsynced v.truth ≤ v.resync)
-    (a b : Seen)
-    (single : v.marked ≡ false → (s : State) (vals : ℕ → Values) (spent : ℕ → Bool) → Holds s (shape_of v) v vals spent a → Holds s (shape_of v) v vals spent b
-    → IsSettled (shape_of v) v.number b.held) where
+    (a b : RackView)
+    (single : v.marked ≡ false → (s : State) (vals : ℕ → Values) (spent : ℕ → Bool) → ArrayInvariant s (shape_of v) v vals spent a → ArrayInvariant s (shape_of v) v vals spent b
+    → IsSynced (shape_of v) v.number b.held) where
   pub take_step : Step v (taken_over v events).truth v.seats v.devices v.resync (λ m. ⊥) [] a b
   take_step =
       let one = one_counts v is_array few in
@@ -170,9 +170,9 @@ pub record IsRowTarget (v : View) (many d s : ℕ) (u : List ℕ) : Type 0 where
 module _ (v : View) (many events : ℕ) (is_array : IsArray v) (reshaping : is_reshaping v.truth ≡ true) (plain : is_mirror v.truth ≡ false)
     (left : next_row v + many ≤ rows_of v) (few : lacks_two v ≡ false)
     (unsynced : first_unsynced v.truth ≤ v.resync)
-    (a b : Seen) (own_data : List Target) (once : are_apart own_data ≡ true)
+    (a b : RackView) (own_data : List Target) (once : are_apart own_data ≡ true)
     (on : (d i : ℕ) (u : List ℕ) → IsPayload own_data d i u → IsRowTarget v many d i u)
-    (news : HasRowRebuilds v → (s : State) (vals : ℕ → Values) (spent : ℕ → Bool) → Holds s (shape_of v) v vals spent a → may_vary v ≡ false → AreNewRows v many (current_in b.held) own_data) where
+    (news : HasRowRebuilds v → (s : State) (vals : ℕ → Values) (spent : ℕ → Bool) → ArrayInvariant s (shape_of v) v vals spent a → may_vary v ≡ false → AreNewRows v many (current_in b.held) own_data) where
   inside_size : (t : ℕ) → InRows (next_row v) many t → t < v.truth.size
   inside_size t inside =
       let whole = is_array.whole_rows in
@@ -224,7 +224,7 @@ module _ (v : View) (events place : ℕ) (seat : Seat) (device : Id) (is_array :
     (few_disks : v.truth.raid_disks < 16) (small : place < 16) (roles : length v.truth.roles.items ≡ 128) (spare : 0xfffe ≤ get_or v.truth.roles.items place 0)
     (nobody_next : (j : ℕ) → get_or v.truth.roles.items j 0 ≡ v.truth.raid_disks → ⊥)
     (no_rebuild : (to : ℕ) → seat ≡ Rebuilding to → ⊥)
-    (few : lacks_two v ≡ false) (unsynced : first_unsynced v.truth ≤ v.resync) (a b : Seen) where
+    (few : lacks_two v ≡ false) (unsynced : first_unsynced v.truth ≤ v.resync) (a b : RackView) where
   abbrev next : View
   next = begun v events place seat device
 

@@ -3,14 +3,14 @@ use Rattle.std.proofs.Common.{◌≡◌, ℕ, ◌≤◌, Bool, true, false, not,
 use Rattle.std.proofs.lemmas.Bool.{both_ways}
 use Rattle.std.specs.Option.{option_map_or}
 use Rattle.rack.specs.Values.{Values, MayLeave, only}
-use Rattle.rack.specs.Seen.{Image, Held, Seen}
+use Rattle.rack.specs.Seen.{Image, Held, RackView}
 use Rattle.parity.specs.Xor.{zeros}
 use Rattle.pool_state.specs.declared.contents.State.{State}
 use Rattle.array_image.specs.Stripes.{position_in, sector_in}
 use Rattle.array_image.specs.Arrays.{Member, Shape, layout_at, value_by}
 use Rattle.array_image.specs.Held.{Among, current_in, held_by, held_of}
 use Rattle.array_model.specs.View.{View, shape_of}
-use Rattle.array_model.specs.Says.{Holds}
+use Rattle.array_model.specs.Says.{ArrayInvariant}
 use Rattle.reshape_laws.specs.Reshapes.{past_end}
 use Rattle.reshape_laws.proofs.PastEnd.{NoneCounts, none_source, none_value}
 
@@ -36,8 +36,8 @@ module _ (v : View) (low : (m : Member) → Among m (shape_of v).members → m.r
   zeros_past c y is = none_value (shape_of v) c v.number y (nobody y is)
 
   -- so a map of the sectors that are spent may leave out those past the end, which hold zeros
-  pub holds_past_end : (s : State) (vals : ℕ → Values) (spent more : ℕ → Bool) (x : Seen) → ((y : ℕ) → past_end v y ≡ false → more y ≡ false → spent y ≡ false)
-      → Holds s (shape_of v) v vals spent x → Holds s (shape_of v) v (λ y. if past_end v y then only (zeros 512) else vals y) more x
+  pub holds_past_end : (s : State) (vals : ℕ → Values) (spent more : ℕ → Bool) (x : RackView) → ((y : ℕ) → past_end v y ≡ false → more y ≡ false → spent y ≡ false)
+      → ArrayInvariant s (shape_of v) v vals spent x → ArrayInvariant s (shape_of v) v (λ y. if past_end v y then only (zeros 512) else vals y) more x
   holds_past_end s vals spent more x fewer holds =
       let shape = holds.shape in
       record {

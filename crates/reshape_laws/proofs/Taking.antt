@@ -3,7 +3,7 @@ use Rattle.std.proofs.Common.{◌≡◌, ◌≢◌, ℕ, zero, suc, ◌-◌, ◌
 use Rattle.std.proofs.lemmas.Bool.{both_ways}
 use Rattle.std.specs.Option.{option_map_or}
 use Rattle.rack.specs.Values.{Values, IsSingle}
-use Rattle.rack.specs.Seen.{Seen}
+use Rattle.rack.specs.Seen.{RackView}
 use Rattle.md_super.specs.declared.superblock.Super.{Super}
 use Rattle.md_super.specs.Profile.{is_mirror}
 use Rattle.pool_state.specs.declared.contents.State.{State}
@@ -11,14 +11,14 @@ use Rattle.array_image.specs.Supers.{is_reshaping}
 use Rattle.array_image.specs.SoundArray.{first_unsynced}
 use Rattle.array_image.specs.Spent.{wanting}
 use Rattle.array_image.specs.Arrays.{Member, Shape}
-use Rattle.array_image.specs.Held.{Among, IsSettled, held_of}
+use Rattle.array_image.specs.Held.{Among, IsSynced, held_of}
 use Rattle.array_image.specs.Marks.{unless_gone}
 use Rattle.array_model.specs.declared.Seat.{Seat}
 use Rattle.array_model.specs.declared.Seat.TheVariants.{Whole, Missing, Rebuilding}
 use Rattle.array_model.specs.View.{View, IsArray, is_alone, member_on, place_at, present, rows_of, seat_reach, shape_of}
-use Rattle.array_model.specs.Says.{Holds}
+use Rattle.array_model.specs.Says.{ArrayInvariant}
 use Rattle.array_model.specs.Members.{Notes, members_of}
-use Rattle.array_model.specs.ArrayCalls.{Covers, SyncsArray}
+use Rattle.array_model.specs.ArrayCalls.{IncludesSpent, SyncsArray}
 use Rattle.array_model.proofs.Filled.{two_want}
 use Rattle.array_model.proofs.Firsts.{member_among, position_of}
 use Rattle.array_model.proofs.Noting.{length_members}
@@ -33,14 +33,14 @@ use Rattle.reshape_laws.proofs.Held.{holds_fewer}
 use Rattle.reshape_laws.proofs.StepsOf.{take_step}
 
 -- what the call needs of an array, where u is the array after its sync
-pub record IsTaking (v u : View) (a b : Seen) : Type 0 where
+pub record IsTaking (v u : View) (a b : RackView) : Type 0 where
   pub is_array : IsArray v
   pub mirror : is_mirror v.truth ≡ true
   pub synced : v.resync ≡ rows_of v
   pub few : lacks_two u ≡ false
   pub unsynced : first_unsynced v.truth ≤ v.resync
   pub notes : Notes v u a b
-  pub syncs : (s : State) (durable : Shape) (vals : ℕ → Values) (spent : ℕ → Bool) → Covers u spent → SyncsArray s v u spent a b durable vals
+  pub syncs : (s : State) (durable : Shape) (vals : ℕ → Values) (spent : ℕ → Bool) → IncludesSpent u spent → SyncsArray s v u spent a b durable vals
 
 -- a mirror isn't reshaped
 pub stands_still : (v : View) → IsArray v → is_mirror v.truth ≡ true → is_reshaping v.truth ≡ false
@@ -82,7 +82,7 @@ other_missing (x ∷ (y ∷ [])) (suc zero) zero long one low other differ there
 other_missing (x ∷ (y ∷ [])) (suc (suc k)) j long one low other differ there = absurd (omega (arith, low))
 other_missing (x ∷ (y ∷ [])) k (suc (suc j)) long one low other differ there = absurd (omega (arith, other))
 
-module _ (v u : View) (a b : Seen) (is : IsTaking v u a b) where
+module _ (v u : View) (a b : RackView) (is : IsTaking v u a b) where
   disks : v.truth.raid_disks ≡ 2
   disks =
       let least = is.is_array.least in
@@ -145,11 +145,11 @@ module _ (v u : View) (a b : Seen) (is : IsTaking v u a b) where
           lowered_more false wants = wants
 
   -- whoever counted has one value in each sector
-  single : v.marked ≡ false → (s : State) (vals : ℕ → Values) (spent : ℕ → Bool) → Holds s (shape_of v) v vals spent a → Holds s (shape_of v) v vals spent b
-      → IsSettled (shape_of v) v.number b.held
+  single : v.marked ≡ false → (s : State) (vals : ℕ → Values) (spent : ℕ → Bool) → ArrayInvariant s (shape_of v) v vals spent a → ArrayInvariant s (shape_of v) v vals spent b
+      → IsSynced (shape_of v) v.number b.held
   single unmarked s vals spent before holds = by (is_alone v) refl
     where
-      by : (c : Bool) → is_alone v ≡ c → IsSettled (shape_of v) v.number b.held
+      by : (c : Bool) → is_alone v ≡ c → IsSynced (shape_of v) v.number b.held
       by false apart = holds.shape.settled (ap (λ (c : Bool). c || is_alone v) unmarked ∙ apart)
       by true alone = λ m t among counts.
           let at = position_of v v.truth.raid_disks m (subst (λ (ms : List Member). Among m ms) (shape_members v) among) in
@@ -157,7 +157,7 @@ module _ (v u : View) (a b : Seen) (is : IsTaking v u a b) where
           let stays = stays_there alone at.0 t at.1 counts_at in
           let same : member_on u at.0 ≡ member_on v at.0 =
           member_then v u is.notes.lost at.0 is.notes.same.truth is.notes.loses ∙ ap (λ (c : Bool). unless_gone c (member_on v at.0)) stays in
-          let settled : IsSettled (shape_of u) u.number b.held =
+          let settled : IsSynced (shape_of u) u.number b.held =
           (is.syncs s (shape_of v) vals (λ y. true) (λ y none. absurd (both_ways true none refl))).settled
           (holds_fewer s (shape_of v) v vals spent (λ y. true) a (λ y none. absurd (both_ways true none refl)) before) in
           let disks_u : u.truth.raid_disks ≡ v.truth.raid_disks = ap (λ (x : Super). x.raid_disks) is.notes.same.truth in

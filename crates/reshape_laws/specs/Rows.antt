@@ -3,7 +3,7 @@ use Rattle.std.specs.Prelude.{◌≡◌, ℕ, ◌+◌, ◌-◌, ◌*◌, ◌<◌
 use Rattle.std.specs.List.{range_with_len}
 use Rattle.std.specs.Option.{option_map_or}
 use Rattle.rack.specs.Values.{Values}
-use Rattle.rack.specs.Seen.{Seen}
+use Rattle.rack.specs.Seen.{RackView}
 use Rattle.rack.specs.Targets.{Target}
 use Rattle.rack.specs.Sequences.{IsPayload}
 use Rattle.raid_map.specs.LeftSymmetric.{parity_at}
@@ -13,7 +13,7 @@ use Rattle.array_image.specs.Places.{data_sector}
 use Rattle.array_image.specs.Record.{are_apart}
 use Rattle.array_image.specs.Arrays.{Shape}
 use Rattle.array_model.specs.View.{View, member_on, sectors_of, spent_in}
-use Rattle.array_model.specs.Says.{Holds}
+use Rattle.array_model.specs.Says.{ArrayInvariant}
 use Rattle.array_model.specs.Members.{slice_on}
 use Rattle.reshape_laws.specs.Ahead.{sector_on}
 
@@ -79,15 +79,15 @@ abbrev pub OfSectors : ℕ → ℕ → ℕ → Option ℕ → ℕ → ℕ → Ty
 OfSectors members first many absent t j = (first ≤ t) × (t < first + many) × (j < members) × (is_absent absent j ≡ false)
 
 -- the bytes that an array has at a sector, which isn't spent, or zeros past its end
-pub data IsOld (v : View) (a : Seen) (x : ℕ) (bytes : List ℕ) : Type 0 where
+pub data IsOld (v : View) (a : RackView) (x : ℕ) (bytes : List ℕ) : Type 0 where
   read :
       spent_in v x ≡ false
-      → ((s : State) (durable : Shape) (vals : ℕ → Values) (spent : ℕ → Bool) → Holds s durable v vals spent a → spent x ≡ false → bytes ≡ (vals x).current)
+      → ((s : State) (durable : Shape) (vals : ℕ → Values) (spent : ℕ → Bool) → ArrayInvariant s durable v vals spent a → spent x ≡ false → bytes ≡ (vals x).current)
       → IsOld v a x bytes
   past : sectors_of v ≤ x → v.truth.reshape_position ≤ x → bytes ≡ zeros 512 → IsOld v a x bytes
 
 -- the data of the first positions at a sector of a row of k members
-abbrev pub HasData : View → Seen → ℕ → ℕ → (ℕ → List ℕ) → Type 0
+abbrev pub HasData : View → RackView → ℕ → ℕ → (ℕ → List ℕ) → Type 0
 HasData v a t many bytes =
     (j : ℕ) → j < many → (j ≡ parity_at v.truth.raid_disks t → ⊥) → IsOld v a (sector_on v.truth.raid_disks j t) (bytes j)
 
@@ -96,12 +96,12 @@ unfoldable pub data_sum : ℕ → ℕ → ℕ → (ℕ → List ℕ) → List �
 data_sum members t many bytes = xor_all 512 (map (λ j. if j == parity_at members t then zeros 512 else bytes j) (range_with_len 0 many))
 
 -- the sectors of a new row at one sector of its members' data
-pub record HasPieces (v : View) (a : Seen) (t : ℕ) (bytes : ℕ → List ℕ) : Type 0 where
+pub record HasPieces (v : View) (a : RackView) (t : ℕ) (bytes : ℕ → List ℕ) : Type 0 where
   pub data_is : HasData v a t v.truth.raid_disks bytes
   pub parity_is : bytes (parity_at v.truth.raid_disks t) ≡ data_sum v.truth.raid_disks t v.truth.raid_disks bytes
 
 -- bytes of a member's sector in a new row
-pub record IsNewBytes (v : View) (a : Seen) (t j : ℕ) (u : List ℕ) : Type 0 where
+pub record IsNewBytes (v : View) (a : RackView) (t j : ℕ) (u : List ℕ) : Type 0 where
   pub bytes : ℕ → List ℕ
   pub pieces : HasPieces v a t bytes
   pub own : u ≡ bytes j
@@ -111,14 +111,14 @@ abbrev pub data_count : ℕ → ℕ → ℕ → ℕ
 data_count members sector many = if nat_lt (parity_at members sector) many then many - 1 else many
 
 -- one position's data, which is added to a sum and to the log
-pub record AddsPiece (v : View) (a : Seen) (sector position : ℕ) (absent : Option ℕ) (sum next : List ℕ) (before after : List Target) : Type 0 where
+pub record AddsPiece (v : View) (a : RackView) (sector position : ℕ) (absent : Option ℕ) (sum next : List ℕ) (before after : List Target) : Type 0 where
   pub bytes : List ℕ
   pub old : (position ≡ parity_at v.truth.raid_disks sector → ⊥) → IsOld v a (sector_on v.truth.raid_disks position sector) bytes
   pub sum_is : next ≡ xor sum (if position == parity_at v.truth.raid_disks sector then zeros 512 else bytes)
   pub adds : AddsPieces v (OfOneData v.truth.raid_disks sector position absent) (λ t j u. u ≡ bytes) (if position == parity_at v.truth.raid_disks sector then 0 else 1) before after
 
 -- that of the first positions
-pub record AddsData (v : View) (a : Seen) (sector many : ℕ) (absent : Option ℕ) (sum : List ℕ) (before after : List Target) : Type 0 where
+pub record AddsData (v : View) (a : RackView) (sector many : ℕ) (absent : Option ℕ) (sum : List ℕ) (before after : List Target) : Type 0 where
   pub bytes : ℕ → List ℕ
   pub old : HasData v a sector many bytes
   pub sum_is : sum ≡ data_sum v.truth.raid_disks sector many bytes

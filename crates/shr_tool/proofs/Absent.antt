@@ -1,6 +1,6 @@
 -- Disks that a run has left whole: any one drive may be absent.
 use Rattle.std.proofs.Common.{◌≡◌, ℕ, ◌+◌, ◌<◌, ◌^◌, false, List, length, Some, sym, ap, ap₂, subst, ◌∙◌, arith}
-use Rattle.rack.specs.Seen.{Image, IsLive, IsPick, Rose, Seen}
+use Rattle.rack.specs.Seen.{Image, IsLive, IsPick, Rose, RackView}
 use Rattle.rack.specs.Values.{MayLeave}
 use Rattle.array_image.specs.Left.{IsLeft}
 use Rattle.array_model.specs.View.{sectors_of}
@@ -19,9 +19,9 @@ use Rattle.shr_tool.proofs.GroupKept.{group_kept}
 use Rattle.raid_laws.specs.Agreeing.{AgreeLeaving}
 use Rattle.raid_laws.specs.Book.{after_then}
 use Rattle.raid_laws.specs.Losing.{geometry_then}
-use Rattle.raid_laws.specs.Raid.{IsTold, held_in, is_over, spent_of}
+use Rattle.raid_laws.specs.Raid.{IsTracked, held_in, is_failed, spent_of}
 use Rattle.raid_laws.proofs.Over.{or_from}
-use Rattle.pool.specs.Calls.{Ends, Passes}
+use Rattle.pool.specs.Calls.{Ends, CallFrame}
 use Rattle.pool.specs.Moment.{Moment, moment_of}
 use Rattle.pool.specs.View.{View, arrays_shown, book, slices_shown}
 use Rattle.pool.proofs.Keeping.{passes_then}
@@ -30,7 +30,7 @@ use Rattle.shr_tool.specs.Outcome.{HasWholeSectors, IsRunOn}
 use Rattle.shr_tool.proofs.Heads.{heads_passes}
 
 -- the pool of a run stands alone on its disks where no second disk stands for the place of a drive
-pub stands_first : (f : Found) (from : Moment) (x : Seen) → IsRunOn f from x → AreOnly f → StandsAlone f
+pub stands_first : (f : Found) (from : Moment) (x : RackView) → IsRunOn f from x → AreOnly f → StandsAlone f
 stands_first f from x on only = record {
   tables = on.tables;
   others = λ d never low. record {
@@ -39,10 +39,10 @@ stands_first f from x on only = record {
   };
 }
 
-module _ (x y : View) (f : Found) (passes : Passes x y) (on : IsRunOn f (moment_of x) x.bay)
-    (told_first : (n : ℕ) → n < x.linear.arrays → IsTold (book x) (slices_shown x) n)
-    (told_last : (n : ℕ) → n < x.linear.arrays → IsTold (book y) (slices_shown y) n)
-    (goes : (n : ℕ) → n < f.state.made → is_over (book y) n ≡ false) where
+module _ (x y : View) (f : Found) (passes : CallFrame x y) (on : IsRunOn f (moment_of x) x.bay)
+    (told_first : (n : ℕ) → n < x.linear.arrays → IsTracked (book x) (slices_shown x) n)
+    (told_last : (n : ℕ) → n < x.linear.arrays → IsTracked (book y) (slices_shown y) n)
+    (goes : (n : ℕ) → n < f.state.made → is_failed (book y) n ≡ false) where
   made : (n : ℕ) → n < f.state.made → n < (book y).state.made
   made n low = (let first = on.after.same.made in let last = passes.marks.same.made in omega (arith, low, first, last))
 
@@ -62,7 +62,7 @@ module _ (x y : View) (f : Found) (passes : Passes x y) (on : IsRunOn f (moment_
   module _ (whole : IsWholeRaid f.state.made (book y)) where
     alive : (n k : ℕ) → n < f.state.made → k < sectors_of ((book y).arrays n) → spent_of (book y) n k ≡ false
     alive n k low inside =
-        or_from (is_over (book y) n) _ (goes n low)
+        or_from (is_failed (book y) n) _ (goes n low)
         (whole_unspent ((book y).arrays n) k (passes.stays.fit.0.running.set.arrays n (made n low)).is_array (λ j less. whole.seats n j low less) inside)
 
     -- a sector before an array's first extent is none of the volume's, so it holds what it held
@@ -120,8 +120,8 @@ pub agreed_at :
     (x m y : View) (f : Found) → KeepsHeads (book x) (book m) (slices_shown x) (slices_shown m) → Ends m y
     → ((d : ℕ) → Rose (m.bay.faults d) (y.bay.faults d) → ⊥)
     → IsRunOn f (moment_of x) x.bay
-    → ((n : ℕ) → n < x.linear.arrays → IsTold (book y) (slices_shown y) n)
-    → (n : ℕ) → n < f.state.made → is_over (book y) n ≡ false
+    → ((n : ℕ) → n < x.linear.arrays → IsTracked (book y) (slices_shown y) n)
+    → (n : ℕ) → n < f.state.made → is_failed (book y) n ≡ false
     → (r : Image) → IsLeft (slices_shown y) r → AgreeLeaving ((book y).arrays n) (book y).state r n
 agreed_at x m y f heads ends quiet on told_last n low goes r left =
     let first = on.after.same.made in
@@ -132,10 +132,10 @@ agreed_at x m y f heads ends quiet on told_last n low goes r left =
 
 -- After the end of such a pool, which is whole then.
 pub safe_at :
-    (x m y : View) (f : Found) → Passes x m → Ends m y → ((d : ℕ) → Rose (m.bay.faults d) (y.bay.faults d) → ⊥)
+    (x m y : View) (f : Found) → CallFrame x m → Ends m y → ((d : ℕ) → Rose (m.bay.faults d) (y.bay.faults d) → ⊥)
     → IsRunOn f (moment_of x) x.bay
-    → ((n : ℕ) → n < x.linear.arrays → IsTold (book x) (slices_shown x) n) → ((n : ℕ) → n < x.linear.arrays → IsTold (book y) (slices_shown y) n)
-    → AreOnly f → HaveOwnAreas f → IsWholeRaid f.state.made (book y) → ((n : ℕ) → n < f.state.made → is_over (book y) n ≡ false)
+    → ((n : ℕ) → n < x.linear.arrays → IsTracked (book x) (slices_shown x) n) → ((n : ℕ) → n < x.linear.arrays → IsTracked (book y) (slices_shown y) n)
+    → AreOnly f → HaveOwnAreas f → IsWholeRaid f.state.made (book y) → ((n : ℕ) → n < f.state.made → is_failed (book y) n ≡ false)
     → (i : Image) → IsPick y.bay y.bay y.bay.held i → HasWholeSectors y.bay i → HoldAbsent f y.slices (book y).state i
 safe_at x m y f ran ends quiet on told_first told_last only own whole goes =
     absent_at x y f (passes_then x m y ran ends.passes) on told_first told_last goes whole only (on.group own)

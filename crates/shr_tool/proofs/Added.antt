@@ -1,6 +1,6 @@
 -- A line that adds a drive, or does works of a growth.
 use Rattle.std.proofs.Common.{◌≡◌, ℕ, true, List, slice_get, Result, Ok, Err, codes, refl, ◌∙◌, ap, subst, inl, inr, arith}
-use Rattle.rack.specs.Seen.{Seen}
+use Rattle.rack.specs.Seen.{RackView}
 use Rattle.lvm_group.specs.Runs.{Linear}
 use Rattle.pool_state.specs.declared.contents.Work.{Work}
 use Rattle.pool_state.specs.declared.contents.Work.TheVariants.{Resync, Rebuild, TakeOver, Begin, Reshape, Finish, Make, Zero, Ready, Extend, Close}
@@ -115,7 +115,7 @@ growth_done x y runs count left text r some is_ok is grows_r =
 -- ---- `step N`, where a work can't be done
 
 module _ (x y : View) (runs : x.bays.one → x.bays.one → Type 0) (count array : ℕ) (stops : StopsGrowing count x y runs array) where
-  abbrev seen : Seen
+  abbrev seen : RackView
   seen = x.bays.seen stops.bay
 
   -- how the pool stood then

@@ -6,7 +6,7 @@ use Rattle.std.proofs.lemmas.Option.{slice_get_within}
 use Rattle.std.proofs.lemmas.List.{map-append, take_more, take-append-drop}
 use Rattle.rack.specs.declared.AttachFault.{AttachFault}
 use Rattle.rack.specs.declared.AttachFault.TheVariants.{Failed, Twice, Memory}
-use Rattle.rack.specs.Seen.{Seen}
+use Rattle.rack.specs.Seen.{RackView}
 use Rattle.rack.specs.Shelf.{Shelf, Waiting, SameDisk, IsFrom, IsSame, Adds, Attaches}
 use Rattle.rack.specs.Joins.{rose_since}
 use Rattle.shr_tool.specs.Entry.{waiting_at, sectors_in, contents_in, IsWaiting}
@@ -22,7 +22,7 @@ nothing_at : (d : ℕ) (name : List ℕ) → slice_get [] d ≡ Some name → �
 nothing_at d name at = cc
 
 pub nothing_attached :
-    (x : Seen) (s : Shelf) → x.disks ≡ 0 → length s.names ≡ x.disks → AreAttached x x s s []
+    (x : RackView) (s : Shelf) → x.disks ≡ 0 → length s.names ≡ x.disks → AreAttached x x s s []
 nothing_attached x s empty numbered =
     record {
       disks = empty;
@@ -39,7 +39,7 @@ nothing_attached x s empty numbered =
     }
 
 -- what an old disk was it still is
-waiting_kept : (y z : Seen) (d : ℕ) (o : Option Waiting) → SameDisk y z d → IsWaiting y d o → IsWaiting z d o
+waiting_kept : (y z : RackView) (d : ℕ) (o : Option Waiting) → SameDisk y z d → IsWaiting y d o → IsWaiting z d o
 waiting_kept y z d o same was =
     record {
       ready = was.ready;
@@ -48,7 +48,7 @@ waiting_kept y z d o same was =
       told = same.told was.told;
     }
 
-waiting_new : (y z : Seen) (d : ℕ) (w : Waiting) → IsFrom y z d w → IsWaiting z d (Some w)
+waiting_new : (y z : RackView) (d : ℕ) (w : Waiting) → IsFrom y z d w → IsWaiting z d (Some w)
 waiting_new y z d w from = record { ready = refl; sectors = from.sectors; held = from.held; told = from.told }
 
 -- the number of a name among some and one more
@@ -56,7 +56,7 @@ old_or_last : (n m e : ℕ) → m ≡ n + 1 → e < m → (e < n) ⊎ (e ≡ n)
 old_or_last n m e count below = elim (cases_lt e n) [ inl old ↦ inl old | inr last ↦ inr (omega arith) ]
 
 not_twice :
-    (y z : Seen) (t u : Shelf) (names : List (List ℕ)) (name : List ℕ) (d : ℕ)
+    (y z : RackView) (t u : Shelf) (names : List (List ℕ)) (name : List ℕ) (d : ℕ)
     → t.names ≡ names
     → Attaches y z t u name (Ok d)
     → (e : ℕ)
@@ -77,7 +77,7 @@ other_name names name n none = (
 )
 
 attached_then :
-    (x y z : Seen) (s t u : Shelf) (names : List (List ℕ)) (name : List ℕ) (d : ℕ)
+    (x y z : RackView) (s t u : Shelf) (names : List (List ℕ)) (name : List ℕ) (d : ℕ)
     → AreAttached x y s t names
     → Attaches y z t u name (Ok d)
     → AreAttached x z s u (names ++ name ∷ [])
@@ -146,7 +146,7 @@ attached_then x y z s t u names name d old attaches =
     }
 
 pub attached_more :
-    (x y z : Seen) (s t u : Shelf) (names : List (List ℕ)) (name : List ℕ) (r : Result ℕ AttachFault) (d : ℕ)
+    (x y z : RackView) (s t u : Shelf) (names : List (List ℕ)) (name : List ℕ) (r : Result ℕ AttachFault) (d : ℕ)
     → r ≡ Ok d
     → AreAttached x y s t names
     → Attaches y z t u name r
@@ -162,7 +162,7 @@ longer_has (x ∷ xs) ys zero name at = at
 longer_has (x ∷ xs) ys (suc d) name at = longer_has xs ys d name at
 
 fault_cause :
-    (x y z : Seen) (s t u : Shelf) (names rest : List (List ℕ)) (name : List ℕ) (r : Result ℕ AttachFault) (fault : AttachFault)
+    (x y z : RackView) (s t u : Shelf) (names rest : List (List ℕ)) (name : List ℕ) (r : Result ℕ AttachFault) (fault : AttachFault)
     → r ≡ Err fault
     → AreAttached x y s t names
     → Attaches y z t u name r
@@ -185,7 +185,7 @@ take_front (x ∷ xs) ys = ap (λ l. x ∷ l) (take_front xs ys)
 
 -- after a refusal the disks are as they were
 attached_still :
-    (x y z : Seen) (s t u : Shelf) (names : List (List ℕ))
+    (x y z : RackView) (s t u : Shelf) (names : List (List ℕ))
     → s.faults ≤ u.faults
     → IsSame y z t u
     → AreAttached x y s t names
@@ -206,7 +206,7 @@ attached_still x y z s t u names faults same old = record {
 
 -- attaching stops at a name
 pub unattached :
-    (x y z : Seen) (s t u : Shelf) (names rest : List (List ℕ)) (name : List ℕ) (r : Result ℕ AttachFault) (fault : AttachFault) (number : ℕ)
+    (x y z : RackView) (s t u : Shelf) (names rest : List (List ℕ)) (name : List ℕ) (r : Result ℕ AttachFault) (fault : AttachFault) (number : ℕ)
     → r ≡ Err fault
     → number ≡ y.disks
     → AreAttached x y s t names

@@ -7,13 +7,13 @@ use Rattle.slice_rack.specs.Sliced.{slices_of}
 use Rattle.flat_array.specs.Array.{FlatArray}
 use Rattle.lvm_group.specs.Runs.{Linear}
 use Rattle.array_core.specs.TruthHeld.{HoldTruth}
-use Rattle.raid_laws.specs.Raid.{IsTold, is_over}
+use Rattle.raid_laws.specs.Raid.{IsTracked, is_failed}
 use Rattle.pool_image.specs.Drives.{Found}
-use Rattle.pool.specs.Calls.{Passes}
+use Rattle.pool.specs.Calls.{CallFrame}
 use Rattle.pool.specs.Continuing.{Continues}
 use Rattle.pool.specs.Moment.{Moment, moment_of}
 use Rattle.pool.specs.View.{View, book, slices_shown}
-use Rattle.pool.specs.Volume.{Holds}
+use Rattle.pool.specs.Volume.{VolumeIs}
 use Rattle.pool_model.specs.Grouped.{AreHeadsLive, HoldGroup}
 use Rattle.shr_tool.specs.Between.{HoldsEach, HoldsInside, HoldsNext, HoldsThen, HoldsWithin}
 use Rattle.shr_tool.specs.Events.{Event, any_takes, becomes}
@@ -30,17 +30,17 @@ use Rattle.shr_tool.proofs.Serviced.{goes_again}
 -- each of the volume's arrays is told after calls, where no drive was to be replaced or a sector of the volume can be had
 pub told_after :
     (x y : View) (a b : FlatArray) (events : List Event)
-    → (any_takes events ≡ false → Passes x y)
+    → (any_takes events ≡ false → CallFrame x y)
     → IsServing x a
-    → Holds y b
+    → VolumeIs y b
     → IsServed (moment_of y) events
-    → (n : ℕ) → n < y.linear.arrays → IsTold (book y) (slices_of y.slices y.bay) n
+    → (n : ℕ) → n < y.linear.arrays → IsTracked (book y) (slices_of y.slices y.bay) n
 told_after x y a b events passes serving holds (inl none) n inside = (passes none).stays.told 0 serving.1 n inside
 told_after x y a b events passes serving holds (inr some) n inside = holds.told some.0 (subst (λ k. some.0 < k) (sym holds.size) some.1) some.2 n inside
 
 -- a pool by which the run goes still, which began on arrays with its group
-module _ {L G : Type 0} {o : Option Lone} (x y : View) (a b : FlatArray) (events : List Event) (f : Found) (continues : Continues x y) (passes : any_takes events ≡ false → Passes x y)
-    (heads : KeepsHeads (book x) (book y) (slices_shown x) (slices_shown y)) (serving : IsServing x a) (holds : Holds y b) (begins : BeginsOn G x)
+module _ {L G : Type 0} {o : Option Lone} (x y : View) (a b : FlatArray) (events : List Event) (f : Found) (continues : Continues x y) (passes : any_takes events ≡ false → CallFrame x y)
+    (heads : KeepsHeads (book x) (book y) (slices_shown x) (slices_shown y)) (serving : IsServing x a) (holds : VolumeIs y b) (begins : BeginsOn G x)
     (served : IsServed (moment_of y) events) (goes : GoesBy L o f y) where
   arrays : f.state.made ≡ x.linear.arrays
   arrays = sym goes.arrays ∙ ap (λ (l : Linear). l.arrays) continues.linear
@@ -57,7 +57,7 @@ module _ {L G : Type 0} {o : Option Lone} (x y : View) (a b : FlatArray) (events
   pub made_now : (n : ℕ) → n < (book x).state.joined → n < (book x).state.made
   made_now n low = (let all = begins.joined in omega (arith, low, all))
 
-  pub told_now : (n : ℕ) → n < f.state.made → IsTold (book y) (slices_shown y) n
+  pub told_now : (n : ℕ) → n < f.state.made → IsTracked (book y) (slices_shown y) n
   told_now n low = told_after x y a b events passes serving holds served n (subst (λ k. n < k) (sym goes.arrays) low)
 
   truths_now : (n : ℕ) → n < f.state.made → HoldTruth ((book y).arrays n) (slices_shown y)
@@ -70,17 +70,17 @@ module _ {L G : Type 0} {o : Option Lone} (x y : View) (a b : FlatArray) (events
       subst (λ (l : Linear). HoldGroup (book y) l (slices_shown y)) (sym continues.linear)
       (heads_group (book x) (book y) x.linear (slices_shown x) (slices_shown y) heads made_now (λ n low. serving.1 n (joined_now n low)) alive (begins.group says))
 
-  pub next_now : ((n : ℕ) → n < f.state.made → is_over (book y) n ≡ false) → (i : Image) → IsPick y.bay y.bay y.bay.held i → HoldsNext L G f y.slices y.linear (book y) i
+  pub next_now : ((n : ℕ) → n < f.state.made → is_failed (book y) n ≡ false) → (i : Image) → IsPick y.bay y.bay y.bay.held i → HoldsNext L G f y.slices y.linear (book y) i
   next_now lasts i pick = goes_again y f y.linear continues.fit goes told_now lasts truths_now group_now i pick
 
 -- a stop now leaves values that the disks hold, so the pool by which the run goes
 pub holds_then :
     {L G : Type 0} {o : Option Lone} (x y : View) (a b : FlatArray) (events : List Event) (Serial : Type 0) (f : Found)
     → Continues x y
-    → (any_takes events ≡ false → Passes x y)
+    → (any_takes events ≡ false → CallFrame x y)
     → KeepsHeads (book x) (book y) (slices_shown x) (slices_shown y)
     → IsServing x a
-    → Holds y b
+    → VolumeIs y b
     → BeginsOn G x
     → x.bay.traced
     → (y.bay.fit → y.bay.traced → IsSound y.bay)
@@ -94,13 +94,13 @@ holds_then x y a b events Serial f continues passes heads serving holds begins t
 pub holds_inside :
     {L G : Type 0} {o : Option Lone} (x y z : View) (a b : FlatArray) (events : List Event) (Serial : Type 0) (f : Found)
     → Continues x y
-    → (any_takes events ≡ false → Passes x y)
+    → (any_takes events ≡ false → CallFrame x y)
     → KeepsHeads (book x) (book y) (slices_shown x) (slices_shown y)
     → IsServing x a
-    → Holds y b
+    → VolumeIs y b
     → BeginsOn G x
     → x.bay.traced
-    → Passes y z
+    → CallFrame y z
     → (IsServed (moment_of y) events → (any_takes events ≡ true → Serial) → GoesBy L o f y)
     → HoldsInside z.bay.stops Serial L G events f (moment_of y) (moment_of z)
 holds_inside x y z a b events Serial f continues passes heads serving holds begins traced calls goes = λ served serial lands lasts k i since until stopped.

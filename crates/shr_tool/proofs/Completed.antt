@@ -7,7 +7,7 @@ use Rattle.std.proofs.lemmas.List.Quantifiers.{position-Some}
 use Rattle.std.proofs.lemmas.Option.{slice_get-get_or}
 use Rattle.rack.specs.declared.AttachFault.{AttachFault}
 use Rattle.rack.specs.declared.AttachFault.TheVariants.{Failed, Twice, Memory as NoRoomLeft}
-use Rattle.rack.specs.Seen.{Image, Seen, Rose}
+use Rattle.rack.specs.Seen.{Image, RackView, Rose}
 use Rattle.rack.specs.Shelf.{Differ, KeepsShelf, Shelf}
 use Rattle.flat_array.specs.Array.{FlatArray, fresh}
 use Rattle.layer_plan.specs.declared.Layers.{Layers}
@@ -106,7 +106,7 @@ left_status Spent source source' sink sink' cause none ok limit refused = inr (i
 
 -- a name isn't attached for want of memory alone
 wanting_name :
-    (x y : Seen) (s t : Shelf) (names : List (List ℕ)) (out out' : List ℕ) (status : Status) → Differ names → (Rose s.faults t.faults → ⊥) → (status ≡ Sink → ⊥)
+    (x y : RackView) (s t : Shelf) (names : List (List ℕ)) (out out' : List ℕ) (status : Status) → Differ names → (Rose s.faults t.faults → ⊥) → (status ≡ Sink → ⊥)
     → NameRefused x y s t names out out' status → status ≡ Memory
 wanting_name x y s t names out out' status differ none sound refused = of refused.fault refused.number refused.cause.cause refused.says
   where
@@ -146,7 +146,7 @@ size_meant disks c f v l there means lies =
 
 -- where disks mean something they are refused for want of memory alone
 wanting_pool :
-    {R : Type 0} (seen : R → Seen) (runs : R → R → Type 0) (bay after : R) (out out' : List ℕ) (status : Status) (a : FlatArray)
+    {R : Type 0} (seen : R → RackView) (runs : R → R → Type 0) (bay after : R) (out out' : List ℕ) (status : Status) (a : FlatArray)
     → IsMeant (seen bay) (seen after) a → (status ≡ Sink → ⊥) → NotOpened seen runs bay after out out' status → status ≡ Memory
 wanting_pool seen runs bay after out out' status a meant sound refused = of refused.why (refused.exact meant.pool meant.sound meant.unfaulted) refused.says
   where
@@ -182,7 +182,7 @@ says_other wanted line out out' other says = elim says.said [ inl is ↦ other (
 
 -- a task whose input is taken whole isn't refused
 task_unrefused :
-    (task : Task) (Told Traced : Type 0) (x y : Seen) (from : Moment) (a : FlatArray) (text rest out out' : List ℕ) (size : ℕ) → size ≡ sectors_in from.linear → IsTakenWhole task text size
+    (task : Task) (Told Traced : Type 0) (x y : RackView) (from : Moment) (a : FlatArray) (text rest out out' : List ℕ) (size : ℕ) → size ≡ sectors_in from.linear → IsTakenWhole task text size
     → TaskOutcome task Refused Told Traced x y from a text rest out out' → ⊥
 task_unrefused tasks.Serve Told Traced x y from a text rest out out' size same whole came = elim came [
   | inl none ↦ none
@@ -205,7 +205,7 @@ task_unrefused (tasks.Trial seed) Told Traced x y from a text rest out out' size
 
 -- until a pool was opened, or refused, no count of faults fell
 later :
-    {R : Type 0} (seen : R → Seen) (shelf : R → Shelf) (runs : R → R → Type 0) (bay after : R) (task : Task) (text rest out out' : List ℕ) (status : Status)
+    {R : Type 0} (seen : R → RackView) (shelf : R → Shelf) (runs : R → R → Type 0) (bay after : R) (task : Task) (text rest out out' : List ℕ) (status : Status)
     (came : OpenOutcome seen shelf runs bay after task text rest out out' status) (d : ℕ)
     → (seen bay).faults d ≤ (seen (opening_of seen shelf runs bay after task text rest out out' status came)).faults d
 later seen shelf runs bay after task text rest out out' status (inl refused) d = elim refused.written [
@@ -218,7 +218,7 @@ later seen shelf runs bay after task text rest out out' status (inl refused) d =
 later seen shelf runs bay after task text rest out out' status (inr opened) d = (stays_then opened.drives.early.only.stays opened.drives.late.stays).faults d
 
 -- the pool is opened and the task done on it
-module _ {R : Type 0} (seen : R → Seen) (shelf : R → Shelf) (runs : R → R → Type 0) (bay after : R) (task : Task) (text rest out out' : List ℕ) (status : Status)
+module _ {R : Type 0} (seen : R → RackView) (shelf : R → Shelf) (runs : R → R → Type 0) (bay after : R) (task : Task) (text rest out out' : List ℕ) (status : Status)
     (source source' sink sink' : ℕ) (cause : HasStatusCause status source source' sink sink') (none : Rose source source' → ⊥) (ok : Rose sink sink' → ⊥)
     (size : ℕ) (whole : IsTakenWhole task text size) (limit : status ≡ Limit → ⊥) where
   done_on : (came : OpenOutcome seen shelf runs bay after task text rest out out' status) (a : FlatArray)
@@ -252,8 +252,8 @@ rose_later : (a b c : ℕ) → Rose a b → b ≤ c → Rose 0 c
 rose_later a b c rose more = elim rose [ inl up ↦ inl (omega (arith, up, more)) | inr full ↦ inr (omega (arith, full, more)) ]
 
 -- Disks that hold what waited, where that is a sound pool, and none refused a call until a moment.
-module _ {B : Type 0} (seen : B → Seen) (runs : B → B → Type 0) (lasting : (b : B) → (seen b).lasting) (unspent : (b : B) (d s : ℕ) → (seen b).spent d s ≡ false)
-    (x : Seen) (s t : Shelf) (names : List (List ℕ)) (attached : B) (are : AreAttached x (seen attached) s t names) (told : s.told) (size : ℕ) (entry : IsSoundEntry s.ready names size)
+module _ {B : Type 0} (seen : B → RackView) (runs : B → B → Type 0) (lasting : (b : B) → (seen b).lasting) (unspent : (b : B) (d s : ℕ) → (seen b).spent d s ≡ false)
+    (x : RackView) (s t : Shelf) (names : List (List ℕ)) (attached : B) (are : AreAttached x (seen attached) s t names) (told : s.told) (size : ℕ) (entry : IsSoundEntry s.ready names size)
     (asked : Online B) (asks : Asks seen runs attached asked.bay state_sector asked.offline) (y : Online B)
     (later_on : (d : ℕ) → (seen asked.bay).faults d ≤ (seen y.bay).faults d) (calm : NoneRefused (seen y.bay)) where
   -- none is offline
@@ -308,7 +308,7 @@ module _ {B : Type 0} (seen : B → Seen) (runs : B → B → Type 0) (lasting :
   }
 
 -- so it is of `serve`, `import`, `export`, `status` and `trial`
-module _ {B : Type 0} (seen : B → Seen) (shelf : B → Shelf) (runs : B → B → Type 0) (lasting : (b : B) → (seen b).lasting) (unspent : (b : B) (d s : ℕ) → (seen b).spent d s ≡ false)
+module _ {B : Type 0} (seen : B → RackView) (shelf : B → Shelf) (runs : B → B → Type 0) (lasting : (b : B) → (seen b).lasting) (unspent : (b : B) (d s : ℕ) → (seen b).spent d s ≡ false)
     (shelves : (x y : B) → runs x y → KeepsShelf (shelf x) (shelf y)) (bay after : B) (task : Task) (names : List (List ℕ)) (text rest out out' : List ℕ) (status : Status)
     (source source' sink sink' : ℕ) (cause : HasStatusCause status source source' sink sink') (none : Rose source source' → ⊥) (ok : Rose sink sink' → ⊥)
     (differ : Differ names) (attaching : Rose (shelf bay).faults (shelf after).faults → ⊥) (limit : (size : ℕ) → IsTakenWhole task text size → status ≡ Limit → ⊥) where
@@ -375,7 +375,7 @@ layout_done told status units out out' sound prints plan = of prints.answer refl
     of (Err TooMany) is came = absurd (planned units TooMany plan (prints.is_answer.too_many.0 is))
     of (Err (NoRoom drive)) is came = absurd (planned units (NoRoom drive) plan ((prints.is_answer.no_room drive).0 is))
 
-module _ {B : Type 0} (seen : B → Seen) (shelf : B → Shelf) (runs : B → B → Type 0) (bay after : B) (names : List (List ℕ)) (extent : ℕ) (birth : Birth) (out out' : List ℕ) (status : Status)
+module _ {B : Type 0} (seen : B → RackView) (shelf : B → Shelf) (runs : B → B → Type 0) (bay after : B) (names : List (List ℕ)) (extent : ℕ) (birth : Birth) (out out' : List ℕ) (status : Status)
     (sound : status ≡ Sink → ⊥) (differ : Differ names) (attached : Rose (shelf bay).faults (shelf after).faults → ⊥)
     (plan : HavePlan (units_on (seen after) extent)) (calm : NoneRefused (seen after)) where
   made_on : (at : B) → AreAttached (seen bay) (seen at) (shelf bay) (shelf at) names → MakeOutcome seen runs at after extent birth out out' status → IsDone status
@@ -397,7 +397,7 @@ module _ {B : Type 0} (seen : B → Seen) (shelf : B → Shelf) (runs : B → B 
 -- ---- images
 
 pub examine_done :
-    (x : Seen) (s : Shelf) (y : Seen) (t : Shelf) (names : List (List ℕ)) (out out' : List ℕ) (status : Status) → (status ≡ Sink → ⊥) → Differ names → (Rose s.faults t.faults → ⊥)
+    (x : RackView) (s : Shelf) (y : RackView) (t : Shelf) (names : List (List ℕ)) (out out' : List ℕ) (status : Status) → (status ≡ Sink → ⊥) → Differ names → (Rose s.faults t.faults → ⊥)
     → ExamineOutcome x s y t names out out' status → NoneRefused y → IsDone status
 examine_done x s y t names out out' status sound differ attached (unattached_image refused) calm =
     inr (wanting_name x y s t names out out' status differ attached sound refused)
@@ -418,7 +418,7 @@ examine_done x s y t names out out' status sound differ attached (examined is) c
 
 -- Want of memory completes whatever the words ask for.
 pub memory_done :
-    {B : Type 0} (seen : B → Seen) (shelf : B → Shelf) (runs : B → B → Type 0) (bay after : B) (form : Form) (names : List (List ℕ)) (text rest out out' : List ℕ) (status : Status)
+    {B : Type 0} (seen : B → RackView) (shelf : B → Shelf) (runs : B → B → Type 0) (bay after : B) (form : Form) (names : List (List ℕ)) (text rest out out' : List ℕ) (status : Status)
     → status ≡ Memory → Completes seen shelf runs bay after form names text rest out out' status
 memory_done seen shelf runs bay after form names text rest out out' status is = of form
   where
@@ -434,7 +434,7 @@ memory_done seen shelf runs bay after form names text rest out out' status is = 
 
 -- what is said of a form, by the names behind so many words
 abbrev pub Clause :
-    {B : Type 0} → (B → Seen) → (B → Shelf) → (B → B → Type 0) → B → B → Type 0 → (ℕ → List (List ℕ)) → List ℕ → List ℕ → List ℕ → List ℕ → ℕ → ℕ → ℕ → ℕ → ℕ → Form → Type 0
+    {B : Type 0} → (B → RackView) → (B → Shelf) → (B → B → Type 0) → B → B → Type 0 → (ℕ → List (List ℕ)) → List ℕ → List ℕ → List ℕ → List ℕ → ℕ → ℕ → ℕ → ℕ → ℕ → Form → Type 0
 Clause seen shelf runs bay after told names text rest out out' source source' sink sink' code form =
     (reads_input (Some form) ≡ true → told) → NothingFails form (names (before_names form)) (shelf bay) (shelf after) source source' sink sink'
     → Ended code (Completes seen shelf runs bay after form (names (before_names form)) text rest out out')
@@ -453,7 +453,7 @@ serve_limit status text rest keeps size whole is = let longer = (keeps.exact.0 i
 
 -- A task is carried out on the disks of names that were read of the words.
 pub task_carried :
-    {B : Type 0} (seen : B → Seen) (shelf : B → Shelf) (runs : B → B → Type 0) (lasting : (b : B) → (seen b).lasting) (unspent : (b : B) (d s : ℕ) → (seen b).spent d s ≡ false)
+    {B : Type 0} (seen : B → RackView) (shelf : B → Shelf) (runs : B → B → Type 0) (lasting : (b : B) → (seen b).lasting) (unspent : (b : B) (d s : ℕ) → (seen b).spent d s ≡ false)
     (shelves : (x y : B) → runs x y → KeepsShelf (shelf x) (shelf y)) (bay after : B) (task : Task) (names read : List (List ℕ)) (text rest out out' : List ℕ) (source source' sink sink' : ℕ) (status : Status) (form : Form)
     → uses_disks (Some form) ≡ true → HasStatusCause status source source' sink sink' → ((size : ℕ) → IsTakenWhole task text size → status ≡ Limit → ⊥)
     → NothingFails form names (shelf bay) (shelf after) source source' sink sink' → read ≡ names

@@ -7,18 +7,18 @@ use Rattle.pool_model.specs.Taken.{AreSerial, attached}
 use Rattle.pool.specs.declared.replacing.GrowFault.{GrowFault}
 use Rattle.pool.specs.Moment.{moment_of}
 use Rattle.pool.specs.View.{View, book, spent_by, volume}
-use Rattle.pool.specs.Volume.{Holds, size_of}
+use Rattle.pool.specs.Volume.{VolumeIs, size_of}
 use Rattle.shr_tool.specs.Events.{looks_at}
 use Rattle.shr_tool.specs.Events.Event.{declined}
 use Rattle.shr_tool.specs.Service.{GoesBy, GoesOn, IsFitDisk, IsLoneFor, Lone, StandsLone, pool_after}
-use Rattle.shr_tool.specs.Timeline.{Performs}
+use Rattle.shr_tool.specs.Timeline.{LineContract}
 use Rattle.shr_tool.proofs.LeftOut.{stands_out}
 use Rattle.shr_tool.proofs.Quiet.{stands_declined}
 use Rattle.shr_tool.proofs.TurnedDown.{goes_then}
 
 module _ {L : Type 0} {o : Option Lone} (x y : View) (place : ℕ) (name : List ℕ) (fault : GrowFault) (text : List ℕ) (b : FlatArray) (looks : looks_at fault ≡ true)
     (unspent : (d s : ℕ) → y.bay.spent d s ≡ false) (fit : (volume x).fit)
-    (performs : Performs x y (declined place name fault) text) (holds : Holds x b) (some : (s : ℕ) × (s < size_of x) × (spent_by x.linear (book y) s ≡ false))
+    (performs : LineContract x y (declined place name fault) text) (holds : VolumeIs x b) (some : (s : ℕ) × (s < size_of x) × (spent_by x.linear (book y) s ≡ false))
     (f : Found) (goes : GoesBy L o f x) (fits : IsFitDisk f (moment_of x) name)
     (lone : (l : Lone) → o ≡ Some l → IsLoneFor f l (moment_of x) (moment_of y) (declined place name fault)) where
   -- it stands alone after it as before

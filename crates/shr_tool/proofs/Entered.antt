@@ -2,7 +2,7 @@
 use Rattle.std.proofs.Common.{◌≡◌, ◌≢◌, ◌⊎◌, ℕ, ◌<◌, true, false, List, length, slice_get, Some, Ok, option_map, refl, sym, ◌∙◌, subst, inl, inr, eq-eqb, arith}
 use Rattle.std.proofs.lemmas.Bool.{both_ways, cases_Bool, cases_eq, ne_eqb}
 use Rattle.rack.specs.Joins.{stays_then}
-use Rattle.rack.specs.Seen.{Stays}
+use Rattle.rack.specs.Seen.{SameRack}
 use Rattle.rack.specs.Values.{MayLeave}
 use Rattle.slice_rack.specs.Slices.{Slices, sectors_of}
 use Rattle.slice_rack.specs.Sliced.{slices_of}
@@ -17,12 +17,12 @@ use Rattle.array_image.specs.Places.{log_slice}
 use Rattle.array_image.specs.States.{is_current}
 use Rattle.array_core.proofs.Stripped.{some_same}
 use Rattle.array_model.specs.View.{spent_in}
-use Rattle.raid_laws.specs.Book.{IsAfter, after_same}
+use Rattle.raid_laws.specs.Book.{OnlyMarksSince, after_same}
 use Rattle.raid_rack.specs.declared.arrays.Arrays.{Arrays}
 use Rattle.raid_laws.specs.Enlisting.{IsNotWhole, IsOpenDisk, KeepsTold, enlisted}
 use Rattle.raid_laws.specs.Laws.{live_parts}
 use Rattle.raid_laws.specs.Moves.{IsHeeded, IsSet}
-use Rattle.raid_laws.specs.Raid.{IsTold, is_over}
+use Rattle.raid_laws.specs.Raid.{IsTracked, is_failed}
 use Rattle.raid_laws.specs.Since.{HasOwnSince, HoldsSince, KeepsSince, since_then}
 use Rattle.raid_rack.proofs.Vacated.{vacated_told}
 use Rattle.pool_model.proofs.Joined.{current_here, id_other}
@@ -30,7 +30,7 @@ use Rattle.pool.specs.Entering.{EntersBy, LosesOwn, Readies, Vacates, meanwhile,
 use Rattle.pool.specs.Naming.{EntersNamed}
 use Rattle.pool.specs.Taking.{AttachesDisk}
 use Rattle.pool.specs.View.{View, book, over, slices_shown, spent_by, volume}
-use Rattle.pool.specs.Volume.{Holds, is_spent, size_of}
+use Rattle.pool.specs.Volume.{VolumeIs, is_spent, size_of}
 use Rattle.pool.proofs.Admitted.{others_current}
 use Rattle.pool.proofs.Readying.{after_enlisted, many_same, units_same}
 use Rattle.shr_tool.specs.Service.{IsOwnCopy}
@@ -41,16 +41,16 @@ use Rattle.shr_tool.proofs.TakingFrom.{other_left}
 -- ---- arrays are told yet
 
 -- once a disk was attached
-pub told_attached : (x : View) (bay : x.bays.one) (name : List ℕ) (disk : ℕ) → AttachesDisk x (over x bay) name (Ok disk) → {b : FlatArray} → Holds x b → (s : ℕ) → s < size_of x
-    → is_spent x s ≡ false → (n : ℕ) → n < x.linear.arrays → IsTold (book x) (slices_of x.slices (over x bay).bay) n
+pub told_attached : (x : View) (bay : x.bays.one) (name : List ℕ) (disk : ℕ) → AttachesDisk x (over x bay) name (Ok disk) → {b : FlatArray} → VolumeIs x b → (s : ℕ) → s < size_of x
+    → is_spent x s ≡ false → (n : ℕ) → n < x.linear.arrays → IsTracked (book x) (slices_of x.slices (over x bay).bay) n
 told_attached x bay name disk at holds s low left = at.carries.told holds.shelf holds.disks s low left (holds.told s (let same = holds.size in omega (arith, low, same)) left)
 
 -- over the slices from which it is taken in
 pub told_vacated : (c : View) (place disk : ℕ) (vacates : Vacates c place disk) → IsSet (book c) (slices_shown c) → IsHeeded (book c) → (n : ℕ) → n < (book c).state.made
-    → IsTold (book c) (slices_shown c) n → IsTold (book c) (slices_of vacates.tables c.bay) n
+    → IsTracked (book c) (slices_shown c) n → IsTracked (book c) (slices_of vacates.tables c.bay) n
 told_vacated c place disk vacates set heeded n low told = elim vacates.seats [
   | inl gave ↦ vacated_told place c.slices vacates.tables c.bay gave.1 (book c) heeded gave.0 set vacates.fit.running.set.fit n low told
-  | inr kept ↦ subst (λ (u : Slices). IsTold (book c) (slices_of u c.bay) n) (sym kept.1) told
+  | inr kept ↦ subst (λ (u : Slices). IsTracked (book c) (slices_of u c.bay) n) (sym kept.1) told
 ]
 
 -- and by a pool that was made ready for it
@@ -69,10 +69,10 @@ module _ (m : View) (later : m.bays.one) (arrays : Arrays) (refused : ℕ → �
     pub out : IsNotWhole m.slices disk (table_on w place disk) (book w) (book c) w.bay c.bay
     out = subst (λ (u : Slices). IsNotWhole u disk (table_on w place disk) (book w) (book c) w.bay c.bay) own_tables lose.left.not_whole
 
-  pub stays_ready : Stays m.bay c.bay
+  pub stays_ready : SameRack m.bay c.bay
   stays_ready = elim readies [ inl cleaned ↦ cleaned.ends.passes.apart.stays | inr lose ↦ stays_then lose.cleaned.ends.passes.apart.stays (out lose).only.stays ]
 
-  pub told_ready : (n : ℕ) → IsTold (book m) (slices_shown m) n → IsTold (book c) (slices_shown c) n
+  pub told_ready : (n : ℕ) → IsTracked (book m) (slices_shown m) n → IsTracked (book c) (slices_shown c) n
   told_ready n told = elim readies [
     | inl cleaned ↦ cleaned.ends.passes.moments.told n told
     | inr lose ↦ (out lose).moments.told n (lose.cleaned.ends.passes.moments.told n told)
@@ -85,7 +85,7 @@ module _ (m : View) (later : m.bays.one) (arrays : Arrays) (refused : ℕ → �
   heeded_ready = elim readies [ inl cleaned ↦ (cleaned.ends.passes.stays.fit).0.heeded | inr lose ↦ (out lose).mends.heeded ]
 
   -- places that were current have their own copies yet
-  pub since_ready : (n : ℕ) → IsTold (book m) (slices_shown m) n → is_over (book c) n ≡ false → HoldsSince (book m).state (slices_shown m)
+  pub since_ready : (n : ℕ) → IsTracked (book m) (slices_shown m) n → is_failed (book c) n ≡ false → HoldsSince (book m).state (slices_shown m)
       → KeepsSince (book m).state (slices_shown m) (slices_shown c)
   since_ready n told lasts holds = elim readies [
     | inl cleaned ↦ cleaned.ends.passes.moments.since n (book m).state told lasts (after_same (book m).state) holds
@@ -100,8 +100,8 @@ module _ (m : View) (later : m.bays.one) (arrays : Arrays) (refused : ℕ → �
 
 -- The disk was taken in from a pool of which an array was told: a place's copy is of a state that has the new drive, or it is another place's of one from before.
 module _ (c y : View) (place disk : ℕ) (enters : EntersBy c y place disk) (listed : place < length (book c).state.drives.items) (set : IsSet (book c) (slices_shown c))
-    (heeded : IsHeeded (book c)) (opened : IsOpenDisk c.bay disk) (fit : (volume y).fit) (n k : ℕ) (low : n < (book c).state.made) (told : IsTold (book c) (slices_shown c) n)
-    (lasts : is_over (book y) n ≡ false) (alive : spent_in ((book y).arrays n) k ≡ false) where
+    (heeded : IsHeeded (book c)) (opened : IsOpenDisk c.bay disk) (fit : (volume y).fit) (n k : ℕ) (low : n < (book c).state.made) (told : IsTracked (book c) (slices_shown c) n)
+    (lasts : is_failed (book y) n ≡ false) (alive : spent_in ((book y).arrays n) k ≡ false) where
   abbrev coming : State
   coming = enlisted place enters.units (Replacing place) (book c).state
 
@@ -137,7 +137,7 @@ module _ (c y : View) (place disk : ℕ) (enters : EntersBy c y place disk) (lis
 -- ---- the whole line
 
 module _ (x y : View) (place : ℕ) (name : List ℕ) (disk : ℕ) (entered : EntersNamed x y place name disk) (unspent : (d s : ℕ) → y.bay.spent d s ≡ false) (fit : (volume x).fit)
-    (fit_then : (volume y).fit) {b : FlatArray} (holds : Holds x b) (some : (s : ℕ) × (s < size_of x) × (spent_by x.linear (book y) s ≡ false)) (alive : is_spent x some.0 ≡ false)
+    (fit_then : (volume y).fit) {b : FlatArray} (holds : VolumeIs x b) (some : (s : ℕ) × (s < size_of x) × (spent_by x.linear (book y) s ≡ false)) (alive : is_spent x some.0 ≡ false)
     (listed : place < length (book x).state.drives.items) (units : ℕ)
     (units_is : option_map (λ (d : Drive). d.units) (slice_get (book x).state.drives.items place) ≡ Some units) where
   abbrev before : View
@@ -152,10 +152,10 @@ module _ (x y : View) (place : ℕ) (name : List ℕ) (disk : ℕ) (entered : En
   abbrev k : ℕ
   k = sector_of x.linear some.0
 
-  told : IsTold (book x) (slices_of x.slices before.bay) n
+  told : IsTracked (book x) (slices_of x.slices before.bay) n
   told = told_attached x entered.bay name disk entered.attaches holds some.0 some.1 alive n (array_low x some.0 fit some.1)
 
-  left : (is_over (book y) n ≡ false) × (spent_in ((book y).arrays n) k ≡ false)
+  left : (is_failed (book y) n ≡ false) × (spent_in ((book y).arrays n) k ≡ false)
   left = live_parts (book y) n k some.2
 
   -- each copy at a place of the pool names the drive that the place has then
@@ -165,8 +165,8 @@ module _ (x y : View) (place : ℕ) (name : List ℕ) (disk : ℕ) (entered : En
       → decoded u ≡ Ok copy → IsOwnCopy next p copy
 
   -- from the pool from which the disk was taken in
-  own_from : (e : View) (enters : EntersBy e y place disk) → IsAfter (book x).state (book e).state → IsSet (book e) (slices_shown e) → IsHeeded (book e)
-      → IsOpenDisk e.bay disk → IsTold (book e) (slices_shown e) n
+  own_from : (e : View) (enters : EntersBy e y place disk) → OnlyMarksSince (book x).state (book e).state → IsSet (book e) (slices_shown e) → IsHeeded (book e)
+      → IsOpenDisk e.bay disk → IsTracked (book e) (slices_shown e) n
       → ((p : ℕ) → p < length (book x).state.drives.items → p ≢ place → is_current (book e).state p ≡ true) → AreOwn
   own_from e enters marks set heeded opened told others p u copy low there may is =
       elim (since_entered e y place disk enters (let same = many_same (book x).state (book e).state marks in omega (arith, listed, same)) set heeded opened fit_then n k
@@ -181,9 +181,9 @@ module _ (x y : View) (place : ℕ) (name : List ℕ) (disk : ℕ) (entered : En
       same_units : enters.units ≡ units
       same_units = some_same enters.units units (sym enters.units_is ∙ units_same (book x).state (book e).state marks place ∙ units_is)
 
-      come : IsAfter next (enlisted place enters.units (Replacing place) (book e).state)
+      come : OnlyMarksSince next (enlisted place enters.units (Replacing place) (book e).state)
       come =
-          subst (λ count. IsAfter (enlisted place count (Replacing place) (book x).state) (enlisted place enters.units (Replacing place) (book e).state)) same_units
+          subst (λ count. OnlyMarksSince (enlisted place count (Replacing place) (book x).state) (enlisted place enters.units (Replacing place) (book e).state)) same_units
           (after_enlisted place enters.units (Replacing place) (book x).state (book e).state listed marks)
 
   pub own_entered : AreOwn

@@ -2,7 +2,7 @@
 use Rattle.std.proofs.Common.{◌≡◌, ℕ, ◌<◌, ◌≤◌, false, List, length, Result, sym, ◌∙◌, ap, subst, inl, inr}
 use Rattle.std.proofs.lemmas.Bool.{cases_lt}
 use Rattle.rack.specs.Values.{Values, MayLeave, Keeps, only}
-use Rattle.rack.specs.Seen.{Image, Seen, Rose, IsLive}
+use Rattle.rack.specs.Seen.{Image, RackView, Rose, IsLive}
 use Rattle.rack.specs.Shelf.{Shelf}
 use Rattle.rack.specs.Sequences.{OnlyReads}
 use Rattle.image_text.specs.declared.Stop.{Stop}
@@ -18,7 +18,7 @@ use Rattle.shr_tool.specs.Examining.{ShowsImage, Examined, IsShown}
 
 -- a disk that was attached is live after reads
 live_after :
-    (x m y : Seen) (s t : Shelf) (names : List (List ℕ))
+    (x m y : RackView) (s t : Shelf) (names : List (List ℕ))
     → AreAttached x m s t names
     → OnlyReads m y
     → ((d k : ℕ) → y.spent d k ≡ false)
@@ -43,7 +43,7 @@ one_value v w (inr before) = absurd before
 
 -- the disk holds the image that waited
 holds_image :
-    (x m : Seen) (s t : Shelf) (names : List (List ℕ))
+    (x m : RackView) (s t : Shelf) (names : List (List ℕ))
     → AreAttached x m s t names
     → s.told
     → 0 < length names
@@ -56,7 +56,7 @@ holds_image x m s t names at told some =
     }
 
 pub examined_held :
-    (x m y : Seen) (s t : Shelf) (names : List (List ℕ))
+    (x m y : RackView) (s t : Shelf) (names : List (List ℕ))
     → AreAttached x m s t names
     → OnlyReads m y
     → ((d k : ℕ) → y.spent d k ≡ false)
@@ -70,7 +70,7 @@ examined_held x m y s t names at reads unspent told d k below inside =
     (reads.keeps.held d k (live_after x m y s t names at reads unspent told d k below inside))
 
 examined_leaves :
-    (x m y : Seen) (s t : Shelf) (names : List (List ℕ))
+    (x m y : RackView) (s t : Shelf) (names : List (List ℕ))
     → AreAttached x m s t names
     → OnlyReads m y
     → ((d k : ℕ) → y.spent d k ≡ false)
@@ -93,7 +93,7 @@ examined_leaves x m y s t names at reads unspent told traced k i until stops =
 
 -- what was put of the image that waited, and what was said then
 pub examined_by :
-    {f f' : ℕ} {T T' : Type 0} (x m y : Seen) (s t : Shelf) (names : List (List ℕ)) (out between out' : List ℕ) (result : Result (Unit {0}) Stop) (status : Status)
+    {f f' : ℕ} {T T' : Type 0} (x m y : RackView) (s t : Shelf) (names : List (List ℕ)) (out between out' : List ℕ) (result : Result (Unit {0}) Stop) (status : Status)
     → AreAttached x m s t names
     → 0 < length names
     → ((d k : ℕ) → y.spent d k ≡ false)

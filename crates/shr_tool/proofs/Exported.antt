@@ -12,7 +12,7 @@ use Rattle.flat_array.specs.Reply.{spent_line}
 use Rattle.pool.specs.declared.calls.SectorFault.{SectorFault}
 use Rattle.pool.specs.declared.calls.SectorFault.TheVariants.{Spent as IsSpent}
 use Rattle.pool.specs.View.{View}
-use Rattle.pool.specs.Volume.{Holds}
+use Rattle.pool.specs.Volume.{VolumeIs}
 use Rattle.pool.specs.Calls.{Ends, ReadsSector}
 use Rattle.shr_tool.specs.declared.status.Status.{Status}
 use Rattle.shr_tool.specs.declared.exporting.ExportFault.{ExportFault}
@@ -60,7 +60,7 @@ pub value_read :
     → r ≡ Ok tt
     → Ran x y (reads_of sector)
     → ReadsSector y z sector into r
-    → Holds x a
+    → VolumeIs x a
     → into ≡ bytes_at a sector
 value_read x y z sector into r a is ran reads_r holds =
     let reads : ReadsSector y z sector into {X = Unit {0}} (Ok tt) = subst (λ q. ReadsSector y z sector into q) is reads_r in

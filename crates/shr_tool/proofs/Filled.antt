@@ -13,9 +13,9 @@ use Rattle.pool.specs.declared.calls.SectorFault.{SectorFault}
 use Rattle.pool.specs.declared.calls.SectorFault.TheVariants.{Spent}
 use Rattle.raid_laws.specs.Losing.{arrays_same, arrays_then}
 use Rattle.pool.specs.View.{View, book, contents_in, volume}
-use Rattle.pool.specs.Volume.{Holds, Means, is_spent, unchanged}
+use Rattle.pool.specs.Volume.{VolumeIs, Means, is_spent, unchanged}
 use Rattle.pool.specs.Keeping.{KeepsWorks, Raises}
-use Rattle.pool.specs.Calls.{Marks, Passes, WritesSector}
+use Rattle.pool.specs.Calls.{Marks, CallFrame, WritesSector}
 use Rattle.shr_tool.specs.Filling.{Fills, FillsSome}
 use Rattle.pool.proofs.Booked.{raises_fewer, raises_still}
 use Rattle.pool.proofs.Doing.{does_none}
@@ -29,14 +29,14 @@ pub works_same : (x : View) → KeepsWorks (book x) (book x)
 works_same x = record { arrays = arrays_same (book x); plan = refl }
 
 -- calls in a row do, each of which does
-works_then : (x y z : View) → Passes x y → KeepsWorks (book x) (book y) → KeepsWorks (book y) (book z) → KeepsWorks (book x) (book z)
+works_then : (x y z : View) → CallFrame x y → KeepsWorks (book x) (book y) → KeepsWorks (book y) (book z) → KeepsWorks (book x) (book z)
 works_then x y z passes one two = record { arrays = arrays_then (book x) (book y) (book z) passes.marks.same.made one.arrays two.arrays; plan = two.plan ∙ one.plan }
 
 -- ---- sectors
 
 -- The sectors up to one have been filled, and the last one of them isn't spent.
 pub record IsFilled (x y : View) (sector at : ℕ) (bytes : List ℕ) : Type 0 where
-  pub passes : Passes x y
+  pub passes : CallFrame x y
   pub raises : Raises (at - sector) x y
   pub works : KeepsWorks (book x) (book y)
   pub marks : Marks x y
@@ -57,7 +57,7 @@ filled_start x sector bytes fit sound =
       marks = marks_same x (λ place. ⊥);
       some = record {
         does = record {
-          becomes = λ a holds. subst (λ b. Holds x b) (same a) holds;
+          becomes = λ a holds. subst (λ b. VolumeIs x b) (same a) holds;
           leaves = λ traced a holds. leaves_same x.bay (Means x (filled a sector (sector - sector) bytes));
           ends = λ traced a holds i stopped. subst (λ b. Means x b i) (same a) (still.ends traced a holds i stopped);
         };

@@ -5,7 +5,7 @@ use Rattle.slice_rack.specs.Sliced.{slices_of}
 use Rattle.assembler.specs.Sound.{TargetsLand}
 use Rattle.pool_image.specs.Drives.{Found}
 use Rattle.pool_model.specs.Taken.{AreSerial}
-use Rattle.raid_laws.specs.Raid.{IsTold, is_over}
+use Rattle.raid_laws.specs.Raid.{IsTracked, is_failed}
 use Rattle.pool.specs.Keeping.{KeepsBook}
 use Rattle.flat_array.specs.Array.{FlatArray, flushed}
 use Rattle.lvm_group.specs.Runs.{Linear, sectors_in}
@@ -14,8 +14,8 @@ use Rattle.pool_model.specs.Alone.{LeaveOut}
 use Rattle.pool_model.specs.Grouped.{HaveOwnAreas}
 use Rattle.pool.specs.Continuing.{Continues, KeepsOutside}
 use Rattle.pool.specs.View.{View, book, slices_shown, volume}
-use Rattle.pool.specs.Volume.{Holds}
-use Rattle.pool.specs.Calls.{Ends, Passes}
+use Rattle.pool.specs.Volume.{VolumeIs}
+use Rattle.pool.specs.Calls.{Ends, CallFrame}
 use Rattle.shr_tool.specs.declared.perform.Answer.{Answer}
 use Rattle.shr_tool.specs.declared.perform.Answer.TheVariants.{Given, Spent as Refuses, Memory as Wants}
 use Rattle.shr_tool.specs.declared.serve.Stop.{Stop}
@@ -30,7 +30,7 @@ use Rattle.shr_tool.specs.Timeline.{Steps, Timeline, steps_of}
 use Rattle.shr_tool.specs.Serving.{AreBegun, ArePut, Grew, HasGone, HasStopCause, IsServing, Ran, Serves, ServesEvents, StopsAtEnd}
 use Rattle.shr_tool.specs.Between.{HaveOthers, HoldsEach, HoldsInside, HoldsNext}
 use Rattle.shr_tool.specs.Service.{AreFit, AreLone, BeginsOn, IsOut, IsServed, Lone, none_out, pool_by}
-use Rattle.shr_tool.specs.Outcome.{DoneOutcome, EndsAt, EventsOutcome, HasStatusCause, IsRunOn, Lasts, LastsUntil, LeavesItsRows, Outcome, status_by}
+use Rattle.shr_tool.specs.Outcome.{DoneOutcome, EndsAt, EventsOutcome, HasStatusCause, IsRunOn, RunContract, LastsUntil, LeavesItsRows, Outcome, status_by}
 use Rattle.shr_tool.proofs.Between.{holds_inside, next_now, told_after}
 use Rattle.shr_tool.proofs.Grown.{gone_kept}
 use Rattle.shr_tool.proofs.Growing.{along_for, proceeds_of, proceeds_to}
@@ -46,7 +46,7 @@ use Rattle.shr_tool.proofs.Lone.{lone_at}
 
 -- what can be had after the end of a pool could be had before it
 served_before :
-    (m y : View) (events : List Event) → Passes m y → IsServed (moment_of y) events → IsServed (moment_of m) events
+    (m y : View) (events : List Event) → CallFrame m y → IsServed (moment_of y) events → IsServed (moment_of m) events
 served_before m y events passes (inl none) = inl none
 served_before m y events passes (inr some) =
     inr (some.0, subst (λ (l : Linear). some.0 < sectors_in l) passes.linear some.1, passes.stays.spent 0 some.0 some.2)
@@ -68,7 +68,7 @@ rows_at x m y a events ran ends serving served none n inside over settled r left
 ends_at :
     (m y : View) (b : FlatArray) (Told Traced : Type 0)
     → (volume m).fit
-    → (Told → Holds m b)
+    → (Told → VolumeIs m b)
     → (Told → Traced → m.bay.traced)
     → Ends m y
     → IsLawful y
@@ -98,7 +98,7 @@ told_at :
     → Ends m y
     → IsServing x a
     → IsServed (moment_of y) events
-    → (n : ℕ) → n < y.linear.arrays → IsTold (book y) (slices_of y.slices y.bay) n
+    → (n : ℕ) → n < y.linear.arrays → IsTracked (book y) (slices_of y.slices y.bay) n
 told_at x m y a events ran ends serving served n inside =
     told_after x y a (flushed (array_by a events)) events
     (λ none. passes_then x m y (ran.passes none) ends.passes)
@@ -111,7 +111,7 @@ told_from :
     → Ends m y
     → IsServing x a
     → IsServed (moment_of y) events
-    → (n : ℕ) → n < x.linear.arrays → IsTold (book y) (slices_of y.slices y.bay) n
+    → (n : ℕ) → n < x.linear.arrays → IsTracked (book y) (slices_of y.slices y.bay) n
 told_from x m y a events ran ends serving served n inside =
     told_at x m y a events ran ends serving served n (subst (λ (l : Linear). n < l.arrays) (sym (ends.passes.linear ∙ ran.continues.linear)) inside)
 
@@ -122,7 +122,7 @@ timeline_told :
     → Continues m y
     → Timeline (x.bay.traced × IsServing x a) y.bay.stops (moment_of x) a events (moment_of m)
 timeline_told x m y a events ran continues =
-    timeline_for (x.bay.traced × Holds x a) (x.bay.traced × IsServing x a) y.bay.stops (moment_of x) a events (moment_of m)
+    timeline_for (x.bay.traced × VolumeIs x a) (x.bay.traced × IsServing x a) y.bay.stops (moment_of x) a events (moment_of m)
     (λ is. (is.0, is.1.0)) (ran_before x m y events a ran continues)
 
 -- the moments of the run
@@ -131,7 +131,7 @@ steps_told :
     → steps_of (x.bay.traced × IsServing x a) y.bay.stops (moment_of x) a events (moment_of m) (timeline_told x m y a events ran continues) ≡ ran.steps
 unfolding timeline_told
 steps_told x m y a events ran continues =
-    steps_for (x.bay.traced × Holds x a) (x.bay.traced × IsServing x a) y.bay.stops (moment_of x) a events (moment_of m)
+    steps_for (x.bay.traced × VolumeIs x a) (x.bay.traced × IsServing x a) y.bay.stops (moment_of x) a events (moment_of m)
     (λ is. (is.0, is.1.0)) (ran_before x m y events a ran continues)
     ∙ steps_before x m y events a ran continues
 
@@ -152,7 +152,7 @@ again_at :
     → IsRunOn f (moment_of x) x.bay
     → (any_takes events ≡ true → AreSerial f.state)
     → AreFit f (moment_of x) events (moment_of m) ran.steps
-    → ((n : ℕ) → n < f.state.made → is_over (book y) n ≡ false)
+    → ((n : ℕ) → n < f.state.made → is_failed (book y) n ≡ false)
     → (i : Image) → IsPick y.bay y.bay y.bay.held i
     → HoldsNext (TargetsLand f) (HaveOwnAreas f) (pool_by f (moment_of x) events (moment_of m) ran.steps) y.slices y.linear (book y) i
 again_at x m y a events unspent ran ends serving served f on serials fit lasts i pick =
@@ -189,7 +189,7 @@ outside_at :
     (x m y : View) (a : FlatArray) (events : List Event)
     → IsUnspent y
     → Ran x m events
-    → Passes m y
+    → CallFrame m y
     → KeepsOutside x.slices y.slices (AnyTakes y.shelf.names events) (IsServing x a) x.bay y.bay
 outside_at x m y a events unspent ran passes =
     let names = passes.shelf.names in
@@ -205,9 +205,9 @@ pub lasts_of :
     → IsLawful y
     → Ran x m events
     → Ends m y
-    → Lasts (IsServing x a) x.bay.traced x.bay y.bay (moment_of x) a events
+    → RunContract (IsServing x a) x.bay.traced x.bay y.bay (moment_of x) a events
 lasts_of x m y a events laws ran ends =
-    let passes : any_takes events ≡ false → Passes x y = λ none. passes_then x m y (ran.passes none) ends.passes in
+    let passes : any_takes events ≡ false → CallFrame x y = λ none. passes_then x m y (ran.passes none) ends.passes in
     record {
       last = moment_of m;
       timeline = timeline_told x m y a events ran (continues_of m y ends.passes);
@@ -343,7 +343,7 @@ until_of :
 until_of x m y a lines worst Put grew laws ends = record {
   last = grew.last;
   timeline =
-      timeline_for (x.bay.traced × Holds x a) (x.bay.traced × IsServing x a) y.bay.stops (moment_of x) a grew.events grew.last (λ is. (is.0, is.1.0)) (gone.timeline a);
+      timeline_for (x.bay.traced × VolumeIs x a) (x.bay.traced × IsServing x a) y.bay.stops (moment_of x) a grew.events grew.last (λ is. (is.0, is.1.0)) (gone.timeline a);
   growing = grew.growing;
   grown = moment_of m;
   lines =
@@ -363,7 +363,7 @@ until_of x m y a lines worst Put grew laws ends = record {
   between = λ serving traced f on.
       subst (HoldsEach y.bay.stops (AreSerial f.state) (TargetsLand f) (HaveOwnAreas f) [] f (moment_of x) grew.events grew.last)
       (sym
-      (steps_for (x.bay.traced × Holds x a) (x.bay.traced × IsServing x a) y.bay.stops (moment_of x) a grew.events grew.last (λ is. (is.0, is.1.0)) (gone.timeline a)
+      (steps_for (x.bay.traced × VolumeIs x a) (x.bay.traced × IsServing x a) y.bay.stops (moment_of x) a grew.events grew.last (λ is. (is.0, is.1.0)) (gone.timeline a)
       ∙ gone.steps_are a))
       (gone.between a serving traced f (begins_on x f on) (goes_run x f on));
 }

@@ -4,7 +4,7 @@ use Rattle.std.specs.Result.{result_ok}
 use Rattle.std.proofs.lemmas.Bool.{both_ways, cases_eq}
 use Rattle.std.proofs.lemmas.Nat.{div_below}
 use Rattle.std.proofs.lemmas.Option.{none-some}
-use Rattle.rack.specs.Seen.{Image, IsLive, Seen}
+use Rattle.rack.specs.Seen.{Image, IsLive, RackView}
 use Rattle.rack.specs.Values.{Keeps, MayLeave}
 use Rattle.slice_rack.specs.Changes.{Seats}
 use Rattle.slice_rack.specs.Runs.{IsSliced}
@@ -19,17 +19,17 @@ use Rattle.array_core.proofs.Opened.{current_below}
 use Rattle.array_image.specs.Places.{log_sectors, log_slice, state_sector}
 use Rattle.array_image.specs.States.{is_current}
 use Rattle.array_model.specs.View.{spent_in}
-use Rattle.raid_laws.specs.Book.{IsAfter}
+use Rattle.raid_laws.specs.Book.{OnlyMarksSince}
 use Rattle.raid_laws.specs.Missing.{raised}
-use Rattle.raid_laws.specs.Raid.{IsTold, Raid, is_over}
+use Rattle.raid_laws.specs.Raid.{IsTracked, Raid, is_failed}
 use Rattle.raid_laws.specs.Since.{HasOwnSince, HoldsSince}
 use Rattle.raid_laws.proofs.Noted.{current_few}
 use Rattle.raid_laws.proofs.Over.{or_parts}
 use Rattle.raid_laws.proofs.Since.{kept_since}
 use Rattle.pool_image.specs.Disks.{disks_of, identities_of}
 use Rattle.pool_image.specs.Drives.{Found}
-use Rattle.pool_model.specs.InService.{InService}
-use Rattle.pool_model.specs.Left.{IsPickOff}
+use Rattle.pool_model.specs.InService.{RunInvariant}
+use Rattle.pool_model.specs.Left.{IsPickOutsideSlices}
 use Rattle.pool_model.specs.Taken.{LacksDrive}
 use Rattle.pool_model.proofs.Found.{ok_of}
 use Rattle.pool_model.proofs.InService.{one_seat}
@@ -38,7 +38,7 @@ use Rattle.pool_model.proofs.Named.{id_same, same_length}
 use Rattle.pool_model.proofs.Vacant.{seat_other, vacant_free}
 use Rattle.pool.specs.Continuing.{Continues}
 use Rattle.pool.specs.View.{View, book, slices_shown, spent_by, volume}
-use Rattle.pool.specs.Volume.{Holds, is_spent, size_of}
+use Rattle.pool.specs.Volume.{VolumeIs, is_spent, size_of}
 use Rattle.shr_tool.specs.Service.{GoesBy, IsOwnCopy, Lone}
 
 -- ---- an array that is told, of a sector that can be had
@@ -52,11 +52,11 @@ array_low x s fit within =
     fit.1.placed (s / x.linear.extent)
     (div_below s x.linear.extent (extents_of x.linear.runs) (sized s (extents_of x.linear.runs) x.linear.extent within) within)
 
-pub not_over : (l : Linear) (v : Raid) (s : ℕ) → spent_by l v s ≡ false → is_over v (array_of l s) ≡ false
-not_over l v s alive = (or_parts (is_over v (array_of l s)) (spent_in (v.arrays (array_of l s)) (sector_of l s)) alive).0
+pub not_over : (l : Linear) (v : Raid) (s : ℕ) → spent_by l v s ≡ false → is_failed v (array_of l s) ≡ false
+not_over l v s alive = (or_parts (is_failed v (array_of l s)) (spent_in (v.arrays (array_of l s)) (sector_of l s)) alive).0
 
-pub told_by : (x : View) (b : FlatArray) (s : ℕ) → (volume x).fit → Holds x b → s < size_of x → is_spent x s ≡ false
-    → IsTold (book x) (slices_of x.slices x.bay) (array_of x.linear s)
+pub told_by : (x : View) (b : FlatArray) (s : ℕ) → (volume x).fit → VolumeIs x b → s < size_of x → is_spent x s ≡ false
+    → IsTracked (book x) (slices_of x.slices x.bay) (array_of x.linear s)
 told_by x b s fit holds within alive = holds.told s (let same = holds.size in omega (arith, within, same)) alive (array_of x.linear s) (array_low x s fit within)
 
 -- ---- copies
@@ -74,12 +74,12 @@ ok_same : {Y : Type 0} (a b : Copied) → ◌≡◌ {A = Result Copied Y} (Ok a)
 ok_same a b same = cc
 
 -- A copy is a drive's own that names its place, by a state that came of one of the pool's.
-pub own_since : (s r : State) (p : ℕ) (u : List ℕ) (copy : Copied) → IsAfter s r → HasOwnSince r p u → decoded u ≡ Ok copy → IsOwnCopy s p copy
+pub own_since : (s r : State) (p : ℕ) (u : List ℕ) (copy : Copied) → OnlyMarksSince s r → HasOwnSince r p u → decoded u ≡ Ok copy → IsOwnCopy s p copy
 own_since s r p u copy after own is =
     subst (IsOwnCopy s p) (ok_same own.copy copy (sym own.is ∙ is)) (record { pool = own.after.same.pool ∙ after.same.pool; drive = own.drive ∙ id_same s r after.same p })
 
 -- the place of a pool's drive is in the list
-pub seat_listed : (f : Found) (t : Slices) (v : Raid) (x : Seen) → InService f t v x → (p d : ℕ) → f.seats p ≡ Some d → p < length v.state.drives.items
+pub seat_listed : (f : Found) (t : Slices) (v : Raid) (x : RackView) → RunInvariant f t v x → (p d : ℕ) → f.seats p ≡ Some d → p < length v.state.drives.items
 seat_listed f t v x service p d seat =
     let low = current_below f.state p (service.arranged.seated p d seat).0 in
     let many = same_length v.state.drives.items f.state.drives.items service.after.same.drives in
@@ -88,14 +88,14 @@ seat_listed f t v x service p d seat =
 -- ---- copies since a moment
 
 -- each place that is current has its own copy
-pub since_now : (x : View) (b : FlatArray) (s : ℕ) → (volume x).fit → Holds x b → s < size_of x → is_spent x s ≡ false → HoldsSince (book x).state (slices_shown x)
+pub since_now : (x : View) (b : FlatArray) (s : ℕ) → (volume x).fit → VolumeIs x b → s < size_of x → is_spent x s ≡ false → HoldsSince (book x).state (slices_shown x)
 since_now x b s fit holds within alive =
     kept_since (book x).state (book x).number (slices_shown x) ((told_by x b s fit holds within alive).stood (not_over x.linear (book x) s alive)).log
 
 -- ---- the drive of a place of the pool by which a run goes
 
 -- a log slice that a place has on its disk begins with the sector of the state
-pub held_log : (u : Slices) (a : Seen) (place d : ℕ) → seat_of u place ≡ Some d → first_of u (log_slice place) ≡ state_sector
+pub held_log : (u : Slices) (a : RackView) (place d : ℕ) → seat_of u place ≡ Some d → first_of u (log_slice place) ≡ state_sector
     → (slices_of u a).held (log_slice place) 0 ≡ a.held d state_sector
 held_log u a place d on first =
     let on_place : place_of (log_slice place) ≡ place = omega arith in
@@ -165,7 +165,7 @@ module _ {L : Type 0} {o : Option Lone} (x : View) (place : ℕ) (fit : (volume 
   pub log_on : disk_of x.slices (log_slice place) ≡ d
   log_on = let on_place : place_of (log_slice place) ≡ place = omega arith in ap (λ k. unwrap_or k 0) (ap (seat_of x.slices) on_place ∙ on)
 
-  pub held_there : (a : Seen) → (slices_of x.slices a).held (log_slice place) 0 ≡ a.held d state_sector
+  pub held_there : (a : RackView) → (slices_of x.slices a).held (log_slice place) 0 ≡ a.held d state_sector
   held_there a = held_log x.slices a place d on (log_same.0 ∙ lies.0)
 
   pub sector : state_sector < x.bay.sectors d
@@ -177,7 +177,7 @@ module _ {L : Type 0} {o : Option Lone} (x : View) (place : ℕ) (fit : (volume 
       omega (arith, room, first, many, here)
 
   -- where it is current and a sector of the volume can be had, whatever copy it may be left with is its own
-  pub own_current : {b : FlatArray} → Holds x b → (s : ℕ) → s < size_of x → is_spent x s ≡ false → is_current (book x).state place ≡ true → (u : List ℕ) (copy : Copied)
+  pub own_current : {b : FlatArray} → VolumeIs x b → (s : ℕ) → s < size_of x → is_spent x s ≡ false → is_current (book x).state place ≡ true → (u : List ℕ) (copy : Copied)
       → MayLeave (x.bay.held d state_sector) u → decoded u ≡ Ok copy → IsOwnCopy f.state place copy
   own_current {b} holds s within alive current u copy may is =
       own_since f.state (book x).state place u copy goes.service.after
@@ -197,7 +197,7 @@ module _ {L : Type 0} {o : Option Lone} (x : View) (place : ℕ) (fit : (volume 
 
   -- Where a sector of the volume can be had: what the drive says at a later moment, where its sector of the state has kept its values until then and is in no
   -- slice any more.
-  module _ {b : FlatArray} (holds : Holds x b) (s : ℕ) (within : s < size_of x) (alive : is_spent x s ≡ false) (y : View) (continues : Continues x y)
+  module _ {b : FlatArray} (holds : VolumeIs x b) (s : ℕ) (within : s < size_of x) (alive : is_spent x s ≡ false) (y : View) (continues : Continues x y)
       (told : (d : ℕ) → d < y.bay.disks → y.bay.told d) (unspent : (d s : ℕ) → y.bay.spent d s ≡ false) (kept : Keeps (x.bay.held d state_sector) (y.bay.held d state_sector))
       (bare : (w : List ℕ) → IsSliced y.slices d state_sector w → ⊥) where
     live : IsLive y.bay y.bay d state_sector
@@ -205,18 +205,18 @@ module _ {L : Type 0} {o : Option Lone} (x : View) (place : ℕ) (fit : (volume 
         let low : d < y.bay.disks = (let at = there_then in let more = continues.disks in omega (arith, at, more)) in
         record { disk = low; sector = subst (λ n. state_sector < n) (sym (continues.sectors d there_then)) (sector x place fit f goes d seat on_then); is_told = told d low; unspent = unspent d state_sector }
 
-    told_here : IsTold (book x) (slices_of goes.tables x.bay) (array_of x.linear s)
-    told_here = subst (λ (u : Slices). IsTold (book x) (slices_of u x.bay) (array_of x.linear s)) same (told_by x b s fit holds within alive)
+    told_here : IsTracked (book x) (slices_of goes.tables x.bay) (array_of x.linear s)
+    told_here = subst (λ (u : Slices). IsTracked (book x) (slices_of u x.bay) (array_of x.linear s)) same (told_by x b s fit holds within alive)
 
     -- an earlier state than the book's, where the place's drive was missing
-    pub lost_below : is_current (book x).state place ≡ false → (i : Image) → IsPickOff y.slices y.bay i
+    pub lost_below : is_current (book x).state place ≡ false → (i : Image) → IsPickOutsideSlices y.slices y.bay i
         → (copy : Copied) → (identities_of (disks_of y.bay) i d).copied ≡ Some copy → copy.state.epoch < (book x).state.epoch
     lost_below missing =
         lost_before f goes.tables y.slices (book x) x.bay y.bay place d d goes.service.slices seat small_then missing (array_of x.linear s) told_here
         (not_over x.linear (book x) s alive) live kept bare
 
     -- and else an earlier one than the next
-    pub gave_below : (book x).state.epoch < 2 ^ 63 - 1 → (i : Image) → IsPickOff y.slices y.bay i
+    pub gave_below : (book x).state.epoch < 2 ^ 63 - 1 → (i : Image) → IsPickOutsideSlices y.slices y.bay i
         → (copy : Copied) → (identities_of (disks_of y.bay) i d).copied ≡ Some copy → copy.state.epoch < raised (book x).state.epoch
     gave_below room =
         former_earlier f goes.tables y.slices (book x) x.bay y.bay place d goes.service.slices seat small_then (array_of x.linear s) told_here

@@ -3,7 +3,7 @@
 use Rattle.std.proofs.Common.{◌≡◌, ◌≢◌, ℕ, ◌<◌, true, false, length, List, Option, Some, Ok, sym, ap₂, subst, inl, inr, arith, ◌∙◌}
 use Rattle.std.proofs.lemmas.Bool.{both_ways}
 use Rattle.rack.specs.Joins.{keeps_then}
-use Rattle.rack.specs.Seen.{IsLive, Seen}
+use Rattle.rack.specs.Seen.{IsLive, RackView}
 use Rattle.rack.specs.Sequences.{WritesOnly}
 use Rattle.rack.specs.Values.{Keeps}
 use Rattle.rack.proofs.Writing.{only_weaker}
@@ -15,7 +15,7 @@ use Rattle.pool_state.specs.declared.contents.State.{State}
 use Rattle.array_core.proofs.Opened.{current_below}
 use Rattle.array_image.specs.Places.{log_slice, state_sector}
 use Rattle.array_image.specs.States.{is_current}
-use Rattle.raid_laws.specs.Book.{IsAfter, after_then}
+use Rattle.raid_laws.specs.Book.{OnlyMarksSince, after_then}
 use Rattle.raid_rack.specs.declared.arrays.Arrays.{Arrays}
 use Rattle.raid_laws.specs.Enlisting.{IsWrittenBy}
 use Rattle.raid_laws.specs.NewDrive.{IsOfDrive}
@@ -29,7 +29,7 @@ use Rattle.pool.specs.Replaced.{ChangesDrive}
 use Rattle.pool.specs.Replacing.{has_other_missing}
 use Rattle.pool.specs.Taking.{AttachesDisk}
 use Rattle.pool.specs.View.{View, book, over, volume}
-use Rattle.pool.specs.Volume.{Holds}
+use Rattle.pool.specs.Volume.{VolumeIs}
 use Rattle.pool.proofs.Admitted.{others_current}
 use Rattle.shr_tool.specs.Service.{GoesBy, Lone}
 use Rattle.shr_tool.proofs.Former as old
@@ -44,7 +44,7 @@ module _ (x : View) (bay : x.bays.one) (place : ℕ) (name : List ℕ) (disk : �
   c = meanwhile m bay_then arrays refused
 
   module _ (readies : Readies m c place disk) where
-    pub after : IsAfter (book x).state (book c).state
+    pub after : OnlyMarksSince (book x).state (book c).state
     after = elim readies [
       | inl cleaned ↦ cleaned.ends.passes.marks
       | inr lose ↦ after_then (book x).state lose.arrays.state (book c).state lose.cleaned.ends.passes.marks lose.left.not_whole.mends.moves.book
@@ -61,7 +61,7 @@ module _ (x : View) (bay : x.bays.one) (place : ℕ) (name : List ℕ) (disk : �
       unlost k other current = others_then k (current_below (book x).state k current) other
 
       module _ {L : Type 0} {o : Option Lone} (clear : (d s : ℕ) → c.bay.spent d s ≡ false) (fit : (volume x).fit) (f : Found) (goes : GoesBy L o f x) (d : ℕ) (seat : f.seats place ≡ Some d)
-          (on : seat_of x.slices place ≡ Some d) {b : FlatArray} (holds : Holds x b) where
+          (on : seat_of x.slices place ≡ Some d) {b : FlatArray} (holds : VolumeIs x b) where
         low_named : d < m.bay.disks
         low_named =
             let first = old.there x place fit f goes d seat on in
@@ -75,7 +75,7 @@ module _ (x : View) (bay : x.bays.one) (place : ℕ) (name : List ℕ) (disk : �
         sector_named = subst (λ n. state_sector < n) (sym (at.continues.sectors d (old.there x place fit f goes d seat on))) (old.sector x place fit f goes d seat on)
 
         -- over a part in which no other drive is lost
-        part : (s u : State) (a e : Seen) → KeepsUnlost s u (slices_of x.slices a) (slices_of x.slices e) → ((k : ℕ) → k ≢ place → KeepsPlace s u k)
+        part : (s u : State) (a e : RackView) → KeepsUnlost s u (slices_of x.slices a) (slices_of x.slices e) → ((k : ℕ) → k ≢ place → KeepsPlace s u k)
             → a.told d → e.spent d state_sector ≡ false → Keeps (a.held d state_sector) (e.held d state_sector)
         part s u a e is unlost told clear =
             let many = old.log_many x place fit f goes d seat on in
@@ -141,7 +141,7 @@ module _ (x : View) (bay : x.bays.one) (place : ℕ) (name : List ℕ) (disk : �
 -- ---- the whole line, where the place hadn't given its disk up
 
 module _ {L : Type 0} {o : Option Lone} (x y : View) (place : ℕ) (name : List ℕ) (unspent : (d s : ℕ) → y.bay.spent d s ≡ false) (fit : (volume x).fit) (f : Found)
-    (goes : GoesBy L o f x) (d : ℕ) (seat : f.seats place ≡ Some d) (on : seat_of x.slices place ≡ Some d) {b : FlatArray} (holds : Holds x b) where
+    (goes : GoesBy L o f x) (d : ℕ) (seat : f.seats place ≡ Some d) (on : seat_of x.slices place ≡ Some d) {b : FlatArray} (holds : VolumeIs x b) where
   -- where a new drive was taken in
   pub entered_copy : (disk : ℕ) → EntersNamed x y place name disk → ChangesDrive x y place name → d ≢ disk → (IsNamed (moment_of y) name d → ⊥)
       → Keeps (x.bay.held d state_sector) (y.bay.held d state_sector)
@@ -184,7 +184,7 @@ module _ (x y : View) (place : ℕ) (name : List ℕ) (named : LeavesNamed x y p
       (others_then x named.bay place name named.disk named.attaches ready.bay ready.arrays ready.refused ready.readies whole k low other)
 
   module _ {L : Type 0} {o : Option Lone} (unspent : (d s : ℕ) → y.bay.spent d s ≡ false) (fit : (volume x).fit) (f : Found) (goes : GoesBy L o f x) (d : ℕ)
-      (seat : f.seats place ≡ Some d) (on : seat_of x.slices place ≡ Some d) {b : FlatArray} (holds : Holds x b) where
+      (seat : f.seats place ≡ Some d) (on : seat_of x.slices place ≡ Some d) {b : FlatArray} (holds : VolumeIs x b) where
     clear : (k s : ℕ) → e.bay.spent k s ≡ false
     clear k s = only.stays.spent k s (unspent k s)
 

@@ -13,14 +13,14 @@ use Rattle.array_image.specs.States.{is_current, id_of}
 use Rattle.raid_laws.specs.Enlisting.{Enlists, IsOpenDisk, KeepsTold, enlisted, new_table, next_drive}
 use Rattle.raid_laws.specs.Logs.{LogsBetween}
 use Rattle.raid_laws.specs.Losses.{has_other}
-use Rattle.raid_laws.specs.Raid.{IsTold, is_over}
+use Rattle.raid_laws.specs.Raid.{IsTracked, is_failed}
 use Rattle.pool_image.specs.Disks.{disks_of}
 use Rattle.pool_image.specs.Drives.{Found, first_of}
 use Rattle.pool_image.specs.Meaning.{is_member}
-use Rattle.pool_model.specs.InService.{InService}
+use Rattle.pool_model.specs.InService.{RunInvariant}
 use Rattle.pool_model.specs.Laid.{HaveOtherIds}
 use Rattle.pool_model.specs.Left.{HasNoSuper, HavePlaces}
-use Rattle.pool_model.specs.Stopped.{HoldAmid, HoldTables}
+use Rattle.pool_model.specs.Stopped.{RecoversInCall, HoldTables}
 use Rattle.pool_model.specs.Taken.{SeatsNew, taken}
 use Rattle.pool_model.proofs.Replacing.{IsReplacing, replacing_late}
 use Rattle.pool_model.proofs.ReplacingEarly.{former_all, present_told, replacing_former, replacing_laid}
@@ -32,10 +32,10 @@ use Rattle.shr_tool.proofs.TakingFrom.{inside_same, new_lies}
 
 -- t are the tables by which the pool h goes, from which the disk is taken in.
 module _ (c y : View) (place disk : ℕ) (enters : EntersBy c y place disk) (h : Found) (t : Slices) (same : enters.vacates.tables ≡ t) (was : is_current (book c).state place ≡ true)
-    (service : InService h t (book c) c.bay) (sits : SeatsNew h t y.slices (book c) place disk (c.bay.sectors disk)) (apart : (p : ℕ) → h.seats p ≡ Some disk → ⊥)
+    (service : RunInvariant h t (book c) c.bay) (sits : SeatsNew h t y.slices (book c) place disk (c.bay.sectors disk)) (apart : (p : ℕ) → h.seats p ≡ Some disk → ⊥)
     (renamed : id_of (book c).state place ≢ Some (next_drive (book c).state).0) (opened : IsOpenDisk c.bay disk) (tables : HoldTables h t (book c).state c.bay)
-    (told : (n : ℕ) → n < h.state.made → IsTold (book c) (slices_of t c.bay) n) (goes : (n : ℕ) → n < h.state.made → is_over (book c) n ≡ false)
-    (lasts : (n : ℕ) → n < h.state.made → is_over (book y) n ≡ false) (other : has_other (book y).state place ≡ true) (lasting : c.bay.lasting) (traced : c.bay.traced)
+    (told : (n : ℕ) → n < h.state.made → IsTracked (book c) (slices_of t c.bay) n) (goes : (n : ℕ) → n < h.state.made → is_failed (book c) n ≡ false)
+    (lasts : (n : ℕ) → n < h.state.made → is_failed (book y) n ≡ false) (other : has_other (book y).state place ≡ true) (lasting : c.bay.lasting) (traced : c.bay.traced)
     (ordered : IsOrderly t) (inside : IsInside t c.bay) (orderly : IsOrderly y.slices) (within : IsInside y.slices y.bay)
     (bare : (n first : ℕ) → n < h.state.made → is_member h n place ≡ false → first_of h n ≡ Some first → first + super_sector < c.bay.sectors disk
     → (v : List ℕ) → MayLeave (c.bay.held disk (first + super_sector)) v → HasNoSuper h.state.pool.0 n v) where
@@ -86,9 +86,9 @@ module _ (c y : View) (place disk : ℕ) (enters : EntersBy c y place disk) (h :
 
   -- what it holds is told by the log slices: the pool with the drive that it has, or with the new one by a state that has it
   pub giving : (k : ℕ) (i : Image) → c.bay.clock < k → k ≤ y.bay.clock → y.bay.stops k i
-      → HoldAmid h t (book c).state (book c).state i
+      → RecoversInCall h t (book c).state (book c).state i
       ⊎ (LogsBetween next (book y).state (sectors_of y.slices) (sliced y.slices i)
-      × (HaveOtherIds h (book c).state place disk i → HoldAmid (taken h (disks_of c.bay) place disk next) y.slices next (book y).state i))
+      × (HaveOtherIds h (book c).state place disk i → RecoversInCall (taken h (disks_of c.bay) place disk next) y.slices next (book y).state i))
   giving k i since until stopped = elim (cases_lt enlists.mid k) [
     | inr early ↦
         inl

@@ -13,20 +13,20 @@ use Rattle.pool_state.specs.declared.contents.Plan.TheVariants.{Replace as Repla
 use Rattle.pool_state.specs.declared.contents.State.{State}
 use Rattle.array_image.specs.Places.{super_sector}
 use Rattle.array_image.specs.States.{is_current, id_of}
-use Rattle.raid_laws.specs.Book.{IsAfter}
+use Rattle.raid_laws.specs.Book.{OnlyMarksSince}
 use Rattle.raid_laws.specs.Enlisting.{enlisted, next_drive}
 use Rattle.raid_laws.specs.Laws.{live_parts}
 use Rattle.raid_laws.specs.Logs.{LogsBetween}
 use Rattle.raid_laws.specs.Losses.{has_other}
 use Rattle.raid_laws.specs.Missing.{raised}
 use Rattle.raid_laws.specs.NewDrive.{SeatsDrive, joins}
-use Rattle.raid_laws.specs.Raid.{is_over}
+use Rattle.raid_laws.specs.Raid.{is_failed}
 use Rattle.pool_image.specs.Disks.{Disks, disks_of}
 use Rattle.pool_image.specs.Drives.{Found, first_of}
 use Rattle.pool_image.specs.Meaning.{array_sectors, is_member}
 use Rattle.pool_model.specs.Laid.{HaveOtherIds}
 use Rattle.pool_model.specs.Left.{HasNoSuper}
-use Rattle.pool_model.specs.Stopped.{HoldAmid}
+use Rattle.pool_model.specs.Stopped.{RecoversInCall}
 use Rattle.pool_model.specs.Taken.{AreDistinct, AreSerial, SeatsNew, attached, taken}
 use Rattle.pool_model.proofs.NewMembers.{joins_member, positions_of}
 use Rattle.pool_model.proofs.Serials.{serial_after, serial_fresh}
@@ -37,13 +37,13 @@ use Rattle.pool.specs.Entering.{EntersBy, EntersReady, IsVacating, meanwhile}
 use Rattle.pool.specs.Moment.{moment_of, views_of}
 use Rattle.pool.specs.Naming.{EntersNamed}
 use Rattle.pool.specs.View.{View, book, over, spent_by, volume}
-use Rattle.pool.specs.Volume.{Holds, is_spent, size_of}
+use Rattle.pool.specs.Volume.{VolumeIs, is_spent, size_of}
 use Rattle.pool.proofs.Admitted.{reaches_each}
 use Rattle.pool.proofs.Readying.{many_same, units_same}
 use Rattle.shr_tool.specs.Between.{AreWithout, HoldsEither, LosesOwn}
 use Rattle.shr_tool.specs.Events.Event.{replaced}
 use Rattle.shr_tool.specs.Service.{GoesBy, IsFitDisk, IsFitDrive, disk_in, pool_after, units_in}
-use Rattle.shr_tool.specs.Timeline.{Performs}
+use Rattle.shr_tool.specs.Timeline.{LineContract}
 use Rattle.shr_tool.proofs.EitherPool.{with_now, without_now, without_then}
 use Rattle.shr_tool.proofs.Former.{array_low}
 use Rattle.shr_tool.proofs.GivesWay.{after}
@@ -53,9 +53,9 @@ use Rattle.shr_tool.proofs.TakenIn as new
 use Rattle.shr_tool.proofs.TakingFrom.{other_left, taking_first, taking_last}
 
 module _ {L : Type 0} (x y : View) (place : ℕ) (name text : List ℕ) (b : FlatArray) (unspent : (d s : ℕ) → y.bay.spent d s ≡ false) (fit : (volume x).fit)
-    (performs : Performs x y (replaced place name) text) (holds : Holds x b) (some : (s : ℕ) × (s < size_of x) × (spent_by x.linear (book y) s ≡ false))
+    (performs : LineContract x y (replaced place name) text) (holds : VolumeIs x b) (some : (s : ℕ) × (s < size_of x) × (spent_by x.linear (book y) s ≡ false))
     (f : Found) (goes : GoesBy L None f x) (current : is_current (book x).state place ≡ true) (fitting : IsFitDrive f (moment_of x) place name)
-    (waits : IsFitDisk f (moment_of x) name) (serials : AreSerial f.state) (lands : L) (lasts : (n : ℕ) → n < f.state.made → is_over (book y) n ≡ false) (traced : x.bay.traced) where
+    (waits : IsFitDisk f (moment_of x) name) (serials : AreSerial f.state) (lands : L) (lasts : (n : ℕ) → n < f.state.made → is_failed (book y) n ≡ false) (traced : x.bay.traced) where
   abbrev disk : ℕ
   disk = new.disk x y place name text b unspent fit performs holds some f goes fitting serials (λ l none. absurd (none-some l none))
 
@@ -88,7 +88,7 @@ module _ {L : Type 0} (x y : View) (place : ℕ) (name text : List ℕ) (b : Fla
   unspent_then : (d s : ℕ) → c.bay.spent d s ≡ false
   unspent_then d s = enters.enlists.only.stays.spent d s (unspent d s)
 
-  marks : IsAfter (book x).state (book c).state
+  marks : OnlyMarksSince (book x).state (book c).state
   marks = after x entered.bay place name disk entered.attaches ready.bay ready.arrays ready.refused ready.readies
 
   array_then : array_of x.linear some.0 < (book c).state.made
@@ -99,7 +99,7 @@ module _ {L : Type 0} (x y : View) (place : ℕ) (name text : List ℕ) (b : Fla
       other_left c y place disk enters performs.continues.fit.0 (array_of x.linear some.0) (sector_of x.linear some.0) array_then
       (live_parts (book y) (array_of x.linear some.0) (sector_of x.linear some.0) some.2).1
 
-  goes_then : (n : ℕ) → n < f.state.made → is_over (book c) n ≡ false
+  goes_then : (n : ℕ) → n < f.state.made → is_failed (book c) n ≡ false
   goes_then n low =
       enters.enlists.is.still n (let was = goes.service.after.same.made in let made = marks.same.made in omega (arith, low, was, made)) other (lasts n low)
 
@@ -208,15 +208,15 @@ module _ {L : Type 0} (x y : View) (place : ℕ) (name text : List ℕ) (b : Fla
   abbrev At : Image → Type 0
   At i = HoldsEither f (moment_of x) (moment_of y) place name i
 
-  before : (i : Image) → HoldAmid h x.slices (book x).state (book c).state i → At i
+  before : (i : Image) → RecoversInCall h x.slices (book x).state (book c).state i → At i
   before =
       without_then f x y place name disk enters.units (book c).state (disks_of c.bay) marks which listed disks_same units_are disk_is x.slices (inr (inr (current, refl)))
 
-  without : (t : Slices) → AreWithout (moment_of x) (moment_of y) place t → (i : Image) → HoldAmid h t (book c).state (book c).state i → At i
+  without : (t : Slices) → AreWithout (moment_of x) (moment_of y) place t → (i : Image) → RecoversInCall h t (book c).state (book c).state i → At i
   without = without_now f x y place name disk enters.units (book c).state (disks_of c.bay) marks which listed disks_same units_are disk_is
 
   with_it : (i : Image) → LogsBetween next (book y).state (sectors_of y.slices) (sliced y.slices i)
-      → (HaveOtherIds h (book c).state place disk i → HoldAmid (taken h (disks_of c.bay) place disk next) y.slices next (book y).state i) → At i
+      → (HaveOtherIds h (book c).state place disk i → RecoversInCall (taken h (disks_of c.bay) place disk next) y.slices next (book y).state i) → At i
   with_it = with_now f x y place name disk enters.units (book c).state (disks_of c.bay) marks which listed disks_same units_are disk_is sized
     where
       sized : (n : ℕ) → n < (book c).state.made

@@ -1,6 +1,6 @@
 -- A volume group stays where the sectors before the volume's first extents keep what they hold.
 use Rattle.std.proofs.Common.{◌≡◌, ℕ, ◌<◌, ◌≤◌, List, sym, subst, ◌∙◌, arith}
-use Rattle.rack.specs.Seen.{Image, Seen}
+use Rattle.rack.specs.Seen.{Image, RackView}
 use Rattle.rack.specs.Values.{MayLeave}
 use Rattle.array_model.specs.View.{sectors_of}
 use Rattle.lvm_group.specs.Images.{IsVolume}
@@ -10,7 +10,7 @@ use Rattle.pool_model.specs.Grouped.{HoldGroup}
 use Rattle.raid_laws.specs.Raid.{Raid, held_in}
 
 -- So it is where the book's pool is the same and these sectors may be left with nothing new.
-pub group_kept : (v w : Raid) (l : Linear) (x y : Seen) → w.state.pool ≡ v.state.pool → w.state.extent ≡ v.state.extent → w.state.joined ≡ v.state.joined
+pub group_kept : (v w : Raid) (l : Linear) (x y : RackView) → w.state.pool ≡ v.state.pool → w.state.extent ≡ v.state.extent → w.state.joined ≡ v.state.joined
     → ((n : ℕ) → sectors_of (w.arrays n) ≡ sectors_of (v.arrays n))
     → ((n s : ℕ) (u : List ℕ) → n < w.state.joined → s < sectors_of (w.arrays n) → s < data_start → MayLeave (held_in w y n s) u → MayLeave (held_in v x n s) u)
     → HoldGroup v l x → HoldGroup w l y

@@ -18,7 +18,7 @@ use Rattle.shr_tool.specs.Events.{Event, calls_in, line_of, takes_disk, worse}
 use Rattle.shr_tool.specs.Events.Event.{answered, spent, lost, last, replaced, declined, stepped, stuck, shown}
 use Rattle.shr_tool.specs.Growing.{GrowsAlong, GrowsOn, IsAgainst, IsAnswered, IsEvent, MarksWent, ProceedsTo}
 use Rattle.shr_tool.specs.Serving.{Acts, Answers}
-use Rattle.shr_tool.specs.Timeline.{Performs}
+use Rattle.shr_tool.specs.Timeline.{LineContract}
 use Rattle.shr_tool.proofs.History.{IsLawful, performed}
 use Rattle.shr_tool.proofs.Serial.{listed_by, replaced_by}
 use Rattle.shr_tool.proofs.Timelines.{happens_for, worse_assoc, worse_given}
@@ -87,7 +87,7 @@ proceeds_then x y z one two =
 -- ---- an event
 
 -- a drive that is replaced is marked, or another one by its own fault
-marks_replaced : (x y : View) (place : ℕ) (name text : List ℕ) → Performs x y (replaced place name) text
+marks_replaced : (x y : View) (place : ℕ) (name text : List ℕ) → LineContract x y (replaced place name) text
     → MarksWent (IsAgainst (Ok (Replace place name))) (moment_of x) (moment_of y)
 marks_replaced x y place name text performs k was now =
     let by = replaced_by x y place name text performs in
@@ -104,7 +104,7 @@ marks_replaced x y place name text performs k was now =
     ]
 
 -- one that names a disk
-marks_taking : (x y : View) (event : Event) (text : List ℕ) → takes_disk event ≡ true → Performs x y event text
+marks_taking : (x y : View) (event : Event) (text : List ℕ) → takes_disk event ≡ true → LineContract x y event text
     → MarksWent (IsAgainst (line_of event)) (moment_of x) (moment_of y)
 marks_taking x y (answered line) text takes does = absurd (both_ways false refl takes)
 marks_taking x y (spent line sector) text takes does = absurd (both_ways false refl takes)
@@ -117,7 +117,7 @@ marks_taking x y (stuck count array) text takes does = absurd (both_ways false r
 marks_taking x y (shown text') text takes does = absurd (both_ways false refl takes)
 
 -- drives are marked in an event that refused a call, or that its line names
-marks_performed : (x y : View) (event : Event) (text : List ℕ) → Performs x y event text → MarksWent (IsAgainst (line_of event)) (moment_of x) (moment_of y)
+marks_performed : (x y : View) (event : Event) (text : List ℕ) → LineContract x y event text → MarksWent (IsAgainst (line_of event)) (moment_of x) (moment_of y)
 marks_performed x y event text performs = elim (cases_Bool (takes_disk event)) [
   | inl takes ↦ marks_taking x y event text takes performs
   | inr none ↦ λ k was now. elim ((performs.marks none).cause k was now) [

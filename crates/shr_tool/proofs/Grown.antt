@@ -9,7 +9,7 @@ use Rattle.pool_model.specs.Taken.{AreSerial}
 use Rattle.shr_script.specs.Line.{Line}
 use Rattle.pool.specs.Moment.{Moment, moment_of}
 use Rattle.pool.specs.View.{View}
-use Rattle.pool.specs.Volume.{Holds}
+use Rattle.pool.specs.Volume.{VolumeIs}
 use Rattle.shr_tool.specs.Between.{HoldsEach}
 use Rattle.shr_tool.specs.declared.perform.Answer.{Answer}
 use Rattle.shr_tool.specs.declared.perform.Answer.TheVariants.{Given}
@@ -34,14 +34,14 @@ pub gone_kept :
     → HasGone x new events last
 gone_kept x old new events last past gone = record {
   timeline = λ a.
-      timeline_kept (x.bay.traced × Holds x a) old new last.clock (λ told. past told.1.shelf told.0) (moment_of x) a events last (omega arith) (gone.timeline a);
+      timeline_kept (x.bay.traced × VolumeIs x a) old new last.clock (λ told. past told.1.shelf told.0) (moment_of x) a events last (omega arith) (gone.timeline a);
   steps = gone.steps;
   steps_are = λ a.
-      steps_kept (x.bay.traced × Holds x a) old new last.clock (λ told. past told.1.shelf told.0) (moment_of x) a events last (omega arith) (gone.timeline a)
+      steps_kept (x.bay.traced × VolumeIs x a) old new last.clock (λ told. past told.1.shelf told.0) (moment_of x) a events last (omega arith) (gone.timeline a)
       ∙ gone.steps_are a;
   between = λ a serving traced f begins goes.
       subst (HoldsEach new (AreSerial f.state) (TargetsLand f) (HaveOwnAreas f) [] f (moment_of x) events last) (gone.steps_are a)
-      (each_kept (x.bay.traced × Holds x a) old new (AreSerial f.state) (TargetsLand f) (HaveOwnAreas f) last.clock (traced, serving.0) (past serving.0.shelf traced)
+      (each_kept (x.bay.traced × VolumeIs x a) old new (AreSerial f.state) (TargetsLand f) (HaveOwnAreas f) last.clock (traced, serving.0) (past serving.0.shelf traced)
       [] f (moment_of x) a events last (omega arith) (gone.timeline a)
       (subst (HoldsEach old (AreSerial f.state) (TargetsLand f) (HaveOwnAreas f) [] f (moment_of x) events last) (sym (gone.steps_are a))
       (gone.between a serving traced f begins goes)));

@@ -2,7 +2,7 @@
 use Rattle.std.proofs.Common.{◌≡◌, ℕ, ◌+◌, ◌<◌, ◌≤◌, false, true, List, length, refl, sym, ◌∙◌, subst, inl, inr, arith}
 use Rattle.std.proofs.lemmas.Bool.{both_ways, cases_Bool, cases_lt}
 use Rattle.rack.specs.Joins.{keeps_same, keeps_then}
-use Rattle.rack.specs.Seen.{Image, IsLive, Seen}
+use Rattle.rack.specs.Seen.{Image, IsLive, RackView}
 use Rattle.rack.specs.Sequences.{IsMix}
 use Rattle.rack.specs.Values.{MayLeave}
 use Rattle.slice_rack.specs.Slices.{Slices, sectors_of as sectors_in}
@@ -12,22 +12,22 @@ use Rattle.pool_state.specs.declared.contents.State.{State}
 use Rattle.array_model.specs.View.{sectors_of}
 use Rattle.lvm_group.specs.Framed.{IsShown}
 use Rattle.lvm_group.specs.Runs.{Linear, data_start}
-use Rattle.raid_laws.specs.Raid.{IsTold, Raid, held_in}
+use Rattle.raid_laws.specs.Raid.{IsTracked, Raid, held_in}
 use Rattle.raid_rack.proofs.Truths.{truths_then}
 use Rattle.pool_model.specs.Grouped.{AreHeadsLive, HoldGroup}
 use Rattle.shr_tool.proofs.GroupKept.{group_kept}
 use Rattle.pool.specs.declared.replacing.GrowFault.TheVariants.{Attach, Memory, NoSuchDrive, Twice}
-use Rattle.pool.specs.Calls.{Passes}
+use Rattle.pool.specs.Calls.{CallFrame}
 use Rattle.pool.specs.Moment.{IsNamed, moment_of}
 use Rattle.pool.specs.Replaced.{ChangesDrive}
 use Rattle.pool.specs.View.{View, arrays_shown, book, slices_shown}
 use Rattle.shr_tool.specs.Events.{Event, takes_disk}
 use Rattle.shr_tool.specs.Events.Event.{answered, spent, lost, last, replaced, declined, stepped, stuck, shown}
 use Rattle.shr_tool.specs.Heads.{KeepsHeads}
-use Rattle.shr_tool.specs.Timeline.{Performs}
+use Rattle.shr_tool.specs.Timeline.{LineContract}
 use Rattle.shr_tool.proofs.TakenIn.{ok_err}
 
-pub heads_same : (v : Raid) (a : Seen) → KeepsHeads v v a a
+pub heads_same : (v : Raid) (a : RackView) → KeepsHeads v v a a
 heads_same v a = record {
   made = refl;
   joined = refl;
@@ -40,7 +40,7 @@ heads_same v a = record {
   truths = λ n low held. held;
 }
 
-pub heads_then : (u v w : Raid) (a b c : Seen) → KeepsHeads u v a b → KeepsHeads v w b c → KeepsHeads u w a c
+pub heads_then : (u v w : Raid) (a b c : RackView) → KeepsHeads u v a b → KeepsHeads v w b c → KeepsHeads u w a c
 heads_then u v w a b c one two = record {
   made = two.made ∙ one.made;
   joined = two.joined ∙ one.joined;
@@ -63,7 +63,7 @@ not_shown : (s extent rest : ℕ) → s < data_start → s ≡ data_start + exte
 not_shown s extent rest first is = absurd (omega (arith, first, is))
 
 -- calls that take no disk
-pub heads_passes : (x y : View) → Passes x y → KeepsHeads (book x) (book y) (slices_shown x) (slices_shown y)
+pub heads_passes : (x y : View) → CallFrame x y → KeepsHeads (book x) (book y) (slices_shown x) (slices_shown y)
 heads_passes x y passes = record {
   made = passes.marks.same.made;
   joined = passes.marks.same.joined;
@@ -92,7 +92,7 @@ record IsSamePool (s t : State) : Type 0 where
   pool : t.pool ≡ s.pool
   extent : t.extent ≡ s.extent
 
-module _ (x y : View) (place : ℕ) (name text : List ℕ) (performs : Performs x y (replaced place name) text) where
+module _ (x y : View) (place : ℕ) (name text : List ℕ) (performs : LineContract x y (replaced place name) text) where
   listed : place < length (book x).state.drives.items
   listed = elim (cases_lt place (length (book x).state.drives.items)) [
     | inl low ↦ low
@@ -126,14 +126,14 @@ heads_changes x y place name same changes names all =
       truths = changes.truths names all;
     }
 
-pub heads_performed : (x y : View) (event : Event) (text : List ℕ) → Performs x y event text
+pub heads_performed : (x y : View) (event : Event) (text : List ℕ) → LineContract x y event text
     → x.shelf.told → ((d : ℕ) → d < x.bay.disks → x.bay.told d) → KeepsHeads (book x) (book y) (slices_shown x) (slices_shown y)
 heads_performed x y event text performs names all = elim (cases_Bool (takes_disk event)) [
   | inr none ↦ heads_passes x y (performs.passes none)
   | inl takes ↦ taking event takes performs
 ]
   where
-    taking : (e : Event) → takes_disk e ≡ true → Performs x y e text → KeepsHeads (book x) (book y) (slices_shown x) (slices_shown y)
+    taking : (e : Event) → takes_disk e ≡ true → LineContract x y e text → KeepsHeads (book x) (book y) (slices_shown x) (slices_shown y)
     taking (answered line) takes does = absurd (both_ways false refl takes)
     taking (spent line sector) takes does = absurd (both_ways false refl takes)
     taking (lost place) takes does = absurd (both_ways false refl takes)
@@ -149,8 +149,8 @@ heads_performed x y event text performs names all = elim (cases_Bool (takes_disk
 -- ---- the group
 
 -- it stays where the arrays were told and before their first extents no sector is spent
-pub heads_group : (v w : Raid) (l : Linear) (a b : Seen) → KeepsHeads v w a b → ((n : ℕ) → n < v.state.joined → n < v.state.made)
-    → ((n : ℕ) → n < v.state.joined → IsTold v a n) → AreHeadsLive w → HoldGroup v l a → HoldGroup w l b
+pub heads_group : (v w : Raid) (l : Linear) (a b : RackView) → KeepsHeads v w a b → ((n : ℕ) → n < v.state.joined → n < v.state.made)
+    → ((n : ℕ) → n < v.state.joined → IsTracked v a n) → AreHeadsLive w → HoldGroup v l a → HoldGroup w l b
 heads_group v w l a b heads made told alive =
     group_kept v w l a b heads.pool heads.extent heads.joined heads.sectors
     (λ n s u low inside first left.
@@ -158,8 +158,8 @@ heads_group v w l a b heads made told alive =
     (heads.keeps n s (made n less) (subst (λ k. s < k) (heads.sectors n) inside) first (alive n s low inside first) (told n less)).within u left)
 
 -- a stop inside calls that take no disk leaves there what may be left before them
-pub heads_amid : (x y : View) → Passes x y → x.bay.traced → ((n : ℕ) → n < (book x).state.joined → n < (book x).state.made)
-    → ((n : ℕ) → n < (book x).state.joined → IsTold (book x) (slices_shown x) n) → AreHeadsLive (book y)
+pub heads_amid : (x y : View) → CallFrame x y → x.bay.traced → ((n : ℕ) → n < (book x).state.joined → n < (book x).state.made)
+    → ((n : ℕ) → n < (book x).state.joined → IsTracked (book x) (slices_shown x) n) → AreHeadsLive (book y)
     → (k : ℕ) (i : Image) → x.bay.clock < k → k ≤ y.bay.clock → y.bay.stops k i
     → (n s : ℕ) → n < (book x).state.joined → s < sectors_of ((book x).arrays n) → s < data_start
     → MayLeave (held_in (book x) (slices_shown x) n s) (arrays_in (replayed (sectors_in x.slices) (sliced x.slices i)) n s)

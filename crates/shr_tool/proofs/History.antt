@@ -10,8 +10,8 @@ use Rattle.shr_script.specs.Line.{Line}
 use Rattle.flat_array.specs.Array.{FlatArray}
 use Rattle.shr_script.specs.Script.{script_of, cut_script_of}
 use Rattle.pool.specs.View.{View, book, slices_shown, volume}
-use Rattle.pool.specs.Volume.{Holds}
-use Rattle.pool.specs.Calls.{Passes}
+use Rattle.pool.specs.Volume.{VolumeIs}
+use Rattle.pool.specs.Calls.{CallFrame}
 use Rattle.raid_laws.specs.Raid.{Raid}
 use Rattle.pool.specs.Keeping.{Raises}
 use Rattle.pool.specs.Continuing.{Continues, KeepsOutside}
@@ -19,7 +19,7 @@ use Rattle.shr_tool.specs.declared.perform.Answer.{Answer}
 use Rattle.shr_tool.specs.declared.perform.Answer.TheVariants.{Given}
 use Rattle.shr_tool.specs.Events.{AnyTakes, Event, Takes, any_takes, array_by, calls_in, line_of, lines_of, takes_disk, text_of, texts, worst_of}
 use Rattle.pool.specs.Moment.{moment_of}
-use Rattle.shr_tool.specs.Timeline.{KeepsBookIn, KeepsDisks, KeepsSlices, KeepsStanding, Happens, Performs, Timeline, steps_of}
+use Rattle.shr_tool.specs.Timeline.{KeepsBookIn, KeepsDisks, KeepsSlices, KeepsStanding, EventContract, LineContract, Timeline, steps_of}
 use Rattle.shr_tool.specs.Between.{HaveOthers, HoldsEach}
 use Rattle.shr_tool.specs.Heads.{KeepsHeads}
 use Rattle.shr_tool.specs.Service.{AreFit, AreLone, BeginsOn, GoesBy, GoesOn, IsFitFor, IsLoneFor, IsServed, Lone, none_out, pool_by}
@@ -60,7 +60,7 @@ disks_kept x y continues = record {
   waits = continues.waits;
 }
 
-pub slices_kept : (x y : View) → Passes x y → KeepsSlices (moment_of x) (moment_of y)
+pub slices_kept : (x y : View) → CallFrame x y → KeepsSlices (moment_of x) (moment_of y)
 slices_kept x y passes = record { slices = passes.slices; names = passes.shelf.names; ready = passes.shelf.ready }
 
 -- no sector of a bay's disks is spent
@@ -71,7 +71,7 @@ IsUnspent x = (d s : ℕ) → x.bay.spent d s ≡ false
 abbrev pub IsLawful : View → Type 0
 IsLawful x = IsUnspent x × (x.bay.fit → x.bay.traced → IsSound x.bay) × IsOrderly x.slices
 
-outside_by : (x y : View) (event : Event) (text : List ℕ) → IsUnspent y → Performs x y event text
+outside_by : (x y : View) (event : Event) (text : List ℕ) → IsUnspent y → LineContract x y event text
     → KeepsOutside x.slices y.slices (Takes y.shelf.names event) x.shelf.told x.bay y.bay
 outside_by x y event text unspent performs =
     elim (cases_Bool (takes_disk event)) [
@@ -83,11 +83,11 @@ outside_by x y event text unspent performs =
 pub performed :
     (x y : View) (event : Event) (text : List ℕ) (Traced : Type 0) (a : FlatArray)
     → (volume x).fit
-    → Performs x y event text
+    → LineContract x y event text
     → IsLawful y
     → (Traced → x.bay.traced)
-    → (Traced → Holds x a)
-    → Happens Traced y.bay.stops (moment_of x) (moment_of y) a event
+    → (Traced → VolumeIs x a)
+    → EventContract Traced y.bay.stops (moment_of x) (moment_of y) a event
 performed x y event text Traced a fit performs laws traced holds = record {
   later = λ told. performs.continues.later (holds told).shelf (traced told);
   still = performs.still;
@@ -112,9 +112,9 @@ pub ran_before :
     (x y z : View) (events : List Event) (a : FlatArray)
     → Ran x y events
     → Continues y z
-    → Timeline (x.bay.traced × Holds x a) z.bay.stops (moment_of x) a events (moment_of y)
+    → Timeline (x.bay.traced × VolumeIs x a) z.bay.stops (moment_of x) a events (moment_of y)
 ran_before x y z events a ran continues =
-    timeline_kept (x.bay.traced × Holds x a) y.bay.stops z.bay.stops y.bay.clock
+    timeline_kept (x.bay.traced × VolumeIs x a) y.bay.stops z.bay.stops y.bay.clock
     (λ told. continues.past (ran.continues.told told.1.shelf) (ran.continues.traced told.1.shelf told.0))
     (moment_of x) a events (moment_of y)
     (omega arith)
@@ -122,10 +122,10 @@ ran_before x y z events a ran continues =
 
 pub steps_before :
     (x y z : View) (events : List Event) (a : FlatArray) (ran : Ran x y events) (continues : Continues y z)
-    → steps_of (x.bay.traced × Holds x a) z.bay.stops (moment_of x) a events (moment_of y) (ran_before x y z events a ran continues) ≡ ran.steps
+    → steps_of (x.bay.traced × VolumeIs x a) z.bay.stops (moment_of x) a events (moment_of y) (ran_before x y z events a ran continues) ≡ ran.steps
 unfolding ran_before
 steps_before x y z events a ran continues =
-    steps_kept (x.bay.traced × Holds x a) y.bay.stops z.bay.stops y.bay.clock
+    steps_kept (x.bay.traced × VolumeIs x a) y.bay.stops z.bay.stops y.bay.clock
     (λ told. continues.past (ran.continues.told told.1.shelf) (ran.continues.traced told.1.shelf told.0))
     (moment_of x) a events (moment_of y)
     (omega arith)
@@ -145,7 +145,7 @@ each_before x y z events a f ran continues serving traced begins goes =
     let each = HoldsEach y.bay.stops (AreSerial f.state) (TargetsLand f) (HaveOwnAreas f) [] f (moment_of x) events (moment_of y) in
     let later = HoldsEach z.bay.stops (AreSerial f.state) (TargetsLand f) (HaveOwnAreas f) [] f (moment_of x) events (moment_of y) in
     subst later (ran.steps_are a)
-    (each_kept (x.bay.traced × Holds x a) y.bay.stops z.bay.stops (AreSerial f.state) (TargetsLand f) (HaveOwnAreas f) y.bay.clock (traced, serving.0)
+    (each_kept (x.bay.traced × VolumeIs x a) y.bay.stops z.bay.stops (AreSerial f.state) (TargetsLand f) (HaveOwnAreas f) y.bay.clock (traced, serving.0)
     (continues.past (ran.continues.told serving.0.shelf) (ran.continues.traced serving.0.shelf traced))
     [] f (moment_of x) a events (moment_of y) (omega arith) (ran.timeline a)
     (subst each (sym (ran.steps_are a)) (ran.between a serving traced f begins goes)))
@@ -154,13 +154,13 @@ each_before x y z events a f ran continues serving traced begins goes =
 pub others_before :
     (x y z : View) (events : List Event) (a : FlatArray) (f : Found) (ran : Ran x y events)
     → Continues y z
-    → Holds x a
+    → VolumeIs x a
     → x.bay.traced
     → HaveOthers y.bay.stops f (moment_of x) events (moment_of y) ran.steps
     → HaveOthers z.bay.stops f (moment_of x) events (moment_of y) ran.steps
 others_before x y z events a f ran continues holds traced have =
     subst (HaveOthers z.bay.stops f (moment_of x) events (moment_of y)) (ran.steps_are a)
-    (have_kept (x.bay.traced × Holds x a) y.bay.stops z.bay.stops y.bay.clock (traced, holds)
+    (have_kept (x.bay.traced × VolumeIs x a) y.bay.stops z.bay.stops y.bay.clock (traced, holds)
     (continues.past (ran.continues.told holds.shelf) (ran.continues.traced holds.shelf traced))
     f (moment_of x) a events (moment_of y) (omega arith) (ran.timeline a)
     (subst (HaveOthers y.bay.stops f (moment_of x) events (moment_of y)) (sym (ran.steps_are a)) have))
@@ -187,24 +187,24 @@ ran_none x fit laws = record {
 
 -- ---- one event more of a run
 
-passes_more : (x y z : View) (events : List Event) (event : Event) (text : List ℕ) → Ran x y events → Performs y z event text
-    → any_takes (events ++ event ∷ []) ≡ false → Passes x z
+passes_more : (x y z : View) (events : List Event) (event : Event) (text : List ℕ) → Ran x y events → LineContract y z event text
+    → any_takes (events ++ event ∷ []) ≡ false → CallFrame x z
 passes_more x y z events event text ran performs none =
     let parts = none_takes events event none in
     passes_then x y z (ran.passes parts.0) (performs.passes parts.1)
 
-holds_more : (x y z : View) (events : List Event) (event : Event) (text : List ℕ) (a : FlatArray) → Ran x y events → Performs y z event text
-    → Holds x a → Holds z (array_by a (events ++ event ∷ []))
+holds_more : (x y z : View) (events : List Event) (event : Event) (text : List ℕ) (a : FlatArray) → Ran x y events → LineContract y z event text
+    → VolumeIs x a → VolumeIs z (array_by a (events ++ event ∷ []))
 holds_more x y z events event text a ran performs holds =
-    subst (λ b. Holds z b) (sym (array_by-snoc a events event)) (performs.holds (array_by a events) (ran.holds a holds))
+    subst (λ b. VolumeIs z b) (sym (array_by-snoc a events event)) (performs.holds (array_by a events) (ran.holds a holds))
 
 -- the pool after one event more
 on_more :
     {o : Option Lone} (x y z : View) (events : List Event) (event : Event) (text : List ℕ) (a : FlatArray) (f : Found)
     → IsUnspent z
     → (ran : Ran x y events)
-    → Performs y z event text
-    → Holds x a
+    → LineContract y z event text
+    → VolumeIs x a
     → IsServed (moment_of z) (events ++ event ∷ [])
     → (any_takes (events ++ event ∷ []) ≡ true → AreSerial f.state)
     → IsFitFor (pool_by f (moment_of x) events (moment_of y) ran.steps) (moment_of y) event
@@ -225,8 +225,8 @@ service_more :
     (x y z : View) (events : List Event) (event : Event) (text : List ℕ) (a : FlatArray) (f : Found)
     → IsUnspent z
     → (ran : Ran x y events)
-    → Performs y z event text
-    → Holds x a
+    → LineContract y z event text
+    → VolumeIs x a
     → IsServed (moment_of z) (events ++ event ∷ [])
     → GoesBy (TargetsLand f) None f x
     → (any_takes (events ++ event ∷ []) ≡ true → AreSerial f.state)
@@ -242,8 +242,8 @@ lone_more :
     (x y z : View) (events : List Event) (event : Event) (text : List ℕ) (a : FlatArray) (f : Found) (l : Lone)
     → IsUnspent z
     → (ran : Ran x y events)
-    → Performs y z event text
-    → Holds x a
+    → LineContract y z event text
+    → VolumeIs x a
     → IsServed (moment_of z) (events ++ event ∷ [])
     → GoesBy (TargetsLand f) (Some l) f x
     → (book z).state.serial ≤ l.bound
@@ -268,8 +268,8 @@ others_more :
     (x y z : View) (events : List Event) (event : Event) (text : List ℕ) (a : FlatArray) (f : Found) (bound : ℕ)
     → IsUnspent z
     → (ran : Ran x y events)
-    → Performs y z event text
-    → Holds x a
+    → LineContract y z event text
+    → VolumeIs x a
     → x.bay.traced
     → IsServed (moment_of z) (events ++ event ∷ [])
     → GoesBy (TargetsLand f) (Some (none_out bound)) f x
@@ -293,7 +293,7 @@ others_more x y z events event text a f bound unspent ran performs holds traced 
     (ran.continues.traced holds.shelf traced))
 
 -- what the arrays hold before the volume's first extents stays
-heads_more : (x y z : View) (events : List Event) (event : Event) (text : List ℕ) → Ran x y events → Performs y z event text
+heads_more : (x y z : View) (events : List Event) (event : Event) (text : List ℕ) → Ran x y events → LineContract y z event text
     → x.shelf.told → ((d : ℕ) → d < x.bay.disks → x.bay.told d) → KeepsHeads (book x) (book z) (slices_shown x) (slices_shown z)
 heads_more x y z events event text ran performs names all =
     heads_then (book x) (book y) (book z) (slices_shown x) (slices_shown y) (slices_shown z) (ran.heads names all)
@@ -304,7 +304,7 @@ between_more :
     (x y z : View) (events : List Event) (event : Event) (text : List ℕ) (a : FlatArray) (f : Found)
     → IsLawful z
     → (ran : Ran x y events)
-    → Performs y z event text
+    → LineContract y z event text
     → IsServing x a
     → x.bay.traced
     → BeginsOn (HaveOwnAreas f) x
@@ -331,7 +331,7 @@ pub ran_more :
     (x y z : View) (events : List Event) (event : Event) (text : List ℕ)
     → IsLawful z
     → Ran x y events
-    → Performs y z event text
+    → LineContract y z event text
     → Ran x z (events ++ event ∷ [])
 ran_more x y z events event text laws ran performs = record {
   fit = ran.fit;
@@ -350,17 +350,17 @@ ran_more x y z events event text laws ran performs = record {
   holds = λ a holds. holds_more x y z events event text a ran performs holds;
   timeline =
       λ a.
-      timeline_more (x.bay.traced × Holds x a) z.bay.stops (moment_of x) a events (moment_of y) event (moment_of z)
+      timeline_more (x.bay.traced × VolumeIs x a) z.bay.stops (moment_of x) a events (moment_of y) event (moment_of z)
       (ran_before x y z events a ran performs.continues)
-      (performed y z event text (x.bay.traced × Holds x a) (array_by a events) ran.continues.fit performs laws
+      (performed y z event text (x.bay.traced × VolumeIs x a) (array_by a events) ran.continues.fit performs laws
       (λ told. ran.continues.traced told.1.shelf told.0)
       (λ told. ran.holds a told.1));
   steps = steps_more (moment_of x) events (moment_of y) event (moment_of z) ran.steps;
   steps_are =
       λ a.
-      steps_added (x.bay.traced × Holds x a) z.bay.stops (moment_of x) a events (moment_of y) event (moment_of z)
+      steps_added (x.bay.traced × VolumeIs x a) z.bay.stops (moment_of x) a events (moment_of y) event (moment_of z)
       (ran_before x y z events a ran performs.continues)
-      (performed y z event text (x.bay.traced × Holds x a) (array_by a events) ran.continues.fit performs laws
+      (performed y z event text (x.bay.traced × VolumeIs x a) (array_by a events) ran.continues.fit performs laws
       (λ told. ran.continues.traced told.1.shelf told.0)
       (λ told. ran.holds a told.1))
       ∙ ap (steps_more (moment_of x) events (moment_of y) event (moment_of z)) (steps_before x y z events a ran performs.continues);

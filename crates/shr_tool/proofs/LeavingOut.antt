@@ -2,7 +2,7 @@
 use Rattle.std.proofs.Common.{◌≡◌, ◌⊎◌, ℕ, ◌+◌, ◌<◌, nat_lt, bytes_eq, true, false, List, slice_get, Option, Some, None, refl, ap, subst, ◌∙◌, inl, inr, ltb-true, arith}
 use Rattle.std.specs.Option.{option_map_or}
 use Rattle.std.proofs.lemmas.Bool.{and_parts, both_ways}
-use Rattle.rack.specs.Seen.{Image, Seen}
+use Rattle.rack.specs.Seen.{Image, RackView}
 use Rattle.slice_rack.specs.Slices.{Slices}
 use Rattle.gpt_table.specs.declared.Table.{Table}
 use Rattle.gpt_table.specs.Changes.{the_table}
@@ -14,7 +14,7 @@ use Rattle.pool_image.specs.Disks.{Disks}
 use Rattle.pool_image.specs.Drives.{Found, extent_of}
 use Rattle.pool_image.specs.Meaning.{has_slice, has_slice_of, is_table, kind_of}
 use Rattle.pool_image.specs.Replay.{Extent}
-use Rattle.pool_model.specs.Alone.{HoldAlone, IsTabled}
+use Rattle.pool_model.specs.Alone.{NoImpostor, IsTabled}
 use Rattle.pool_model.specs.Pools.{AreSlicesOf, extent_in}
 use Rattle.pool_model.proofs.Lost.{log_lies}
 use Rattle.pool.specs.View.{View, book}
@@ -27,8 +27,8 @@ out_later l names later keep d out = (out.0, out.1, out.2, keep d out.1 out.3)
 
 -- nothing more is said then, by a state to which marks alone came
 pub alone_later : (f : Found) (l : Lone) (names later : List (List ℕ)) → ((d : ℕ) (name : List ℕ) → slice_get names d ≡ Some name → slice_get later d ≡ Some name)
-    → (s r : State) (t : Slices) (x : Seen) → ((p : ℕ) → is_current r p ≡ true → is_current s p ≡ true)
-    → HoldAlone f l.bound (IsOut l names) s t x → HoldAlone f l.bound (IsOut l later) r t x
+    → (s r : State) (t : Slices) (x : RackView) → ((p : ℕ) → is_current r p ≡ true → is_current s p ≡ true)
+    → NoImpostor f l.bound (IsOut l names) s t x → NoImpostor f l.bound (IsOut l later) r t x
 alone_later f l names later keep s r t x marks alone i off = record {
   tables = λ p d seat why.
       (alone i off).tables p d seat (elim why [ inl now ↦ inl (marks p now) | inr stays ↦ inr (λ out. stays (out_later l names later keep d out)) ]);
@@ -36,7 +36,7 @@ alone_later f l names later keep s r t x marks alone i off = record {
 }
 
 -- A disk that has a drive's table has the sector of its state.
-pub tabled_sector : (f : Found) (t : Slices) (x : Seen) (p d sectors : ℕ) (disk : Contents) → AreSlicesOf f t → f.seats p ≡ Some d → IsTabled f p sectors disk → state_sector < sectors
+pub tabled_sector : (f : Found) (t : Slices) (x : RackView) (p d sectors : ℕ) (disk : Contents) → AreSlicesOf f t → f.seats p ≡ Some d → IsTabled f p sectors disk → state_sector < sectors
 tabled_sector f t x p d sectors disk slices seat tabled = by (the_table sectors disk) tabled
   where
     within : (table : Table) (o : Option Extent) → o ≡ Some (extent_in t (log_slice p)) → option_map_or (has_slice sectors table 1 (kind_of 0)) o false ≡ true

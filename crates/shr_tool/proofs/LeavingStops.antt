@@ -9,15 +9,15 @@ use Rattle.slice_rack.specs.Sliced.{slices_of}
 use Rattle.flat_array.specs.Array.{FlatArray}
 use Rattle.lvm_group.specs.Runs.{Linear}
 use Rattle.pool_state.specs.declared.contents.State.{State}
-use Rattle.raid_laws.specs.Book.{IsAfter, after_same}
+use Rattle.raid_laws.specs.Book.{OnlyMarksSince, after_same}
 use Rattle.raid_laws.specs.Enlisting.{IsWrittenBy}
 use Rattle.raid_laws.specs.NewDrive.{IsOfDrive}
-use Rattle.raid_laws.specs.Raid.{Raid, is_over}
-use Rattle.raid_laws.specs.Runs.{KeepsMoments}
+use Rattle.raid_laws.specs.Raid.{Raid, is_failed}
+use Rattle.raid_laws.specs.Runs.{CrashInvariant}
 use Rattle.pool_image.specs.Meaning.{array_sectors}
 use Rattle.pool_image.specs.Disks.{Disks, disks_of}
 use Rattle.pool_image.specs.Drives.{Found}
-use Rattle.pool_model.specs.Stopped.{HoldAmid}
+use Rattle.pool_model.specs.Stopped.{RecoversInCall}
 use Rattle.pool_model.specs.Taken.{attached}
 use Rattle.pool_model.proofs.ReplacingEarly.{replacing_declined}
 use Rattle.pool_model.proofs.TakingEarly.{declined_amid as declined_stops}
@@ -28,12 +28,12 @@ use Rattle.pool.specs.Moment.{moment_of}
 use Rattle.pool.specs.Naming.{LeavesNamed}
 use Rattle.pool.specs.Replaced.{ChangesDrive}
 use Rattle.pool.specs.View.{View, book, over, spent_by, volume}
-use Rattle.pool.specs.Volume.{Holds, is_spent, size_of}
+use Rattle.pool.specs.Volume.{VolumeIs, is_spent, size_of}
 use Rattle.shr_tool.specs.Between.{HoldsLeft}
 use Rattle.shr_tool.specs.Events.{looks_at}
 use Rattle.shr_tool.specs.Events.Event.{declined}
 use Rattle.shr_tool.specs.Service.{GoesBy, IsFitDisk}
-use Rattle.shr_tool.specs.Timeline.{Performs}
+use Rattle.shr_tool.specs.Timeline.{LineContract}
 use Rattle.pool_model.proofs.Likewise.{amid_likewise}
 use Rattle.shr_tool.proofs.GivesWay.{after}
 use Rattle.shr_tool.proofs.NamedDisk.{apart_named, arrays_named, goes_named, lacks_named, opened, room_named, service_named, tables_named, told_named}
@@ -42,9 +42,9 @@ use Rattle.shr_tool.proofs.Readied.{IsReadied, readied}
 use Rattle.shr_tool.proofs.Serviced.{goes_amid}
 
 module _ {L : Type 0} (x y : View) (place : ℕ) (name : List ℕ) (fault : GrowFault) (text : List ℕ) (b : FlatArray) (looks : looks_at fault ≡ true)
-    (unspent : (d s : ℕ) → y.bay.spent d s ≡ false) (fit : (volume x).fit) (performs : Performs x y (declined place name fault) text) (holds : Holds x b)
+    (unspent : (d s : ℕ) → y.bay.spent d s ≡ false) (fit : (volume x).fit) (performs : LineContract x y (declined place name fault) text) (holds : VolumeIs x b)
     (some : (s : ℕ) × (s < size_of x) × (spent_by x.linear (book y) s ≡ false)) (f : Found) (goes : GoesBy L None f x) (waits : IsFitDisk f (moment_of x) name)
-    (lands : L) (lasts : (n : ℕ) → n < f.state.made → is_over (book y) n ≡ false) (traced : x.bay.traced) where
+    (lands : L) (lasts : (n : ℕ) → n < f.state.made → is_failed (book y) n ≡ false) (traced : x.bay.traced) where
   changes : ChangesDrive x y place name
   changes = (performs.changes looks).0
 
@@ -63,9 +63,9 @@ module _ {L : Type 0} (x y : View) (place : ℕ) (name : List ℕ) (fault : Grow
     disk = named.disk
 
     laid_amid : (missing : is_current (book x).state place ≡ false) (vacates : Vacates m place disk) → y.slices ≡ vacates.tables → WritesOnly m.bay y.bay (IsWrittenBy vacates.tables disk (table_on m place disk))
-        → KeepsMoments (book x) (book y) (slices_of vacates.tables m.bay) (slices_of vacates.tables y.bay)
+        → CrashInvariant (book x) (book y) (slices_of vacates.tables m.bay) (slices_of vacates.tables y.bay)
         → (k : ℕ) (i : Image) → x.bay.clock < k → k ≤ y.bay.clock → y.bay.stops k i
-        → HoldAmid (attached f (disks_of y.bay)) y.slices (book x).state (book y).state i
+        → RecoversInCall (attached f (disks_of y.bay)) y.slices (book x).state (book y).state i
     laid_amid missing vacates same only moments k i since until stopped =
         let at = named.attaches in
         let spared : (d s : ℕ) → m.bay.spent d s ≡ false = λ d s. only.stays.spent d s (unspent d s) in
@@ -82,21 +82,21 @@ module _ {L : Type 0} (x y : View) (place : ℕ) (name : List ℕ) (fault : Grow
         told_named x named.bay name disk at spared fit b holds f goes waits place listed vacates missing some.0 some.1 alive n (subst (λ k. n < k) (sym goes.arrays) low))
         lasts in
         let same_disks : disks_of m.bay ≡ disks_of y.bay = λ j. record { count = sym only.stays.disks j; sectors = λ d. sym (only.stays.sectors d) j } in
-        subst (λ (z : Disks). HoldAmid (attached f z) y.slices (book x).state (book y).state i) same_disks
-        (subst (λ (t : Slices). HoldAmid (attached f (disks_of m.bay)) t (book x).state (book y).state i) (sym same)
+        subst (λ (z : Disks). RecoversInCall (attached f z) y.slices (book x).state (book y).state i) same_disks
+        (subst (λ (t : Slices). RecoversInCall (attached f (disks_of m.bay)) t (book x).state (book y).state i) (sym same)
         (stops.new k i (let clock = at.clock in omega (arith, since, clock)) until stopped))
 
     left_amid : is_current (book x).state place ≡ false → LeavesBy m y place disk → (k : ℕ) (i : Image) → x.bay.clock < k → k ≤ y.bay.clock → y.bay.stops k i
-        → HoldAmid (attached f (disks_of y.bay)) y.slices (book x).state (book y).state i
+        → RecoversInCall (attached f (disks_of y.bay)) y.slices (book x).state (book y).state i
     left_amid missing (inl gone) =
         laid_amid missing gone.vacates gone.slices
         (only_weaker (IsOfDrive disk (table_on m place disk)) (IsWrittenBy gone.vacates.tables disk (table_on m place disk)) (λ d k v own. inl own) gone.refused.only)
-        (subst (λ (w : Raid). KeepsMoments (book x) w (slices_of gone.vacates.tables m.bay) (slices_of gone.vacates.tables y.bay)) (sym gone.same) gone.refused.moments)
+        (subst (λ (w : Raid). CrashInvariant (book x) w (slices_of gone.vacates.tables m.bay) (slices_of gone.vacates.tables y.bay)) (sym gone.same) gone.refused.moments)
     left_amid missing (inr out) = laid_amid missing out.vacates out.slices out.not_whole.only out.not_whole.moments
 
   -- it was cleaned, and no more
   cleaned_amid : (named : LeavesNamed x y place name) → Cleaned (over x named.bay) y → (k : ℕ) (i : Image) → x.bay.clock < k → k ≤ y.bay.clock → y.bay.stops k i
-      → HoldAmid (attached f (disks_of y.bay)) x.slices (book x).state (book y).state i
+      → RecoversInCall (attached f (disks_of y.bay)) x.slices (book x).state (book y).state i
   cleaned_amid named cleaned k i since until stopped =
       let at = named.attaches in
       let m = over x named.bay in
@@ -106,7 +106,7 @@ module _ {L : Type 0} (x y : View) (place : ℕ) (name : List ℕ) (fault : Grow
       goes_amid m y (attached f (disks_of m.bay)) at.continues.fit.0.running.set.fit.1 cleaned.ends.passes (goes_named x named.bay name named.disk at spared fit b holds f goes waits) lands
       (arrays_named x named.bay name named.disk at spared fit b holds f goes waits some.0 some.1 alive) lasts (at.continues.traced holds.shelf traced) in
       let same_disks : disks_of m.bay ≡ disks_of y.bay = λ j. record { count = sym stays.disks j; sectors = λ d. sym (stays.sectors d) j } in
-      subst (λ (z : Disks). HoldAmid (attached f z) x.slices (book x).state (book y).state i) same_disks
+      subst (λ (z : Disks). RecoversInCall (attached f z) x.slices (book x).state (book y).state i) same_disks
       (stops.new k i (let clock = at.clock in omega (arith, since, clock)) until stopped)
 
   -- the disk was laid, on a pool that was made ready for it
@@ -118,7 +118,7 @@ module _ {L : Type 0} (x y : View) (place : ℕ) (name : List ℕ) (fault : Grow
     h = attached f (disks_of c.bay)
 
     laid_ready : (vacates : Vacates c place named.disk) → y.slices ≡ vacates.tables → WritesOnly c.bay y.bay (IsWrittenBy vacates.tables named.disk (table_on c place named.disk))
-        → KeepsMoments (book c) (book y) (slices_of vacates.tables c.bay) (slices_of vacates.tables y.bay) → IsAfter (book c).state (book y).state
+        → CrashInvariant (book c) (book y) (slices_of vacates.tables c.bay) (slices_of vacates.tables y.bay) → OnlyMarksSince (book c).state (book y).state
         → (k : ℕ) (i : Image) → x.bay.clock < k → k ≤ y.bay.clock → y.bay.stops k i → HoldsLeft f (moment_of x) (moment_of y) place i
     laid_ready vacates same only moments marks k i since until stopped = elim (cases_lt c.bay.clock k) [
       | inr early ↦
@@ -129,13 +129,13 @@ module _ {L : Type 0} (x y : View) (place : ℕ) (name : List ℕ) (fault : Grow
             old (book c).state (book y).state came (after_same (book y).state)
             ((replacing_declined h x.slices (book c) place named.disk c.bay is.service is.apart goes.orderly is.inside is.tables is.opened is.room is.lasting is.traced (table_on c place named.disk) refl (book y) y.bay
             (subst (λ (t : Slices). WritesOnly c.bay y.bay (IsWrittenBy t named.disk (table_on c place named.disk))) (same_tables still vacates.seats) only)
-            (subst (λ (t : Slices). KeepsMoments (book c) (book y) (slices_of t c.bay) (slices_of t y.bay)) (same_tables still vacates.seats) moments) is.told lasts).new k i late until
+            (subst (λ (t : Slices). CrashInvariant (book c) (book y) (slices_of t c.bay) (slices_of t y.bay)) (same_tables still vacates.seats) moments) is.told lasts).new k i late until
             stopped)
         | inr lost ↦ (
           y.slices,
           inl refl,
           now y.slices (book c).state (book y).state came (after_same (book y).state)
-              (subst (λ (t : Slices). HoldAmid h t (book c).state (book y).state i) (sym same)
+              (subst (λ (t : Slices). RecoversInCall h t (book c).state (book y).state i) (sym same)
               ((declined_stops h x.slices vacates.tables (book c) place named.disk c.bay is.service (is.lacks lost) (λ p away. is.apart p) vacates.orderly vacates.fit.running.set.fit.1
               is.tables is.opened is.room is.lasting is.traced (table_on c place named.disk) refl (book y) y.bay only moments (is.left lost) lasts).new k i late until stopped)),
         )
@@ -147,18 +147,18 @@ module _ {L : Type 0} (x y : View) (place : ℕ) (name : List ℕ) (fault : Grow
             readied x named.bay name place named.disk named.attaches ready.bay ready.arrays ready.refused ready.readies vacates (λ d s. only.stays.spent d s (unspent d s)) fit b holds
             (some.0, some.1, alive) f goes waits current lands (λ n low. moments.still n (lasts n low)) traced
 
-        came : IsAfter (book x).state (book c).state
+        came : OnlyMarksSince (book x).state (book c).state
         came = after x named.bay place name named.disk named.attaches ready.bay ready.arrays ready.refused ready.readies
 
         disks : disks_of y.bay ≡ disks_of c.bay
         disks j = record { count = only.stays.disks j; sectors = λ d. only.stays.sectors d j }
 
-        now : (t : Slices) (s u : State) → IsAfter (book x).state s → IsAfter u (book y).state → HoldAmid h t s u i
-            → HoldAmid (attached f (disks_of y.bay)) t (book x).state (book y).state i
+        now : (t : Slices) (s u : State) → OnlyMarksSince (book x).state s → OnlyMarksSince u (book y).state → RecoversInCall h t s u i
+            → RecoversInCall (attached f (disks_of y.bay)) t (book x).state (book y).state i
         now t s u from to amid = amid_likewise h (attached f (disks_of y.bay)) t s u (book x).state (book y).state i disks refl refl (λ n low. ap (λ d. array_sectors (attached f d) n) disks) from to amid
 
         -- by the slices of before
-        old : (s u : State) → IsAfter (book x).state s → IsAfter u (book y).state → HoldAmid h x.slices s u i → HoldsLeft f (moment_of x) (moment_of y) place i
+        old : (s u : State) → OnlyMarksSince (book x).state s → OnlyMarksSince u (book y).state → RecoversInCall h x.slices s u i → HoldsLeft f (moment_of x) (moment_of y) place i
         old s u from to amid = (x.slices, inr (current, refl), now x.slices s u from to amid)
 
         same_tables : is_current (book c).state place ≡ true → IsVacating c place vacates.tables → vacates.tables ≡ x.slices
@@ -170,8 +170,8 @@ module _ {L : Type 0} (x y : View) (place : ℕ) (name : List ℕ) (fault : Grow
       | inl gone ↦
           laid_ready gone.vacates gone.slices
           (only_weaker (IsOfDrive named.disk (table_on c place named.disk)) (IsWrittenBy gone.vacates.tables named.disk (table_on c place named.disk)) (λ d k v own. inl own) gone.refused.only)
-          (subst (λ (w : Raid). KeepsMoments (book c) w (slices_of gone.vacates.tables c.bay) (slices_of gone.vacates.tables y.bay)) (sym gone.same) gone.refused.moments)
-          (subst (λ (w : Raid). IsAfter (book c).state w.state) (sym gone.same) (after_same (book c).state))
+          (subst (λ (w : Raid). CrashInvariant (book c) w (slices_of gone.vacates.tables c.bay) (slices_of gone.vacates.tables y.bay)) (sym gone.same) gone.refused.moments)
+          (subst (λ (w : Raid). OnlyMarksSince (book c).state w.state) (sym gone.same) (after_same (book c).state))
       | inr out ↦ laid_ready out.vacates out.slices out.not_whole.only out.not_whole.moments out.not_whole.mends.moves.book
     ]
 

@@ -16,16 +16,16 @@ use Rattle.pool_state.specs.declared.contents.State.{State}
 use Rattle.pool_state.specs.Sector.{decoded}
 use Rattle.array_image.specs.Places.{log_slice, state_sector}
 use Rattle.array_image.specs.States.{is_current}
-use Rattle.raid_laws.specs.Book.{IsAfter, after_same}
+use Rattle.raid_laws.specs.Book.{OnlyMarksSince, after_same}
 use Rattle.raid_laws.specs.Moves.{IsHeeded, IsSet}
-use Rattle.raid_laws.specs.Raid.{IsTold, Raid, is_over}
+use Rattle.raid_laws.specs.Raid.{IsTracked, Raid, is_failed}
 use Rattle.raid_laws.specs.Since.{HoldsSince}
 use Rattle.raid_laws.proofs.Since.{kept_since}
 use Rattle.pool_image.specs.Disks.{disks_of, identities_of}
 use Rattle.pool_image.specs.Drives.{Found}
-use Rattle.pool_model.specs.Alone.{HoldAlone, IsStranger, IsTabled, SaysAlone}
-use Rattle.pool_model.specs.Left.{IsPickOff}
-use Rattle.pool_model.specs.Taken.{KeepsOff, attached}
+use Rattle.pool_model.specs.Alone.{NoImpostor, IsStranger, IsTabled, SaysNoImpostor}
+use Rattle.pool_model.specs.Left.{IsPickOutsideSlices}
+use Rattle.pool_model.specs.Taken.{KeepsOutsideSlices, attached}
 use Rattle.pool_model.proofs.Alone.{tabled_same}
 use Rattle.pool_model.proofs.Before.{off_before, was as image_before, was_other as image_other}
 use Rattle.pool_model.proofs.Declined.{truths_attached}
@@ -37,11 +37,11 @@ use Rattle.pool.specs.Moment.{IsNamed, moment_of}
 use Rattle.pool.specs.Naming.{LeavesNamed}
 use Rattle.pool.specs.Replaced.{ChangesDrive, IsDeclined}
 use Rattle.pool.specs.View.{View, book, over, slices_shown, spent_by, volume}
-use Rattle.pool.specs.Volume.{Holds, is_spent, size_of}
+use Rattle.pool.specs.Volume.{VolumeIs, is_spent, size_of}
 use Rattle.shr_tool.specs.Events.{looks_at}
 use Rattle.shr_tool.specs.Events.Event.{declined}
 use Rattle.shr_tool.specs.Service.{GoesBy, IsFitDisk, IsOut, IsOwnCopy, Lone, StandsLone}
-use Rattle.shr_tool.specs.Timeline.{Performs}
+use Rattle.shr_tool.specs.Timeline.{LineContract}
 use Rattle.shr_tool.proofs.Entered.{heeded_ready, set_ready, since_ready, told_attached, told_ready, told_vacated}
 use Rattle.shr_tool.proofs.Former.{array_low, going_seat, held_log, lacks_bare, log_first, log_many, not_over, own_current, own_since, seat_listed, seat_or, small}
 use Rattle.shr_tool.proofs.GivesWay.{after, left_copy, others_left}
@@ -53,7 +53,7 @@ use Rattle.shr_tool.proofs.TurnedDown as old
 
 -- places that were current by a state have their own copies yet
 module _ (c y : View) (place disk : ℕ) (leaves : LeavesBy c y place disk) (set : IsSet (book c) (slices_shown c)) (heeded : IsHeeded (book c)) (n : ℕ)
-    (low : n < (book c).state.made) (told : IsTold (book c) (slices_shown c) n) (lasts : is_over (book y) n ≡ false) (base : State) (after : IsAfter base (book c).state)
+    (low : n < (book c).state.made) (told : IsTracked (book c) (slices_shown c) n) (lasts : is_failed (book y) n ≡ false) (base : State) (after : OnlyMarksSince base (book c).state)
     (holds : HoldsSince base (slices_shown c)) where
   -- the log slices that are left lie where they lay
   holds_vacated : (vacates : Vacates c place disk) → HoldsSince base (slices_of vacates.tables c.bay)
@@ -74,7 +74,7 @@ module _ (c y : View) (place disk : ℕ) (leaves : LeavesBy c y place disk) (set
   ]
 
   -- and by these the array is told
-  told_then : (vacates : Vacates c place disk) → IsTold (book c) (slices_of vacates.tables c.bay) n
+  told_then : (vacates : Vacates c place disk) → IsTracked (book c) (slices_of vacates.tables c.bay) n
   told_then vacates = told_vacated c place disk vacates set heeded n low told
 
   pub since_laid : HoldsSince base (slices_shown y)
@@ -82,7 +82,7 @@ module _ (c y : View) (place disk : ℕ) (leaves : LeavesBy c y place disk) (set
     | inl alone ↦
         (let vacates = alone.vacates in
         subst (λ (u : Slices). HoldsSince base (slices_of u y.bay)) (sym alone.slices)
-        (alone.refused.moments.since n base (told_then vacates) (subst (λ (v : Raid). is_over v n ≡ false) alone.same lasts) after (holds_vacated vacates)).holds)
+        (alone.refused.moments.since n base (told_then vacates) (subst (λ (v : Raid). is_failed v n ≡ false) alone.same lasts) after (holds_vacated vacates)).holds)
     | inr out ↦
         (let vacates = out.vacates in
         subst (λ (u : Slices). HoldsSince base (slices_of u y.bay)) (sym out.slices)
@@ -90,7 +90,7 @@ module _ (c y : View) (place disk : ℕ) (leaves : LeavesBy c y place disk) (set
   ]
 
 -- over the whole line
-module _ (x y : View) (place : ℕ) (name : List ℕ) (named : LeavesNamed x y place name) (fit : (volume x).fit) {b : FlatArray} (holds : Holds x b) (s : ℕ) (within : s < size_of x)
+module _ (x y : View) (place : ℕ) (name : List ℕ) (named : LeavesNamed x y place name) (fit : (volume x).fit) {b : FlatArray} (holds : VolumeIs x b) (s : ℕ) (within : s < size_of x)
     (alive : is_spent x s ≡ false) (left : spent_by x.linear (book y) s ≡ false) where
   abbrev m : View
   m = over x named.bay
@@ -101,10 +101,10 @@ module _ (x y : View) (place : ℕ) (name : List ℕ) (named : LeavesNamed x y p
   low : n < x.linear.arrays
   low = array_low x s fit within
 
-  told : IsTold (book x) (slices_shown m) n
+  told : IsTracked (book x) (slices_shown m) n
   told = told_attached x named.bay name named.disk named.attaches holds s within alive n low
 
-  lasts : is_over (book y) n ≡ false
+  lasts : is_failed (book y) n ≡ false
   lasts = not_over x.linear (book y) s left
 
   made : n < (book x).state.made
@@ -121,8 +121,8 @@ module _ (x y : View) (place : ℕ) (name : List ℕ) (named : LeavesNamed x y p
       let marks = after x named.bay place name named.disk named.attaches ready.bay ready.arrays ready.refused ready.readies in
       let told_c = told_ready m ready.bay ready.arrays ready.refused place named.disk ready.readies n told in
       let low_c : n < (book c).state.made = (let inside = made in let same = marks.same.made in omega (arith, inside, same)) in
-      let lasts_c : is_over (book c) n ≡ false =
-      elim ready.leaves [ inl alone ↦ subst (λ (v : Raid). is_over v n ≡ false) alone.same lasts | inr out ↦ out.not_whole.moments.still n lasts ] in
+      let lasts_c : is_failed (book c) n ≡ false =
+      elim ready.leaves [ inl alone ↦ subst (λ (v : Raid). is_failed v n ≡ false) alone.same lasts | inr out ↦ out.not_whole.moments.still n lasts ] in
       since_laid c y place named.disk ready.leaves set heeded n low_c told_c lasts (book x).state marks
       (since_ready m ready.bay ready.arrays ready.refused place named.disk ready.readies n told lasts_c since_first).holds
 
@@ -141,7 +141,7 @@ module _ (x y : View) (place : ℕ) (name : List ℕ) (named : LeavesNamed x y p
 
 module _ {L : Type 0} {o : Option Lone} (x y : View) (place : ℕ) (name : List ℕ) (fault : GrowFault) (text : List ℕ) (b : FlatArray) (looks : looks_at fault ≡ true)
     (unspent : (d s : ℕ) → y.bay.spent d s ≡ false) (fit : (volume x).fit)
-    (performs : Performs x y (declined place name fault) text) (holds : Holds x b) (some : (s : ℕ) × (s < size_of x) × (spent_by x.linear (book y) s ≡ false))
+    (performs : LineContract x y (declined place name fault) text) (holds : VolumeIs x b) (some : (s : ℕ) × (s < size_of x) × (spent_by x.linear (book y) s ≡ false))
     (f : Found) (goes : GoesBy L o f x) (fits : IsFitDisk f (moment_of x) name) (l : Lone) (so : o ≡ Some l) (out : (k : ℕ) × (slice_get l.out k ≡ Some name)) where
   abbrev changes : ChangesDrive x y place name
   changes = (performs.changes looks).0
@@ -198,8 +198,8 @@ module _ {L : Type 0} {o : Option Lone} (x y : View) (place : ℕ) (name : List 
         other_disk d stays (let low = there p d seat in let more = performs.continues.disks in omega (arith, low, more)) same
   ]
 
-  module _ (i : Image) (off : IsPickOff t y.bay i) where
-    off_disk : KeepsOff t disk x.bay y.bay
+  module _ (i : Image) (off : IsPickOutsideSlices t y.bay i) where
+    off_disk : KeepsOutsideSlices t disk x.bay y.bay
     off_disk = one.off t (old.old_slices x y place name fault text b looks unspent fit performs holds some f goes fits)
 
     abbrev was : Image
@@ -208,7 +208,7 @@ module _ {L : Type 0} {o : Option Lone} (x y : View) (place : ℕ) (name : List 
     was_other : (d : ℕ) → d ≢ disk → was d ≡ i d
     was_other d other = image_other t t disk x.bay y.bay off_disk (λ d s w other at. at) i off d other
 
-    says : SaysAlone f l.bound (IsOut l x.shelf.names) (book x).state was
+    says : SaysNoImpostor f l.bound (IsOut l x.shelf.names) (book x).state was
     says = stands.alone was (off_before t t disk x.bay y.bay off_disk (λ d s w other at. at) i off)
 
     more : f.disks.count ≤ y.bay.disks
@@ -248,7 +248,7 @@ module _ {L : Type 0} {o : Option Lone} (x y : View) (place : ℕ) (name : List 
         (says.others d never (λ was. stays (out_later l x.shelf.names y.shelf.names performs.continues.names d was)) counted) in
         record { apart = record { stands = before.apart.stands; pool = before.apart.pool }; ungiven = before.ungiven }
 
-  alone_then : HoldAlone (attached f (disks_of y.bay)) l.bound Out (book y).state t y.bay
+  alone_then : NoImpostor (attached f (disks_of y.bay)) l.bound Out (book y).state t y.bay
   alone_then i off = record { tables = table i off; others = stranger i off }
 
   -- ---- copies

@@ -13,15 +13,15 @@ use Rattle.assembler.specs.Sound.{TargetsLand}
 use Rattle.pool_image.specs.Disks.{Disks}
 use Rattle.pool_image.specs.Drives.{Found}
 use Rattle.pool_model.specs.Absent.{AreOnly, HoldAbsent, IsWholeRaid}
-use Rattle.pool_model.specs.Alone.{HoldAlone, LeaveOut}
+use Rattle.pool_model.specs.Alone.{NoImpostor, LeaveOut}
 use Rattle.pool_model.specs.Grouped.{HaveOwnAreas, HoldGroup}
-use Rattle.pool_model.specs.InService.{InService}
+use Rattle.pool_model.specs.InService.{RunInvariant}
 use Rattle.pool_model.specs.Taken.{AreSerial}
 use Rattle.pool_model.proofs.Away.{all_there}
 use Rattle.pool_model.proofs.Grouped.{whole_unspent}
 use Rattle.pool_model.proofs.ServiceWhole.{service_absent}
 use Rattle.raid_laws.specs.Agreeing.{AgreeLeaving}
-use Rattle.raid_laws.specs.Raid.{IsTold, is_over, spent_of}
+use Rattle.raid_laws.specs.Raid.{IsTracked, is_failed, spent_of}
 use Rattle.raid_laws.proofs.Over.{or_from}
 use Rattle.pool.specs.Calls.{Ends}
 use Rattle.pool.specs.Moment.{moment_of}
@@ -38,7 +38,7 @@ use Rattle.shr_tool.proofs.Serviced.{goes_calls, goes_lone}
 -- of a pool by which a run goes, that stands alone on its disks and has ended whole
 lone_absent :
     {L : Type 0} (l : Lone) (y : View) (h : Found) → GoesBy L (Some l) h y → IsInside y.slices y.bay
-    → ((n : ℕ) → n < h.state.made → IsTold (book y) (slices_shown y) n) → ((n : ℕ) → n < h.state.made → is_over (book y) n ≡ false)
+    → ((n : ℕ) → n < h.state.made → IsTracked (book y) (slices_shown y) n) → ((n : ℕ) → n < h.state.made → is_failed (book y) n ≡ false)
     → IsWholeRaid h.state.made (book y)
     → ((n : ℕ) (r : Image) → n < h.state.made → IsLeft (slices_shown y) r → AgreeLeaving ((book y).arrays n) (book y).state r n)
     → HoldGroup (book y) y.linear (slices_shown y)
@@ -48,8 +48,8 @@ lone_absent l y h goes inside told lasts whole agree group alive i j pick leave 
   | inr one ↦
       absurd (both_ways (not_missing one.0) one.2.missing (all_there (λ drive. not drive.missing) (book y).state.drives.items one.0 whole.drives one.1))
   | inl same ↦
-      service_absent h l.bound (IsOut l y.shelf.names) y.slices (book y) y.bay (subst (λ (t : Slices). InService h t (book y) y.bay) (sym same) goes.service)
-      (subst (λ (t : Slices). HoldAlone h l.bound (IsOut l y.shelf.names) (book y).state t y.bay) (sym same) (goes.alone l refl).alone) inside told lasts whole agree group alive i j
+      service_absent h l.bound (IsOut l y.shelf.names) y.slices (book y) y.bay (subst (λ (t : Slices). RunInvariant h t (book y) y.bay) (sym same) goes.service)
+      (subst (λ (t : Slices). NoImpostor h l.bound (IsOut l y.shelf.names) (book y).state t y.bay) (sym same) (goes.alone l refl).alone) inside told lasts whole agree group alive i j
       pick leave
       (subst (λ (k : Disks). (d s : ℕ) → d < k.count → s < k.sectors d → length (j d s) ≡ 512) (sym goes.service.disks) sized)
       (subst (λ (k : Disks). (d : ℕ) → d < k.count → k.sectors d < 2 ^ 48) (sym goes.service.disks) inside.small)
@@ -61,11 +61,11 @@ lone_absent l y h goes inside told lasts whole agree group alive i j pick leave 
 -- after the end of a run in which lines replaced drives
 module _ (x m y : View) (a : FlatArray) (events : List Event) (unspent : (d s : ℕ) → y.bay.spent d s ≡ false) (ran : Ran x m events) (ends : Ends m y) (serving : IsServing x a)
     (served : IsServed (moment_of m) events) (quiet : (d : ℕ) → Rose (m.bay.faults d) (y.bay.faults d) → ⊥)
-    (told : (n : ℕ) → n < x.linear.arrays → IsTold (book y) (slices_shown y) n)
+    (told : (n : ℕ) → n < x.linear.arrays → IsTracked (book y) (slices_shown y) n)
     (f : Found) (on : IsRunOn f (moment_of x) x.bay) (only : AreOnly f) (own : HaveOwnAreas f)
     (serials : any_takes events ≡ true → AreSerial f.state) (fit : AreFit f (moment_of x) events (moment_of m) ran.steps)
     (out : List (List ℕ)) (ungiven : AreUngiven f (record { bound = (book m).state.serial; out = out }) x.shelf.names) (lone : AreLone f (record { bound = (book m).state.serial; out = out }) (moment_of x) events (moment_of m) ran.steps) (whole : IsWholeRaid f.state.made (book y))
-    (lasts : (n : ℕ) → n < f.state.made → is_over (book y) n ≡ false) where
+    (lasts : (n : ℕ) → n < f.state.made → is_failed (book y) n ≡ false) where
   abbrev h : Found
   h = pool_by f (moment_of x) events (moment_of m) ran.steps
 
@@ -94,7 +94,7 @@ module _ (x m y : View) (a : FlatArray) (events : List Event) (unspent : (d s : 
 
   alive : (n k : ℕ) → n < f.state.made → k < sectors_of ((book y).arrays n) → spent_of (book y) n k ≡ false
   alive n k low inside =
-      or_from (is_over (book y) n) _ (lasts n low)
+      or_from (is_failed (book y) n) _ (lasts n low)
       (whole_unspent ((book y).arrays n) k (ends.passes.stays.fit.0.running.set.arrays n (made_now n low)).is_array (λ j less. whole.seats n j low less) inside)
 
   pub lone_at : (i j : Image) → IsPick y.bay y.bay y.bay.held i → LeaveOut h (IsOut l y.shelf.names) i j → HasWholeSectors y.bay j → HoldAbsent h y.slices (book y).state j

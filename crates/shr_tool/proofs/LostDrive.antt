@@ -13,11 +13,11 @@ use Rattle.pool.specs.declared.calls.LoseFault.{LoseFault}
 use Rattle.pool.specs.declared.calls.LoseFault.TheVariants.{LastDrive, NoSuchDrive}
 use Rattle.pool.specs.View.{View, book, volume}
 use Rattle.pool.specs.Volume.{unchanged}
-use Rattle.pool.specs.Calls.{LosesDrive, Passes}
+use Rattle.pool.specs.Calls.{LosesDrive, CallFrame}
 use Rattle.pool.specs.Moment.{moment_of}
 use Rattle.shr_tool.specs.Events.{Event}
 use Rattle.shr_tool.specs.Events.Event.{answered, lost, last}
-use Rattle.shr_tool.specs.Timeline.{MarksFor, Performs}
+use Rattle.shr_tool.specs.Timeline.{MarksFor, LineContract}
 use Rattle.shr_tool.proofs.Performing.{performs_by}
 
 -- a pool has at most 16 drives
@@ -61,7 +61,7 @@ pub lose_done :
     → r ≡ Ok tt
     → text ≡ as_line (codes "ok")
     → LosesDrive x y at r
-    → Performs x y (lost place) text
+    → LineContract x y (lost place) text
 lose_done x y at place text r fit cut is_ok is loses_r =
     let loses : LosesDrive x y at {X = Unit {0}} (Ok tt) = subst (λ q. LosesDrive x y at q) is_ok loses_r in
     let current : is_current (book x).state at ≡ true =
@@ -88,7 +88,7 @@ pub kept_by : {X E K : Type 0} (r : Result X E) (e : E) → r ≡ Err e → OnEr
 kept_by {X} {E} {K} r e refused kept = subst (λ q. OnErr q K) refused kept
 
 -- refused, it marks no drive
-still_marks : (x y : View) (event : Event) → Passes x y → book y ≡ book x → MarksFor (moment_of x) (moment_of y) event
+still_marks : (x y : View) (event : Event) → CallFrame x y → book y ≡ book x → MarksFor (moment_of x) (moment_of y) event
 still_marks x y event passes same = record {
   after = passes.marks;
   cause = λ p was now. absurd (both_ways (is_current (book x).state p) (subst (λ b. is_current b.state p ≡ false) same now) was);
@@ -102,7 +102,7 @@ pub lose_missing :
     → book y ≡ book x
     → text ≡ refused_line (codes "no-such-drive")
     → LosesDrive x y at r
-    → Performs x y (answered (Ok (Lose place))) text
+    → LineContract x y (answered (Ok (Lose place))) text
 lose_missing x y at place text r fit cut refused same is loses =
     let missing = loses.missing.0 refused in
     performs_by x y (answered (Ok (Lose place))) text unchanged unchanged refl (λ none. absurd (both_ways false refl none)) loses.passes loses.raises (λ none. loses.works) (
@@ -127,7 +127,7 @@ pub lose_last :
     → book y ≡ book x
     → text ≡ refused_line (codes "last-drive")
     → LosesDrive x y at r
-    → Performs x y (last place) text
+    → LineContract x y (last place) text
 lose_last x y at place text r fit cut refused same is loses =
     let cause = loses.last.0 refused in
     let this : at ≡ place = cut_current x at place fit cut cause.0 in

@@ -6,21 +6,21 @@ use Rattle.slice_rack.specs.Sliced.{IsInside, slices_of}
 use Rattle.array_core.specs.TruthHeld.{HoldTruth}
 use Rattle.array_model.specs.View.{sectors_of}
 use Rattle.lvm_group.specs.Runs.{Linear}
-use Rattle.raid_laws.specs.Raid.{IsTold, is_over}
-use Rattle.raid_laws.specs.Runs.{KeepsMoments}
+use Rattle.raid_laws.specs.Raid.{IsTracked, is_failed}
+use Rattle.raid_laws.specs.Runs.{CrashInvariant}
 use Rattle.pool_image.specs.Disks.{Disks}
 use Rattle.pool_image.specs.Drives.{Found}
 use Rattle.pool_image.specs.Meaning.{array_sectors}
 use Rattle.pool_model.specs.Alone.{HoldTabled}
 use Rattle.pool_model.specs.Grouped.{AreHeadsLive, HoldGroup}
 use Rattle.pool_model.specs.Reopening.{AreWholeSectors, HoldVolume}
-use Rattle.pool_model.specs.Stopped.{AreSlicesNow, HoldAmid}
+use Rattle.pool_model.specs.Stopped.{AreSlicesNow, RecoversInCall}
 use Rattle.pool_model.proofs.Amid.{inside_of}
 use Rattle.pool_model.proofs.Reopening.{amid_volume}
 use Rattle.pool_model.proofs.ReopeningAmid.{calls_reopen, vacant_lies}
 use Rattle.pool_model.proofs.Said.{slices_by}
 use Rattle.pool_model.proofs.Sizes.{sectors_kept}
-use Rattle.pool.specs.Calls.{Passes}
+use Rattle.pool.specs.Calls.{CallFrame}
 use Rattle.pool.specs.View.{View, book, slices_shown, volume}
 use Rattle.pool.proofs.Booked.{book_seated}
 use Rattle.shr_tool.specs.Between.{HoldsMeanwhile}
@@ -28,8 +28,8 @@ use Rattle.shr_tool.specs.Service.{GoesBy, Lone}
 use Rattle.shr_tool.proofs.Heads.{heads_amid, heads_passes}
 use Rattle.shr_tool.proofs.Serviced.{goes_amid, own_now, say_now}
 
-module _ {L G : Type 0} {o : Option Lone} (x y : View) (f : Found) (l : Linear) (fit : (volume x).fit) (passes : Passes x y) (goes : GoesBy L o f x) (lands : L)
-    (told : (n : ℕ) → n < f.state.made → IsTold (book x) (slices_shown x) n) (lasts : (n : ℕ) → n < f.state.made → is_over (book y) n ≡ false)
+module _ {L G : Type 0} {o : Option Lone} (x y : View) (f : Found) (l : Linear) (fit : (volume x).fit) (passes : CallFrame x y) (goes : GoesBy L o f x) (lands : L)
+    (told : (n : ℕ) → n < f.state.made → IsTracked (book x) (slices_shown x) n) (lasts : (n : ℕ) → n < f.state.made → is_failed (book y) n ≡ false)
     (truths : (n : ℕ) → n < f.state.made → HoldTruth ((book x).arrays n) (slices_shown x)) (group : G → AreHeadsLive (book x) → HoldGroup (book x) l (slices_shown x)) (traced : x.bay.traced) where
   inside : IsInside x.slices x.bay
   inside = fit.0.running.set.fit.1
@@ -53,8 +53,8 @@ module _ {L G : Type 0} {o : Option Lone} (x y : View) (f : Found) (l : Linear) 
       let one = goes.service.arranged.truths n (low_made n low) in
       sectors_kept f n one.0 ((book x).arrays n) one.1 (goes.service.geometry n one.0 (low_made n low) one.1)
 
-  moments : KeepsMoments (book x) (book y) (slices_of x.slices x.bay) (slices_of x.slices y.bay)
-  moments = subst (λ (t : Slices). KeepsMoments (book x) (book y) (slices_of x.slices x.bay) (slices_of t y.bay)) passes.slices passes.moments
+  moments : CrashInvariant (book x) (book y) (slices_of x.slices x.bay) (slices_of x.slices y.bay)
+  moments = subst (λ (t : Slices). CrashInvariant (book x) (book y) (slices_of x.slices x.bay) (slices_of t y.bay)) passes.slices passes.moments
 
   -- the slices lie as those of current places, and these drives have their tables
   lies : AreSlicesNow f x.slices (book x).state × HoldTabled f (book x).state x.slices x.bay
@@ -75,7 +75,7 @@ module _ {L G : Type 0} {o : Option Lone} (x y : View) (f : Found) (l : Linear) 
             (say_now x f fit goes told (λ n low. moments.still n (lasts n low)) truths) (own_now x f fit goes) traced k i since until stopped amid (volume_at says heads whole);
       }
     where
-      amid : HoldAmid f x.slices (book x).state (book y).state i
+      amid : RecoversInCall f x.slices (book x).state (book y).state i
       amid = (goes_amid x y f inside passes goes lands told lasts traced).new k i since until stopped
 
       volume_at : G → AreHeadsLive (book y) → AreWholeSectors f.disks i → HoldVolume f x.slices l i

@@ -5,7 +5,7 @@ use Rattle.rack.specs.Values.{Keeps}
 use Rattle.slice_rack.specs.Runs.{IsSliced}
 use Rattle.slice_rack.specs.Slices.{IsOrderly, Slices, disk_of, first_of, place_of, seat_of, sectors_of}
 use Rattle.array_image.specs.States.{is_current}
-use Rattle.pool.specs.Calls.{Passes}
+use Rattle.pool.specs.Calls.{CallFrame}
 use Rattle.rack.specs.Untouched.{KeepsDisk}
 use Rattle.pool.specs.Moment.{moment_of}
 use Rattle.pool.specs.Replaced.{is_vacant}
@@ -13,7 +13,7 @@ use Rattle.pool.specs.View.{View, book, volume}
 use Rattle.pool.proofs.Admitted.{vacant_listed}
 use Rattle.shr_tool.specs.Events.{Event, Takes, takes_disk}
 use Rattle.shr_tool.specs.Events.Event.{answered, spent, lost, last, replaced, declined, stepped, stuck, shown}
-use Rattle.shr_tool.specs.Timeline.{Changes, KeepsMissing, Performs}
+use Rattle.shr_tool.specs.Timeline.{Changes, KeepsMissing, LineContract}
 
 -- ---- the slice of a sector
 
@@ -78,7 +78,7 @@ sliced_or t place d s orderly seat = elim (among_or t place s 17) [ inl is ↦ i
 -- ---- calls that attach no disk
 
 pub vacant_kept :
-    (x y : View) → (volume x).fit → Passes x y → IsOrderly y.slices → ((d s : ℕ) → y.bay.spent d s ≡ false) → ((d : ℕ) → d < x.bay.disks → x.bay.told d)
+    (x y : View) → (volume x).fit → CallFrame x y → IsOrderly y.slices → ((d s : ℕ) → y.bay.spent d s ≡ false) → ((d : ℕ) → d < x.bay.disks → x.bay.told d)
     → KeepsMissing (moment_of x) (moment_of y) (λ d. ⊥)
 vacant_kept x y fit passes orderly unspent all place d s vacant seat unnamed within =
     elim (sliced_or x.slices place d s (subst IsOrderly passes.slices orderly) seat) [
@@ -147,7 +147,7 @@ retired x y (stuck count array) takes changes place d vacant seat unnamed = absu
 retired x y (shown text) takes changes place d vacant seat unnamed = absurd (both_ways false refl takes)
 
 pub missing_performed :
-    (x y : View) (event : Event) (text : List ℕ) → (volume x).fit → Performs x y event text → IsOrderly y.slices → ((d s : ℕ) → y.bay.spent d s ≡ false)
+    (x y : View) (event : Event) (text : List ℕ) → (volume x).fit → LineContract x y event text → IsOrderly y.slices → ((d s : ℕ) → y.bay.spent d s ≡ false)
     → ((d : ℕ) → d < x.bay.disks → x.bay.told d) → KeepsMissing (moment_of x) (moment_of y) (Takes y.shelf.names event)
 missing_performed x y event text fit performs orderly unspent all place d s vacant seat unnamed within =
     elim (cases_Bool (takes_disk event)) [

@@ -19,16 +19,16 @@ use Rattle.array_core.proofs.Opened.{current_below}
 use Rattle.raid_laws.specs.Book.{after_same}
 use Rattle.raid_laws.specs.Enlisting.{IsOpenDisk}
 use Rattle.raid_laws.specs.Losing.{arrays_same}
-use Rattle.raid_laws.specs.Raid.{IsTold}
+use Rattle.raid_laws.specs.Raid.{IsTracked}
 use Rattle.raid_laws.proofs.Noted.{current_few}
 use Rattle.pool_image.specs.Disks.{Disks, disks_of, identities_of}
 use Rattle.pool_image.specs.Drives.{Found, drive_sector, first_of}
 use Rattle.pool_image.specs.Meaning.{array_sectors, is_member}
 use Rattle.pool_model.specs.Alone.{HoldTabled}
-use Rattle.pool_model.specs.InService.{InService}
-use Rattle.pool_model.specs.Left.{IsPickOff}
+use Rattle.pool_model.specs.InService.{RunInvariant}
+use Rattle.pool_model.specs.Left.{IsPickOutsideSlices}
 use Rattle.pool_model.specs.Stopped.{HoldTables}
-use Rattle.pool_model.specs.Taken.{KeepsOff, KeepsOthers, LacksDrive, attached}
+use Rattle.pool_model.specs.Taken.{KeepsOutsideSlices, KeepsOthers, LacksDrive, attached}
 use Rattle.pool_model.proofs.Alike.{HasTruths, first_same, member_same, sectors_same}
 use Rattle.pool_model.proofs.Declined.{sector_same, truths_attached}
 use Rattle.pool_model.proofs.Found.{seated_below}
@@ -42,7 +42,7 @@ use Rattle.pool.specs.Entering.{Vacates}
 use Rattle.pool.specs.Moment.{IsNamed, moment_of, views_of}
 use Rattle.pool.specs.Taking.{AttachesDisk}
 use Rattle.pool.specs.View.{View, book, over, volume}
-use Rattle.pool.specs.Volume.{Holds, is_spent, size_of}
+use Rattle.pool.specs.Volume.{VolumeIs, is_spent, size_of}
 use Rattle.pool.proofs.Admitted.{others_current, reaches_each}
 use Rattle.pool.specs.Replacing.{IsAdmitted}
 use Rattle.shr_tool.specs.Service.{GoesBy, IsFitDisk, Lone}
@@ -52,7 +52,7 @@ use Rattle.shr_tool.proofs.TakenIn.{vacant_not}
 use Rattle.shr_tool.proofs.TurnedDown.{seats_both}
 
 module _ {L : Type 0} {o : Option Lone} (x : View) (bay : x.bays.one) (name : List ℕ) (disk : ℕ) (at : AttachesDisk x (over x bay) name (Ok disk))
-    (unspent : (d s : ℕ) → (x.bays.seen bay).spent d s ≡ false) (fit : (volume x).fit) (b : FlatArray) (holds : Holds x b) (f : Found) (goes : GoesBy L o f x)
+    (unspent : (d s : ℕ) → (x.bays.seen bay).spent d s ≡ false) (fit : (volume x).fit) (b : FlatArray) (holds : VolumeIs x b) (f : Found) (goes : GoesBy L o f x)
     (fits : IsFitDisk f (moment_of x) name) where
   abbrev pub m : View
   m = over x bay
@@ -84,13 +84,13 @@ module _ {L : Type 0} {o : Option Lone} (x : View) (bay : x.bays.one) (name : Li
   not_current p current seat = at.ok.2 (p, going_seat x f goes p disk seat current, vacant_not (book x).state p current)
 
   -- what a disk may be left with off the slices it held
-  left_off : (u : Slices) (i : Image) → IsPickOff u m.bay i → (d s : ℕ) → d < x.bay.disks → s < m.bay.sectors d → ((w : List ℕ) → IsSliced u d s w → ⊥)
+  left_off : (u : Slices) (i : Image) → IsPickOutsideSlices u m.bay i → (d s : ℕ) → d < x.bay.disks → s < m.bay.sectors d → ((w : List ℕ) → IsSliced u d s w → ⊥)
       → MayLeave (x.bay.held d s) (i d s)
   left_off u i off d s low within never =
       subst (λ h. MayLeave h (i d s)) (at.held d low s) (off d s (live_now d s (let more = at.continues.disks in omega (arith, low, more)) within) never)
 
   -- a disk that came says an earlier state, as what waited did
-  came_says : (i : Image) → IsPickOff t m.bay i → (d : ℕ) → d < m.bay.disks → f.disks.count ≤ d
+  came_says : (i : Image) → IsPickOutsideSlices t m.bay i → (d : ℕ) → d < m.bay.disks → f.disks.count ≤ d
       → (copy : Copied) → (identities_of (disks_of m.bay) i d).copied ≡ Some copy → copy.state.epoch < f.state.epoch
   came_says i off d low past copy here =
       let same = count in
@@ -117,7 +117,7 @@ module _ {L : Type 0} {o : Option Lone} (x : View) (bay : x.bays.one) (name : Li
             ])
       ]
 
-  keeps_off : (u : Slices) → KeepsOff u disk x.bay m.bay
+  keeps_off : (u : Slices) → KeepsOutsideSlices u disk x.bay m.bay
   keeps_off u d s other live never = (
     record {
       disk = (let low = live.disk in let more = at.continues.disks in omega (arith, low, more));
@@ -163,7 +163,7 @@ module _ {L : Type 0} {o : Option Lone} (x : View) (bay : x.bays.one) (name : Li
   pub sectors_named : (n : ℕ) → n < f.state.made → array_sectors h n ≡ array_sectors f n
   sectors_named n low = sectors_same f h few goes.service.arranged.truths same_truths n low
 
-  pub service_named : InService h t (book x) m.bay
+  pub service_named : RunInvariant h t (book x) m.bay
   service_named = service_attached f t (book x) (book x) disk x.bay m.bay goes.service keeps_others (after_same (book x).state) (arrays_same (book x))
 
   pub tables_named : L → HoldTables h t (book x).state m.bay
@@ -177,7 +177,7 @@ module _ {L : Type 0} {o : Option Lone} (x : View) (bay : x.bays.one) (name : Li
 
   -- ---- how a run goes by it
 
-  pub holds_named : Holds m b
+  pub holds_named : VolumeIs m b
   holds_named = record {
     told = λ s low left. at.carries.told holds.shelf holds.disks s (subst (λ n. s < n) holds.size low) left (holds.told s low (at.carries.spent s left));
     shelf = at.continues.told holds.shelf;
@@ -217,10 +217,10 @@ module _ {L : Type 0} {o : Option Lone} (x : View) (bay : x.bays.one) (name : Li
   }
 
   -- its arrays are told, where a sector of the volume can be had
-  told_arrays : (s : ℕ) → s < size_of x → is_spent x s ≡ false → (n : ℕ) → n < x.linear.arrays → IsTold (book x) (slices_of x.slices m.bay) n
+  told_arrays : (s : ℕ) → s < size_of x → is_spent x s ≡ false → (n : ℕ) → n < x.linear.arrays → IsTracked (book x) (slices_of x.slices m.bay) n
   told_arrays = told_attached x bay name disk at holds
 
-  pub arrays_named : (s : ℕ) → s < size_of x → is_spent x s ≡ false → (n : ℕ) → n < f.state.made → IsTold (book x) (slices_of x.slices m.bay) n
+  pub arrays_named : (s : ℕ) → s < size_of x → is_spent x s ≡ false → (n : ℕ) → n < f.state.made → IsTracked (book x) (slices_of x.slices m.bay) n
   arrays_named s low left n below = told_arrays s low left n (subst (λ k. n < k) (sym goes.arrays) below)
 
   -- what is remembered of a place's drive
@@ -265,10 +265,10 @@ module _ {L : Type 0} {o : Option Lone} (x : View) (bay : x.bays.one) (name : Li
         let many = same_length (book x).state.drives.items f.state.drives.items goes.service.after.same.drives in
         not_current p (others_current (book x).state place free_named.whole p (omega (arith, low, many)) other) seat
 
-    told_first : IsTold (book x) (slices_of x.slices x.bay) (array_of x.linear some)
+    told_first : IsTracked (book x) (slices_of x.slices x.bay) (array_of x.linear some)
     told_first = told_by x b some fit holds within alive
 
-    earlier : (d : ℕ) → f.seats place ≡ Some d → (i : Image) → IsPickOff u m.bay i
+    earlier : (d : ℕ) → f.seats place ≡ Some d → (i : Image) → IsPickOutsideSlices u m.bay i
         → (copy : Copied) → (identities_of (disks_of m.bay) i d).copied ≡ Some copy → copy.state.epoch < (book x).state.epoch
     earlier d seat i off copy here =
         let parts = copy_parts (m.bay.sectors d) (i d state_sector) copy here in
@@ -279,7 +279,7 @@ module _ {L : Type 0} {o : Option Lone} (x : View) (bay : x.bays.one) (name : Li
         elim goes.vacant [
           | inl same ↦
               lost_value f t u (book x) x.bay m.bay place d d goes.service.slices seat (small place d seat) none (array_of x.linear some)
-              (subst (λ (z : Slices). IsTold (book x) (slices_of z x.bay) (array_of x.linear some)) same told_first) (not_over x.linear (book x) some alive)
+              (subst (λ (z : Slices). IsTracked (book x) (slices_of z x.bay) (array_of x.linear some)) same told_first) (not_over x.linear (book x) some alive)
               (i d state_sector) copy left parts.1
           | inr one ↦
               (let lacks : LacksDrive f t x.slices (book x) place x.bay =
@@ -292,7 +292,7 @@ module _ {L : Type 0} {o : Option Lone} (x : View) (bay : x.bays.one) (name : Li
     lacks_named = record { vacated = vacated_named; missing = none; earlier = earlier }
 
     -- each array is told by the slices that are left
-    pub told_named : (n : ℕ) → n < x.linear.arrays → IsTold (book x) (slices_of u m.bay) n
+    pub told_named : (n : ℕ) → n < x.linear.arrays → IsTracked (book x) (slices_of u m.bay) n
     told_named n low =
         told_vacated m place disk vacates at.continues.fit.0.running.set fit.0.heeded n
         (let arrays = fit.1.arrays in omega (arith, low, arrays)) (told_arrays some within alive n low)

@@ -2,7 +2,7 @@
 use Rattle.std.proofs.Common.{◌≡◌, ℕ, suc, ◌+◌, ◌-◌, ◌<◌, ◌≤◌, ◌==◌, if◌then◌else◌, Bool, true, false, List, unwrap_or, Option, Some, None, inl, inr, refl, sym, ap, ap₂, ◌∙◌, eq-eqb, arith}
 use Rattle.std.proofs.lemmas.Bool.{cases_Bool, cases_lt, ne_eqb}
 use Rattle.std.proofs.lemmas.Option.{none-some}
-use Rattle.rack.specs.Seen.{Image, IsLive, Seen}
+use Rattle.rack.specs.Seen.{Image, IsLive, RackView}
 use Rattle.rack.specs.Values.{IsSingle}
 use Rattle.slice_rack.specs.Runs.{IsSliced}
 use Rattle.slice_rack.specs.Slices.{IsOrderly, Slices, disk_of, place_of, seat_of, sectors_of}
@@ -19,7 +19,7 @@ use Rattle.array_model.specs.View.{View}
 use Rattle.pool_image.specs.Replay.{extent_by}
 use Rattle.raid_laws.specs.NewDrive.{SeatsDrive, drive_table, first_in, first_laid, joins, length_in}
 use Rattle.raid_laws.specs.Raid.{Raid}
-use Rattle.pool_model.specs.Left.{IsPickOff}
+use Rattle.pool_model.specs.Left.{IsPickOutsideSlices}
 use Rattle.pool_model.specs.Stopped.{LieOn}
 use Rattle.pool_model.specs.Taken.{views_of}
 use Rattle.pool_model.proofs.Beginnings.{no_view}
@@ -113,9 +113,9 @@ module _ (id : List ℕ) (t u : Slices) (v : Raid) (place disk sectors : ℕ) (s
         omega (arith, first, high, here, small)
 
     -- Where the first copy of its table has one value in each sector, the disk has it outside the slices.
-    pub table_left : (z : Seen) → 67 ≤ sectors → ((k : ℕ) → k < sectors → IsLive z z disk k)
+    pub table_left : (z : RackView) → 67 ≤ sectors → ((k : ℕ) → k < sectors → IsLive z z disk k)
         → HoldsCopy Primary (table_in id v place sectors) (now_on z disk) → ((k : ℕ) → IsOfTable sectors k → IsSingle (z.held disk k))
-        → (i : Image) → IsPickOff u z i → the_table sectors (i disk) ≡ Some (table_in id v place sectors)
+        → (i : Image) → IsPickOutsideSlices u z i → the_table sectors (i disk) ≡ Some (table_in id v place sectors)
     table_left z room live holds single i off =
         first_says sectors (i disk) (table_in id v place sectors)
         (table_at_agrees Primary sectors (i disk) (now_on z disk)

@@ -1,6 +1,6 @@
 -- A pool that is opened on the disks which answer is opened on the bay, with the others offline.
 use Rattle.std.proofs.Common.{ℕ, List, Bool, inl, inr}
-use Rattle.rack.specs.Seen.{Seen}
+use Rattle.rack.specs.Seen.{RackView}
 use Rattle.rack.specs.Shelf.{Shelf}
 use Rattle.online_bay.specs.Online.{Asks}
 use Rattle.shr_tool.specs.declared.opening.Task.{Task}
@@ -10,7 +10,7 @@ use Rattle.shr_tool.proofs.Through.{marks_through, pool_through, refused_through
 
 -- disks of a bay that is reached through a reference were asked
 pub asks_through :
-    {R B : Type 0} (shown : B → Seen) (runs : R → R → Type 0) (does : B → B → Type 0) (to : R → B)
+    {R B : Type 0} (shown : B → RackView) (runs : R → R → Type 0) (does : B → B → Type 0) (to : R → B)
     → ((r s : R) → runs r s → does (to r) (to s))
     → (r s : R) (sector : ℕ) (offline : List Bool) → Asks (λ q. shown (to q)) runs r s sector offline → Asks shown does (to r) (to s) sector offline
 asks_through shown runs does to so r s sector offline asks = record {
@@ -29,7 +29,7 @@ asks_through shown runs does to so r s sector offline asks = record {
 }
 
 -- what came out on it came out on the bay
-module _ {R B : Type 0} (shown : B → Seen) (shelf : B → Shelf) (runs : R → R → Type 0) (does : B → B → Type 0) (to : R → B) (so : (r s : R) → runs r s → does (to r) (to s)) (r s : R) where
+module _ {R B : Type 0} (shown : B → RackView) (shelf : B → Shelf) (runs : R → R → Type 0) (does : B → B → Type 0) (to : R → B) (so : (r s : R) → runs r s → does (to r) (to s)) (r s : R) where
   not_opened : (out out' : List ℕ) (status : Status) → NotOpened (λ q. shown (to q)) runs r s out out' status → NotOpened shown does (to r) (to s) out out' status
   not_opened out out' status is = record {
     why = is.why;

@@ -19,14 +19,14 @@ use Rattle.array_image.specs.States.{is_current}
 use Rattle.array_core.proofs.Stripped.{some_same}
 use Rattle.raid_laws.specs.Enlisting.{IsWrittenBy, next_drive}
 use Rattle.raid_laws.specs.Laws.{live_parts}
-use Rattle.raid_laws.specs.Raid.{IsTold, is_over}
+use Rattle.raid_laws.specs.Raid.{IsTracked, is_failed}
 use Rattle.raid_laws.specs.Since.{HasOwnSince, KeepsSince}
 use Rattle.raid_laws.proofs.Since.{kept_since}
 use Rattle.pool_image.specs.Disks.{Identity, disks_of, id_by, identities_of}
 use Rattle.pool_image.specs.Drives.{Found}
-use Rattle.pool_model.specs.Alone.{IsTabled, SaysAlone}
+use Rattle.pool_model.specs.Alone.{IsTabled, SaysNoImpostor}
 use Rattle.pool_model.specs.Laid.{HaveOtherIds}
-use Rattle.pool_model.specs.Left.{IsPickOff}
+use Rattle.pool_model.specs.Left.{IsPickOutsideSlices}
 use Rattle.pool_model.specs.Taken.{AreSerial, attached}
 use Rattle.pool_model.proofs.Alone.{says_own}
 use Rattle.pool_model.proofs.Named.{id_same}
@@ -37,13 +37,13 @@ use Rattle.pool.specs.Naming.{EntersNamed}
 use Rattle.pool.specs.Replaced.{ChangesDrive}
 use Rattle.pool.specs.Taking.{AttachesDisk}
 use Rattle.pool.specs.View.{View, book, over, slices_shown, spent_by, volume}
-use Rattle.pool.specs.Volume.{Holds, is_spent, size_of}
+use Rattle.pool.specs.Volume.{VolumeIs, is_spent, size_of}
 use Rattle.pool.proofs.Readying.{next_same}
 use Rattle.shr_tool.specs.Between.{HasOthers, HaveOthers}
 use Rattle.shr_tool.specs.Events.{Event, becomes, takes_disk}
 use Rattle.shr_tool.specs.Events.Event.{answered, spent, lost, last, replaced, declined, stepped, stuck, shown}
 use Rattle.shr_tool.specs.Service.{GoesBy, IsFitDrive, IsFitFor, IsOut, IsOwnCopy, Lone, StandsLone, none_out, pool_after, pool_by}
-use Rattle.shr_tool.specs.Timeline.{Performs, Steps, Timeline, steps_of}
+use Rattle.shr_tool.specs.Timeline.{LineContract, Steps, Timeline, steps_of}
 use Rattle.shr_tool.proofs.Between.{timeline_order}
 use Rattle.shr_tool.proofs.Chains.{steps_more}
 use Rattle.shr_tool.proofs.Entered.{out, since_ready, stays_ready, told_attached}
@@ -54,7 +54,7 @@ use Rattle.shr_tool.proofs.TakenIn as new
 use Rattle.shr_tool.proofs.TakingFrom.{other_left}
 
 module _ {L : Type 0} {bound : ℕ} (x y : View) (place : ℕ) (name text : List ℕ) (b : FlatArray) (unspent : (d s : ℕ) → y.bay.spent d s ≡ false) (fit : (volume x).fit)
-    (performs : Performs x y (replaced place name) text) (holds : Holds x b) (some : (s : ℕ) × (s < size_of x) × (spent_by x.linear (book y) s ≡ false))
+    (performs : LineContract x y (replaced place name) text) (holds : VolumeIs x b) (some : (s : ℕ) × (s < size_of x) × (spent_by x.linear (book y) s ≡ false))
     (f : Found) (goes : GoesBy L (Some (none_out bound)) f x) (fitting : IsFitDrive f (moment_of x) place name) (serials : AreSerial f.state) (early : (book y).state.serial ≤ bound)
     (traced : x.bay.traced) where
   bounds : (l : Lone) → Some (none_out bound) ≡ Some l → (book y).state.serial ≤ l.bound
@@ -157,7 +157,7 @@ module _ {L : Type 0} {bound : ℕ} (x y : View) (place : ℕ) (name text : List
           | inr written ↦ elim written [ inl same ↦ absurd (other same) | inr sliced ↦ absurd (never (i d s) sliced) ]
         ])
 
-    off_was : IsPickOff goes.tables x.bay was
+    off_was : IsPickOutsideSlices goes.tables x.bay was
     off_was d s live never = elim (cases_eq d disk) [
       | inl same ↦ subst (λ v. MayLeave (x.bay.held d s) v) (sym (ap (λ (z : Bool). if z then (x.bay.held d s).current else i d s) (eq-eqb d disk same))) (inl refl)
       | inr other ↦
@@ -166,7 +166,7 @@ module _ {L : Type 0} {bound : ℕ} (x y : View) (place : ℕ) (name text : List
           (λ w sliced. never w (new.sliced_old x y place name unspent performs.continues (performs.outside refl) changes told_then f goes d s w sliced)))
     ]
 
-    says : SaysAlone f bound (IsOut (none_out bound) x.shelf.names) (book x).state was
+    says : SaysNoImpostor f bound (IsOut (none_out bound) x.shelf.names) (book x).state was
     says = stands.alone was off_was
 
     -- ---- another disk then
@@ -243,12 +243,12 @@ module _ {L : Type 0} {bound : ℕ} (x y : View) (place : ℕ) (name text : List
               let same = (after x entered.bay place name disk at ready.bay ready.arrays ready.refused ready.readies).same.made in
               omega (arith, inside, arrays, same))
 
-          lasts : is_over (book e) n ≡ false
+          lasts : is_failed (book e) n ≡ false
           lasts =
               (let left = live_parts (book y) n (sector_of x.linear some.0) some.2 in
               ready.enters.enlists.is.still n made (other_left e y place disk ready.enters performs.continues.fit.0 n (sector_of x.linear some.0) made left.1) left.0)
 
-          told : IsTold (book x) (slices_shown m) n
+          told : IsTracked (book x) (slices_shown m) n
           told = told_attached x entered.bay name disk at holds some.0 some.1 alive n (array_low x some.0 fit some.1)
 
           copies : KeepsSince (book x).state (slices_shown m) (slices_shown e)
@@ -327,7 +327,7 @@ module _ {L : Type 0} {bound : ℕ} (x y : View) (place : ℕ) (name text : List
 -- inside any line
 pub others_performed :
     {L : Type 0} {bound : ℕ} (x y : View) (event : Event) (text : List ℕ) (b : FlatArray)
-    → ((d s : ℕ) → y.bay.spent d s ≡ false) → (volume x).fit → Performs x y event text → Holds x b → IsServedBy x y event
+    → ((d s : ℕ) → y.bay.spent d s ≡ false) → (volume x).fit → LineContract x y event text → VolumeIs x b → IsServedBy x y event
     → (f : Found) → GoesBy L (Some (none_out bound)) f x → (takes_disk event ≡ true → AreSerial f.state) → IsFitFor f (moment_of x) event → (book y).state.serial ≤ bound → x.bay.traced
     → HasOthers y.bay.stops f (moment_of x) (moment_of y) event
 others_performed x y (answered line) text b unspent fit performs holds served f goes serials fitting early traced = tt

@@ -12,16 +12,16 @@ use Rattle.flat_array.specs.Reply.{reply, after, spent_line, uniform_sector}
 use Rattle.pool.specs.declared.calls.SectorFault.{SectorFault}
 use Rattle.pool.specs.declared.calls.SectorFault.TheVariants.{Range, Spent}
 use Rattle.pool.specs.View.{View, book, volume}
-use Rattle.pool.specs.Volume.{Does, Holds, Means, is_spent, size_of, unchanged}
+use Rattle.pool.specs.Volume.{Refines, VolumeIs, Means, is_spent, size_of, unchanged}
 use Rattle.pool.specs.Keeping.{KeepsWorks, Raises}
-use Rattle.pool.specs.Calls.{Flushes, Marks, Passes, ReadsSector, WritesSector}
+use Rattle.pool.specs.Calls.{Flushes, Marks, CallFrame, ReadsSector, WritesSector}
 use Rattle.shr_tool.proofs.Filled.{works_same}
 use Rattle.shr_tool.specs.declared.perform.SpentAt.{SpentAt}
 use Rattle.shr_tool.specs.Events.{Event, IsOfArray, Touches, TouchesLast, becomes, calls_in, calls_none, line_of, takes_disk, text_of, works_on}
 use Rattle.shr_tool.specs.Events.Event.{answered, spent, lost, last, replaced, declined, stepped, stuck, shown}
 use Rattle.pool.specs.Moment.{moment_of}
 use Rattle.shr_tool.proofs.Renewed.{keeps_in}
-use Rattle.shr_tool.specs.Timeline.{HasCause, MarksFor, MeansBefore, Performs}
+use Rattle.shr_tool.specs.Timeline.{HasCause, MarksFor, MeansBefore, LineContract}
 use Rattle.shr_tool.specs.Filling.{Fills, FillsSome}
 use Rattle.pool.proofs.Booked.{raises_still}
 use Rattle.pool.proofs.Continuing.{continues_of}
@@ -35,7 +35,7 @@ abbrev pub Cause : View → View → Event → Type 0
 Cause x y event = HasCause (moment_of x) (moment_of y) event
 
 -- the marks of a call that loses no drive itself
-pub marks_for : (x y : View) (event : Event) → Passes x y → Marks x y → MarksFor (moment_of x) (moment_of y) event
+pub marks_for : (x y : View) (event : Event) → CallFrame x y → Marks x y → MarksFor (moment_of x) (moment_of y) event
 marks_for x y event passes marks = record {
   after = passes.marks;
   cause = λ place was now. elim (marks place was now) [ inl rose ↦ inl rose | inr none ↦ absurd none ];
@@ -61,17 +61,17 @@ performs_with :
     (x y : View) (event : Event) (text : List ℕ) (during now : FlatArray → FlatArray)
     → takes_disk event ≡ false
     → (calls_none event ≡ true → moment_of y ≡ moment_of x)
-    → Passes x y
+    → CallFrame x y
     → Raises (calls_in (line_of event)) x y
     → (works_on event ≡ false → KeepsWorks (book x) (book y))
     → Cause x y event
     → MarksFor (moment_of x) (moment_of y) event
     → (a : FlatArray) × (a.size ≡ size_of x) × (text ≡ text_of a event)
-    → ((a : FlatArray) → Holds x a → text ≡ text_of a event)
-    → ((a : FlatArray) → Holds x a → now a ≡ becomes a event)
-    → ((a : FlatArray) → Holds x a → (during a ≡ a) ⊎ (during a ≡ becomes a event))
-    → Does x y during now
-    → Performs x y event text
+    → ((a : FlatArray) → VolumeIs x a → text ≡ text_of a event)
+    → ((a : FlatArray) → VolumeIs x a → now a ≡ becomes a event)
+    → ((a : FlatArray) → VolumeIs x a → (during a ≡ a) ⊎ (during a ≡ becomes a event))
+    → Refines x y during now
+    → LineContract x y event text
 performs_with x y event text during now none still passes raises works cause marks reply text_is same one_of does = record {
   continues = continues_of x y passes;
   still = still;
@@ -85,7 +85,7 @@ performs_with x y event text during now none still passes raises works cause mar
   marks = λ _. marks;
   text_is = text_is;
   reply = reply;
-  holds = λ a holds. subst (λ b. Holds y b) (same a holds) (does.becomes a holds);
+  holds = λ a holds. subst (λ b. VolumeIs y b) (same a holds) (does.becomes a holds);
   leaves = λ traced a holds k i since until stopped.
       let means = (does.leaves traced a holds).new k i since until stopped in
       elim (one_of a holds) [
@@ -106,16 +106,16 @@ pub performs_by :
     (x y : View) (event : Event) (text : List ℕ) (during now : FlatArray → FlatArray)
     → takes_disk event ≡ false
     → (calls_none event ≡ true → moment_of y ≡ moment_of x)
-    → Passes x y
+    → CallFrame x y
     → Raises (calls_in (line_of event)) x y
     → (works_on event ≡ false → KeepsWorks (book x) (book y))
     → Cause x y event
     → MarksFor (moment_of x) (moment_of y) event
     → ((a : FlatArray) → a.size ≡ size_of x → text ≡ text_of a event)
-    → ((a : FlatArray) → Holds x a → now a ≡ becomes a event)
-    → ((a : FlatArray) → Holds x a → (during a ≡ a) ⊎ (during a ≡ becomes a event))
-    → Does x y during now
-    → Performs x y event text
+    → ((a : FlatArray) → VolumeIs x a → now a ≡ becomes a event)
+    → ((a : FlatArray) → VolumeIs x a → (during a ≡ a) ⊎ (during a ≡ becomes a event))
+    → Refines x y during now
+    → LineContract x y event text
 performs_by x y event text during now none still passes raises works cause marks is same one_of does =
     performs_with x y event text during now none still passes raises works cause marks (reply_sized x event text is) (λ a holds. is a holds.size) same one_of does
 
@@ -133,7 +133,7 @@ touches_none x y line none never other apart =
 -- a line that touches one sector, which isn't spent when it returns
 touches_one :
     (x y : View) (line : Line) (sector : ℕ)
-    → Passes x y
+    → CallFrame x y
     → is_spent y sector ≡ false
     → ((s : ℕ) → Touches (size_of x) line s → s ≡ sector)
     → ((s : ℕ) → TouchesLast (size_of x) line s → s ≡ sector)
@@ -156,9 +156,9 @@ pub still_done :
     → ((s : ℕ) → TouchesLast (size_of x) line s → ⊥)
     → ((place : ℕ) → line ≡ Ok (Lose place) → ⊥)
     → IsOfArray line
-    → ((a : FlatArray) → Holds x a → a ≡ after a line)
+    → ((a : FlatArray) → VolumeIs x a → a ≡ after a line)
     → ((a : FlatArray) → a.size ≡ size_of x → text ≡ reply a line)
-    → Performs x x (answered line) text
+    → LineContract x x (answered line) text
 still_done x line text fit sound none never other apart same is =
     performs_by x x (answered line) text unchanged unchanged refl (λ none. refl) (passes_same x fit) (raises_still (calls_in line) x) (λ none. works_same x) (touches_none x x line none never other apart)
     (marks_for x x (answered line) (passes_same x fit) (marks_same x (λ place. ⊥)))
@@ -192,7 +192,7 @@ pub read_done :
     → r ≡ Ok tt
     → text ≡ data_line into
     → ReadsSector x y sector into r
-    → Performs x y (answered (Ok (Read sector))) text
+    → LineContract x y (answered (Ok (Read sector))) text
 read_done x y sector into text r is_ok is reads_r =
     let reads : ReadsSector x y sector into {X = Unit {0}} (Ok tt) = subst (λ q. ReadsSector x y sector into q) is_ok reads_r in
     let served = reads.fault.served in
@@ -211,7 +211,7 @@ pub read_outside :
     → r ≡ Err Range
     → text ≡ refused_line (codes "range")
     → ReadsSector x y sector into r
-    → Performs x y (answered (Ok (Read sector))) text
+    → LineContract x y (answered (Ok (Read sector))) text
 read_outside x y sector into text r refused is reads =
     let past = reads.fault.range.0 refused in
     performs_by x y (answered (Ok (Read sector))) text unchanged unchanged refl (λ none. absurd (both_ways false refl none)) reads.passes reads.raises (λ none. reads.works)
@@ -228,7 +228,7 @@ pub read_spent :
     → r ≡ Err Spent
     → text ≡ spent_line sector
     → ReadsSector x y sector into r
-    → Performs x y (spent (Ok (Read sector)) sector) text
+    → LineContract x y (spent (Ok (Read sector)) sector) text
 read_spent x y sector into text r refused is reads =
     let gone = reads.fault.refused refused in
     performs_by x y (spent (Ok (Read sector)) sector) text unchanged unchanged refl (λ none. absurd (both_ways false refl none)) reads.passes reads.raises (λ none. reads.works) (
@@ -249,11 +249,11 @@ pub write_done :
     → r ≡ Ok tt
     → text ≡ as_line (codes "ok")
     → WritesSector x y sector v r
-    → Performs x y (answered (Ok (Write sector v))) text
+    → LineContract x y (answered (Ok (Write sector v))) text
 write_done x y sector v text r is_ok is writes_r =
     let writes : WritesSector x y sector v {X = Unit {0}} (Ok tt) = subst (λ q. WritesSector x y sector v q) is_ok writes_r in
     let served = writes.fault.served in
-    let same : (a : FlatArray) → Holds x a → written a sector v ≡ after a (Ok (Write sector v)) =
+    let same : (a : FlatArray) → VolumeIs x a → written a sector v ≡ after a (Ok (Write sector v)) =
     λ a holds. rw (inside_array x a sector holds.size served.0) refl in
     performs_by x y (answered (Ok (Write sector v))) text (λ a. written a sector v) (λ a. written a sector v) refl (λ none. absurd (both_ways false refl none)) writes.passes writes.raises (λ none. writes.works)
     (touches_one x y (Ok (Write sector v)) sector writes.passes served.1 (λ s touches. touches.0) (λ s touches. touches.0) (λ place loses. cc) tt)
@@ -268,7 +268,7 @@ pub write_outside :
     → r ≡ Err Range
     → text ≡ refused_line (codes "range")
     → WritesSector x y sector v r
-    → Performs x y (answered (Ok (Write sector v))) text
+    → LineContract x y (answered (Ok (Write sector v))) text
 write_outside x y sector v text r refused is writes_r =
     let writes : WritesSector x y sector v {X = Unit {0}} (Err Range) = subst (λ q. WritesSector x y sector v q) refused writes_r in
     let past = writes.fault.range.0 refl in
@@ -286,7 +286,7 @@ pub write_spent :
     → r ≡ Err Spent
     → text ≡ spent_line sector
     → WritesSector x y sector v r
-    → Performs x y (spent (Ok (Write sector v)) sector) text
+    → LineContract x y (spent (Ok (Write sector v)) sector) text
 write_spent x y sector v text r refused is writes_r =
     let writes : WritesSector x y sector v {X = Unit {0}} (Err Spent) = subst (λ q. WritesSector x y sector v q) refused writes_r in
     let gone = writes.fault.refused refl in
@@ -313,11 +313,11 @@ pub fill_done :
     → r ≡ Ok tt
     → text ≡ as_line (codes "ok")
     → Fills x y sector count (uniform_sector byte) r
-    → Performs x y (answered (Ok (Fill sector count byte))) text
+    → LineContract x y (answered (Ok (Fill sector count byte))) text
 fill_done x y sector count byte text r inside is_ok is fills_r =
     let fills : Fills x y sector count (uniform_sector byte) (Ok tt) =
     subst (λ q. Fills x y sector count (uniform_sector byte) q) is_ok fills_r in
-    let same : (a : FlatArray) → Holds x a → filled a sector count (uniform_sector byte) ≡ after a (Ok (Fill sector count byte)) =
+    let same : (a : FlatArray) → VolumeIs x a → filled a sector count (uniform_sector byte) ≡ after a (Ok (Fill sector count byte)) =
     λ a holds. rw (all_inside x a (sector + count) holds.size inside) refl in
     performs_by x y (answered (Ok (Fill sector count byte))) text (λ a. filled a sector count (uniform_sector byte))
     (λ a. filled a sector count (uniform_sector byte))
@@ -339,7 +339,7 @@ pub fill_spent :
     → r ≡ Err at
     → text ≡ spent_line at.sector
     → Fills x y sector count (uniform_sector byte) r
-    → Performs x y (spent (Ok (Fill sector count byte)) at.sector) text
+    → LineContract x y (spent (Ok (Fill sector count byte)) at.sector) text
 fill_spent x y sector count byte text r at inside refused is fills_r =
     let fills : Fills x y sector count (uniform_sector byte) (Err at) =
     subst (λ q. Fills x y sector count (uniform_sector byte) q) refused fills_r in
@@ -366,7 +366,7 @@ pub fill_outside :
     → (x.bay.traced → IsSound (volume x))
     → size_of x < sector + count
     → text ≡ refused_line (codes "range")
-    → Performs x x (answered (Ok (Fill sector count byte))) text
+    → LineContract x x (answered (Ok (Fill sector count byte))) text
 fill_outside x sector count byte text fit sound past is =
     let test : (a : FlatArray) → a.size ≡ size_of x → nat_le (sector + count) a.size ≡ false =
     λ a sized. beyond_test (sector + count) a.size (subst (λ n. n < sector + count) (sym sized) past) in
@@ -380,7 +380,7 @@ fill_outside x sector count byte text fit sound past is =
 -- ---- a flush
 
 pub flush_done :
-    (x y : View) (text : List ℕ) → text ≡ as_line (codes "ok") → Flushes x y → Performs x y (answered (Ok Flush)) text
+    (x y : View) (text : List ℕ) → text ≡ as_line (codes "ok") → Flushes x y → LineContract x y (answered (Ok Flush)) text
 flush_done x y text is flushes =
     performs_by x y (answered (Ok Flush)) text unchanged flushed refl (λ none. absurd (both_ways false refl none)) flushes.passes flushes.raises (λ none. flushes.works)
     (touches_none x y (Ok Flush) (λ s touches. touches) (λ s touches. touches) (λ place loses. cc) tt)

@@ -14,7 +14,7 @@ use Rattle.array_core.proofs.Stripped.{some_same}
 use Rattle.pool_image.specs.Disks.{disks_of, identities_of}
 use Rattle.pool_image.specs.Drives.{Found}
 use Rattle.pool_model.specs.Alone.{IsStranger}
-use Rattle.pool_model.specs.Left.{IsPickOff}
+use Rattle.pool_model.specs.Left.{IsPickOutsideSlices}
 use Rattle.pool_model.specs.Taken.{attached}
 use Rattle.pool_model.proofs.Alone.{alone_attached}
 use Rattle.pool_model.proofs.Unsliced.{free_stranger}
@@ -24,11 +24,11 @@ use Rattle.pool.specs.Moment.{IsNamed, moment_of}
 use Rattle.pool.specs.Replaced.{ChangesDrive, IsAnswer, IsDeclined, IsLookedAt, IsOfDrive}
 use Rattle.pool.specs.Replacing.{refusal_of}
 use Rattle.pool.specs.View.{View, book, volume}
-use Rattle.pool.specs.Volume.{Holds, is_spent, size_of}
+use Rattle.pool.specs.Volume.{VolumeIs, is_spent, size_of}
 use Rattle.shr_tool.specs.Events.{looks_at}
 use Rattle.shr_tool.specs.Events.Event.{declined}
 use Rattle.shr_tool.specs.Service.{GoesBy, HoldOwn, IsOut, LaysNothing, Lone, StandsLone, said_by}
-use Rattle.shr_tool.specs.Timeline.{Performs}
+use Rattle.shr_tool.specs.Timeline.{LineContract}
 use Rattle.shr_tool.proofs.LeavingOut.{alone_later, out_later}
 use Rattle.shr_tool.proofs.TakenIn.{count_is, disks_more, live_at, sectors_kept, sliced_old}
 
@@ -67,7 +67,7 @@ twice_or TooManySegments = inr (λ same. let e : TooManySegments ≡ Twice = sam
 twice_or Gone = inr (λ same. let e : Gone ≡ Twice = same in cc e)
 
 -- the place of a line that looked at a disk is in the list
-pub listed_of : (x y : View) (place : ℕ) (name : List ℕ) (fault : GrowFault) (text : List ℕ) → looks_at fault ≡ true → Performs x y (declined place name fault) text
+pub listed_of : (x y : View) (place : ℕ) (name : List ℕ) (fault : GrowFault) (text : List ℕ) → looks_at fault ≡ true → LineContract x y (declined place name fault) text
     → place < length (book x).state.drives.items
 listed_of x y place name fault text looks performs = elim (cases_lt place (length (book x).state.drives.items)) [
   | inl low ↦ low
@@ -75,7 +75,7 @@ listed_of x y place name fault text looks performs = elim (cases_lt place (lengt
 ]
 
 module _ {L : Type 0} {o : Option Lone} (x y : View) (place : ℕ) (name : List ℕ) (fault : GrowFault) (text : List ℕ) (b : FlatArray) (looks : looks_at fault ≡ true)
-    (unspent : (d s : ℕ) → y.bay.spent d s ≡ false) (fit : (volume x).fit) (performs : Performs x y (declined place name fault) text) (holds : Holds x b) (f : Found)
+    (unspent : (d s : ℕ) → y.bay.spent d s ≡ false) (fit : (volume x).fit) (performs : LineContract x y (declined place name fault) text) (holds : VolumeIs x b) (f : Found)
     (goes : GoesBy L o f x) (l : Lone) (so : o ≡ Some l) (nothing : LaysNothing f l.bound (moment_of x) (moment_of y) name fault) where
   abbrev changes : ChangesDrive x y place name
   changes = (performs.changes looks).0
@@ -94,7 +94,7 @@ module _ {L : Type 0} {o : Option Lone} (x y : View) (place : ℕ) (name : List 
   stayed = is.quiet nothing.stayed nothing.unmarked
 
   -- what the disks may be left with outside the slices they might have been left with before
-  before : (i : Image) → IsPickOff goes.tables y.bay i → IsPickOff goes.tables x.bay i
+  before : (i : Image) → IsPickOutsideSlices goes.tables y.bay i → IsPickOutsideSlices goes.tables x.bay i
   before i off d s live never =
       let low : d < y.bay.disks = (let at = live.disk in let more = performs.continues.disks in omega (arith, at, more)) in
       let within : s < y.bay.sectors d = subst (λ n. s < n) (sym (performs.continues.sectors d live.disk)) live.sector in
@@ -150,7 +150,7 @@ module _ {L : Type 0} {o : Option Lone} (x y : View) (place : ℕ) (name : List 
         }
 
     -- it is a stranger, as its image was
-    came : (i : Image) → IsPickOff goes.tables y.bay i → IsStranger f l.bound (identities_of (disks_of y.bay) i d)
+    came : (i : Image) → IsPickOutsideSlices goes.tables y.bay i → IsStranger f l.bound (identities_of (disks_of y.bay) i d)
     came i off =
         let count = count_is x y place name unspent performs.continues (performs.outside looks) changes told f goes in
         let image = changes.image holds.shelf holds.disks d named in

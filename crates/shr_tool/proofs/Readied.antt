@@ -4,7 +4,7 @@ use Rattle.std.proofs.Common.{◌≡◌, ◌≢◌, ◌⊎◌, ℕ, ◌-◌, ◌
 use Rattle.std.proofs.lemmas.Bool.{both_ways, cases_eq}
 use Rattle.rack.specs.Joins.{leaves_then, leaves_weaker}
 use Rattle.rack.specs.Moments.{Leaves}
-use Rattle.rack.specs.Seen.{Image, IsLive, Stays}
+use Rattle.rack.specs.Seen.{Image, IsLive, SameRack}
 use Rattle.rack.specs.Values.{MayLeave}
 use Rattle.slice_rack.specs.Changes.{Seats}
 use Rattle.slice_rack.specs.Runs.{IsSliced}
@@ -18,10 +18,10 @@ use Rattle.array_image.specs.Places.{arrays_first, state_sector}
 use Rattle.array_image.specs.States.{is_current}
 use Rattle.array_core.proofs.Opened.{current_below}
 use Rattle.raid_rack.specs.declared.arrays.Arrays.{Arrays}
-use Rattle.raid_laws.specs.Book.{IsAfter, after_same}
+use Rattle.raid_laws.specs.Book.{OnlyMarksSince, after_same}
 use Rattle.raid_laws.specs.Enlisting.{IsNotWhole, IsOpenDisk}
 use Rattle.raid_laws.specs.Moves.{IsHeeded, IsSet}
-use Rattle.raid_laws.specs.Raid.{IsTold, is_over}
+use Rattle.raid_laws.specs.Raid.{IsTracked, is_failed}
 use Rattle.raid_rack.specs.RaidRack.{raid_by}
 use Rattle.raid_laws.specs.Unlost.{KeepsPlace}
 use Rattle.raid_laws.proofs.Noted.{current_few}
@@ -29,9 +29,9 @@ use Rattle.raid_laws.proofs.Over.{number_room}
 use Rattle.pool_image.specs.Disks.{disks_of, identities_of}
 use Rattle.pool_image.specs.Drives.{Found, first_of}
 use Rattle.pool_image.specs.Meaning.{array_sectors, is_member}
-use Rattle.pool_model.specs.InService.{InService}
-use Rattle.pool_model.specs.Left.{HasNoSuper, IsPickOff}
-use Rattle.pool_model.specs.Stopped.{HoldAmid, HoldTables}
+use Rattle.pool_model.specs.InService.{RunInvariant}
+use Rattle.pool_model.specs.Left.{HasNoSuper, IsPickOutsideSlices}
+use Rattle.pool_model.specs.Stopped.{RecoversInCall, HoldTables}
 use Rattle.pool_model.specs.Taken.{KeepsOthers, LacksDrive, attached}
 use Rattle.pool_model.proofs.Amid.{tables_calls}
 use Rattle.pool_model.proofs.InService.{one_seat, service_attached, service_calls}
@@ -45,7 +45,7 @@ use Rattle.pool.specs.Entering.{Cleaned, LosesOwn, Readies, Vacates, meanwhile, 
 use Rattle.pool.specs.Moment.{moment_of, views_of}
 use Rattle.pool.specs.Taking.{AttachesDisk}
 use Rattle.pool.specs.View.{View, book, over, volume}
-use Rattle.pool.specs.Volume.{Holds, is_spent, size_of}
+use Rattle.pool.specs.Volume.{VolumeIs, is_spent, size_of}
 use Rattle.pool.proofs.Admitted.{reaches_each}
 use Rattle.shr_tool.specs.Service.{GoesBy, IsFitDisk}
 use Rattle.pool_model.proofs.Likewise.{amid_likewise}
@@ -66,9 +66,9 @@ pub record IsReadied (x m c : View) (place disk : ℕ) (t : Slices) (f h : Found
   pub members : (n p : ℕ) → n < f.state.made → is_member h n p ≡ is_member f n p
   pub firsts : (n : ℕ) → n < f.state.made → first_of h n ≡ first_of f n
   pub sectors : (n : ℕ) → n < f.state.made → array_sectors h n ≡ array_sectors f n
-  pub service : InService h x.slices (book c) c.bay
+  pub service : RunInvariant h x.slices (book c) c.bay
   pub tables : HoldTables h x.slices (book c).state c.bay
-  pub told : (n : ℕ) → n < h.state.made → IsTold (book c) (slices_of x.slices c.bay) n
+  pub told : (n : ℕ) → n < h.state.made → IsTracked (book c) (slices_of x.slices c.bay) n
   pub inside : IsInside x.slices c.bay
   pub lasting : c.bay.lasting
   pub traced : c.bay.traced
@@ -80,17 +80,17 @@ pub record IsReadied (x m c : View) (place disk : ℕ) (t : Slices) (f h : Found
       (s : ℕ) → arrays_first ≤ s → s < m.bay.sectors disk → (v : List ℕ) → MayLeave (c.bay.held disk s) v
       → MayLeave (m.bay.held disk s) v ⊎ ((pool : List ℕ) (n : ℕ) → HasNoSuper pool n v)
   -- what a stop leaves until then
-  pub readying : Leaves m.bay c.bay (HoldAmid h x.slices (book x).state (book c).state)
+  pub readying : Leaves m.bay c.bay (RecoversInCall h x.slices (book x).state (book c).state)
   -- where the place's drive was lost until then
   pub gave : is_current (book c).state place ≡ false → Seats x.slices t place None
   pub lacks : is_current (book c).state place ≡ false → LacksDrive h x.slices t (book c) place c.bay
-  pub left : is_current (book c).state place ≡ false → (n : ℕ) → n < h.state.made → IsTold (book c) (slices_of t c.bay) n
+  pub left : is_current (book c).state place ≡ false → (n : ℕ) → n < h.state.made → IsTracked (book c) (slices_of t c.bay) n
 
 module _ {L : Type 0} (x : View) (bay : x.bays.one) (name : List ℕ) (place disk : ℕ) (at : AttachesDisk x (over x bay) name (Ok disk)) (later : x.bays.one) (arrays : Arrays)
     (refused : ℕ → ℕ) (readies : Readies (over x bay) (meanwhile (over x bay) later arrays refused) place disk) (vacates : Vacates (meanwhile (over x bay) later arrays refused) place disk)
-    (unspent : (d s : ℕ) → (x.bays.seen later).spent d s ≡ false) (fit : (volume x).fit) (b : FlatArray) (holds : Holds x b)
+    (unspent : (d s : ℕ) → (x.bays.seen later).spent d s ≡ false) (fit : (volume x).fit) (b : FlatArray) (holds : VolumeIs x b)
     (some : (s : ℕ) × (s < size_of x) × (is_spent x s ≡ false)) (f : Found) (goes : GoesBy L None f x) (waits : IsFitDisk f (moment_of x) name)
-    (current : is_current (book x).state place ≡ true) (lands : L) (lasts : (n : ℕ) → n < f.state.made → is_over (raid_by arrays) n ≡ false) (traced : x.bay.traced) where
+    (current : is_current (book x).state place ≡ true) (lands : L) (lasts : (n : ℕ) → n < f.state.made → is_failed (raid_by arrays) n ≡ false) (traced : x.bay.traced) where
   abbrev m : View
   m = over x bay
 
@@ -100,7 +100,7 @@ module _ {L : Type 0} (x : View) (bay : x.bays.one) (name : List ℕ) (place dis
 
   -- ---- whom it has lost
 
-  marks : IsAfter (book x).state (book c).state
+  marks : OnlyMarksSince (book x).state (book c).state
   marks = after x bay place name disk at later arrays refused readies
 
   -- each other place is current, since nothing was against taking the disk in
@@ -137,7 +137,7 @@ module _ {L : Type 0} (x : View) (bay : x.bays.one) (name : List ℕ) (place dis
   abbrev h : Found
   h = attached f (disks_of m.bay)
 
-  stays : Stays m.bay c.bay
+  stays : SameRack m.bay c.bay
   stays = stays_ready m later arrays refused place disk readies
 
   unspent_named : (d s : ℕ) → m.bay.spent d s ≡ false
@@ -153,14 +153,14 @@ module _ {L : Type 0} (x : View) (bay : x.bays.one) (name : List ℕ) (place dis
   apart : (p : ℕ) → f.seats p ≡ Some disk → ⊥
   apart p seat = one.not_current x bay name disk at unspent_named fit b holds f goes waits p (all_current p (low_seat p disk seat)) seat
 
-  holds_named : Holds m b
+  holds_named : VolumeIs m b
   holds_named = one.holds_named x bay name disk at unspent_named fit b holds f goes waits
 
-  told_named : (n : ℕ) → n < f.state.made → IsTold (book x) (slices_of x.slices m.bay) n
+  told_named : (n : ℕ) → n < f.state.made → IsTracked (book x) (slices_of x.slices m.bay) n
   told_named = one.arrays_named x bay name disk at unspent_named fit b holds f goes waits some.0 some.1 some.2
 
-  service_named : InService h x.slices (book x) m.bay
-  service_named = subst (λ (u : Slices). InService h u (book x) m.bay) (sym same_tables) (one.service_named x bay name disk at unspent_named fit b holds f goes waits)
+  service_named : RunInvariant h x.slices (book x) m.bay
+  service_named = subst (λ (u : Slices). RunInvariant h u (book x) m.bay) (sym same_tables) (one.service_named x bay name disk at unspent_named fit b holds f goes waits)
 
   tables_named : HoldTables h x.slices (book x).state m.bay
   tables_named = subst (λ (u : Slices). HoldTables h u (book x).state m.bay) (sym same_tables) (one.tables_named x bay name disk at unspent_named fit b holds f goes waits lands)
@@ -177,11 +177,11 @@ module _ {L : Type 0} (x : View) (bay : x.bays.one) (name : List ℕ) (place dis
   -- ---- once it was cleaned
 
   module _ (between : x.bays.one) (cleared : Arrays) (answers : ℕ → ℕ) (cleaned : Cleaned m (meanwhile m between cleared answers))
-      (going : (n : ℕ) → n < f.state.made → is_over (raid_by cleared) n ≡ false) where
+      (going : (n : ℕ) → n < f.state.made → is_failed (raid_by cleared) n ≡ false) where
     abbrev z : View
     z = meanwhile m between cleared answers
 
-    service_cleaned : InService h x.slices (book z) z.bay
+    service_cleaned : RunInvariant h x.slices (book z) z.bay
     service_cleaned =
         service_calls h x.slices (book x) (book z) m.bay z.bay service_named lasting_named cleaned.ends.passes.apart cleaned.ends.passes.marks
         (λ n low. (cleaned.ends.passes.book n low).geometry)
@@ -189,10 +189,10 @@ module _ {L : Type 0} (x : View) (bay : x.bays.one) (name : List ℕ) (place dis
     tables_cleaned : HoldTables h x.slices (book z).state z.bay
     tables_cleaned = tables_calls h x.slices (book x).state (book z).state m.bay z.bay lasting_named cleaned.ends.passes.apart cleaned.ends.passes.marks tables_named
 
-    told_cleaned : (n : ℕ) → n < f.state.made → IsTold (book z) (slices_of x.slices z.bay) n
+    told_cleaned : (n : ℕ) → n < f.state.made → IsTracked (book z) (slices_of x.slices z.bay) n
     told_cleaned n low = cleaned.ends.passes.moments.told n (told_named n low)
 
-    cleaning : Leaves m.bay z.bay (HoldAmid h x.slices (book x).state (book z).state)
+    cleaning : Leaves m.bay z.bay (RecoversInCall h x.slices (book x).state (book z).state)
     cleaning =
         goes_amid m z h inside_named cleaned.ends.passes (one.goes_named x bay name disk at unspent_named fit b holds f goes waits) lands told_named going traced_named
 
@@ -208,19 +208,19 @@ module _ {L : Type 0} (x : View) (bay : x.bays.one) (name : List ℕ) (place dis
     out : IsNotWhole x.slices disk (table_on w place disk) (book w) (book c) w.bay c.bay
     out = out_ready m later arrays refused place disk readies lose
 
-    going_lost : (n : ℕ) → n < f.state.made → is_over (book w) n ≡ false
+    going_lost : (n : ℕ) → n < f.state.made → is_failed (book w) n ≡ false
     going_lost n low = out.moments.still n (lasts n low)
 
-    service_own : InService h x.slices (book w) w.bay
+    service_own : RunInvariant h x.slices (book w) w.bay
     service_own = service_cleaned lose.bay lose.arrays lose.refused lose.cleaned going_lost
 
-    told_own : (n : ℕ) → n < f.state.made → IsTold (book w) (slices_of x.slices w.bay) n
+    told_own : (n : ℕ) → n < f.state.made → IsTracked (book w) (slices_of x.slices w.bay) n
     told_own = told_cleaned lose.bay lose.arrays lose.refused lose.cleaned going_lost
 
     tables_own : HoldTables h x.slices (book w).state w.bay
     tables_own = tables_cleaned lose.bay lose.arrays lose.refused lose.cleaned going_lost
 
-    stays_own : Stays m.bay w.bay
+    stays_own : SameRack m.bay w.bay
     stays_own = lose.cleaned.ends.passes.apart.stays
 
     lasting_own : w.bay.lasting
@@ -297,9 +297,9 @@ module _ {L : Type 0} (x : View) (bay : x.bays.one) (name : List ℕ) (place dis
     pool_same : attached h (disks_of c.bay) ≡ h
     pool_same j = record h { disks = disks_same j }
 
-    service_lost : InService h x.slices (book c) c.bay
+    service_lost : RunInvariant h x.slices (book c) c.bay
     service_lost =
-        subst (λ (g : Found). InService g x.slices (book c) c.bay) pool_same
+        subst (λ (g : Found). RunInvariant g x.slices (book c) c.bay) pool_same
         (service_attached h x.slices (book w) (book c) disk w.bay c.bay service_own others_own out.mends.moves.book out.mends.moves.arrays)
 
     tables_lost : HoldTables h x.slices (book c).state c.bay
@@ -309,14 +309,14 @@ module _ {L : Type 0} (x : View) (bay : x.bays.one) (name : List ℕ) (place dis
         tables_attached h x.slices (book w).state disk w.bay c.bay service_own.arranged service_own.slices others_own
         (λ j pick q was seat. absurd (apart q seat)) tables_own i off p d (out.mends.moves.book.current p now))
 
-    losing : Leaves m.bay c.bay (HoldAmid h x.slices (book x).state (book c).state)
+    losing : Leaves m.bay c.bay (RecoversInCall h x.slices (book x).state (book c).state)
     losing =
-        leaves_then (HoldAmid h x.slices (book x).state (book c).state)
-        (leaves_weaker (HoldAmid h x.slices (book x).state (book w).state) (HoldAmid h x.slices (book x).state (book c).state)
+        leaves_then (RecoversInCall h x.slices (book x).state (book c).state)
+        (leaves_weaker (RecoversInCall h x.slices (book x).state (book w).state) (RecoversInCall h x.slices (book x).state (book c).state)
         (λ i amid.
         amid_likewise h h x.slices (book x).state (book w).state (book x).state (book c).state i refl refl refl (λ n low. refl) (after_same (book x).state) out.mends.moves.book amid)
         (cleaning lose.bay lose.arrays lose.refused lose.cleaned going_lost))
-        (leaves_weaker (HoldAmid h x.slices (book w).state (book c).state) (HoldAmid h x.slices (book x).state (book c).state)
+        (leaves_weaker (RecoversInCall h x.slices (book w).state (book c).state) (RecoversInCall h x.slices (book x).state (book c).state)
         (λ i amid.
         amid_likewise h h x.slices (book w).state (book c).state (book x).state (book c).state i refl refl refl (λ n low. refl) lose.cleaned.ends.passes.marks (after_same (book c).state) amid)
         (replacing_not_whole h x.slices (book w) place disk w.bay service_own apart goes.orderly (inside_own lose) tables_own opened_own room_own lasting_own traced_own (table_on w place disk) refl (book c) c.bay out
@@ -327,17 +327,17 @@ module _ {L : Type 0} (x : View) (bay : x.bays.one) (name : List ℕ) (place dis
 
   -- ---- the pool that is ready
 
-  service : InService h x.slices (book c) c.bay
+  service : RunInvariant h x.slices (book c) c.bay
   service = elim readies [ inl cleaned ↦ service_cleaned later arrays refused cleaned lasts | inr lose ↦ service_lost lose ]
 
   tables : HoldTables h x.slices (book c).state c.bay
   tables = elim readies [ inl cleaned ↦ tables_cleaned later arrays refused cleaned lasts | inr lose ↦ tables_lost lose ]
 
-  told : (n : ℕ) → n < f.state.made → IsTold (book c) (slices_of x.slices c.bay) n
+  told : (n : ℕ) → n < f.state.made → IsTracked (book c) (slices_of x.slices c.bay) n
   told n low = arrays_ready m later arrays refused place disk readies n (told_named n low)
 
   -- what a stop leaves until then
-  readying : Leaves m.bay c.bay (HoldAmid h x.slices (book x).state (book c).state)
+  readying : Leaves m.bay c.bay (RecoversInCall h x.slices (book x).state (book c).state)
   readying = elim readies [ inl cleaned ↦ cleaning later arrays refused cleaned lasts | inr lose ↦ losing lose ]
 
   set_then : IsSet (book c) (slices_of x.slices c.bay)
@@ -416,7 +416,7 @@ module _ {L : Type 0} (x : View) (bay : x.bays.one) (name : List ℕ) (place dis
     ]
 
     -- the drive's copy of the state isn't written meanwhile, so it says the state of before at most
-    earlier : (d : ℕ) → f.seats place ≡ Some d → (i : Image) → IsPickOff vacates.tables c.bay i → (copy : Copied)
+    earlier : (d : ℕ) → f.seats place ≡ Some d → (i : Image) → IsPickOutsideSlices vacates.tables c.bay i → (copy : Copied)
         → (identities_of (disks_of c.bay) i d).copied ≡ Some copy → copy.state.epoch < (book c).state.epoch
     earlier d seat i off copy here =
         let parts = copy_parts (c.bay.sectors d) (i d state_sector) copy here in
@@ -443,7 +443,7 @@ module _ {L : Type 0} (x : View) (bay : x.bays.one) (name : List ℕ) (place dis
     lacks = record { vacated = gave; missing = missing; earlier = earlier }
 
     -- each array is told by the slices that are left
-    left_then : (n : ℕ) → n < f.state.made → IsTold (book c) (slices_of vacates.tables c.bay) n
+    left_then : (n : ℕ) → n < f.state.made → IsTracked (book c) (slices_of vacates.tables c.bay) n
     left_then n low =
         told_vacated c place disk vacates set_then heeded_then n (let was = goes.service.after.same.made in let made = marks.same.made in omega (arith, low, was, made)) (told n low)
 

@@ -18,7 +18,7 @@ use Rattle.pool.proofs.Keeping.{marks_same, passes_same}
 use Rattle.shr_tool.proofs.Filled.{works_same}
 use Rattle.shr_tool.specs.Events.{grow_word, looks_at}
 use Rattle.shr_tool.specs.Events.Event.{declined, replaced}
-use Rattle.shr_tool.specs.Timeline.{Performs}
+use Rattle.shr_tool.specs.Timeline.{LineContract}
 use Rattle.shr_tool.proofs.LostDrive.{IsCut}
 use Rattle.shr_tool.proofs.Performing.{marks_for, performs_by, reply_sized}
 
@@ -50,7 +50,7 @@ pub replace_done :
     → r ≡ Ok tt
     → text ≡ as_line (codes "ok")
     → ReplacesDrive x y at name r
-    → Performs x y (replaced place name) text
+    → LineContract x y (replaced place name) text
 replace_done x y at place name text r fit cut is_ok is done_r =
     let done_at : ReplacesDrive x y at name (Ok tt) = subst (λ q. ReplacesDrive x y at name q) is_ok done_r in
     let low : at < length (book x).state.drives.items =
@@ -100,7 +100,7 @@ unlisted_done :
     → IsCut at place
     → text ≡ refused_line (codes "no-such-drive")
     → ReplacesDrive x x at name (Err NoSuchDrive)
-    → Performs x x (declined place name NoSuchDrive) text
+    → LineContract x x (declined place name NoSuchDrive) text
 unlisted_done x at place name text fit sound cut is done =
     let event = declined place name NoSuchDrive in
     let few = fit.0.running.set.few in
@@ -148,14 +148,14 @@ pub decline_done :
     → text ≡ refused_line (grow_word fault)
     → (fault ≡ NoSuchDrive → y ≡ x)
     → ReplacesDrive x y at name r
-    → Performs x y (declined place name fault) text
+    → LineContract x y (declined place name fault) text
 decline_done x y at place name text r fault fit sound cut refused is still done_r =
     let done_at : ReplacesDrive x y at name (Err fault) = subst (λ q. ReplacesDrive x y at name q) refused done_r in
     elim (cases_Bool (looks_at fault)) [
       | inr none ↦
           let same : fault ≡ NoSuchDrive = unlisted fault none in
-          subst (λ f. Performs x y (declined place name f) text) (sym same)
-          (subst (λ z. Performs x z (declined place name NoSuchDrive) text) (sym (still same))
+          subst (λ f. LineContract x y (declined place name f) text) (sym same)
+          (subst (λ z. LineContract x z (declined place name NoSuchDrive) text) (sym (still same))
           (unlisted_done x at place name text fit sound cut (subst (λ f. text ≡ refused_line (grow_word f)) same is)
           (subst (λ z. ReplacesDrive x z at name (Err NoSuchDrive)) (still same) (subst (λ f. ReplacesDrive x y at name (Err f)) same done_at))))
       | inl looks ↦

@@ -22,19 +22,19 @@ use Rattle.array_image.specs.Places.{log_slice, state_sector}
 use Rattle.array_image.specs.States.{is_current}
 use Rattle.raid_laws.specs.Book.{after_same}
 use Rattle.raid_laws.specs.Agreeing.{HasOwnRows, SayTruth}
-use Rattle.raid_laws.specs.Raid.{IsTold, is_over}
-use Rattle.raid_laws.specs.Runs.{KeepsMoments}
+use Rattle.raid_laws.specs.Raid.{IsTracked, is_failed}
+use Rattle.raid_laws.specs.Runs.{CrashInvariant}
 use Rattle.raid_rack.proofs.TruthAgrees.{truth_said}
 use Rattle.raid_laws.proofs.Whole.{own_rows}
 use Rattle.assembler.specs.Sound.{TargetsLand}
 use Rattle.pool_image.specs.Disks.{Disks}
 use Rattle.pool_image.specs.Drives.{Found}
 use Rattle.pool_model.specs.Absent.{AreOnly}
-use Rattle.pool_model.specs.InService.{InService}
+use Rattle.pool_model.specs.InService.{RunInvariant}
 use Rattle.pool_model.specs.Grouped.{AreHeadsLive, HoldGroup}
-use Rattle.pool_model.specs.Left.{HoldAgain}
-use Rattle.pool_model.specs.Reopening.{AreWholeSectors, Reopens}
-use Rattle.pool_model.specs.Stopped.{HoldAmid, HoldLanding, HoldTables, LieByTables}
+use Rattle.pool_model.specs.Left.{RecoversIdle}
+use Rattle.pool_model.specs.Reopening.{AreWholeSectors, NextOpen}
+use Rattle.pool_model.specs.Stopped.{RecoversInCall, RecoversLanding, HoldTables, LieByTables}
 use Rattle.pool_model.specs.Taken.{AreSerial, LacksDrive}
 use Rattle.pool_model.proofs.Alone.{alone_begins, alone_calls, tabled_begins, tabled_calls}
 use Rattle.pool_model.proofs.Amid.{service_amid, tables_amid, tables_begin, tables_calls, vacant_amid}
@@ -44,16 +44,16 @@ use Rattle.pool_model.proofs.Landing.{landing_again}
 use Rattle.pool_model.proofs.Named.{same_length}
 use Rattle.pool_model.proofs.Reopening.{service_reopens, vacant_reopens}
 use Rattle.pool_model.proofs.Vacant.{lacks_calls, sliced_before}
-use Rattle.pool.specs.Calls.{Passes}
+use Rattle.pool.specs.Calls.{CallFrame}
 use Rattle.pool.specs.Moment.{moment_of}
 use Rattle.pool.specs.View.{View, book, slices_shown, spent_by, volume}
-use Rattle.pool.specs.Volume.{Holds, is_spent, size_of}
+use Rattle.pool.specs.Volume.{VolumeIs, is_spent, size_of}
 use Rattle.shr_tool.specs.Between.{HoldsNext}
 use Rattle.shr_tool.specs.Events.{Event, takes_disk}
 use Rattle.shr_tool.specs.Events.Event.{answered, spent, lost, last, replaced, declined, stepped, stuck, shown}
 use Rattle.shr_tool.specs.Outcome.{IsRunOn}
 use Rattle.shr_tool.specs.Service.{AreUngiven, GoesBy, GoesOn, HoldOwn, IsFitFor, IsLoneFor, IsOut, IsOwnCopy, IsServed, Lone, StandsLone, pool_after}
-use Rattle.shr_tool.specs.Timeline.{Changes, Performs}
+use Rattle.shr_tool.specs.Timeline.{Changes, LineContract}
 use Rattle.shr_tool.proofs.Absent.{stands_first}
 use Rattle.shr_tool.proofs.Chains.{pool_still}
 use Rattle.shr_tool.proofs.Declined.{on_declined}
@@ -63,7 +63,7 @@ use Rattle.shr_tool.proofs.TakenIn.{on_replaced}
 use Rattle.shr_tool.proofs.LeavingOut.{alone_later, lone_sector, out_later}
 
 -- at the beginning
-service_first : (x : View) (f : Found) → IsRunOn f (moment_of x) x.bay → InService f x.slices (book x) x.bay
+service_first : (x : View) (f : Found) → IsRunOn f (moment_of x) x.bay → RunInvariant f x.slices (book x) x.bay
 service_first x f on = in_service on.before f x.slices (book x) x.bay on.found_is on.sound on.slices on.after on.joined on.geometry on.rest
 
 goes_first : {o : Option Lone} (x : View) (f : Found) → IsRunOn f (moment_of x) x.bay → ((l : Lone) → o ≡ Some l → StandsLone l f x.slices x)
@@ -84,7 +84,7 @@ pub goes_run : (x : View) (f : Found) → IsRunOn f (moment_of x) x.bay → Goes
 goes_run x f on = goes_first x f on (λ l none. absurd (none-some l none))
 
 -- where no second disk stood for a place of a drive, and none that isn't left out had an id that is given later
-pub goes_lone : (x : View) (f : Found) (a : FlatArray) (l : Lone) → (volume x).fit → Holds x a → IsRunOn f (moment_of x) x.bay → AreOnly f → AreUngiven f l x.shelf.names
+pub goes_lone : (x : View) (f : Found) (a : FlatArray) (l : Lone) → (volume x).fit → VolumeIs x a → IsRunOn f (moment_of x) x.bay → AreOnly f → AreUngiven f l x.shelf.names
     → GoesBy (TargetsLand f) (Some l) f x
 goes_lone x f a l fit holds on only ungiven =
     goes_first x f on
@@ -107,8 +107,8 @@ sliced_was x f goes d s w is = elim goes.vacant [
 ]
 
 -- a pool stands alone after calls that take no disk
-module _ {L : Type 0} {o : Option Lone} (x y : View) (f : Found) (b : FlatArray) (unspent : (d s : ℕ) → y.bay.spent d s ≡ false) (fit : (volume x).fit) (holds : Holds x b)
-    (passes : Passes x y) (goes : GoesBy L o f x) (l : Lone) (so : o ≡ Some l) where
+module _ {L : Type 0} {o : Option Lone} (x y : View) (f : Found) (b : FlatArray) (unspent : (d s : ℕ) → y.bay.spent d s ≡ false) (fit : (volume x).fit) (holds : VolumeIs x b)
+    (passes : CallFrame x y) (goes : GoesBy L o f x) (l : Lone) (so : o ≡ Some l) where
   stands : StandsLone l f goes.tables x
   stands = goes.alone l so
 
@@ -197,7 +197,7 @@ module _ {L : Type 0} {o : Option Lone} (x y : View) (f : Found) (b : FlatArray)
   }
 
 -- after calls that take no disk
-pub goes_calls : {L : Type 0} {o : Option Lone} (x y : View) (f : Found) (b : FlatArray) → ((d s : ℕ) → y.bay.spent d s ≡ false) → (volume x).fit → Holds x b → Passes x y
+pub goes_calls : {L : Type 0} {o : Option Lone} (x y : View) (f : Found) (b : FlatArray) → ((d s : ℕ) → y.bay.spent d s ≡ false) → (volume x).fit → VolumeIs x b → CallFrame x y
     → GoesBy L o f x → GoesBy L o f y
 goes_calls x y f b unspent fit holds passes goes = record {
   tables = goes.tables;
@@ -243,7 +243,7 @@ module _ {L : Type 0} {o : Option Lone} (x : View) (f : Found) (fit : (volume x)
   pub own_now : (n : ℕ) → n < f.state.made → HasOwnRows ((book x).arrays n)
   own_now n low = own_rows (book x) (slices_shown x) n fit.0.running.set fit.0.heeded (made_now n low)
 
-  pub say_now : ((n : ℕ) → n < f.state.made → IsTold (book x) (slices_shown x) n) → ((n : ℕ) → n < f.state.made → is_over (book x) n ≡ false)
+  pub say_now : ((n : ℕ) → n < f.state.made → IsTracked (book x) (slices_shown x) n) → ((n : ℕ) → n < f.state.made → is_failed (book x) n ≡ false)
       → ((n : ℕ) → n < f.state.made → HoldTruth ((book x).arrays n) (slices_shown x))
       → (n : ℕ) (r : Image) → n < f.state.made → IsLeft (slices_shown x) r → SayTruth ((book x).arrays n) (book x).state r n
   say_now told lasts truths n r low left =
@@ -252,7 +252,7 @@ module _ {L : Type 0} {o : Option Lone} (x : View) (f : Found) (fit : (volume x)
 -- Whatever the disks may be left with holds it again. Where superblocks say their arrays' truths, and the arrays hold the group of a volume, it is opened as this volume.
 pub goes_again :
     {L G : Type 0} {o : Option Lone} (x : View) (f : Found) (l : Linear) → (volume x).fit → GoesBy L o f x
-    → ((n : ℕ) → n < f.state.made → IsTold (book x) (slices_shown x) n) → ((n : ℕ) → n < f.state.made → is_over (book x) n ≡ false)
+    → ((n : ℕ) → n < f.state.made → IsTracked (book x) (slices_shown x) n) → ((n : ℕ) → n < f.state.made → is_failed (book x) n ≡ false)
     → ((n : ℕ) → n < f.state.made → HoldTruth ((book x).arrays n) (slices_shown x)) → (G → AreHeadsLive (book x) → HoldGroup (book x) l (slices_shown x))
     → (i : Image) → IsPick x.bay x.bay x.bay.held i → HoldsNext L G f x.slices l (book x) i
 goes_again {L} {G} x f l fit goes told lasts truths group i pick = record { again = again; landing = landing; opens = opens }
@@ -260,16 +260,16 @@ goes_again {L} {G} x f l fit goes told lasts truths group i pick = record { agai
     inside : IsInside x.slices x.bay
     inside = fit.0.running.set.fit.1
 
-    again : HoldAgain f x.slices (book x).state i
+    again : RecoversIdle f x.slices (book x).state i
     again = elim goes.vacant [
       | inl same ↦
-          subst (λ (t : Slices). HoldAgain f t (book x).state i) (sym same)
+          subst (λ (t : Slices). RecoversIdle f t (book x).state i) (sym same)
           (service_again f goes.tables (book x) x.bay goes.service (subst (λ (t : Slices). IsInside t x.bay) same inside)
-          (λ n low. subst (λ (t : Slices). IsTold (book x) (slices_of t x.bay) n) same (told n low)) lasts i pick)
+          (λ n low. subst (λ (t : Slices). IsTracked (book x) (slices_of t x.bay) n) same (told n low)) lasts i pick)
       | inr one ↦ vacant_again f goes.tables x.slices (book x) x.bay one.0 goes.service one.2 inside told lasts i pick
     ]
 
-    landing : L → HoldLanding f x.slices (book x).state i
+    landing : L → RecoversLanding f x.slices (book x).state i
     landing lands = landing_again f x.slices (book x).state x.bay (tables_now x f goes lands) i pick again
 
     say : (n : ℕ) (r : Image) → n < f.state.made → IsLeft (slices_shown x) r → SayTruth ((book x).arrays n) (book x).state r n
@@ -278,12 +278,12 @@ goes_again {L} {G} x f l fit goes told lasts truths group i pick = record { agai
     own : (n : ℕ) → n < f.state.made → HasOwnRows ((book x).arrays n)
     own = own_now x f fit goes
 
-    opens : G → AreHeadsLive (book x) → AreWholeSectors f.disks i → Reopens f x.slices l (book x) i
+    opens : G → AreHeadsLive (book x) → AreWholeSectors f.disks i → NextOpen f x.slices l (book x) i
     opens says heads whole = elim goes.vacant [
       | inl same ↦
-          subst (λ (t : Slices). Reopens f t l (book x) i) (sym same)
+          subst (λ (t : Slices). NextOpen f t l (book x) i) (sym same)
           (service_reopens f goes.tables (book x) l x.bay goes.service (subst (λ (t : Slices). IsInside t x.bay) same inside)
-          (λ n low. subst (λ (t : Slices). IsTold (book x) (slices_of t x.bay) n) same (told n low)) lasts goes.tabled
+          (λ n low. subst (λ (t : Slices). IsTracked (book x) (slices_of t x.bay) n) same (told n low)) lasts goes.tabled
           (λ n r low left. say n r low (subst (λ (t : Slices). IsLeft (slices_of t x.bay) r) (sym same) left)) own
           (subst (λ (t : Slices). HoldGroup (book x) l (slices_of t x.bay)) same (group says heads)) heads i pick whole)
       | inr one ↦
@@ -292,16 +292,16 @@ goes_again {L} {G} x f l fit goes told lasts truths group i pick = record { agai
 
 -- What a stop leaves inside calls that take no disk holds it too.
 pub goes_amid :
-    {L : Type 0} {o : Option Lone} (x y : View) (f : Found) → IsInside x.slices x.bay → Passes x y → GoesBy L o f x → L
-    → ((n : ℕ) → n < f.state.made → IsTold (book x) (slices_of x.slices x.bay) n) → ((n : ℕ) → n < f.state.made → is_over (book y) n ≡ false)
-    → x.bay.traced → Leaves x.bay y.bay (HoldAmid f x.slices (book x).state (book y).state)
+    {L : Type 0} {o : Option Lone} (x y : View) (f : Found) → IsInside x.slices x.bay → CallFrame x y → GoesBy L o f x → L
+    → ((n : ℕ) → n < f.state.made → IsTracked (book x) (slices_of x.slices x.bay) n) → ((n : ℕ) → n < f.state.made → is_failed (book y) n ≡ false)
+    → x.bay.traced → Leaves x.bay y.bay (RecoversInCall f x.slices (book x).state (book y).state)
 goes_amid x y f inside passes goes lands told lasts traced =
-    let moments : KeepsMoments (book x) (book y) (slices_of x.slices x.bay) (slices_of x.slices y.bay) =
-    subst (λ (t : Slices). KeepsMoments (book x) (book y) (slices_of x.slices x.bay) (slices_of t y.bay)) passes.slices passes.moments in
-    let amid : Leaves x.bay y.bay (λ i. LieByTables f x.slices (book x).state i → HoldAmid f x.slices (book x).state (book y).state i) =
+    let moments : CrashInvariant (book x) (book y) (slices_of x.slices x.bay) (slices_of x.slices y.bay) =
+    subst (λ (t : Slices). CrashInvariant (book x) (book y) (slices_of x.slices x.bay) (slices_of t y.bay)) passes.slices passes.moments in
+    let amid : Leaves x.bay y.bay (λ i. LieByTables f x.slices (book x).state i → RecoversInCall f x.slices (book x).state (book y).state i) =
     elim goes.vacant [
       | inl same ↦
-          service_amid f x.slices (book x) (book y) x.bay y.bay (subst (λ (t : Slices). InService f t (book x) x.bay) (sym same) goes.service) goes.orderly inside
+          service_amid f x.slices (book x) (book y) x.bay y.bay (subst (λ (t : Slices). RunInvariant f t (book x) x.bay) (sym same) goes.service) goes.orderly inside
           goes.lasting passes.apart moments told lasts traced
       | inr one ↦
           vacant_amid f goes.tables x.slices (book x) (book y) x.bay y.bay one.0 goes.service one.2 goes.orderly inside
@@ -329,14 +329,14 @@ spent_changes x y (stepped count left) takes changes s = absurd (both_ways false
 spent_changes x y (stuck count array) takes changes s = absurd (both_ways false refl takes)
 spent_changes x y (shown text) takes changes s = absurd (both_ways false refl takes)
 
-spent_performed : (x y : View) (event : Event) (text : List ℕ) → Performs x y event text → (s : ℕ) → is_spent y s ≡ false → is_spent x s ≡ false
+spent_performed : (x y : View) (event : Event) (text : List ℕ) → LineContract x y event text → (s : ℕ) → is_spent y s ≡ false → is_spent x s ≡ false
 spent_performed x y event text performs s alive = elim (cases_Bool (takes_disk event)) [
   | inl takes ↦ spent_changes x y event takes (performs.changes takes) s alive
   | inr none ↦ (performs.passes none).stays.spent 0 s alive
 ]
 
 pub served_first :
-    (y z : View) (events : List Event) (event : Event) (text : List ℕ) → Performs y z event text
+    (y z : View) (events : List Event) (event : Event) (text : List ℕ) → LineContract y z event text
     → IsServed (moment_of z) (events ++ event ∷ []) → IsServed (moment_of y) events
 served_first y z events event text performs (inl none) = inl (none_takes events event none).0
 served_first y z events event text performs (inr some) =
@@ -359,7 +359,7 @@ served_last y z events event same (inr some) =
 
 pub goes_performed :
     {L : Type 0} {o : Option Lone} (x y : View) (event : Event) (text : List ℕ) (b : FlatArray)
-    → ((d s : ℕ) → y.bay.spent d s ≡ false) → (volume x).fit → Performs x y event text → Holds x b → IsServedBy x y event
+    → ((d s : ℕ) → y.bay.spent d s ≡ false) → (volume x).fit → LineContract x y event text → VolumeIs x b → IsServedBy x y event
     → (f : Found) → GoesBy L o f x → (takes_disk event ≡ true → AreSerial f.state) → IsFitFor f (moment_of x) event
     → ((l : Lone) → o ≡ Some l → IsLoneFor f l (moment_of x) (moment_of y) event) → ((l : Lone) → o ≡ Some l → (book y).state.serial ≤ l.bound)
     → GoesOn L o f (pool_after f (moment_of x) (moment_of y) event) y
@@ -374,7 +374,7 @@ goes_performed {L} {o} x y event text b unspent fit performs holds served f goes
     served_taking e takes (inl none) = absurd (both_ways (takes_disk e) none takes)
     served_taking e takes (inr some) = some
 
-    taking : (e : Event) → takes_disk e ≡ true → Performs x y e text → AreSerial f.state → IsFitFor f (moment_of x) e
+    taking : (e : Event) → takes_disk e ≡ true → LineContract x y e text → AreSerial f.state → IsFitFor f (moment_of x) e
         → ((l : Lone) → o ≡ Some l → IsLoneFor f l (moment_of x) (moment_of y) e) → (s : ℕ) × (s < size_of x) × (spent_by x.linear (book y) s ≡ false)
         → GoesOn L o f (pool_after f (moment_of x) (moment_of y) e) y
     taking (answered line) takes does serial fits lone some = absurd (both_ways false refl takes)

@@ -12,7 +12,7 @@ use Rattle.pool.proofs.Keeping.{marks_same, passes_same}
 use Rattle.shr_tool.proofs.Filled.{works_same}
 use Rattle.shr_tool.specs.Events.Event.{shown}
 use Rattle.shr_tool.specs.StatusText.{status_text}
-use Rattle.shr_tool.specs.Timeline.{Performs}
+use Rattle.shr_tool.specs.Timeline.{LineContract}
 use Rattle.shr_tool.proofs.Performing.{marks_for, performs_by}
 
 pub show_done :
@@ -20,7 +20,7 @@ pub show_done :
     → (volume x).fit
     → (x.bay.traced → IsSound (volume x))
     → text ≡ status_text x.linear (book x)
-    → Performs x x (shown text) text
+    → LineContract x x (shown text) text
 show_done x text fit sound is =
     performs_by x x (shown text) text unchanged unchanged refl (λ none. refl) (passes_same x fit) (raises_still 1 x) (λ none. works_same x) is
     (marks_for x x (shown text) (passes_same x fit) (marks_same x (λ place. ⊥)))

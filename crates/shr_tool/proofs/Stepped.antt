@@ -10,7 +10,7 @@ use Rattle.pool.specs.Works.{StopsStuck}
 use Rattle.raid_rack.specs.declared.works.Stuck.{Stuck}
 use Rattle.shr_tool.specs.Events.{stuck_line}
 use Rattle.shr_tool.specs.Events.Event.{stepped, stuck}
-use Rattle.shr_tool.specs.Timeline.{Performs}
+use Rattle.shr_tool.specs.Timeline.{LineContract}
 use Rattle.shr_tool.proofs.Performing.{marks_for, performs_by}
 
 pub step_done :
@@ -19,7 +19,7 @@ pub step_done :
     → text ≡ left_line left
     → has_growth x.linear (book x) ≡ false
     → Steps x y count r
-    → Performs x y (stepped count left) text
+    → LineContract x y (stepped count left) text
 step_done x y count left text r is_ok is none steps_r =
     let steps : Steps x y count (Ok left) = subst (λ q. Steps x y count q) is_ok steps_r in
     performs_by x y (stepped count left) text unchanged unchanged refl (λ none. absurd (both_ways false refl none)) steps.passes steps.raises
@@ -37,7 +37,7 @@ pub step_stuck :
     → text ≡ stuck_line at.array
     → has_growth x.linear (book x) ≡ false
     → Steps x y count r
-    → Performs x y (stuck count at.array) text
+    → LineContract x y (stuck count at.array) text
 step_stuck x y count at text r refused is none steps_r =
     let steps : Steps x y count (Err at) = subst (λ q. Steps x y count q) refused steps_r in
     performs_by x y (stuck count at.array) text unchanged unchanged refl (λ none. absurd (both_ways false refl none)) steps.passes steps.raises

@@ -29,10 +29,10 @@ use Rattle.pool_image.specs.Disks.{Disks, disks_of, identities_of}
 use Rattle.pool_image.specs.Drives.{Found, first_of as first_in}
 use Rattle.pool_image.specs.Meaning.{array_sectors, is_member, is_table}
 use Rattle.pool_model.specs.Alone.{IsStranger, IsTabled, TakesAlone}
-use Rattle.pool_model.specs.InService.{InService}
-use Rattle.pool_model.specs.Left.{HasNoSuper, IsPickOff}
+use Rattle.pool_model.specs.InService.{RunInvariant}
+use Rattle.pool_model.specs.Left.{HasNoSuper, IsPickOutsideSlices}
 use Rattle.raid_laws.specs.Missing.{raised}
-use Rattle.pool_model.specs.Taken.{AreDistinct, AreSerial, KeepsOff, KeepsRest, SeatsNew, taken}
+use Rattle.pool_model.specs.Taken.{AreDistinct, AreSerial, KeepsOutsideSlices, KeepsRest, SeatsNew, taken}
 use Rattle.pool_model.proofs.Alone.{alone_taken, says_own, stranger_former, tabled_taken}
 use Rattle.shr_tool.proofs.NewTabled.{tabled_new}
 use Rattle.pool_model.proofs.Before.{off_before, was as image_before, was_other as image_other}
@@ -53,12 +53,12 @@ use Rattle.pool.specs.Naming.{EntersNamed}
 use Rattle.pool.specs.Replaced.{ChangesDrive, HasGrowCause, IsAnswer, IsLookedAt, IsReplaced, is_vacant}
 use Rattle.pool.specs.Replacing.{refusal_of}
 use Rattle.pool.specs.View.{View, book, spent_by, volume}
-use Rattle.pool.specs.Volume.{Holds, is_spent, size_of}
+use Rattle.pool.specs.Volume.{VolumeIs, is_spent, size_of}
 use Rattle.pool.proofs.Admitted.{admitted, others_current, reaches_each}
 use Rattle.pool.specs.Replacing.{IsAdmitted}
 use Rattle.shr_tool.specs.Events.Event.{replaced}
 use Rattle.shr_tool.specs.Service.{GoesBy, GoesOn, HoldOwn, IsFitDrive, IsOut, IsOwnCopy, Lone, StandsLone, disk_in, pool_after, units_in}
-use Rattle.shr_tool.specs.Timeline.{Performs}
+use Rattle.shr_tool.specs.Timeline.{LineContract}
 use Rattle.shr_tool.proofs.Entered.{own_entered}
 use Rattle.shr_tool.proofs.Former.{copy_parts, gave_below, going_seat, held_log, lacks_bare, not_over, on_same, seat_listed, seat_or}
 use Rattle.shr_tool.proofs.GivesWay.{entered_copy}
@@ -88,7 +88,7 @@ module _ {L : Type 0} {o : Option Lone} (x y : View) (place : ℕ) (name : List 
 
   -- outside the slices the disks show what they did, but for these
   pub keeps_but : (named : ℕ → Type 0) → KeepsOutside x.slices y.slices named x.shelf.told x.bay y.bay → (t : Slices)
-      → ((d s : ℕ) (w : List ℕ) → IsSliced x.slices d s w → IsSliced t d s w) → (disk : ℕ) → ((d : ℕ) → d ≢ disk → named d → ⊥) → KeepsOff t disk x.bay y.bay
+      → ((d s : ℕ) (w : List ℕ) → IsSliced x.slices d s w → IsSliced t d s w) → (disk : ℕ) → ((d : ℕ) → d ≢ disk → named d → ⊥) → KeepsOutsideSlices t disk x.bay y.bay
   keeps_but named kept t old disk unnamed d s other live never = (
     record {
       disk = (let low = live.disk in let more = continues.disks in omega (arith, low, more));
@@ -101,7 +101,7 @@ module _ {L : Type 0} {o : Option Lone} (x y : View) (place : ℕ) (name : List 
   )
 
   pub keeps_off : (t : Slices) → ((d s : ℕ) (w : List ℕ) → IsSliced x.slices d s w → IsSliced t d s w) → (disk : ℕ)
-      → ((d : ℕ) → d ≢ disk → IsNamed (moment_of y) name d → ⊥) → KeepsOff t disk x.bay y.bay
+      → ((d : ℕ) → d ≢ disk → IsNamed (moment_of y) name d → ⊥) → KeepsOutsideSlices t disk x.bay y.bay
   keeps_off t old disk unnamed = keeps_but (λ d. slice_get y.shelf.names d ≡ Some name) outside t old disk unnamed
 
   pub live_at : (d s : ℕ) → d < y.bay.disks → s < y.bay.sectors d → IsLive y.bay y.bay d s
@@ -159,7 +159,7 @@ reached_of arrays place sectors n each = by (slice_get arrays n) refl
         of true has = each u at has
 
 module _ {L : Type 0} {o : Option Lone} (x y : View) (place : ℕ) (name text : List ℕ) (b : FlatArray) (unspent : (d s : ℕ) → y.bay.spent d s ≡ false) (fit : (volume x).fit)
-    (performs : Performs x y (replaced place name) text) (holds : Holds x b) (some : (s : ℕ) × (s < size_of x) × (spent_by x.linear (book y) s ≡ false))
+    (performs : LineContract x y (replaced place name) text) (holds : VolumeIs x b) (some : (s : ℕ) × (s < size_of x) × (spent_by x.linear (book y) s ≡ false))
     (f : Found) (goes : GoesBy L o f x) (fitting : IsFitDrive f (moment_of x) place name) (serials : AreSerial f.state)
     (early : (l : Lone) → o ≡ Some l → (book y).state.serial ≤ l.bound) where
   abbrev pub changes : ChangesDrive x y place name
@@ -265,7 +265,7 @@ module _ {L : Type 0} {o : Option Lone} (x y : View) (place : ℕ) (name text : 
     members = members;
   }
 
-  off : KeepsOff t disk x.bay y.bay
+  off : KeepsOutsideSlices t disk x.bay y.bay
   off = keeps_off x y place name unspent performs.continues (performs.outside refl) changes told f goes t
       (sliced_old x y place name unspent performs.continues (performs.outside refl) changes told f goes) disk only
 
@@ -276,7 +276,7 @@ module _ {L : Type 0} {o : Option Lone} (x y : View) (place : ℕ) (name text : 
   known = record { outset = goes.service.arranged; after = goes.service.after; geometry = goes.service.geometry }
 
   -- no superblock stands on the new disk where the place is no member, by what its image held and what was laid on it
-  fit_alone : (i : Image) → IsPickOff y.slices y.bay i → (n first : ℕ) → n < f.state.made → is_member f n place ≡ false → first_in f n ≡ Some first
+  fit_alone : (i : Image) → IsPickOutsideSlices y.slices y.bay i → (n first : ℕ) → n < f.state.made → is_member f n place ≡ false → first_in f n ≡ Some first
       → first + super_sector < y.bay.sectors disk → HasNoSuper f.state.pool.0 n (i disk (first + super_sector))
   fit_alone i pick n first low none begins within =
       let sector = first + super_sector in
@@ -312,7 +312,7 @@ module _ {L : Type 0} {o : Option Lone} (x y : View) (place : ℕ) (name text : 
       entered_copy x y place name unspent fit f goes d seat (on_same x f goes place d seat same) holds disk entered changes other (only d other)
 
   -- the drive that the place had says an earlier state
-  lost_says : (d : ℕ) → d ≢ disk → f.seats place ≡ Some d → (i : Image) → IsPickOff y.slices y.bay i
+  lost_says : (d : ℕ) → d ≢ disk → f.seats place ≡ Some d → (i : Image) → IsPickOutsideSlices y.slices y.bay i
       → (copy : Copied) → (identities_of (disks_of y.bay) i d).copied ≡ Some copy → copy.state.epoch < raised (book x).state.epoch
   lost_says d other seat i pick copy here = elim goes.vacant [
     | inl same ↦
@@ -391,7 +391,7 @@ module _ {L : Type 0} {o : Option Lone} (x y : View) (place : ℕ) (name text : 
           ))
     ]
 
-    own_former : (i : Image) → IsPickOff y.slices y.bay i → (copy : Copied) → (identities_of (disks_of y.bay) i d).copied ≡ Some copy → IsOwnCopy f.state place copy
+    own_former : (i : Image) → IsPickOutsideSlices y.slices y.bay i → (copy : Copied) → (identities_of (disks_of y.bay) i d).copied ≡ Some copy → IsOwnCopy f.state place copy
     own_former i pick copy here =
         let parts = copy_parts (y.bay.sectors d) (i d state_sector) copy here in
         let low : d < y.bay.disks = (let at = there in let more = performs.continues.disks in omega (arith, at, more)) in
@@ -400,7 +400,7 @@ module _ {L : Type 0} {o : Option Lone} (x y : View) (place : ℕ) (name text : 
         (goes.alone l so).own some.0 some.1 alive place d (i d state_sector) copy seat stayed (kept_there.0.within (i d state_sector) left) parts.1
 
     -- It is a stranger: it has its table, and its copy, where it has one, is its own.
-    former : (i : Image) → IsPickOff y.slices y.bay i → IsStranger h l.bound (identities_of (disks_of y.bay) i d)
+    former : (i : Image) → IsPickOutsideSlices y.slices y.bay i → IsStranger h l.bound (identities_of (disks_of y.bay) i d)
     former i pick =
         let stands = goes.alone l so in
         let was = image_before t y.slices disk x.bay y.bay off fewer_old i pick in
@@ -415,7 +415,7 @@ module _ {L : Type 0} {o : Option Lone} (x y : View) (place : ℕ) (name text : 
         (λ copy here. (own_former i pick copy here).drive))
 
   -- it has its table
-  tabled_own : (i : Image) → IsPickOff y.slices y.bay i → IsTabled h place (y.bay.sectors disk) (i disk)
+  tabled_own : (i : Image) → IsPickOutsideSlices y.slices y.bay i → IsTabled h place (y.bay.sectors disk) (i disk)
   tabled_own i pick =
       ap (λ o. option_map_or (is_table h place (y.bay.sectors disk)) o false)
       (table_taken x y place name text b unspent performs holds goes.orderly disk named i pick)
@@ -435,7 +435,7 @@ module _ {L : Type 0} {o : Option Lone} (x y : View) (place : ℕ) (name text : 
     ];
   }
 
-  service_now : InService h y.slices (book y) y.bay
+  service_now : RunInvariant h y.slices (book y) y.bay
   service_now =
       service_taken f t y.slices (book x) (book y) x.bay y.bay place disk is.units (Replacing place) (joins (views_of (book x)) place (y.bay.sectors disk)) goes.service
       seats_new keeps_rest (record { marks = is.marks; arrays = is.arrays })

@@ -7,19 +7,19 @@ use Rattle.gpt_table.specs.declared.TableCopy.TheVariants.{Primary}
 use Rattle.array_image.specs.Places.{log_sectors, log_slice, slice_of}
 use Rattle.raid_laws.specs.Enlisting.{next_drive}
 use Rattle.raid_laws.specs.NewDrive.{sectors_laid}
-use Rattle.pool_model.specs.Left.{IsPickOff}
+use Rattle.pool_model.specs.Left.{IsPickOutsideSlices}
 use Rattle.pool_model.specs.Stopped.{LieOn}
 use Rattle.pool.specs.Moment.{IsNamed, moment_of, views_of}
 use Rattle.pool.specs.Replaced.{HasTable, IsReplaced}
 use Rattle.pool.specs.View.{View, book}
-use Rattle.pool.specs.Volume.{Holds}
+use Rattle.pool.specs.Volume.{VolumeIs}
 use Rattle.shr_tool.specs.Events.Event.{replaced}
-use Rattle.shr_tool.specs.Timeline.{Performs, TakesDrive}
+use Rattle.shr_tool.specs.Timeline.{LineContract, TakesDrive}
 use Rattle.shr_tool.proofs.NewTable.{table_in, table_left, table_lies}
 use Rattle.gpt_table.specs.Changes.{the_table}
 
 module _ (x y : View) (place : ℕ) (name text : List ℕ) (b : FlatArray) (unspent : (d s : ℕ) → y.bay.spent d s ≡ false)
-    (performs : Performs x y (replaced place name) text) (holds : Holds x b) (orderly : IsOrderly x.slices) (disk : ℕ) (named : IsNamed (moment_of y) name disk) where
+    (performs : LineContract x y (replaced place name) text) (holds : VolumeIs x b) (orderly : IsOrderly x.slices) (disk : ℕ) (named : IsNamed (moment_of y) name disk) where
   abbrev takes : TakesDrive x y place name
   takes = performs.changes refl
 
@@ -49,12 +49,12 @@ module _ (x y : View) (place : ℕ) (name text : List ℕ) (b : FlatArray) (unsp
       record { disk = low; sector = within; is_told = (performs.holds b holds).disks disk low; unspent = unspent disk k }
 
   -- its table is the one that was laid
-  pub table_taken : (i : Image) → IsPickOff y.slices y.bay i → the_table (y.bay.sectors disk) (i disk) ≡ Some (table_in (next_drive (book x).state).0 (book x) place (y.bay.sectors disk))
+  pub table_taken : (i : Image) → IsPickOutsideSlices y.slices y.bay i → the_table (y.bay.sectors disk) (i disk) ≡ Some (table_in (next_drive (book x).state).0 (book x) place (y.bay.sectors disk))
   table_taken i off =
       let id = (next_drive (book x).state).0 in
       table_left id x.slices y.slices (book x) place disk (y.bay.sectors disk) is.seats (performs.continues.orderly orderly) y.bay room live
       (has.copies holds.shelf holds.disks Primary) (has.durable holds.shelf holds.disks) i off
 
-  pub lies_taken : (i : Image) → IsPickOff y.slices y.bay i → LieOn y.slices place (y.bay.sectors disk) (i disk)
+  pub lies_taken : (i : Image) → IsPickOutsideSlices y.slices y.bay i → LieOn y.slices place (y.bay.sectors disk) (i disk)
   lies_taken i off =
       table_lies (next_drive (book x).state).0 x.slices y.slices (book x) place disk (y.bay.sectors disk) is.seats (i disk) (table_taken i off)

@@ -2,7 +2,7 @@
 use Rattle.std.proofs.Common.{◌≡◌, ◌⊎◌, ◌≢◌, ℕ, ◌+◌, ◌<◌, ◌≤◌, ◌^◌, true, false, List, length, Some, refl, sym, ap, subst, ◌∙◌, inl, inr, arith}
 use Rattle.std.proofs.lemmas.Bool.{both_ways, cases_Bool}
 use Rattle.std.proofs.lemmas.List.FromFn.{length-map-range_with_len}
-use Rattle.rack.specs.Seen.{Image, Seen}
+use Rattle.rack.specs.Seen.{Image, RackView}
 use Rattle.rack.specs.Values.{MayLeave}
 use Rattle.slice_rack.specs.Slices.{IsOrderly, Slices, disk_of, first_of as slice_first, sectors_of}
 use Rattle.slice_rack.specs.Sliced.{IsInside, sliced, slices_of}
@@ -16,15 +16,15 @@ use Rattle.raid_laws.specs.Enlisting.{Enlists, IsOpenDisk, KeepsTold, enlisted, 
 use Rattle.raid_laws.specs.Logs.{LogsBetween}
 use Rattle.raid_laws.specs.Losses.{has_other}
 use Rattle.raid_laws.specs.NewDrive.{drive_table, joins}
-use Rattle.raid_laws.specs.Raid.{IsTold, is_over}
+use Rattle.raid_laws.specs.Raid.{IsTracked, is_failed}
 use Rattle.raid_rack.specs.RaidRack.{IsFit}
 use Rattle.pool_image.specs.Disks.{disks_of}
 use Rattle.pool_image.specs.Drives.{Found, first_of}
 use Rattle.pool_image.specs.Meaning.{is_member}
-use Rattle.pool_model.specs.InService.{InService}
+use Rattle.pool_model.specs.InService.{RunInvariant}
 use Rattle.pool_model.specs.Laid.{HaveOtherIds}
 use Rattle.pool_model.specs.Left.{HasNoSuper, HavePlaces}
-use Rattle.pool_model.specs.Stopped.{HoldAmid, HoldTables, LieOn}
+use Rattle.pool_model.specs.Stopped.{RecoversInCall, HoldTables, LieOn}
 use Rattle.pool_model.specs.Taken.{LacksDrive, SeatsNew, taken}
 use Rattle.pool_model.proofs.TakingEarly.{entering_early, entering_places, entering_told}
 use Rattle.pool_model.proofs.TakingLate.{IsTaking, taking_late}
@@ -37,7 +37,7 @@ use Rattle.pool.proofs.Readying.{member_joins}
 use Rattle.shr_tool.proofs.NewTable.{table_lies}
 
 -- the slices lie inside disks that are as many and as long
-pub inside_same : (t : Slices) (a b : Seen) → b.disks ≡ a.disks → ((d : ℕ) → b.sectors d ≡ a.sectors d) → IsInside t b → IsInside t a
+pub inside_same : (t : Slices) (a b : RackView) → b.disks ≡ a.disks → ((d : ℕ) → b.sectors d ≡ a.sectors d) → IsInside t b → IsInside t a
 inside_same t a b disks sectors inside = record {
   small = λ d low. subst (λ n. n < 2 ^ 48) (sectors d) (inside.small d (subst (λ n. d < n) (sym disks) low));
   seats = λ p d seat. subst (λ n. d < n) disks (inside.seats p d seat);
@@ -68,10 +68,10 @@ new_lies c y place disk enters z has =
     (has ∙ ap (λ k. Some (drive_table id (views_of (book c)) place (c.bay.sectors disk) k)) many)
 
 -- Of the pool h it is known that the place's drive is missing: s are the tables by which it goes.
-module _ (c y : View) (place disk : ℕ) (enters : EntersBy c y place disk) (h : Found) (s : Slices) (service : InService h s (book c) c.bay)
+module _ (c y : View) (place disk : ℕ) (enters : EntersBy c y place disk) (h : Found) (s : Slices) (service : RunInvariant h s (book c) c.bay)
     (lacks : LacksDrive h s enters.vacates.tables (book c) place c.bay) (sits : SeatsNew h s y.slices (book c) place disk (c.bay.sectors disk)) (opened : IsOpenDisk c.bay disk)
-    (tables : HoldTables h s (book c).state c.bay) (told : (n : ℕ) → n < h.state.made → IsTold (book c) (slices_of enters.vacates.tables c.bay) n)
-    (lasts : (n : ℕ) → n < h.state.made → is_over (book y) n ≡ false) (other : has_other (book y).state place ≡ true) (lasting : c.bay.lasting) (traced : c.bay.traced)
+    (tables : HoldTables h s (book c).state c.bay) (told : (n : ℕ) → n < h.state.made → IsTracked (book c) (slices_of enters.vacates.tables c.bay) n)
+    (lasts : (n : ℕ) → n < h.state.made → is_failed (book y) n ≡ false) (other : has_other (book y).state place ≡ true) (lasting : c.bay.lasting) (traced : c.bay.traced)
     (orderly : IsOrderly y.slices) (within : IsInside y.slices y.bay)
     (bare : (n first : ℕ) → n < h.state.made → is_member h n place ≡ false → first_of h n ≡ Some first → first + super_sector < c.bay.sectors disk
     → (v : List ℕ) → MayLeave (c.bay.held disk (first + super_sector)) v → HasNoSuper h.state.pool.0 n v) where
@@ -109,7 +109,7 @@ module _ (c y : View) (place disk : ℕ) (enters : EntersBy c y place disk) (h :
 
   -- the pool without the disk, before its slices were added or after; or the log slices say a state that has it
   pub taking_first : (k : ℕ) (i : Image) → c.bay.clock < k → k ≤ y.bay.clock → y.bay.stops k i
-      → (HoldAmid h t (book c).state (book c).state i ⊎ HoldAmid h y.slices (book c).state (book c).state i)
+      → (RecoversInCall h t (book c).state (book c).state i ⊎ RecoversInCall h y.slices (book c).state (book c).state i)
       ⊎ ((enlists.mid < k) × LogsBetween next (book y).state (sectors_of y.slices) (sliced y.slices i))
   taking_first =
       entering_early h s t (book c) place disk c.bay service lacks apart enters.vacates.orderly inside_t tables opened room lasting traced y.slices enters.units (Replacing place) (book y)
@@ -133,7 +133,7 @@ module _ (c y : View) (place disk : ℕ) (enters : EntersBy c y place disk) (h :
 
   -- and then the pool with it
   pub taking_last : (k : ℕ) (i : Image) → enlists.mid < k → k ≤ y.bay.clock → y.bay.stops k i → HaveOtherIds h (book c).state place disk i
-      → LogsBetween next (book y).state (sectors_of y.slices) (sliced y.slices i) → HoldAmid (taken h (disks_of c.bay) place disk next) y.slices next (book y).state i
+      → LogsBetween next (book y).state (sectors_of y.slices) (sliced y.slices i) → RecoversInCall (taken h (disks_of c.bay) place disk next) y.slices next (book y).state i
   taking_last k i since until stopped ids logs =
       taking_late h s t y.slices (views_of (book c)) (book c) place disk c.bay y.bay taking enlists.only (book y) enters.units enlists.mid (Replacing place) traced other lasts keeps
       (enlists.within traced).0 k i since until stopped ids logs

@@ -16,25 +16,25 @@ use Rattle.raid_laws.specs.Enlisting.{Enlists, IsOpenDisk, enlisted}
 use Rattle.raid_laws.specs.Laws.{live_parts}
 use Rattle.raid_laws.specs.Losses.{has_other}
 use Rattle.raid_laws.specs.NewDrive.{SeatsDrive, joins}
-use Rattle.raid_laws.specs.Raid.{IsTold, is_over}
+use Rattle.raid_laws.specs.Raid.{IsTracked, is_failed}
 use Rattle.pool_image.specs.Disks.{disks_of}
 use Rattle.pool_image.specs.Drives.{Found, first_of}
 use Rattle.pool_image.specs.Meaning.{array_sectors, is_member}
 use Rattle.pool_model.proofs.Taken.{sectors_taken}
-use Rattle.pool_model.specs.InService.{InService}
+use Rattle.pool_model.specs.InService.{RunInvariant}
 use Rattle.pool_model.specs.Left.{HasNoSuper}
-use Rattle.pool_model.specs.Stopped.{HoldAmid, HoldTables}
+use Rattle.pool_model.specs.Stopped.{RecoversInCall, HoldTables}
 use Rattle.pool_model.specs.Taken.{AreSerial, LacksDrive, SeatsNew, attached, taken}
 use Rattle.array_image.specs.States.{is_current}
 use Rattle.pool.specs.Entering.{EntersBy, Vacates}
 use Rattle.pool.specs.Moment.{IsNamed, moment_of, views_of}
 use Rattle.pool.specs.Naming.{EntersNamed}
 use Rattle.pool.specs.View.{View, book, over, spent_by, volume}
-use Rattle.pool.specs.Volume.{Holds, is_spent, size_of}
+use Rattle.pool.specs.Volume.{VolumeIs, is_spent, size_of}
 use Rattle.shr_tool.specs.Between.{AreWithout, HoldsEither}
 use Rattle.shr_tool.specs.Events.Event.{replaced}
 use Rattle.shr_tool.specs.Service.{GoesBy, IsFitDisk, IsFitDrive, disk_in, pool_after, units_in}
-use Rattle.shr_tool.specs.Timeline.{Performs}
+use Rattle.shr_tool.specs.Timeline.{LineContract}
 use Rattle.shr_tool.proofs.EitherPool.{with_now, without_now}
 use Rattle.shr_tool.proofs.Former.{array_low}
 use Rattle.shr_tool.proofs.NamedDisk as one
@@ -42,9 +42,9 @@ use Rattle.shr_tool.proofs.TakenIn as new
 use Rattle.shr_tool.proofs.TakingFrom.{other_left, taking_first, taking_last}
 
 module _ {L : Type 0} (x y : View) (place : ℕ) (name text : List ℕ) (b : FlatArray) (unspent : (d s : ℕ) → y.bay.spent d s ≡ false) (fit : (volume x).fit)
-    (performs : Performs x y (replaced place name) text) (holds : Holds x b) (some : (s : ℕ) × (s < size_of x) × (spent_by x.linear (book y) s ≡ false))
+    (performs : LineContract x y (replaced place name) text) (holds : VolumeIs x b) (some : (s : ℕ) × (s < size_of x) × (spent_by x.linear (book y) s ≡ false))
     (f : Found) (goes : GoesBy L None f x) (missing : is_current (book x).state place ≡ false) (fitting : IsFitDrive f (moment_of x) place name) (waits : IsFitDisk f (moment_of x) name) (serials : AreSerial f.state)
-    (lands : L) (lasts : (n : ℕ) → n < f.state.made → is_over (book y) n ≡ false) (traced : x.bay.traced) where
+    (lands : L) (lasts : (n : ℕ) → n < f.state.made → is_failed (book y) n ≡ false) (traced : x.bay.traced) where
   abbrev disk : ℕ
   disk = new.disk x y place name text b unspent fit performs holds some f goes fitting serials (λ l none. absurd (none-some l none))
 
@@ -85,7 +85,7 @@ module _ {L : Type 0} (x y : View) (place : ℕ) (name text : List ℕ) (b : Fla
   abbrev h : Found
   h = attached f (disks_of m.bay)
 
-  service : InService h goes.tables (book x) m.bay
+  service : RunInvariant h goes.tables (book x) m.bay
   service = one.service_named x entered.bay name disk entered.attaches unspent_then fit b holds f goes waits
 
   opened : IsOpenDisk m.bay disk
@@ -97,7 +97,7 @@ module _ {L : Type 0} (x y : View) (place : ℕ) (name text : List ℕ) (b : Fla
   tables : HoldTables h goes.tables (book x).state m.bay
   tables = one.tables_named x entered.bay name disk entered.attaches unspent_then fit b holds f goes waits lands
 
-  told : (n : ℕ) → n < h.state.made → IsTold (book x) (slices_of t m.bay) n
+  told : (n : ℕ) → n < h.state.made → IsTracked (book x) (slices_of t m.bay) n
   told n low =
       one.told_named x entered.bay name disk entered.attaches unspent_then fit b holds f goes waits place listed vacates missing some.0 some.1 alive n
       (subst (λ k. n < k) (sym goes.arrays) low)
@@ -191,7 +191,7 @@ module _ {L : Type 0} (x y : View) (place : ℕ) (name text : List ℕ) (b : Fla
       gave : Seats x.slices enters.vacates.tables place None
       gave = one.gave x entered.bay name disk entered.attaches unspent_then fit b holds f goes waits place listed vacates missing some.0 some.1 alive
 
-      without : (t : Slices) → AreWithout (moment_of x) (moment_of y) place t → (i : Image) → HoldAmid h t (book x).state (book x).state i
+      without : (t : Slices) → AreWithout (moment_of x) (moment_of y) place t → (i : Image) → RecoversInCall h t (book x).state (book x).state i
           → HoldsEither f (moment_of x) (moment_of y) place name i
       without =
           without_now f x y place name disk enters.units (book x).state (disks_of m.bay) (after_same (book x).state) (inl refl) listed disks_same units_are disk_is

@@ -2,7 +2,7 @@
 use Rattle.std.specs.Option.{option_map_or}
 use Rattle.std.proofs.Common.{◌≡◌, ◌⊎◌, ◌↔◌, ◌&&◌, is_some, ℕ, ◌<◌, Bool, List, [], ◌∷◌, Option, Some, None, option_map, refl, sym, subst, ◌∙◌, ap, ap₂, inl, inr, arith}
 use Rattle.std.proofs.lemmas.Option.{none-some}
-use Rattle.rack.specs.Seen.{Image, Seen, Rose, Stays}
+use Rattle.rack.specs.Seen.{Image, RackView, Rose, SameRack}
 use Rattle.rack.specs.Shelf.{Shelf}
 use Rattle.rack.specs.Values.{Values, MayLeave, Keeps, only}
 use Rattle.rack.specs.Joins.{leaves_weaker}
@@ -18,7 +18,7 @@ use Rattle.pool_image.specs.Meaning.{Refusal as PoolRefusal, Volume, meaning, re
 use Rattle.pool_scan.specs.declared.Known.{Known}
 use Rattle.pool_scan.specs.Scanning.{IsUnfaulted, now_in}
 use Rattle.pool_image.specs.Disks.{Disks, disks_of}
-use Rattle.pool_model.specs.Left.{AreAlone, IsPickOff}
+use Rattle.pool_model.specs.Left.{NoStraySuperblock, IsPickOutsideSlices}
 use Rattle.pool_model.proofs.Found.{found_is}
 use Rattle.pool_model.proofs.Named.{seat_ahead}
 use Rattle.pool_model.proofs.Unrefused.{tables_meant}
@@ -41,7 +41,7 @@ use Rattle.pool_format.specs.Volume.{HasLayout}
 use Rattle.pool.specs.declared.Pool.{Pool}
 use Rattle.pool.specs.Made.{IsSafelyRefused}
 use Rattle.pool.specs.View.{arrays_of, book, view, volume}
-use Rattle.pool.specs.Volume.{Holds}
+use Rattle.pool.specs.Volume.{VolumeIs}
 use Rattle.shr_tool.specs.Made.{HasFaultCause}
 use Rattle.shr_tool.specs.Opened.{IsMeant, IsOpenedAs}
 use Rattle.shr_tool.specs.Outcome.{IsRunOn}
@@ -51,7 +51,7 @@ use Rattle.shr_tool.specs.Timeline.{MeansAt}
 
 -- a bay that is reached through references is written as they are
 pub pool_through :
-    {R B : Type 0} (shown : B → Seen) (runs : R → R → Type 0) (does : B → B → Type 0) (to : R → B)
+    {R B : Type 0} (shown : B → RackView) (runs : R → R → Type 0) (does : B → B → Type 0) (to : R → B)
     → ((r s : R) → runs r s → does (to r) (to s))
     → (r s : R) → WritesPool (λ q. shown (to q)) runs r s → WritesPool shown does (to r) (to s)
 pool_through shown runs does to so r s writes = record {
@@ -66,7 +66,7 @@ pool_through shown runs does to so r s writes = record {
 }
 
 pub written_through :
-    {R B : Type 0} (shown : B → Seen) (runs : R → R → Type 0) (does : B → B → Type 0) (to : R → B)
+    {R B : Type 0} (shown : B → RackView) (runs : R → R → Type 0) (does : B → B → Type 0) (to : R → B)
     → ((r s : R) → runs r s → does (to r) (to s))
     → (r s : R)
     → OnlyReads (shown (to r)) (shown (to s)) ⊎ (WritesDrives (shown (to r)) (shown (to s)) ⊎ WritesPool (λ q. shown (to q)) runs r s)
@@ -79,7 +79,7 @@ abbrev arrays_through : {R B : Type 0} → (R → B) → ArraysOn R → ArraysOn
 arrays_through to x = record { arrays = x.arrays; slices = x.slices; below = to x.below; refused = x.refused; written = x.written }
 
 -- and refused by what was read of it
-module _ {R B : Type 0} (shown : B → Seen) (runs : R → R → Type 0) (does : B → B → Type 0) (to : R → B) (so : (r s : R) → runs r s → does (to r) (to s)) (r s : R) where
+module _ {R B : Type 0} (shown : B → RackView) (runs : R → R → Type 0) (does : B → B → Type 0) (to : R → B) (so : (r s : R) → runs r s → does (to r) (to s)) (r s : R) where
   arrays_refused : (why : Refusal) (mid : R) (known : List Known) (state : State) → RefusesArrays (λ q. shown (to q)) runs r mid s known state why
       → RefusesArrays shown does (to r) (to mid) (to s) known state why
   arrays_refused why mid known state is = record {
@@ -167,9 +167,9 @@ first_of other (Some (v ∷ more)) = v
 
 -- the volume that is opened holds the array that the disks meant
 pub held_by_meant :
-    {R : Type 0} (pool : Pool R) (shown : R → Seen) (shelf : R → Shelf) (x : Seen) (a : FlatArray)
+    {R : Type 0} (pool : Pool R) (shown : R → RackView) (shelf : R → Shelf) (x : RackView) (a : FlatArray)
     → ((f : Found) → HoldSound x f → IsUnfaulted x (view shown shelf pool).bay → IsMeantBy shown x f (arrays_of pool) (view shown shelf pool).linear)
-    → Stays x (view shown shelf pool).bay
+    → SameRack x (view shown shelf pool).bay
     → (view shown shelf pool).shelf.told
     → IsMeant x (view shown shelf pool).bay a
     → IsServing (view shown shelf pool) a
@@ -180,7 +180,7 @@ held_by_meant pool shown shelf x a opens stays names meant =
     let same : by.volume ≡ meant.volume = ap (first_of meant.volume) (sym by.meant ∙ meant.meant) in
     let joined : v.linear.arrays ≡ meant.pool.state.joined = ap (λ (l : Linear). l.arrays) by.lies.linear in
     let told : (volume v).told 0 = λ n low. by.told n (subst (λ k. n < k) joined low) in (
-      subst (λ b. Holds v b) (ap (λ (w : Volume). fresh w.sectors w.contents) same ∙ sym meant.array)
+      subst (λ b. VolumeIs v b) (ap (λ (w : Volume). fresh w.sectors w.contents) same ∙ sym meant.array)
           (record {
             told = λ s low alive. told;
             shelf = names;
@@ -193,7 +193,7 @@ held_by_meant pool shown shelf x a opens stays names meant =
 
 -- and so does what a stop inside the opening leaves
 pub stops_mean :
-    {R : Type 0} (pool : Pool R) (shown : R → Seen) (shelf : R → Shelf) (x : Seen) (a : FlatArray)
+    {R : Type 0} (pool : Pool R) (shown : R → RackView) (shelf : R → Shelf) (x : RackView) (a : FlatArray)
     → ((f : Found) → HoldSound x f → IsUnfaulted x (view shown shelf pool).bay → IsMeantBy shown x f (arrays_of pool) (view shown shelf pool).linear)
     → (meant : IsMeant x (view shown shelf pool).bay a) → MayStop x meant.pool → x.traced
     → Leaves x (view shown shelf pool).bay (MeansAt (moment_of (view shown shelf pool)) a)
@@ -209,7 +209,7 @@ stops_mean pool shown shelf x a opens meant calm traced =
 
 -- and it is opened as they had it
 pub opened_as :
-    {R : Type 0} (pool : Pool R) (shown : R → Seen) (shelf : R → Shelf) (x : Seen)
+    {R : Type 0} (pool : Pool R) (shown : R → RackView) (shelf : R → Shelf) (x : RackView)
     → ((f : Found) → HoldSound x f → IsUnfaulted x (view shown shelf pool).bay → IsMeantBy shown x f (arrays_of pool) (view shown shelf pool).linear)
     → ((f : Found) → HoldSound x f → IsUnfaulted x (view shown shelf pool).bay → (p : ℕ) → is_current (book (view shown shelf pool)).state p ≡ (is_current f.state p && is_some (f.seats p)))
     → (f : Found) → HoldSound x f → IsUnfaulted x (view shown shelf pool).bay
@@ -229,10 +229,10 @@ meant_unrefused disks c volumes meant = of (refusal_of disks c) (option_map volu
 
 -- the run is one on that pool
 pub runs_on :
-    (bay opened : Seen) (from : Moment) (f : Found)
+    (bay opened : RackView) (from : Moment) (f : Found)
     → HoldSound bay f → IsOpenedAs f opened from → (volumes : List Volume) → meaning (disks_of bay) (now_in bay) ≡ Some volumes → HaveOnePool f
-    → SayTruths f from.book (slices_of from.slices opened) → Stays bay opened → f.state.joined ≡ f.state.made
-    → IsOrderly from.slices → ((i : Image) → IsPickOff from.slices opened i → AreAlone f i) → IsRunOn f from opened
+    → SayTruths f from.book (slices_of from.slices opened) → SameRack bay opened → f.state.joined ≡ f.state.made
+    → IsOrderly from.slices → ((i : Image) → IsPickOutsideSlices from.slices opened i → NoStraySuperblock f i) → IsRunOn f from opened
 runs_on bay opened from f sound meant volumes means one_pool truths stays joined orderly alone = record {
   lasting = stays.lasting sound.steady.lasts.lasting;
   before = now_in bay;
@@ -259,16 +259,16 @@ runs_on bay opened from f sound meant volumes means one_pool truths stays joined
     same = λ j. record { count = stays.disks j; sectors = λ d. stays.sectors d j }
 
 -- stops stay told in an opening
-pub traced_through : {R : Type 0} (shown : R → Seen) (runs : R → R → Type 0) (r s : R) → WritesPool shown runs r s → (shown r).traced → (shown s).traced
+pub traced_through : {R : Type 0} (shown : R → RackView) (runs : R → R → Type 0) (r s : R) → WritesPool shown runs r s → (shown r).traced → (shown s).traced
 traced_through shown runs r s writes traced = writes.late.stays.traced (writes.early.only.stays.traced traced)
 
 -- the moment when a pool stands so, on a bay that is reached through a reference
-abbrev pub moment_in : {R B : Type 0} → (B → Seen) → (B → Shelf) → Pool R → (R → B) → Moment
+abbrev pub moment_in : {R B : Type 0} → (B → RackView) → (B → Shelf) → Pool R → (R → B) → Moment
 moment_in shown shelf pool to = moment_of (view (λ r. shown (to r)) (λ r. shelf (to r)) pool)
 
 -- why no pool was made on a bay that is reached through a reference
 pub fault_through :
-    {R B : Type 0} (shown : B → Seen) (to : R → B) (r s : R) (extent : ℕ) (birth : Birth) (why : CreateFault)
+    {R B : Type 0} (shown : B → RackView) (to : R → B) (r s : R) (extent : ℕ) (birth : Birth) (why : CreateFault)
     → ((fault : PlanError) → (why ≡ Layout fault) ↔ IsUnplanned (units_on (shown (to r)) extent) fault)
     → ((fault : PlanError) → why ≡ Layout fault → s ≡ r)
     → ((disk : ℕ) → why ≡ Gone disk → (disk < (shown (to r)).disks) × Rose ((shown (to r)).faults disk) ((shown (to s)).faults disk))

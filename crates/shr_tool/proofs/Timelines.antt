@@ -7,7 +7,7 @@ use Rattle.shr_tool.specs.declared.perform.Answer.{Answer}
 use Rattle.shr_tool.specs.declared.perform.Answer.TheVariants.{Given, Memory, Spent}
 use Rattle.shr_tool.specs.Events.{Event, answer_of, array_by, becomes, line_of, lines_of, text_of, texts, worse, worst_of}
 use Rattle.pool.specs.Moment.{Moment}
-use Rattle.shr_tool.specs.Timeline.{Happens, Steps, Timeline, steps_of}
+use Rattle.shr_tool.specs.Timeline.{EventContract, Steps, Timeline, steps_of}
 use Rattle.shr_tool.proofs.Between.{timeline_order}
 use Rattle.shr_tool.proofs.Chains.{steps_more}
 
@@ -59,8 +59,8 @@ pub happens_for :
     (P Q : Type 0) (old new : ℕ → Image → Type 0) (p q : Moment) (a : FlatArray) (event : Event)
     → (Q → P)
     → (Q → (k : ℕ) (i : Image) → k ≤ q.clock → new k i → old k i)
-    → Happens P old p q a event
-    → Happens Q new p q a event
+    → EventContract P old p q a event
+    → EventContract Q new p q a event
 happens_for P Q old new p q a event for past happens = record {
   later = λ told. happens.later (for told);
   still = happens.still;
@@ -113,16 +113,16 @@ pub timeline_more :
     (Traced : Type 0) (stops : ℕ → Image → Type 0) (p : Moment) (a : FlatArray) (events : List Event) (mid : Moment)
     (event : Event) (q : Moment)
     → Timeline Traced stops p a events mid
-    → Happens Traced stops mid q (array_by a events) event
+    → EventContract Traced stops mid q (array_by a events) event
     → Timeline Traced stops p a (events ++ event ∷ []) q
 timeline_more Traced stops p a [] mid event q same happens =
-    (q, subst (λ m. Happens Traced stops m q a event) (sym same) happens, refl)
+    (q, subst (λ m. EventContract Traced stops m q a event) (sym same) happens, refl)
 timeline_more Traced stops p a (first ∷ events) mid event q line happens =
     (line.0, line.1, timeline_more Traced stops line.0 (becomes a first) events mid event q line.2 happens)
 
 pub steps_added :
     (Traced : Type 0) (stops : ℕ → Image → Type 0) (p : Moment) (a : FlatArray) (events : List Event) (mid : Moment)
-    (event : Event) (q : Moment) (line : Timeline Traced stops p a events mid) (happens : Happens Traced stops mid q (array_by a events) event)
+    (event : Event) (q : Moment) (line : Timeline Traced stops p a events mid) (happens : EventContract Traced stops mid q (array_by a events) event)
     → steps_of Traced stops p a (events ++ event ∷ []) q (timeline_more Traced stops p a events mid event q line happens)
     ≡ steps_more p events mid event q (steps_of Traced stops p a events mid line)
 unfolding timeline_more

@@ -1,6 +1,6 @@
 -- How a task came out, where the array is told for another reason.
 use Rattle.std.proofs.Common.{◌≡◌, ℕ, List, [], ◌∷◌, codes, refl, sym, ap, subst, inl, inr}
-use Rattle.rack.specs.Seen.{Image, Seen}
+use Rattle.rack.specs.Seen.{Image, RackView}
 use Rattle.flat_array.specs.Array.{FlatArray}
 use Rattle.shr_tool.specs.declared.perform.Answer.{Answer}
 use Rattle.shr_tool.specs.declared.opening.Task.{Task}
@@ -12,7 +12,7 @@ use Rattle.slice_rack.specs.Slices.{Slices}
 use Rattle.shr_tool.specs.Events.{AnyTakes, Event, becomes}
 use Rattle.shr_tool.specs.Exporting.{ExportOutcome}
 use Rattle.shr_tool.specs.Importing.{ImportOutcome}
-use Rattle.shr_tool.specs.Outcome.{EndsAt, EventsOutcome, Lasts, LastsUntil, Outcome}
+use Rattle.shr_tool.specs.Outcome.{EndsAt, EventsOutcome, RunContract, LastsUntil, Outcome}
 use Rattle.shr_tool.specs.Tasks.{TaskOutcome}
 use Rattle.shr_tool.specs.Trial.{TrialOutcome}
 use Rattle.shr_script.specs.Line.{Line}
@@ -29,7 +29,7 @@ use Rattle.pool_model.specs.Taken.{AreSerial}
 use Rattle.shr_tool.specs.Between.{HaveOthers, HoldsEach, HoldsInside, HoldsNext}
 
 pub outside_told :
-    (t u : Slices) (named : ℕ → Type 0) (T U : Type 0) (a b : Seen) → (U → T) → KeepsOutside t u named T a b → KeepsOutside t u named U a b
+    (t u : Slices) (named : ℕ → Type 0) (T U : Type 0) (a b : RackView) → (U → T) → KeepsOutside t u named T a b → KeepsOutside t u named U a b
 outside_told t u named T U a b for keeps = record { slices = keeps.slices; held = keeps.held; stops = λ is. keeps.stops (for is) }
 
 pub timeline_for :
@@ -52,7 +52,7 @@ steps_for P Q stops p a (event ∷ events) q for line =
     ap (λ (rest : Steps line.0 events q). (line.0, rest)) (steps_for P Q stops line.0 (becomes a event) events q for line.2)
 
 ends_for :
-    (T U S R : Type 0) (y : Seen) (p q : Moment) (a : FlatArray)
+    (T U S R : Type 0) (y : RackView) (p q : Moment) (a : FlatArray)
     → (U → T) → (R → S) → EndsAt T S y p q a → EndsAt U R y p q a
 ends_for T U S R y p q a told traced ends = record {
   later = λ is so. ends.later (told is) (traced so);
@@ -69,8 +69,8 @@ ends_for T U S R y p q a told traced ends = record {
 }
 
 lasts_for :
-    (T U S R : Type 0) (x y : Seen) (from : Moment) (a : FlatArray) (events : List Event)
-    → (U → T) → (R → S) → Lasts T S x y from a events → Lasts U R x y from a events
+    (T U S R : Type 0) (x y : RackView) (from : Moment) (a : FlatArray) (events : List Event)
+    → (U → T) → (R → S) → RunContract T S x y from a events → RunContract U R x y from a events
 lasts_for T U S R x y from a events told traced lasts = record {
   last = lasts.last;
   timeline = timeline_for (S × T) (R × U) y.stops from a events lasts.last (λ is. (traced is.0, told is.1)) lasts.timeline;
@@ -121,7 +121,7 @@ lasts_for T U S R x y from a events told traced lasts = record {
 
 -- the same run, told where the array is told
 events_for :
-    (status : Status) (T U S R : Type 0) (x y : Seen) (from : Moment) (a : FlatArray) (text rest out out' : List ℕ)
+    (status : Status) (T U S R : Type 0) (x y : RackView) (from : Moment) (a : FlatArray) (text rest out out' : List ℕ)
     → (U → T) → (R → S) → EventsOutcome status T S x y from a text rest out out' → EventsOutcome status U R x y from a text rest out out'
 events_for Done T U S R x y from a text rest out out' told traced o = record {
   events = o.events;
@@ -172,7 +172,7 @@ events_for Spent T U S R x y from a text rest out out' told traced o = record {
 
 -- one that grew the pool
 until_for :
-    (T U S R : Type 0) (x y : Seen) (from : Moment) (a : FlatArray) (events : List Event) (first : Line) (more : List Line) (said : List ℕ) (worst : Answer)
+    (T U S R : Type 0) (x y : RackView) (from : Moment) (a : FlatArray) (events : List Event) (first : Line) (more : List Line) (said : List ℕ) (worst : Answer)
     → (U → T) → (R → S) → LastsUntil T S x y from a events first more said worst → LastsUntil U R x y from a events first more said worst
 until_for T U S R x y from a events first more said worst told traced lasts = record {
   last = lasts.last;
@@ -195,7 +195,7 @@ until_for T U S R x y from a events first more said worst told traced lasts = re
 }
 
 outcome_for :
-    (status : Status) (T U S R : Type 0) (x y : Seen) (from : Moment) (a : FlatArray) (text rest out out' : List ℕ)
+    (status : Status) (T U S R : Type 0) (x y : RackView) (from : Moment) (a : FlatArray) (text rest out out' : List ℕ)
     → (U → T) → (R → S) → Outcome status T S x y from a text rest out out' → Outcome status U R x y from a text rest out out'
 outcome_for status T U S R x y from a text rest out out' told traced o = elim o [
   | inl events ↦ inl (events_for status T U S R x y from a text rest out out' told traced events)
@@ -214,7 +214,7 @@ outcome_for status T U S R x y from a text rest out out' told traced o = elim o 
 ]
 
 export_for :
-    (status : Status) (T U S R : Type 0) (x y : Seen) (from : Moment) (a : FlatArray) (out out' : List ℕ)
+    (status : Status) (T U S R : Type 0) (x y : RackView) (from : Moment) (a : FlatArray) (out out' : List ℕ)
     → (U → T) → (R → S) → ExportOutcome status T S x y from a out out' → ExportOutcome status U R x y from a out out'
 export_for Done T U S R x y from a out out' told traced o =
     record { put = λ is. o.put (told is); lasts = lasts_for T U S R x y from a _ told traced o.lasts }
@@ -237,7 +237,7 @@ export_for Spent T U S R x y from a out out' told traced o = record {
 }
 
 import_for :
-    (status : Status) (T U S R : Type 0) (x y : Seen) (from : Moment) (a : FlatArray) (text rest out out' : List ℕ)
+    (status : Status) (T U S R : Type 0) (x y : RackView) (from : Moment) (a : FlatArray) (text rest out out' : List ℕ)
     → (U → T) → (R → S) → ImportOutcome status T S x y from a text rest out out' → ImportOutcome status U R x y from a text rest out out'
 import_for status T U S R x y from a text rest out out' told traced o = record {
   result = o.result;
@@ -249,7 +249,7 @@ import_for status T U S R x y from a text rest out out' told traced o = record {
 }
 
 trial_for :
-    (seed : ℕ) (status : Status) (T U S R : Type 0) (x y : Seen) (from : Moment) (a : FlatArray) (out out' : List ℕ)
+    (seed : ℕ) (status : Status) (T U S R : Type 0) (x y : RackView) (from : Moment) (a : FlatArray) (out out' : List ℕ)
     → (U → T) → (R → S) → TrialOutcome seed status T S x y from a out out' → TrialOutcome seed status U R x y from a out out'
 trial_for seed status T U S R x y from a out out' told traced o = record {
   result = o.result;
@@ -262,7 +262,7 @@ trial_for seed status T U S R x y from a out out' told traced o = record {
 
 -- the same task, told where the array is told
 pub task_for :
-    (task : Task) (status : Status) (T U S R : Type 0) (x y : Seen) (from : Moment) (a : FlatArray) (text rest out out' : List ℕ)
+    (task : Task) (status : Status) (T U S R : Type 0) (x y : RackView) (from : Moment) (a : FlatArray) (text rest out out' : List ℕ)
     → (U → T) → (R → S) → TaskOutcome task status T S x y from a text rest out out' → TaskOutcome task status U R x y from a text rest out out'
 task_for Serve status T U S R x y from a text rest out out' told traced o =
     outcome_for status T U S R x y from a text rest out out' told traced o

@@ -8,10 +8,10 @@ use Rattle.shr_script.specs.Line.{Line}
 use Rattle.shr_script.specs.Reply.{as_line}
 use Rattle.flat_array.specs.Array.{FlatArray, fresh}
 use Rattle.flat_array.specs.Reply.{after, array_after, spent_line, uniform_sector}
-use Rattle.pool.specs.Calls.{Ends, Passes}
+use Rattle.pool.specs.Calls.{Ends, CallFrame}
 use Rattle.pool.specs.Moment.{moment_of}
 use Rattle.pool.specs.View.{View, volume}
-use Rattle.pool.specs.Volume.{Holds, size_of}
+use Rattle.pool.specs.Volume.{VolumeIs, size_of}
 use Rattle.shr_tool.specs.declared.perform.SpentAt.{SpentAt}
 use Rattle.shr_tool.specs.declared.status.Status.{Status}
 use Rattle.shr_tool.specs.declared.trial.Tally.{Tally}
@@ -37,7 +37,7 @@ lines_to span seed n = fill_of span ∷ map line_for (turns span seed n)
 -- The turns before the one in hand were taken.
 pub record HasTried (x y : View) (span seed : ℕ) (tally : Tally) : Type 0 where
   pub ran : Ran x y (map answered (lines_to span seed tally.turns))
-  pub tallied : (a : FlatArray) → Holds x a → tally ≡ tally_of (after a (fill_of span)) (turns span seed tally.turns)
+  pub tallied : (a : FlatArray) → VolumeIs x a → tally ≡ tally_of (after a (fill_of span)) (turns span seed tally.turns)
 
 lines_start : (span seed n : ℕ) → n ≡ 0 → lines_to span seed n ≡ fill_of span ∷ []
 lines_start span seed n none = ap (λ ts. fill_of span ∷ map line_for ts) (ap (turns span seed) none ∙ turns_none span seed)
@@ -108,7 +108,7 @@ tried_more x y z span seed tally turn r byte is laws drawn has takes_r =
           ∙ ap (tally_of b) (ap (λ t. ts ++ t ∷ []) drawn ∙ sym (turns_more span seed n)));
     }
 
-pub takes_passes : (y z : View) (turn : Turn) (r : Result ℕ SpentAt) → Takes y z turn r → Passes y z
+pub takes_passes : (y z : View) (turn : Turn) (r : Result ℕ SpentAt) → Takes y z turn r → CallFrame y z
 takes_passes y z turn (Ok byte) takes = takes.0.1.passes refl
 takes_passes y z turn (Err at) takes = takes.1.passes refl
 

@@ -12,7 +12,7 @@ use Rattle.flat_array.specs.Array.{FlatArray}
 use Rattle.slice_rack.specs.Sliced.{slices_of}
 use Rattle.lvm_group.specs.Runs.{Linear, array_of}
 use Rattle.raid_laws.specs.Enlisting.{new_table}
-use Rattle.raid_laws.specs.Raid.{IsTold}
+use Rattle.raid_laws.specs.Raid.{IsTracked}
 use Rattle.pool_state.specs.declared.contents.Copied.{Copied}
 use Rattle.pool_state.specs.declared.contents.State.{State}
 use Rattle.pool_state.specs.Sector.{decoded}
@@ -22,8 +22,8 @@ use Rattle.raid_laws.specs.Missing.{raised}
 use Rattle.raid_laws.proofs.Over.{number_room}
 use Rattle.pool_image.specs.Disks.{disks_of, identities_of}
 use Rattle.pool_image.specs.Drives.{Found}
-use Rattle.pool_model.specs.Left.{IsPickOff}
-use Rattle.pool_model.specs.Taken.{KeepsOff, KeepsOthers, LacksDrive, attached}
+use Rattle.pool_model.specs.Left.{IsPickOutsideSlices}
+use Rattle.pool_model.specs.Taken.{KeepsOutsideSlices, KeepsOthers, LacksDrive, attached}
 use Rattle.pool_model.proofs.Found.{ok_of, seated_below}
 use Rattle.pool_model.proofs.InService.{one_seat, service_attached}
 use Rattle.pool_model.proofs.Lost.{lost_value}
@@ -39,12 +39,12 @@ use Rattle.pool.specs.Moment.{IsNamed, moment_of, views_of}
 use Rattle.pool.specs.Naming.{LeavesNamed}
 use Rattle.pool.specs.Replaced.{ChangesDrive, IsDeclined, IsOfDrive}
 use Rattle.pool.specs.View.{View, book, over, spent_by, volume}
-use Rattle.pool.specs.Volume.{Holds, is_spent, size_of}
+use Rattle.pool.specs.Volume.{VolumeIs, is_spent, size_of}
 use Rattle.pool.proofs.Admitted.{admitted, others_current, reaches_each}
 use Rattle.shr_tool.specs.Events.{looks_at}
 use Rattle.shr_tool.specs.Events.Event.{declined}
 use Rattle.shr_tool.specs.Service.{GoesBy, IsFitDisk, Lone, StandsLone}
-use Rattle.shr_tool.specs.Timeline.{Performs}
+use Rattle.shr_tool.specs.Timeline.{LineContract}
 use Rattle.shr_tool.proofs.Former.{gave_below, lost_below, not_over, on_same, sector, small, told_by}
 use Rattle.shr_tool.proofs.GivesWay.{left_copy, others_left}
 use Rattle.shr_tool.proofs.Quiet.{listed_of, named_or, same_fault, twice_or}
@@ -65,7 +65,7 @@ seats_both t u w place one two = record {
 
 module _ {L : Type 0} {o : Option Lone} (x y : View) (place : ℕ) (name : List ℕ) (fault : GrowFault) (text : List ℕ) (b : FlatArray) (looks : looks_at fault ≡ true)
     (unspent : (d s : ℕ) → y.bay.spent d s ≡ false) (fit : (volume x).fit)
-    (performs : Performs x y (declined place name fault) text) (holds : Holds x b) (some : (s : ℕ) × (s < size_of x) × (spent_by x.linear (book y) s ≡ false))
+    (performs : LineContract x y (declined place name fault) text) (holds : VolumeIs x b) (some : (s : ℕ) × (s < size_of x) × (spent_by x.linear (book y) s ≡ false))
     (f : Found) (goes : GoesBy L o f x) (fits : IsFitDisk f (moment_of x) name) where
   abbrev pub changes : ChangesDrive x y place name
   changes = (performs.changes looks).0
@@ -110,7 +110,7 @@ module _ {L : Type 0} {o : Option Lone} (x y : View) (place : ℕ) (name : List 
 
   -- The disk that may have been written, which is the named one where there is one: a drive's own disk isn't.
   pub record IsOne (disk : ℕ) : Type 0 where
-    pub off : (u : Slices) → ((d s : ℕ) (w : List ℕ) → IsSliced x.slices d s w → IsSliced u d s w) → KeepsOff u disk x.bay y.bay
+    pub off : (u : Slices) → ((d s : ℕ) (w : List ℕ) → IsSliced x.slices d s w → IsSliced u d s w) → KeepsOutsideSlices u disk x.bay y.bay
     pub or : (IsNamed (moment_of y) name disk × (IsOfDrive (moment_of x) name → ⊥)) ⊎ (y.bay.disks ≤ disk)
 
   pub one : (disk : ℕ) × IsOne disk
@@ -204,7 +204,7 @@ module _ {L : Type 0} {o : Option Lone} (x y : View) (place : ℕ) (name : List 
   free_now d never w at =
       free_stranger f t d state_sector w goes.service.slices never (old_slices d state_sector w (sliced_now d state_sector w at))
 
-  left_at : (d : ℕ) (i : Image) (copy : Copied) → IsNamed (moment_of y) name d → ((k : ℕ) → f.seats k ≡ Some d → ⊥) → IsPickOff t y.bay i → HasCopy d i copy
+  left_at : (d : ℕ) (i : Image) (copy : Copied) → IsNamed (moment_of y) name d → ((k : ℕ) → f.seats k ≡ Some d → ⊥) → IsPickOutsideSlices t y.bay i → HasCopy d i copy
       → MayLeave (y.bay.held d state_sector) (i d state_sector)
   left_at d i copy named never off has =
       off d state_sector
@@ -212,7 +212,7 @@ module _ {L : Type 0} {o : Option Lone} (x y : View) (place : ℕ) (name : List 
       (λ w at. free_stranger f t d state_sector w goes.service.slices never at)
 
   -- one that was attached says an earlier state, as what waited did
-  came_says : (d : ℕ) → x.bay.disks ≤ d → IsNamed (moment_of y) name d → ((k : ℕ) → f.seats k ≡ Some d → ⊥) → (i : Image) → IsPickOff t y.bay i
+  came_says : (d : ℕ) → x.bay.disks ≤ d → IsNamed (moment_of y) name d → ((k : ℕ) → f.seats k ≡ Some d → ⊥) → (i : Image) → IsPickOutsideSlices t y.bay i
       → (copy : Copied) → (identities_of (disks_of y.bay) i d).copied ≡ Some copy → copy.state.epoch < f.state.epoch
   came_says d past named never i off copy here =
       let has = has_copy d i copy here in
@@ -269,7 +269,7 @@ module _ {L : Type 0} {o : Option Lone} (x y : View) (place : ℕ) (name : List 
   listed_still k low = let many = same_length (book y).state.drives.items (book x).state.drives.items is.marks.same.drives in omega (arith, many, low)
 
   -- the state's sector of the disk of a place that gave it up, which is in no slice
-  module _ (k d : ℕ) (seat : f.seats k ≡ Some d) (vacated : Seats t y.slices k None) (i : Image) (off : IsPickOff y.slices y.bay i) (copy : Copied)
+  module _ (k d : ℕ) (seat : f.seats k ≡ Some d) (vacated : Seats t y.slices k None) (i : Image) (off : IsPickOutsideSlices y.slices y.bay i) (copy : Copied)
       (here : (identities_of (disks_of y.bay) i d).copied ≡ Some copy) where
     has : HasCopy d i copy
     has = has_copy d i copy here
@@ -289,7 +289,7 @@ module _ {L : Type 0} {o : Option Lone} (x y : View) (place : ℕ) (name : List 
 
   -- a disk whose place has none says an earlier state, where it did before
   earlier_still : (k : ℕ) → LacksDrive f t x.slices (book x) k x.bay → Seats t y.slices k None → (d : ℕ) → f.seats k ≡ Some d
-      → (i : Image) → IsPickOff y.slices y.bay i → (copy : Copied) → (identities_of (disks_of y.bay) i d).copied ≡ Some copy
+      → (i : Image) → IsPickOutsideSlices y.slices y.bay i → (copy : Copied) → (identities_of (disks_of y.bay) i d).copied ≡ Some copy
       → copy.state.epoch < (book y).state.epoch
   earlier_still k lacks vacated d seat i off copy here =
       let up = is.marks.epoch in
@@ -337,7 +337,7 @@ module _ {L : Type 0} {o : Option Lone} (x y : View) (place : ℕ) (name : List 
   -- the place gave its disk up, and all others were current
   module _ (gave : Seats x.slices y.slices place None) (gone : is_current (book y).state place ≡ false)
       (whole : (k : ℕ) → k < length (book x).state.drives.items → k ≢ place → is_current (book x).state k ≡ true)
-      (first : x.slices ≡ t → (d : ℕ) → f.seats place ≡ Some d → (i : Image) → IsPickOff y.slices y.bay i
+      (first : x.slices ≡ t → (d : ℕ) → f.seats place ≡ Some d → (i : Image) → IsPickOutsideSlices y.slices y.bay i
       → (copy : Copied) → (identities_of (disks_of y.bay) i d).copied ≡ Some copy → copy.state.epoch < (book y).state.epoch) where
     vacant_given : Vacant
     vacant_given = elim goes.vacant [
@@ -371,7 +371,7 @@ module _ {L : Type 0} {o : Option Lone} (x y : View) (place : ℕ) (name : List 
     vacated : Seats t y.slices place None
     vacated = subst (λ (u : Slices). Seats u y.slices place None) same gave
 
-    first_given : (i : Image) → IsPickOff y.slices y.bay i → (copy : Copied) → (identities_of (disks_of y.bay) i d).copied ≡ Some copy
+    first_given : (i : Image) → IsPickOutsideSlices y.slices y.bay i → (copy : Copied) → (identities_of (disks_of y.bay) i d).copied ≡ Some copy
         → copy.state.epoch < (book y).state.epoch
     first_given i off copy here =
         let up = is.marks.epoch in
@@ -379,7 +379,7 @@ module _ {L : Type 0} {o : Option Lone} (x y : View) (place : ℕ) (name : List 
           | inl named ↦
               (let less =
               lost_value f t y.slices (book x) x.bay y.bay place d d goes.service.slices seat (small x place fit f goes d seat (on_same x f goes place d seat same)) vacant (array_of x.linear some.0)
-              (subst (λ (u : Slices). IsTold (book x) (slices_of u x.bay) (array_of x.linear some.0)) same (told_by x b some.0 fit holds some.1 alive))
+              (subst (λ (u : Slices). IsTracked (book x) (slices_of u x.bay) (array_of x.linear some.0)) same (told_by x b some.0 fit holds some.1 alive))
               (not_over x.linear (book x) some.0 alive) (i d state_sector) copy (was_held place d seat vacated i off copy here named)
               (has place d seat vacated i off copy here).says in
               omega (arith, less, up))
@@ -424,7 +424,7 @@ module _ {L : Type 0} {o : Option Lone} (x y : View) (place : ℕ) (name : List 
           vacant_not (book x).state place current,
         )
 
-    lost_given : (i : Image) → IsPickOff y.slices y.bay i → (copy : Copied) → (identities_of (disks_of y.bay) i d).copied ≡ Some copy
+    lost_given : (i : Image) → IsPickOutsideSlices y.slices y.bay i → (copy : Copied) → (identities_of (disks_of y.bay) i d).copied ≡ Some copy
         → copy.state.epoch < (book y).state.epoch
     lost_given i off copy here =
         let bare : (w : List ℕ) → IsSliced y.slices d state_sector w → ⊥ = free place d seat given_now i off copy here in

@@ -2,7 +2,7 @@
 use Rattle.std.proofs.Common.{◌≡◌, ◌⊎◌, ℕ, ◌||◌, Bool, true, false, List, [], ◌∷◌, ◌++◌, codes, Result, Ok, Err, refl, sym, ap, subst, ◌∙◌, inl, inr}
 use Rattle.std.specs.List.{list_any}
 use Rattle.std.proofs.lemmas.List.Folds.{list_any-append}
-use Rattle.rack.specs.Seen.{Seen}
+use Rattle.rack.specs.Seen.{RackView}
 use Rattle.flat_array.specs.Array.{FlatArray}
 use Rattle.shr_script.specs.declared.Command.TheVariants.{Read, Write, Fill, Flush, Size, Lose, Replace, Add, Step, Status as ShowLine, Quit}
 use Rattle.shr_script.specs.Line.{Line}
@@ -123,7 +123,7 @@ or_either true b is = refl
 or_either false b is = elim is [ inl one ↦ cc one | inr other ↦ other ]
 
 grown_script :
-    (Told Traced : Type 0) (x y : Seen) (from : Moment) (a : FlatArray) (text rest out out' : List ℕ) → GrownOutcome ends.Memory Told Traced x y from a text rest out out'
+    (Told Traced : Type 0) (x y : RackView) (from : Moment) (a : FlatArray) (text rest out out' : List ℕ) → GrownOutcome ends.Memory Told Traced x y from a text rest out out'
     → AnyNames (script_of text)
 grown_script Told Traced x y from a text rest out out' came =
     let lines = lines_of came.events ++ came.first ∷ came.more in
@@ -144,7 +144,7 @@ says_other : (wanted : Status) (line out out' : List ℕ) → (wanted ≡ ends.M
 says_other wanted line out out' other says = elim says.said [ inl is ↦ other (sym is.0) | inr failed ↦ cc failed.0 ]
 
 pub memory_names :
-    (task : Task) (Told Traced : Type 0) (x y : Seen) (from : Moment) (a : FlatArray) (text rest out out' : List ℕ)
+    (task : Task) (Told Traced : Type 0) (x y : RackView) (from : Moment) (a : FlatArray) (text rest out out' : List ℕ)
     → TaskOutcome task ends.Memory Told Traced x y from a text rest out out' → NamesImage task text
 memory_names tasks.Serve Told Traced x y from a text rest out out' came = elim came [
   | inl done ↦ subst (λ (ls : List Line). AnyNames ls) (sym done.script) (events_name done.events done.worst_is)

@@ -5,18 +5,18 @@ use Rattle.flat_array.specs.Array.{FlatArray}
 use Rattle.pool_image.specs.Drives.{Found}
 use Rattle.pool_model.specs.Taken.{AreSerial}
 use Rattle.array_image.specs.States.{is_current}
-use Rattle.pool.specs.Calls.{Passes}
+use Rattle.pool.specs.Calls.{CallFrame}
 use Rattle.pool.specs.Continuing.{Continues}
 use Rattle.pool.specs.Moment.{moment_of}
 use Rattle.pool.specs.View.{View, book, slices_shown, spent_by}
-use Rattle.pool.specs.Volume.{Holds, size_of}
+use Rattle.pool.specs.Volume.{VolumeIs, size_of}
 use Rattle.shr_tool.specs.Between.{HoldsWithin}
 use Rattle.shr_tool.specs.Events.{Event, any_takes, takes_disk}
 use Rattle.shr_tool.specs.Events.Event.{answered, spent, lost, last, replaced, declined, stepped, stuck, shown}
 use Rattle.shr_tool.specs.Heads.{KeepsHeads}
 use Rattle.shr_tool.specs.Service.{BeginsOn, GoesBy, IsServed}
 use Rattle.shr_tool.specs.Serving.{IsServing}
-use Rattle.shr_tool.specs.Timeline.{Performs}
+use Rattle.shr_tool.specs.Timeline.{LineContract}
 use Rattle.shr_tool.proofs.Between.{holds_inside}
 use Rattle.shr_tool.proofs.GivingStops.{giving_amid}
 use Rattle.shr_tool.proofs.LeavingStops.{declined_amid}
@@ -29,11 +29,11 @@ served_some y z event takes (inl none) = absurd (both_ways (takes_disk event) no
 served_some y z event takes (inr some) = some
 
 module _ {L G : Type 0} (x y z : View) (a b : FlatArray) (events : List Event) (text : List ℕ) (Serial : Type 0) (f : Found) (continues : Continues x y)
-    (passes : any_takes events ≡ false → Passes x y) (heads : KeepsHeads (book x) (book y) (slices_shown x) (slices_shown y)) (serving : IsServing x a) (holds : Holds y b) (begins : BeginsOn G x)
+    (passes : any_takes events ≡ false → CallFrame x y) (heads : KeepsHeads (book x) (book y) (slices_shown x) (slices_shown y)) (serving : IsServing x a) (holds : VolumeIs y b) (begins : BeginsOn G x)
     (traced : x.bay.traced) (unspent : (d s : ℕ) → z.bay.spent d s ≡ false)
     (goes : IsServed (moment_of y) events → (any_takes events ≡ true → Serial) → GoesBy L None f y)
     (serials : IsServed (moment_of y) events → Serial → AreSerial f.state) where
-  pub holds_within : (event : Event) → Performs y z event text → HoldsWithin z.bay.stops Serial L G events f (moment_of y) (moment_of z) event
+  pub holds_within : (event : Event) → LineContract y z event text → HoldsWithin z.bay.stops Serial L G events f (moment_of y) (moment_of z) event
   holds_within (answered line) performs = holds_inside x y z a b events Serial f continues passes heads serving holds begins traced (performs.passes refl) goes
   holds_within (spent line sector) performs = holds_inside x y z a b events Serial f continues passes heads serving holds begins traced (performs.passes refl) goes
   holds_within (lost place) performs = holds_inside x y z a b events Serial f continues passes heads serving holds begins traced (performs.passes refl) goes

@@ -2,12 +2,12 @@
 use Rattle.std.specs.Prelude.{◌≡◌, ◌≢◌, ℕ, ◌<◌, ◌≤◌, List, length, slice_get, take, Some}
 use Rattle.rack.specs.declared.AttachFault.{AttachFault}
 use Rattle.rack.specs.declared.AttachFault.TheVariants.{Failed, Twice, Memory}
-use Rattle.rack.specs.Seen.{Image, Seen, Rose}
+use Rattle.rack.specs.Seen.{Image, RackView, Rose}
 use Rattle.rack.specs.Shelf.{Differ, Shelf}
 use Rattle.shr_tool.specs.Entry.{waiting_at, IsEntryImage, IsWaiting}
 
 -- all names were attached: disk d is what waited under name d, and up to now each stop left what waited
-pub record AreAttached (x y : Seen) (s t : Shelf) (names : List (List ℕ)) : Type 0 where
+pub record AreAttached (x y : RackView) (s t : Shelf) (names : List (List ℕ)) : Type 0 where
   pub disks : y.disks ≡ length names
   pub clock : y.clock ≡ x.clock
   pub attached : t.names ≡ names
@@ -35,7 +35,7 @@ HasAttachCause (Twice d) s t names number = IsTwice names d number
 HasAttachCause Memory s t names number = Unit {0}
 
 -- attaching stopped at a name
-pub record IsUnattached (x y : Seen) (s t : Shelf) (names : List (List ℕ)) (number : ℕ) (fault : AttachFault) : Type 0 where
+pub record IsUnattached (x y : RackView) (s t : Shelf) (names : List (List ℕ)) (number : ℕ) (fault : AttachFault) : Type 0 where
   pub inside : number < length names
   pub cause : HasAttachCause fault s t names number
   -- those before it are, and their disks hold what waited

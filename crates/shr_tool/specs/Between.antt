@@ -7,17 +7,17 @@ use Rattle.slice_rack.specs.Sliced.{sliced}
 use Rattle.array_image.specs.States.{is_current}
 use Rattle.pool_state.specs.declared.contents.Plan.TheVariants.{Replace as Replacing}
 use Rattle.pool_state.specs.declared.contents.State.{State}
-use Rattle.raid_laws.specs.Book.{IsAfter}
+use Rattle.raid_laws.specs.Book.{OnlyMarksSince}
 use Rattle.raid_laws.specs.Enlisting.{enlisted}
 use Rattle.raid_laws.specs.Logs.{LogsBetween}
 use Rattle.lvm_group.specs.Runs.{Linear}
-use Rattle.raid_laws.specs.Raid.{Raid, is_over}
+use Rattle.raid_laws.specs.Raid.{Raid, is_failed}
 use Rattle.pool_image.specs.Drives.{Found}
 use Rattle.pool_model.specs.Laid.{HaveOtherIds}
 use Rattle.pool_model.specs.Grouped.{AreHeadsLive}
-use Rattle.pool_model.specs.Left.{HoldAgain}
-use Rattle.pool_model.specs.Reopening.{AreWholeSectors, Reopens, ReopensAmid}
-use Rattle.pool_model.specs.Stopped.{HoldAmid, HoldLanding}
+use Rattle.pool_model.specs.Left.{RecoversIdle}
+use Rattle.pool_model.specs.Reopening.{AreWholeSectors, NextOpen, NextOpenInCall}
+use Rattle.pool_model.specs.Stopped.{RecoversInCall, RecoversLanding}
 use Rattle.pool_model.specs.Taken.{attached}
 use Rattle.pool.specs.declared.replacing.GrowFault.{GrowFault}
 use Rattle.pool.specs.Moment.{Moment}
@@ -31,22 +31,22 @@ use Rattle.shr_tool.specs.Timeline.{Steps}
 -- sector is spent by the book, the arrays of whole sectors stand as the book has them, and they mean the run's volume, or are refused for what the book says of an array or for
 -- another pool's disk.
 pub record HoldsNext (Landing Group : Type 0) (f : Found) (t : Slices) (l : Linear) (v : Raid) (i : Image) : Type 0 where
-  pub again : HoldAgain f t v.state i
-  pub landing : Landing → HoldLanding f t v.state i
-  pub opens : Group → AreHeadsLive v → AreWholeSectors f.disks i → Reopens f t l v i
+  pub again : RecoversIdle f t v.state i
+  pub landing : Landing → RecoversLanding f t v.state i
+  pub opens : Group → AreHeadsLive v → AreWholeSectors f.disks i → NextOpen f t l v i
 
 -- Contents hold the pool f, by a state between those of two books, once what is pending is written. They mean the run's volume, too, with members that count as far as in between, or
 -- are refused for such a reason by the book before.
 pub record HoldsMeanwhile (Group : Type 0) (f : Found) (t : Slices) (l : Linear) (v w : Raid) (i : Image) : Type 0 where
-  pub amid : HoldAmid f t v.state w.state i
-  pub opens : Group → AreHeadsLive w → AreWholeSectors f.disks i → ReopensAmid f t l v w i
+  pub amid : RecoversInCall f t v.state w.state i
+  pub opens : Group → AreHeadsLive w → AreWholeSectors f.disks i → NextOpenInCall f t l v w i
 
 -- Whatever a stop at a moment leaves holds the pool f again, by the book of that moment and over its slices, unless an array is over by then. `done`
 -- are the events before it: where one of them was to replace a drive, a sector of the volume can be had at that moment, and the ids of the pool's
 -- drives are of serials.
 abbrev pub HoldsThen : (ℕ → Image → Type 0) → (Serial Landing Group : Type 0) → (done : List Event) → Found → Moment → Type 0
 HoldsThen stops Serial Landing Group done f p =
-    IsServed p done → (any_takes done ≡ true → Serial) → ((n : ℕ) → n < f.state.made → is_over p.book n ≡ false)
+    IsServed p done → (any_takes done ≡ true → Serial) → ((n : ℕ) → n < f.state.made → is_failed p.book n ≡ false)
     → (i : Image) → stops p.clock i → HoldsNext Landing Group f p.slices p.linear p.book i
 
 -- Whatever a stop leaves after one moment and up to a later one holds the pool f, by a state between those of the two books, once what is pending is
@@ -54,7 +54,7 @@ HoldsThen stops Serial Landing Group done f p =
 -- began on.
 abbrev pub HoldsInside : (ℕ → Image → Type 0) → (Serial Landing Group : Type 0) → (done : List Event) → Found → (p q : Moment) → Type 0
 HoldsInside stops Serial Landing Group done f p q =
-    IsServed p done → (any_takes done ≡ true → Serial) → Landing → ((n : ℕ) → n < f.state.made → is_over q.book n ≡ false)
+    IsServed p done → (any_takes done ≡ true → Serial) → Landing → ((n : ℕ) → n < f.state.made → is_failed q.book n ≡ false)
     → (k : ℕ) (i : Image) → p.clock < k → k ≤ q.clock → stops k i → HoldsMeanwhile Group f p.slices p.linear p.book q.book i
 
 -- the state by which a line that begins at p takes a drive in at a place
@@ -68,7 +68,7 @@ AreWithout p q place t = Seats p.slices t place None ⊎ ((t ≡ q.slices) ⊎ (
 
 -- A place's own drive, and no other one, was found gone and is marked, by a state between two.
 pub record LosesOwn (s u : State) (place : ℕ) (m : State) : Type 0 where
-  pub after : IsAfter s m
+  pub after : OnlyMarksSince s m
   pub sooner : m.epoch < u.epoch
   pub was : is_current s place ≡ true
   pub lost : is_current m place ≡ false
@@ -78,7 +78,7 @@ pub record LosesOwn (s u : State) (place : ℕ) (m : State) : Type 0 where
 abbrev pub HoldsWithout : Found → (p q : Moment) → (place : ℕ) → Image → Type 0
 HoldsWithout f p q place i =
     (t : Slices) × (m : State) × AreWithout p q place t × ((m ≡ p.book.state) ⊎ LosesOwn p.book.state q.book.state place m)
-    × HoldAmid (attached f (disks_at q)) t p.book.state m i
+    × RecoversInCall (attached f (disks_at q)) t p.book.state m i
 
 -- Contents hold the pool f without the drive that a line takes in at a place. Or their log slices say a state that has the drive, and they hold the pool with it by this
 -- state, where no other disk has the id that the drive gets: while it has no state yet it stands for its place by this id alone.
@@ -87,7 +87,7 @@ HoldsEither f p q place name i =
     HoldsWithout f p q place i
     ⊎ (LogsBetween (coming p place) q.book.state (sectors_of q.slices) (sliced q.slices i)
     × (HaveOtherIds (attached f (disks_at q)) p.book.state place (disk_in q place) i
-    → HoldAmid (pool_after f p q (replaced place name)) q.slices (coming p place) q.book.state i))
+    → RecoversInCall (pool_after f p q (replaced place name)) q.slices (coming p place) q.book.state i))
 
 -- In what a stop leaves inside an event no other disk has the id of a drive that it took in.
 abbrev pub HasOthers : (ℕ → Image → Type 0) → Found → (p q : Moment) → Event → Type 0
@@ -113,7 +113,7 @@ HaveOthers stops f p (event ∷ events) q steps =
 abbrev pub HoldsTaking : (ℕ → Image → Type 0) → (Serial Landing Group : Type 0) → (done : List Event) → Found → (p q : Moment) → (place : ℕ) → (name : List ℕ) → Type 0
 HoldsTaking stops Serial Landing Group done f p q place name =
     IsServed q (done ++ replaced place name ∷ []) → Serial → Landing → IsFitDrive f p place name → IsFitDisk f p name
-    → ((n : ℕ) → n < f.state.made → is_over q.book n ≡ false)
+    → ((n : ℕ) → n < f.state.made → is_failed q.book n ≡ false)
     → (k : ℕ) (i : Image) → p.clock < k → k ≤ q.clock → stops k i → HoldsEither f p q place name i
 
 -- contents hold the pool f, with the disk that was attached, by a state between the books of p and q, over the slices of q; or over those of p, where the place's
@@ -121,14 +121,14 @@ HoldsTaking stops Serial Landing Group done f p q place name =
 abbrev pub HoldsLeft : Found → (p q : Moment) → (place : ℕ) → Image → Type 0
 HoldsLeft f p q place i =
     (t : Slices) × ((t ≡ q.slices) ⊎ ((is_current p.book.state place ≡ true) × (t ≡ p.slices)))
-    × HoldAmid (attached f (disks_at q)) t p.book.state q.book.state i
+    × RecoversInCall (attached f (disks_at q)) t p.book.state q.book.state i
 
 -- Inside one that was to take a drive in, and didn't, it holds the pool that there was. Where the place's drive wasn't missing and is found gone, the place may give
 -- up its disk in it.
 abbrev pub HoldsDeclined : (ℕ → Image → Type 0) → (Serial Landing Group : Type 0) → (done : List Event) → Found → (p q : Moment) → (place : ℕ) → (name : List ℕ) → GrowFault → Type 0
 HoldsDeclined stops Serial Landing Group done f p q place name fault =
     IsServed q (done ++ declined place name fault ∷ []) → Serial → Landing → IsFitDisk f p name
-    → ((n : ℕ) → n < f.state.made → is_over q.book n ≡ false)
+    → ((n : ℕ) → n < f.state.made → is_failed q.book n ≡ false)
     → (k : ℕ) (i : Image) → p.clock < k → k ≤ q.clock → stops k i → HoldsLeft f p q place i
 
 -- So it is inside an event.

@@ -2,7 +2,7 @@
 use Rattle.std.specs.Prelude.{◌≡◌, ◌⊎◌, ℕ, ◌*◌, ◌<◌, ◌≤◌, ◌^◌, Bool, true, false, List, [], ◌∷◌, length, slice_get, Option, Some, Ok, Err}
 use Rattle.std.specs.List.{list_any}
 use Rattle.std.proofs.Common.{inl, inr}
-use Rattle.rack.specs.Seen.{Image, Seen, Rose}
+use Rattle.rack.specs.Seen.{Image, RackView, Rose}
 use Rattle.rack.specs.Shelf.{Differ, Shelf, Waiting}
 use Rattle.flat_array.specs.Array.{FlatArray}
 use Rattle.pool_format.specs.Plan.{units_on}
@@ -35,7 +35,7 @@ pub record NothingFails (form : Form) (names : List (List ℕ)) (s t : Shelf) (s
   pub putting : Rose sink sink' → ⊥
 
 -- no disk refused a call since it was attached
-abbrev pub NoneRefused : Seen → Type 0
+abbrev pub NoneRefused : RackView → Type 0
 NoneRefused y = (d : ℕ) → Rose 0 (y.faults d) → ⊥
 
 -- ---- layouts, new pools and images
@@ -77,14 +77,14 @@ pub record IsSoundEntry (ready : List ℕ → Option Waiting) (names : List (Lis
 
 -- the bay when the pool was opened, or refused
 abbrev pub opening_of :
-    {R : Type 0} (seen : R → Seen) (shelf : R → Shelf) (runs : R → R → Type 0) (bay after : R) (task : Task) (text rest out out' : List ℕ) (status : Status)
+    {R : Type 0} (seen : R → RackView) (shelf : R → Shelf) (runs : R → R → Type 0) (bay after : R) (task : Task) (text rest out out' : List ℕ) (status : Status)
     → OpenOutcome seen shelf runs bay after task text rest out out' status → R
 opening_of seen shelf runs bay after task text rest out out' status (inl refused) = after
 opening_of seen shelf runs bay after task text rest out out' status (inr opened) = opened.opened
 
 -- it was opened
 abbrev pub IsOpened :
-    {R : Type 0} (seen : R → Seen) (shelf : R → Shelf) (runs : R → R → Type 0) (bay after : R) (task : Task) (text rest out out' : List ℕ) (status : Status)
+    {R : Type 0} (seen : R → RackView) (shelf : R → Shelf) (runs : R → R → Type 0) (bay after : R) (task : Task) (text rest out out' : List ℕ) (status : Status)
     → OpenOutcome seen shelf runs bay after task text rest out out' status → Type 0
 IsOpened seen shelf runs bay after task text rest out out' status (inl refused) = ⊥
 IsOpened seen shelf runs bay after task text rest out out' status (inr opened) = Unit {0}
@@ -121,21 +121,21 @@ NamesImage tasks.Show text = ⊥
 NamesImage (tasks.Trial seed) text = ⊥
 
 -- What waited under some names is told, and is a sound pool of a volume of so many sectors; and no disk refused a call until now.
-pub record IsUndisturbed (s : Shelf) (names : List (List ℕ)) (now : Seen) (size : ℕ) : Type 0 where
+pub record IsUndisturbed (s : Shelf) (names : List (List ℕ)) (now : RackView) (size : ℕ) : Type 0 where
   pub told : s.told
   pub entry : IsSoundEntry s.ready names size
   pub calm : NoneRefused now
 
 -- the bay when a pool was opened on those disks of it that answer, or refused
 abbrev pub online_opening :
-    {B : Type 0} (seen : B → Seen) (shelf : B → Shelf) (runs : B → B → Type 0) (attached after : B) (task : Task) (text rest out out' : List ℕ) (status : Status)
+    {B : Type 0} (seen : B → RackView) (shelf : B → Shelf) (runs : B → B → Type 0) (attached after : B) (task : Task) (text rest out out' : List ℕ) (status : Status)
     → OnlineOutcome seen shelf runs attached after task text rest out out' status → Online B
 online_opening seen shelf runs attached after task text rest out out' status online =
     opening_of (online_seen seen) (online_shelf shelf) (online_runs runs) online.asked (record { bay = after; offline = online.offline }) task text rest out out' status online.outcome
 
 -- it was opened
 abbrev pub IsOnlineOpened :
-    {B : Type 0} (seen : B → Seen) (shelf : B → Shelf) (runs : B → B → Type 0) (attached after : B) (task : Task) (text rest out out' : List ℕ) (status : Status)
+    {B : Type 0} (seen : B → RackView) (shelf : B → Shelf) (runs : B → B → Type 0) (attached after : B) (task : Task) (text rest out out' : List ℕ) (status : Status)
     → OnlineOutcome seen shelf runs attached after task text rest out out' status → Type 0
 IsOnlineOpened seen shelf runs attached after task text rest out out' status online =
     IsOpened (online_seen seen) (online_shelf shelf) (online_runs runs) online.asked (record { bay = after; offline = online.offline }) task text rest out out' status online.outcome
@@ -143,7 +143,7 @@ IsOnlineOpened seen shelf runs attached after task text rest out out' status onl
 -- How a task on the disks of some names came out. Where what waited is a sound pool and no disk refused a call until it was opened, what it was opened on is told and meant an
 -- array of the volume's size. And where the task takes its input whole it was opened, and all was done, or a sector or a work was refused as spent; or memory was wanting, before it was
 -- open or for a line that names an image.
-pub record IsCarriedOut {B : Type 0} (seen : B → Seen) (shelf : B → Shelf) (runs : B → B → Type 0) (bay attached after : B) (task : Task) (names : List (List ℕ)) (text rest out out' : List ℕ)
+pub record IsCarriedOut {B : Type 0} (seen : B → RackView) (shelf : B → Shelf) (runs : B → B → Type 0) (bay attached after : B) (task : Task) (names : List (List ℕ)) (text rest out out' : List ℕ)
     (status : Status) : Type 0 where
   pub online : OnlineOutcome seen shelf runs attached after task text rest out out' status
   pub meant :
@@ -155,7 +155,7 @@ pub record IsCarriedOut {B : Type 0} (seen : B → Seen) (shelf : B → Shelf) (
       ⊎ (IsOnlineOpened seen shelf runs attached after task text rest out out' status online × ((status ≡ Done) ⊎ (status ≡ Spent)))
 
 -- all disks were attached and the task carried out on them, unless memory was wanting
-abbrev pub CarriesOut : {B : Type 0} → (B → Seen) → (B → Shelf) → (B → B → Type 0) → B → B → Task → List (List ℕ) → List ℕ → List ℕ → List ℕ → List ℕ → Status → Type 0
+abbrev pub CarriesOut : {B : Type 0} → (B → RackView) → (B → Shelf) → (B → B → Type 0) → B → B → Task → List (List ℕ) → List ℕ → List ℕ → List ℕ → List ℕ → Status → Type 0
 CarriesOut seen shelf runs bay after task names text rest out out' status =
     (status ≡ Memory) ⊎ OnDisks seen shelf bay names (λ attached. IsCarriedOut seen shelf runs bay attached after task names text rest out out' status)
 
@@ -163,7 +163,7 @@ CarriesOut seen shelf runs bay after task names text rest out out' status =
 
 -- It is done: a layout of drives that have a plan; a pool made on disks that have one, of which none refused a call; an image shown that refused none; a task on
 -- a pool carried out.
-abbrev pub Completes : {B : Type 0} → (B → Seen) → (B → Shelf) → (B → B → Type 0) → B → B → Form → List (List ℕ) → List ℕ → List ℕ → List ℕ → List ℕ → Status → Type 0
+abbrev pub Completes : {B : Type 0} → (B → RackView) → (B → Shelf) → (B → B → Type 0) → B → B → Form → List (List ℕ) → List ℕ → List ℕ → List ℕ → List ℕ → Status → Type 0
 Completes seen shelf runs bay after (Layout request) names text rest out out' status = HavePlan (units_asked request) → IsDone status
 Completes seen shelf runs bay after (Create extent) names text rest out out' status = HavePlan (units_on (seen after) extent) → NoneRefused (seen after) → IsDone status
 Completes seen shelf runs bay after Serve names text rest out out' status = CarriesOut seen shelf runs bay after tasks.Serve names text rest out out' status

@@ -2,7 +2,7 @@
 use Rattle.std.specs.Prelude.{◌≡◌, ℕ, ◌<◌, List, [], length, slice_get, Option, Some, None, IsSome}
 use Rattle.std.specs.Option.{option_and_then}
 use Rattle.rack.specs.Values.{only}
-use Rattle.rack.specs.Seen.{Image, Seen}
+use Rattle.rack.specs.Seen.{Image, RackView}
 use Rattle.rack.specs.Shelf.{Waiting}
 
 -- the disk that waits under a number's name
@@ -31,7 +31,7 @@ IsEntryImage ready names image =
     → image d s ≡ entry_image ready names d s
 
 -- a disk of a rack is one that waited: one value in each sector, told
-pub record IsWaiting (y : Seen) (d : ℕ) (waited : Option Waiting) : Type 0 where
+pub record IsWaiting (y : RackView) (d : ℕ) (waited : Option Waiting) : Type 0 where
   pub ready : IsSome waited
   pub sectors : y.sectors d ≡ sectors_in waited
   pub held : (s : ℕ) → s < sectors_in waited → y.held d s ≡ only (contents_in waited s)

@@ -2,7 +2,7 @@
 use Rattle.std.specs.Prelude.{◌≡◌, ℕ, ◌<◌, ◌≤◌, List, length, ◌++◌, codes}
 use Rattle.std.specs.List.{concat}
 use Rattle.rack.specs.Values.{Keeps, only}
-use Rattle.rack.specs.Seen.{Image, Seen, Rose}
+use Rattle.rack.specs.Seen.{Image, RackView, Rose}
 use Rattle.rack.specs.Shelf.{Shelf}
 use Rattle.io_ends.specs.Sink.{AddsPrefix}
 use Rattle.shr_script.specs.Reply.{refused_line}
@@ -33,7 +33,7 @@ IsShown Memory = Unit {0}
 IsShown Spent = ⊥
 
 -- the text of the image that waited was put, and nothing was written to a disk
-pub record Examined (x : Seen) (s : Shelf) (y : Seen) (names : List (List ℕ)) (out out' : List ℕ) (status : Status) : Type 0 where
+pub record Examined (x : RackView) (s : Shelf) (y : RackView) (names : List (List ℕ)) (out out' : List ℕ) (status : Status) : Type 0 where
   pub shows : s.told
       → ShowsImage (image_lines (sectors_in (waiting_at s.ready names 0)) (contents_in (waiting_at s.ready names 0))) out out' status
   -- so the run ended, whatever the image tells
@@ -47,7 +47,7 @@ pub record Examined (x : Seen) (s : Shelf) (y : Seen) (names : List (List ℕ)) 
   pub leaves : s.told → x.traced → (k : ℕ) (i : Image) → k ≤ y.clock → y.stops k i → IsEntryImage s.ready names i
 
 -- how `examine` came out
-pub data ExamineOutcome (x : Seen) (s : Shelf) (y : Seen) (t : Shelf) (names : List (List ℕ)) (out out' : List ℕ) (status : Status) : Type 0 where
+pub data ExamineOutcome (x : RackView) (s : Shelf) (y : RackView) (t : Shelf) (names : List (List ℕ)) (out out' : List ℕ) (status : Status) : Type 0 where
   name_refused : NameRefused x y s t names out out' status → ExamineOutcome x s y t names out out' status
   no_memory : Says Memory (refused_line (codes "memory")) out out' status → ExamineOutcome x s y t names out out' status
   examined : Examined x s y names out out' status → ExamineOutcome x s y t names out out' status

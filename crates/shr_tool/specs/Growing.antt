@@ -7,7 +7,7 @@ use Rattle.lvm_group.specs.Runs.{sectors_in}
 use Rattle.pool_state.specs.declared.contents.Plan.{Plan}
 use Rattle.pool_state.specs.declared.contents.Plan.TheVariants.{Add as Adding, Replace as Replacing}
 use Rattle.pool_state.specs.declared.contents.Work.{Work}
-use Rattle.rack.specs.Seen.{Rose, Seen}
+use Rattle.rack.specs.Seen.{Rose, RackView}
 use Rattle.raid_laws.specs.Moves.{RaisesBy}
 use Rattle.slice_rack.specs.Slices.{seat_of}
 use Rattle.shr_script.specs.declared.Command.TheVariants.{Read, Write, Fill, Flush, Size, Lose, Replace, Add, Step, Status, Quit}
@@ -27,7 +27,7 @@ use Rattle.pool.specs.Works.{left_by, works_by}
 use Rattle.shr_tool.specs.declared.perform.Answer.{Answer}
 use Rattle.shr_tool.specs.declared.perform.Answer.TheVariants.{Given, Spent}
 use Rattle.shr_tool.specs.Events.{Event, answer_by, answer_of, calls_in, grow_word, line_of, stuck_line, text_of, worse}
-use Rattle.shr_tool.specs.Timeline.{Happens, KeepsDisks}
+use Rattle.shr_tool.specs.Timeline.{EventContract, KeepsDisks}
 
 -- A line grows the pool as it stands: it adds a drive; it replaces one by a disk of other units, where nothing is against it; or it asks for works while one of a growth is
 -- left. `q` is the pool after the line, by which the disk of a name is known.
@@ -100,7 +100,7 @@ DoesMany count p q =
     ⊎ ((works : ℕ) × (works ≤ count) × DoesWorks works p.linear p.book q.linear q.book × (works_by q.linear q.book ≡ []))
 
 -- The bay at a moment. Of what its disks hold and of stops nothing is told.
-abbrev pub bay_at : Moment → Seen
+abbrev pub bay_at : Moment → RackView
 bay_at p = record {
   disks = p.disks;
   sectors = p.sectors;
@@ -159,7 +159,7 @@ pub record IsEvent (p q : Moment) (line : Line) (answer : Answer) (text : List �
   pub array : FlatArray
   pub size : array.size ≡ sectors_in p.linear
   pub text_is : text ≡ text_of array event
-  pub happens : Happens ⊥ (λ k i. ⊥) p q array event
+  pub happens : EventContract ⊥ (λ k i. ⊥) p q array event
 
 -- it was, or it grew the pool
 abbrev pub IsAnswered : (p q : Moment) → Line → Answer → List ℕ → Type 0

@@ -1,7 +1,7 @@
 -- The input's bytes, written to a volume from its first sector on: a sector a piece, and how that came out.
 use Rattle.std.specs.Prelude.{◌≡◌, ℕ, ◌+◌, ◌-◌, ◌*◌, ◌<◌, ◌≤◌, List, [], ◌∷◌, ◌++◌, length, take, drop, map, replicate, codes, decimal, Result, Ok, Err}
 use Rattle.std.specs.List.{range_with_len}
-use Rattle.rack.specs.Seen.{Seen, Rose}
+use Rattle.rack.specs.Seen.{RackView, Rose}
 use Rattle.lvm_group.specs.Runs.{sectors_in}
 use Rattle.shr_script.specs.declared.Command.TheVariants.{Write}
 use Rattle.shr_script.specs.Reply.{as_line, refused_line}
@@ -15,7 +15,7 @@ use Rattle.shr_tool.specs.declared.importing.ImportFault.{ImportFault}
 use Rattle.shr_tool.specs.declared.importing.ImportFault.TheVariants.{Source, Long, Spent as AtSpent}
 use Rattle.shr_tool.specs.Events.{Event}
 use Rattle.shr_tool.specs.Events.Event.{answered, spent}
-use Rattle.shr_tool.specs.Outcome.{Lasts}
+use Rattle.shr_tool.specs.Outcome.{RunContract}
 use Rattle.shr_tool.specs.Saying.{Says}
 use Rattle.shr_tool.specs.Serving.{Ran}
 use Rattle.pool.specs.Moment.{Moment}
@@ -110,11 +110,11 @@ SaysWritten (Err (AtSpent sector)) out out' status = Says Spent (spent_line sect
 
 -- How an import came out on a pool that held an array, where that was told: `text` is the input before it, `rest` after it. Of the input
 -- at most the volume's bytes and one sector's more are taken.
-pub record ImportOutcome (status : Status) (Told Traced : Type 0) (x y : Seen) (from : Moment) (a : FlatArray) (text rest out out' : List ℕ)
+pub record ImportOutcome (status : Status) (Told Traced : Type 0) (x y : RackView) (from : Moment) (a : FlatArray) (text rest out out' : List ℕ)
     : Type 0 where
   pub result : Result ℕ ImportFault
   pub events : List Event
   pub writes : Writes (sectors_in from.linear) text rest result events
   pub most : length text ≤ 512 * sectors_in from.linear + 512 + length rest
-  pub lasts : Lasts Told Traced x y from a events
+  pub lasts : RunContract Told Traced x y from a events
   pub says : SaysWritten result out out' status

@@ -1,6 +1,6 @@
 -- Each attached disk is asked to answer before a pool is opened. One that refuses is offline, as if it weren't there.
 use Rattle.std.specs.Prelude.{◌≡◌, ℕ, ◌<◌, Bool, true, List}
-use Rattle.rack.specs.Seen.{Seen}
+use Rattle.rack.specs.Seen.{RackView}
 use Rattle.rack.specs.Shelf.{Shelf}
 use Rattle.rack.specs.Untouched.{KeepsDisk}
 use Rattle.array_image.specs.Places.{state_sector}
@@ -15,7 +15,7 @@ pub record Online (B : Type 0) : Type 0 where
   pub offline : List Bool
 
 -- offline disks have no sectors
-abbrev pub online_seen : {B : Type 0} → (B → Seen) → Online B → Seen
+abbrev pub online_seen : {B : Type 0} → (B → RackView) → Online B → RackView
 online_seen seen x = online_of x.offline (seen x.bay)
 
 abbrev pub online_shelf : {B : Type 0} → (B → Shelf) → Online B → Shelf
@@ -27,7 +27,7 @@ online_runs runs x y = (y.offline ≡ x.offline) × runs x.bay y.bay
 
 -- Each disk was asked for the sector of its state: the offline ones refused, and the others answered. Of these a pool was opened, or not, and the task done
 -- on it. The offline ones were left alone.
-pub record OnlineOutcome {B : Type 0} (seen : B → Seen) (shelf : B → Shelf) (runs : B → B → Type 0) (attached after : B) (task : Task) (text rest out out' : List ℕ) (status : Status)
+pub record OnlineOutcome {B : Type 0} (seen : B → RackView) (shelf : B → Shelf) (runs : B → B → Type 0) (attached after : B) (task : Task) (text rest out out' : List ℕ) (status : Status)
     : Type 0 where
   pub asked : Online B
   pub asks : Asks seen runs attached asked.bay state_sector asked.offline

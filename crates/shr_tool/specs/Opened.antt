@@ -1,6 +1,6 @@
 -- How the opening of a pool on attached disks, and the task on it, came out.
 use Rattle.std.specs.Prelude.{◌≡◌, ◌≢◌, ◌⊎◌, ◌&&◌, ◌+◌, ◌<◌, ◌≤◌, ℕ, true, is_some, List, [], ◌∷◌, Some}
-use Rattle.rack.specs.Seen.{Image, Seen}
+use Rattle.rack.specs.Seen.{Image, RackView}
 use Rattle.rack.specs.Moments.{Leaves}
 use Rattle.rack.specs.Sequences.{OnlyReads}
 use Rattle.flat_array.specs.Array.{FlatArray, fresh}
@@ -8,8 +8,8 @@ use Rattle.md_super.specs.declared.superblock.Super.{Super}
 use Rattle.array_image.specs.States.{is_current}
 use Rattle.lvm_group.specs.Runs.{data_start}
 use Rattle.slice_rack.specs.Sliced.{slices_of}
-use Rattle.raid_laws.specs.Book.{IsAfter}
-use Rattle.raid_laws.specs.Raid.{IsTold}
+use Rattle.raid_laws.specs.Book.{OnlyMarksSince}
+use Rattle.raid_laws.specs.Raid.{IsTracked}
 use Rattle.pool_check.specs.Settling.{IsSettled}
 use Rattle.pool_image.specs.Alike.{MeansTheSame}
 use Rattle.pool_image.specs.Disks.{disks_of}
@@ -25,7 +25,7 @@ use Rattle.assembler_laws.specs.Marking.{MarksDrives}
 use Rattle.assembler_laws.specs.Raising.{most_opening}
 use Rattle.assembler.specs.Refusing.{is_early}
 use Rattle.pool_model.specs.Grouped.{HaveOwnAreas, HoldGroup, IsVolumeOf}
-use Rattle.pool_model.specs.Left.{AreAlone, AreElsewhere, IsPickOff}
+use Rattle.pool_model.specs.Left.{NoStraySuperblock, AreElsewhere, IsPickOutsideSlices}
 use Rattle.pool_model.specs.Pools.{AreSlicesOf}
 use Rattle.pool_model.specs.Stopped.{HaveTables}
 use Rattle.assembler_laws.specs.Moments.{SaysVolume}
@@ -49,7 +49,7 @@ use Rattle.shr_tool.specs.Timeline.{MeansAt}
 -- written but the pending record, on drives of the pool; disks that hold a sound pool, and refuse no call, are refused as they mean, and
 -- mean afterwards what they meant, or, where an array's part of the volume group is bad, hold the arrays that they held and are refused as they were. After
 -- want of memory they do one of these, unless numbers are used up.
-pub record NotOpened {R : Type 0} (seen : R → Seen) (runs : R → R → Type 0) (bay after : R) (out out' : List ℕ) (status : Status) : Type 0 where
+pub record NotOpened {R : Type 0} (seen : R → RackView) (runs : R → R → Type 0) (bay after : R) (out out' : List ℕ) (status : Status) : Type 0 where
   pub why : Refusal
   pub says : Says (refusal_status why) (refused_line (refusal_words why)) out out' status
   pub kept : runs bay after
@@ -69,20 +69,20 @@ pub record NotOpened {R : Type 0} (seen : R → Seen) (runs : R → R → Type 0
 
 -- A pool was opened as its disks had it: its volume is that of the group of what they held, over the slices of its drives; marks alone
 -- have come to its state. Each of the volume's arrays is told, and no sector of these is spent. `y` is what the disks show then.
-pub record IsOpenedAs (f : Found) (y : Seen) (from : Moment) : Type 0 where
+pub record IsOpenedAs (f : Found) (y : RackView) (from : Moment) : Type 0 where
   pub lies : IsVolumeOf f from.linear
   pub slices : AreSlicesOf f from.slices
-  pub after : IsAfter f.state from.book.state
+  pub after : OnlyMarksSince f.state from.book.state
   -- a plan goes on that had begun
   pub plan : from.book.state.plan ≡ f.state.plan
-  pub told : (n : ℕ) → n < f.state.joined → IsTold from.book (slices_of from.slices y) n
+  pub told : (n : ℕ) → n < f.state.joined → IsTracked from.book (slices_of from.slices y) n
   -- each is the array of the pool's superblocks, with the rows to resync that they leave
   pub arrays : (n : ℕ) (t : Super) → n < f.state.joined → truth_of f n ≡ Some t → IsArrayOf f n t (from.book.arrays n)
   pub live : AllLive from.book
   -- where all arrays are ready for the volume, and have the pool's metadata areas, they hold its group, whatever they may be left with
   pub group : f.state.joined ≡ f.state.made → HaveOwnAreas f → HoldGroup from.book from.linear (slices_of from.slices y)
   -- outside the slices the disks have each drive's table, and other disks say what they said
-  pub elsewhere : (i : Image) → IsPickOff from.slices y i → AreElsewhere f i
+  pub elsewhere : (i : Image) → IsPickOutsideSlices from.slices y i → AreElsewhere f i
   -- where targets land in the pool's slices a replay finds these by the drives' tables
   pub landing : TargetsLand f → HaveTables f
   -- just those drives are marked missing that were, or that have no disk
@@ -93,7 +93,7 @@ pub record IsOpenedAs (f : Found) (y : Seen) (from : Moment) : Type 0 where
 
 -- The array that disks meant when a pool was opened on them: they held a sound pool, and none refused a call. `opened` is what they
 -- show after the opening.
-pub record IsMeant (x opened : Seen) (a : FlatArray) : Type 0 where
+pub record IsMeant (x opened : RackView) (a : FlatArray) : Type 0 where
   pub pool : Found
   pub sound : HoldSound x pool
   pub unfaulted : IsUnfaulted x opened
@@ -102,7 +102,7 @@ pub record IsMeant (x opened : Seen) (a : FlatArray) : Type 0 where
   pub array : a ≡ fresh volume.sectors volume.contents
 
 -- The pool of attached disks was opened, the task done on it, and the pool ended. `opened` is the bay after the opening.
-pub record OpenedOn {R : Type 0} (seen : R → Seen) (shelf : R → Shelf) (runs : R → R → Type 0) (bay after : R) (task : Task) (text rest out out' : List ℕ) (status : Status) : Type 0 where
+pub record OpenedOn {R : Type 0} (seen : R → RackView) (shelf : R → Shelf) (runs : R → R → Type 0) (bay after : R) (task : Task) (text rest out out' : List ℕ) (status : Status) : Type 0 where
   pub opened : R
   pub kept : runs bay opened
   pub names : KeepsNames (shelf opened) (shelf after)
@@ -157,7 +157,7 @@ pub record OpenedOn {R : Type 0} (seen : R → Seen) (shelf : R → Shelf) (runs
   -- no member of it would have its slice.
   pub run_on :
       (f : Found) → HoldSound (seen bay) f → IsUnfaulted (seen bay) (seen opened) → f.state.joined ≡ f.state.made
-      → AreAlone f f.contents → IsRunOn f from (seen opened)
+      → NoStraySuperblock f f.contents → IsRunOn f from (seen opened)
   -- the task, from the volume that the disks meant, where the names of the bay are told
   pub outcome :
       (a : FlatArray)
@@ -165,6 +165,6 @@ pub record OpenedOn {R : Type 0} (seen : R → Seen) (shelf : R → Shelf) (runs
       text rest out out'
 
 -- how it came out
-abbrev pub OpenOutcome : {R : Type 0} → (R → Seen) → (R → Shelf) → (R → R → Type 0) → R → R → Task → List ℕ → List ℕ → List ℕ → List ℕ → Status → Type 0
+abbrev pub OpenOutcome : {R : Type 0} → (R → RackView) → (R → Shelf) → (R → R → Type 0) → R → R → Task → List ℕ → List ℕ → List ℕ → List ℕ → Status → Type 0
 OpenOutcome seen shelf runs bay after task text rest out out' status =
     NotOpened seen runs bay after out out' status ⊎ OpenedOn seen shelf runs bay after task text rest out out' status

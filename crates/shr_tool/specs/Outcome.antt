@@ -1,6 +1,6 @@
 -- How a script on a pool came out, by the status that is answered.
 use Rattle.std.specs.Prelude.{◌≡◌, ◌⊎◌, slice_get, ℕ, ◌<◌, ◌≤◌, ◌^◌, true, false, List, [], ◌∷◌, ◌++◌, length, take, Some}
-use Rattle.rack.specs.Seen.{Image, IsPick, Seen, Rose}
+use Rattle.rack.specs.Seen.{Image, IsPick, RackView, Rose}
 use Rattle.rack.specs.Values.{Keeps}
 use Rattle.io_ends.specs.Sink.{AddsPrefix}
 use Rattle.md_super.specs.declared.superblock.Super.{Super}
@@ -24,8 +24,8 @@ use Rattle.slice_rack.specs.Slices.{IsOrderly, disk_of}
 use Rattle.slice_rack.specs.Sliced.{slices_of}
 use Rattle.array_core.specs.TruthHeld.{HoldTruth}
 use Rattle.raid_laws.specs.Agreeing.{AgreeLeaving}
-use Rattle.raid_laws.specs.Book.{IsAfter}
-use Rattle.raid_laws.specs.Raid.{IsTold, is_over}
+use Rattle.raid_laws.specs.Book.{OnlyMarksSince}
+use Rattle.raid_laws.specs.Raid.{IsTracked, is_failed}
 use Rattle.assembler.specs.Sound.{HaveOnePool, TargetsLand}
 use Rattle.shr_script.specs.Line.{Line}
 use Rattle.flat_array.specs.Array.{FlatArray, flushed}
@@ -55,10 +55,10 @@ NoneRose before after = (d : ℕ) → Rose (before d) (after d) → ⊥
 
 -- Where no disk's faults rose in the end of a pool, an array whose superblocks said otherwise leaves in each image just the rows to
 -- resync that were left in it before.
-abbrev pub LeavesItsRows : Seen → Moment → Moment → Type 0
+abbrev pub LeavesItsRows : RackView → Moment → Moment → Type 0
 LeavesItsRows y p q =
     NoneRose p.faults q.faults
-    → (n : ℕ) → n < p.linear.arrays → is_over q.book n ≡ false → is_settled (p.book.arrays n) ≡ false
+    → (n : ℕ) → n < p.linear.arrays → is_failed q.book n ≡ false → is_settled (p.book.arrays n) ≡ false
     → (r : Image) → IsLeft (slices_of q.slices y) r → (t : Super) → truth_in q.book.state r n ≡ Some t
     → t.resync_offset ≡ left_offset (p.book.arrays n)
 
@@ -69,11 +69,11 @@ KeepsNames s t = (d : ℕ) (name : List ℕ) → slice_get s.names d ≡ Some na
 -- The end of a pool: no disk is attached, its volume and the slices of its drives stay where they lie, marks alone come to its book, each of a drive whose disk's faults rose, and a plan goes on; what
 -- a stop inside it leaves means the array, and then its current values alone. Outside the slices disks hold what they held, and those of places whose drives
 -- were missing everywhere. The clock is told where stops are.
-pub record EndsAt (Told : Type 0) (Traced : Type 0) (y : Seen) (p q : Moment) (a : FlatArray) : Type 0 where
+pub record EndsAt (Told : Type 0) (Traced : Type 0) (y : RackView) (p q : Moment) (a : FlatArray) : Type 0 where
   pub later : Told → Traced → p.clock ≤ q.clock
   pub linear : q.linear ≡ p.linear
   pub slices : KeepsSlices p q
-  pub after : IsAfter p.book.state q.book.state
+  pub after : OnlyMarksSince p.book.state q.book.state
   pub cause :
       (place : ℕ) → is_current p.book.state place ≡ true → is_current q.book.state place ≡ false
       → Rose (p.faults (disk_of p.slices (log_slice place))) (q.faults (disk_of p.slices (log_slice place)))
@@ -85,13 +85,13 @@ pub record EndsAt (Told : Type 0) (Traced : Type 0) (y : Seen) (p q : Moment) (a
   pub ended : Told → Traced → (i : Image) → y.stops q.clock i → MeansAt q (flushed a) i
 
 -- contents of whole sectors
-abbrev pub HasWholeSectors : Seen → Image → Type 0
+abbrev pub HasWholeSectors : RackView → Image → Type 0
 HasWholeSectors x i = (d s : ℕ) → d < x.disks → s < x.sectors d → length (i d s) ≡ 512
 
 -- The pool of a run, which its disks, x, had when it began: a sound one, whose drives have the run's slices and their partition tables, and no disk
 -- had another pool's state. Its arrays are the volume's, with the members and the sizes of its superblocks, which say these arrays' truths, durably.
 -- Where the arrays have the pool's metadata areas they hold its group, whatever they may be left with. Outside the slices the disks are as it has them.
-pub record IsRunOn (f : Found) (from : Moment) (x : Seen) : Type 0 where
+pub record IsRunOn (f : Found) (from : Moment) (x : RackView) : Type 0 where
   pub lasting : x.lasting
   pub before : Image
   pub found_is : found (disks_of x) before ≡ Some f
@@ -99,7 +99,7 @@ pub record IsRunOn (f : Found) (from : Moment) (x : Seen) : Type 0 where
   pub slices : AreSlicesOf f from.slices
   -- these don't overlap
   pub orderly : IsOrderly from.slices
-  pub after : IsAfter f.state from.book.state
+  pub after : OnlyMarksSince f.state from.book.state
   pub joined : f.state.joined ≡ f.state.made
   pub arrays : from.linear.arrays ≡ f.state.joined
   pub geometry : (n : ℕ) (t : Super) → n < f.state.made → truth_of f n ≡ Some t → HasGeometry t (from.book.arrays n).truth
@@ -118,7 +118,7 @@ pub record IsRunOn (f : Found) (from : Moment) (x : Seen) : Type 0 where
 -- but one that a line named to replace a drive. Where none did, sectors of slices alone are written. All that the disks may be left
 -- with holds a sound pool again, by the last book's state and with the drives that were taken in, unless an array is over, and is opened as the run's volume; and so does what a stop between
 -- lines leaves, and inside the end or a line, once what is pending is written: inside a line that takes a drive in without it or with it. Where lines named images stops are to be told, the pool's drives to have ids of serials, and the images to be fit for it, by what they held before.
-pub record Lasts (Told Traced : Type 0) (x y : Seen) (from : Moment) (a : FlatArray) (events : List Event) : Type 0 where
+pub record RunContract (Told Traced : Type 0) (x y : RackView) (from : Moment) (a : FlatArray) (events : List Event) : Type 0 where
   pub last : Moment
   pub timeline : Timeline (Traced × Told) y.stops from a events last
   pub final : Moment
@@ -130,7 +130,7 @@ pub record Lasts (Told Traced : Type 0) (x y : Seen) (from : Moment) (a : FlatAr
   pub ends : EndsAt Told Traced y last final (array_by a events)
   pub outside : KeepsOutside from.slices final.slices (AnyTakes final.names events) Told x y
   pub apart : any_takes events ≡ false → WritesOnly x y (IsSliced from.slices)
-  pub told : Told → IsServed final events → (n : ℕ) → n < final.linear.arrays → IsTold final.book (slices_of final.slices y) n
+  pub told : Told → IsServed final events → (n : ℕ) → n < final.linear.arrays → IsTracked final.book (slices_of final.slices y) n
   pub rows : Told → IsServed final events → LeavesItsRows y last final
   -- What a stop leaves before the first line, and at the end of each, holds a sound pool again, by the book of that moment. What one inside a line leaves
   -- holds it once what is pending is written, by a state between; where the line takes a drive in, the pool without the drive or with it.
@@ -146,7 +146,7 @@ pub record Lasts (Told Traced : Type 0) (x y : Seen) (from : Moment) (a : FlatAr
   -- to resync that are left in the array, also where they said so before the end.
   pub agreed :
       Told → IsServed final events → NoneRose last.faults final.faults → (f : Found) → IsRunOn f from x
-      → (n : ℕ) → n < f.state.made → is_over final.book n ≡ false
+      → (n : ℕ) → n < f.state.made → is_failed final.book n ≡ false
       → (r : Image) → IsLeft (slices_of final.slices y) r → AgreeLeaving (final.book.arrays n) final.book.state r n
   -- Any one drive may be absent after a clean whole end: where no line named a drive to replace, no disk's faults rose in the end, no array is over, and
   -- all drives of the pool are then there, with nothing left to resync, to rebuild or to zero, contents of whole sectors that the disks may be left with
@@ -155,7 +155,7 @@ pub record Lasts (Told Traced : Type 0) (x y : Seen) (from : Moment) (a : FlatAr
   pub safe :
       Told → any_takes events ≡ false → NoneRose last.faults final.faults
       → (f : Found) → IsRunOn f from x → AreOnly f → HaveOwnAreas f
-      → IsWholeRaid f.state.made final.book → ((n : ℕ) → n < f.state.made → is_over final.book n ≡ false)
+      → IsWholeRaid f.state.made final.book → ((n : ℕ) → n < f.state.made → is_failed final.book n ≡ false)
       → (i : Image) → IsPick y y y.held i → HasWholeSectors y i → HoldAbsent f final.slices final.book.state i
   -- So it is where lines replaced drives, by the pool with these drives, where ids differ and the outset's other disks have none that it gives to drives later
   -- (`AreUngiven`, which passes over images that are left out); without disks that say nothing, as where their images are empty, which are to be those of all lines that were declined, unless
@@ -166,7 +166,7 @@ pub record Lasts (Told Traced : Type 0) (x y : Seen) (from : Moment) (a : FlatAr
       → AreFit f from events last (steps_of (Traced × Told) y.stops from a events last timeline)
       → (out : List (List ℕ)) → AreUngiven f (record { bound = last.book.state.serial; out = out }) from.names
       → AreLone f (record { bound = last.book.state.serial; out = out }) from events last (steps_of (Traced × Told) y.stops from a events last timeline)
-      → IsWholeRaid f.state.made final.book → ((n : ℕ) → n < f.state.made → is_over final.book n ≡ false)
+      → IsWholeRaid f.state.made final.book → ((n : ℕ) → n < f.state.made → is_failed final.book n ≡ false)
       → (i j : Image) → IsPick y y y.held i
       → LeaveOut (pool_by f from events last (steps_of (Traced × Told) y.stops from a events last timeline)) (IsOut (record { bound = last.book.state.serial; out = out }) final.names) i j
       → HasWholeSectors y j
@@ -180,46 +180,46 @@ pub record Lasts (Told Traced : Type 0) (x y : Seen) (from : Moment) (a : FlatAr
   pub again :
       Told → IsServed final events → (f : Found) → IsRunOn f from x → (any_takes events ≡ true → Traced × AreSerial f.state)
       → AreFit f from events last (steps_of (Traced × Told) y.stops from a events last timeline)
-      → ((n : ℕ) → n < f.state.made → is_over final.book n ≡ false)
+      → ((n : ℕ) → n < f.state.made → is_failed final.book n ≡ false)
       → (i : Image) → IsPick y y y.held i
       → HoldsNext (TargetsLand f) (HaveOwnAreas f) (pool_by f from events last (steps_of (Traced × Told) y.stops from a events last timeline)) final.slices final.linear final.book i
 
 -- all lines of the text were answered, and the pool was ended; this is the worst of the answers
-pub record DoneOutcome (worst : Answer) (Told Traced : Type 0) (x y : Seen) (from : Moment) (a : FlatArray) (text out out' : List ℕ) : Type 0 where
+pub record DoneOutcome (worst : Answer) (Told Traced : Type 0) (x y : RackView) (from : Moment) (a : FlatArray) (text out out' : List ℕ) : Type 0 where
   pub events : List Event
   pub script : script_of text ≡ lines_of events
   pub worst_is : worst_of events ≡ worst
   pub put : Told → out' ≡ out ++ texts a events
-  pub lasts : Lasts Told Traced x y from a events
+  pub lasts : RunContract Told Traced x y from a events
 
 -- a script's limit was reached with more to come
-pub record LimitOutcome (Told Traced : Type 0) (x y : Seen) (from : Moment) (a : FlatArray) (text out out' : List ℕ) : Type 0 where
+pub record LimitOutcome (Told Traced : Type 0) (x y : RackView) (from : Moment) (a : FlatArray) (text out out' : List ℕ) : Type 0 where
   pub longer : 2 ^ 32 < length text
   pub events : List Event
   pub script : cut_script_of (take (2 ^ 32) text) ≡ lines_of events
   pub put : Told → out' ≡ out ++ texts a events
-  pub lasts : Lasts Told Traced x y from a events
+  pub lasts : RunContract Told Traced x y from a events
 
 -- the source failed after these bytes
-pub record SourceOutcome (Told Traced : Type 0) (x y : Seen) (from : Moment) (a : FlatArray) (text rest out out' : List ℕ) : Type 0 where
+pub record SourceOutcome (Told Traced : Type 0) (x y : RackView) (from : Moment) (a : FlatArray) (text rest out out' : List ℕ) : Type 0 where
   pub taken : List ℕ
   pub text_is : text ≡ taken ++ rest
   pub events : List Event
   pub script : cut_script_of taken ≡ lines_of events
   pub put : Told → out' ≡ out ++ texts a events
-  pub lasts : Lasts Told Traced x y from a events
+  pub lasts : RunContract Told Traced x y from a events
 
 -- the sink refused the reply to the last line that was begun
-pub record SinkOutcome (Told Traced : Type 0) (x y : Seen) (from : Moment) (a : FlatArray) (text out out' : List ℕ) : Type 0 where
+pub record SinkOutcome (Told Traced : Type 0) (x y : RackView) (from : Moment) (a : FlatArray) (text out out' : List ℕ) : Type 0 where
   pub before : List Event
   pub last : Event
   pub more : List Line
   pub script : script_of text ≡ lines_of (before ++ last ∷ []) ++ more
   pub put : Told → AddsPrefix (out ++ texts a before) out' (text_of (array_by a before) last)
-  pub lasts : Lasts Told Traced x y from a (before ++ last ∷ [])
+  pub lasts : RunContract Told Traced x y from a (before ++ last ∷ [])
 
 -- how a script came out that didn't grow the pool
-abbrev pub EventsOutcome : Status → Type 0 → Type 0 → Seen → Seen → Moment → FlatArray → List ℕ → List ℕ → List ℕ → List ℕ → Type 0
+abbrev pub EventsOutcome : Status → Type 0 → Type 0 → RackView → RackView → Moment → FlatArray → List ℕ → List ℕ → List ℕ → List ℕ → Type 0
 EventsOutcome Done Told Traced x y from a text rest out out' = DoneOutcome Given Told Traced x y from a text out out'
 EventsOutcome Words Told Traced x y from a text rest out out' = ⊥
 EventsOutcome Limit Told Traced x y from a text rest out out' = LimitOutcome Told Traced x y from a text out out'
@@ -234,7 +234,7 @@ EventsOutcome Spent Told Traced x y from a text rest out out' = DoneOutcome Refu
 -- Events of a script from a moment on up to a line that grew the pool: that, the lines after it, and the end of the pool, when the disks show y. Of the events is
 -- told what is told of a run without such a line: but of the volume nothing is told after them. Of the rest: the bay's disks, marks with their causes, numbers, and how each line was
 -- answered, by the book before it and after it.
-pub record LastsUntil (Told Traced : Type 0) (x y : Seen) (from : Moment) (a : FlatArray) (events : List Event) (first : Line) (more : List Line) (said : List ℕ) (worst : Answer) : Type 0 where
+pub record LastsUntil (Told Traced : Type 0) (x y : RackView) (from : Moment) (a : FlatArray) (events : List Event) (first : Line) (more : List Line) (said : List ℕ) (worst : Answer) : Type 0 where
   pub last : Moment
   pub timeline : Timeline (Traced × Told) y.stops from a events last
   pub grown : Moment
@@ -267,7 +267,7 @@ status_by AtLimit worst = Limit
 status_by SinkFault worst = Sink
 
 -- How it came out, by why the script stopped and by the worst of all answers.
-pub record GrownOutcome (status : Status) (Told Traced : Type 0) (x y : Seen) (from : Moment) (a : FlatArray) (text rest out out' : List ℕ) : Type 0 where
+pub record GrownOutcome (status : Status) (Told Traced : Type 0) (x y : RackView) (from : Moment) (a : FlatArray) (text rest out out' : List ℕ) : Type 0 where
   pub events : List Event
   pub first : Line
   pub more : List Line
@@ -281,7 +281,7 @@ pub record GrownOutcome (status : Status) (Told Traced : Type 0) (x y : Seen) (f
 
 -- How a script came out on a pool that held an array, where that was told. `from` is the moment when it began, `y` what the disks show
 -- in the end. No line grew the pool, or one did.
-abbrev pub Outcome : Status → Type 0 → Type 0 → Seen → Seen → Moment → FlatArray → List ℕ → List ℕ → List ℕ → List ℕ → Type 0
+abbrev pub Outcome : Status → Type 0 → Type 0 → RackView → RackView → Moment → FlatArray → List ℕ → List ℕ → List ℕ → List ℕ → Type 0
 Outcome status Told Traced x y from a text rest out out' =
     EventsOutcome status Told Traced x y from a text rest out out' ⊎ GrownOutcome status Told Traced x y from a text rest out out'
 

@@ -2,7 +2,7 @@
 use Rattle.std.specs.Prelude.{◌≡◌, ℕ, List, ◌++◌, codes, decimal}
 use Rattle.rack.specs.declared.AttachFault.{AttachFault}
 use Rattle.rack.specs.declared.AttachFault.TheVariants.{Failed, Twice, Memory as NoRoom}
-use Rattle.rack.specs.Seen.{Seen}
+use Rattle.rack.specs.Seen.{RackView}
 use Rattle.rack.specs.Sequences.{OnlyReads}
 use Rattle.rack.specs.Shelf.{Shelf}
 use Rattle.shr_script.specs.Reply.{refused_line}
@@ -26,20 +26,20 @@ SaysFault (Twice disk) number out out' status = Says Refused (refused_line (code
 SaysFault NoRoom number out out' status = Says Memory (refused_line (codes "memory")) out out' status
 
 -- A name wasn't attached, by its cause: the disks of those before it hold what waited, and nothing was called.
-pub record NameRefused (x y : Seen) (s t : Shelf) (names : List (List ℕ)) (out out' : List ℕ) (status : Status) : Type 0 where
+pub record NameRefused (x y : RackView) (s t : Shelf) (names : List (List ℕ)) (out out' : List ℕ) (status : Status) : Type 0 where
   pub number : ℕ
   pub fault : AttachFault
   pub cause : IsUnattached x y s t names number fault
   pub says : SaysFault fault number out out' status
 
 -- All names were attached, and this came out on their disks. `attached` is the bay then.
-pub record OnDisks {B : Type 0} (seen : B → Seen) (shelf : B → Shelf) (bay : B) (names : List (List ℕ)) (P : B → Type 0) : Type 0 where
+pub record OnDisks {B : Type 0} (seen : B → RackView) (shelf : B → Shelf) (bay : B) (names : List (List ℕ)) (P : B → Type 0) : Type 0 where
   pub attached : B
   pub are : AreAttached (seen bay) (seen attached) (shelf bay) (shelf attached) names
   pub outcome : P attached
 
 -- how `serve`, `import`, `export`, `status` or `trial` came out
-pub data PoolOutcome {B : Type 0} (seen : B → Seen) (shelf : B → Shelf) (runs : B → B → Type 0) (bay after : B) (task : Task) (names : List (List ℕ)) (text rest out out' : List ℕ) (status : Status)
+pub data PoolOutcome {B : Type 0} (seen : B → RackView) (shelf : B → Shelf) (runs : B → B → Type 0) (bay after : B) (task : Task) (names : List (List ℕ)) (text rest out out' : List ℕ) (status : Status)
     : Type 0 where
   name_refused : NameRefused (seen bay) (seen after) (shelf bay) (shelf after) names out out' status → PoolOutcome seen shelf runs bay after task names text rest out out' status
   -- to read the words, before anything was called
@@ -53,7 +53,7 @@ pub data PoolOutcome {B : Type 0} (seen : B → Seen) (shelf : B → Shelf) (run
       → PoolOutcome seen shelf runs bay after task names text rest out out' status
 
 -- how `create` came out
-pub data CreateOutcome {B : Type 0} (seen : B → Seen) (shelf : B → Shelf) (runs : B → B → Type 0) (bay after : B) (names : List (List ℕ)) (extent : ℕ) (birth : Birth) (out out' : List ℕ) (status : Status)
+pub data CreateOutcome {B : Type 0} (seen : B → RackView) (shelf : B → Shelf) (runs : B → B → Type 0) (bay after : B) (names : List (List ℕ)) (extent : ℕ) (birth : Birth) (out out' : List ℕ) (status : Status)
     : Type 0 where
   name_refused : NameRefused (seen bay) (seen after) (shelf bay) (shelf after) names out out' status → CreateOutcome seen shelf runs bay after names extent birth out out' status
   no_memory : after ≡ bay → Says Memory (refused_line (codes "memory")) out out' status → CreateOutcome seen shelf runs bay after names extent birth out out' status

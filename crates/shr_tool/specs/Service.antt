@@ -1,7 +1,7 @@
 -- The pool by which a run goes as lines take drives in, and what is to be known of the images that they name, by what these held before.
 use Rattle.std.specs.Prelude.{◌≡◌, ◌≢◌, ◌⊎◌, ℕ, ◌+◌, ◌<◌, false, true, if◌then◌else◌, List, [], ◌∷◌, length, slice_get, Option, Some, Ok, unwrap_or}
 use Rattle.std.specs.Option.{option_map_or}
-use Rattle.rack.specs.Seen.{Seen}
+use Rattle.rack.specs.Seen.{RackView}
 use Rattle.rack.specs.Values.{MayLeave, Values}
 use Rattle.rack.specs.Shelf.{Waiting}
 use Rattle.slice_rack.specs.Slices.{IsOrderly, Slices, seat_of}
@@ -18,9 +18,9 @@ use Rattle.raid_laws.specs.Enlisting.{enlisted}
 use Rattle.pool_image.specs.Disks.{Disks, Identity, identities_of}
 use Rattle.pool_image.specs.Drives.{Found, first_of}
 use Rattle.pool_image.specs.Meaning.{is_member}
-use Rattle.pool_model.specs.Alone.{HoldAlone, HoldTabled, IsStranger, IsUngiven}
+use Rattle.pool_model.specs.Alone.{NoImpostor, HoldTabled, IsStranger, IsUngiven}
 use Rattle.pool_model.specs.Grouped.{HoldGroup}
-use Rattle.pool_model.specs.InService.{InService}
+use Rattle.pool_model.specs.InService.{RunInvariant}
 use Rattle.pool_model.specs.Left.{HasNoSuper}
 use Rattle.pool_model.specs.Stopped.{HoldTables}
 use Rattle.pool_model.specs.Taken.{AreDistinct, AreSerial, LacksDrive, attached, taken}
@@ -168,7 +168,7 @@ pub record IsOwnCopy (s : State) (place : ℕ) (copy : Copied) : Type 0 where
 
 -- Whatever copy of a state a drive of the pool may be left with is its own, by the state s also where it is marked missing. But nothing is said of disks of `Out`
 -- whose drives are missing.
-abbrev pub HoldOwn : Found → (Out : ℕ → Type 0) → State → Seen → Type 0
+abbrev pub HoldOwn : Found → (Out : ℕ → Type 0) → State → RackView → Type 0
 HoldOwn f Out s y =
     (p d : ℕ) (u : List ℕ) (copy : Copied) → f.seats p ≡ Some d → (is_current s p ≡ true) ⊎ (Out d → ⊥) → MayLeave (y.held d state_sector) u → decoded u ≡ Ok copy
     → IsOwnCopy f.state p copy
@@ -176,7 +176,7 @@ HoldOwn f Out s y =
 -- A pool stands alone on its disks: but for those that are left out none but its drives stands for a place of it, and none has an id that it gives before its
 -- serial is the bound. Where a sector of the volume can be had, its drives have their own copies.
 pub record StandsLone (l : Lone) (f : Found) (t : Slices) (x : View) : Type 0 where
-  pub alone : HoldAlone f l.bound (IsOut l x.shelf.names) (book x).state t x.bay
+  pub alone : NoImpostor f l.bound (IsOut l x.shelf.names) (book x).state t x.bay
   pub distinct : AreDistinct f.state.pool.0 l.bound
   pub own : (s : ℕ) → s < size_of x → is_spent x s ≡ false → HoldOwn f (IsOut l x.shelf.names) (book x).state x.bay
 
@@ -191,7 +191,7 @@ pub record BeginsOn (Group : Type 0) (x : View) : Type 0 where
 -- where it is `lone` the pool stands alone on its disks.
 pub record GoesBy (Landing : Type 0) (lone : Option Lone) (f : Found) (x : View) : Type 0 where
   pub tables : Slices
-  pub service : InService f tables (book x) x.bay
+  pub service : RunInvariant f tables (book x) x.bay
   pub vacant :
       (x.slices ≡ tables) ⊎ ((place : ℕ) × (place < length (book x).state.drives.items) × LacksDrive f tables x.slices (book x) place x.bay)
   pub lasting : x.bay.lasting

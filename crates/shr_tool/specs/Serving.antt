@@ -6,10 +6,10 @@ use Rattle.shr_script.specs.Line.{Line}
 use Rattle.shr_script.specs.declared.Command.TheVariants.{Read, Write, Fill, Flush, Size, Lose, Replace, Add, Step, Status, Quit}
 use Rattle.flat_array.specs.Array.{FlatArray}
 use Rattle.shr_script.specs.Script.{script_of, cut_script_of}
-use Rattle.pool.specs.Calls.{Passes}
+use Rattle.pool.specs.Calls.{CallFrame}
 use Rattle.pool.specs.Continuing.{Continues, KeepsOutside}
 use Rattle.pool.specs.View.{View, book, slices_shown, volume}
-use Rattle.pool.specs.Volume.{Holds}
+use Rattle.pool.specs.Volume.{VolumeIs}
 use Rattle.shr_tool.specs.declared.perform.Answer.{Answer}
 use Rattle.shr_tool.specs.declared.perform.Answer.TheVariants.{Given}
 use Rattle.shr_tool.specs.declared.serve.Stop.{Stop}
@@ -17,7 +17,7 @@ use Rattle.shr_tool.specs.declared.serve.Stop.TheVariants.{Quit as AtQuit, Input
 use Rattle.shr_tool.specs.Events.{AnyTakes, Event, answer_of, any_takes, array_by, line_of, lines_of, text_of, texts, worse, worst_of}
 use Rattle.pool.specs.Moment.{Moment, moment_of}
 use Rattle.pool.specs.Proceeding.{Proceeds}
-use Rattle.shr_tool.specs.Timeline.{Timeline, Performs, Steps, steps_of}
+use Rattle.shr_tool.specs.Timeline.{Timeline, LineContract, Steps, steps_of}
 use Rattle.shr_tool.specs.Growing.{GrowsAlong, GrowsOn, IsGrowing}
 use Rattle.shr_tool.specs.Heads.{KeepsHeads}
 use Rattle.shr_tool.specs.Service.{AreFit, AreLone, BeginsOn, GoesBy, GoesOn, IsServed, Lone, none_out, pool_by}
@@ -29,7 +29,7 @@ use Rattle.pool_model.specs.Taken.{AreSerial}
 
 -- the volume is told to hold an array, be there a sector that can be had or none
 abbrev pub IsServing : View → FlatArray → Type 0
-IsServing x a = Holds x a × (volume x).told 0
+IsServing x a = VolumeIs x a × (volume x).told 0
 
 -- a line that isn't `quit`
 abbrev pub IsReplied : Line → Type 0
@@ -51,7 +51,7 @@ pub record Answers (x y : View) (line : Line) (answer : Answer) (text : List ℕ
   pub event : Event
   pub line_is : line_of event ≡ line
   pub answer_is : answer_of event ≡ answer
-  pub performs : Performs x y event text
+  pub performs : LineContract x y event text
 
 -- So it was, or it grew the pool.
 abbrev pub Acts : View → View → Line → Answer → List ℕ → Type 0
@@ -88,27 +88,27 @@ LineAnswers shown (Err SinkFault) line p q out out' =
 pub record Ran (x y : View) (events : List Event) : Type 0 where
   pub fit : (volume x).fit
   pub continues : Continues x y
-  pub passes : any_takes events ≡ false → Passes x y
+  pub passes : any_takes events ≡ false → CallFrame x y
   pub outside : KeepsOutside x.slices y.slices (AnyTakes y.shelf.names events) x.shelf.told x.bay y.bay
-  pub holds : (a : FlatArray) → Holds x a → Holds y (array_by a events)
-  pub timeline : (a : FlatArray) → Timeline (x.bay.traced × Holds x a) y.bay.stops (moment_of x) a events (moment_of y)
+  pub holds : (a : FlatArray) → VolumeIs x a → VolumeIs y (array_by a events)
+  pub timeline : (a : FlatArray) → Timeline (x.bay.traced × VolumeIs x a) y.bay.stops (moment_of x) a events (moment_of y)
   pub steps : Steps (moment_of x) events (moment_of y)
   pub steps_are :
       (a : FlatArray)
-      → steps_of (x.bay.traced × Holds x a) y.bay.stops (moment_of x) a events (moment_of y) (timeline a) ≡ steps
+      → steps_of (x.bay.traced × VolumeIs x a) y.bay.stops (moment_of x) a events (moment_of y) (timeline a) ≡ steps
   -- a pool by which the run goes, with the drives that it took in
   pub service :
-      (a : FlatArray) → Holds x a → IsServed (moment_of y) events → (f : Found) → GoesBy (TargetsLand f) None f x → (any_takes events ≡ true → AreSerial f.state)
+      (a : FlatArray) → VolumeIs x a → IsServed (moment_of y) events → (f : Found) → GoesBy (TargetsLand f) None f x → (any_takes events ≡ true → AreSerial f.state)
       → AreFit f (moment_of x) events (moment_of y) steps → GoesOn (TargetsLand f) None f (pool_by f (moment_of x) events (moment_of y) steps) y
   -- one that stands alone on its disks
   pub lone :
-      (a : FlatArray) → Holds x a → IsServed (moment_of y) events → (f : Found) → (l : Lone) → GoesBy (TargetsLand f) (Some l) f x
+      (a : FlatArray) → VolumeIs x a → IsServed (moment_of y) events → (f : Found) → (l : Lone) → GoesBy (TargetsLand f) (Some l) f x
       → (book y).state.serial ≤ l.bound → (any_takes events ≡ true → AreSerial f.state) → AreFit f (moment_of x) events (moment_of y) steps
       → AreLone f l (moment_of x) events (moment_of y) steps
       → GoesOn (TargetsLand f) (Some l) f (pool_by f (moment_of x) events (moment_of y) steps) y
   -- then, where none is left out, no other disk has the id of a drive that it took in, while that comes to be one of the pool
   pub others :
-      (a : FlatArray) → Holds x a → x.bay.traced → IsServed (moment_of y) events → (f : Found) → (bound : ℕ) → GoesBy (TargetsLand f) (Some (none_out bound)) f x
+      (a : FlatArray) → VolumeIs x a → x.bay.traced → IsServed (moment_of y) events → (f : Found) → (bound : ℕ) → GoesBy (TargetsLand f) (Some (none_out bound)) f x
       → (book y).state.serial ≤ bound → (any_takes events ≡ true → AreSerial f.state) → AreFit f (moment_of x) events (moment_of y) steps
       → AreLone f (none_out bound) (moment_of x) events (moment_of y) steps → HaveOthers y.bay.stops f (moment_of x) events (moment_of y) steps
   pub heads : x.shelf.told → ((d : ℕ) → d < x.bay.disks → x.bay.told d) → KeepsHeads (book x) (book y) (slices_shown x) (slices_shown y)
@@ -120,7 +120,7 @@ pub record Ran (x y : View) (events : List Event) : Type 0 where
 -- all these were done, and their replies put
 pub record Answered (x y : View) (events : List Event) (out out' : List ℕ) : Type 0 where
   pub ran : Ran x y events
-  pub put : (a : FlatArray) → Holds x a → out' ≡ out ++ texts a events
+  pub put : (a : FlatArray) → VolumeIs x a → out' ≡ out ++ texts a events
 
 -- the sink refused the reply to the last one, after a prefix of it
 pub record StopsAtSink (x y : View) (text out out' : List ℕ) : Type 0 where
@@ -129,7 +129,7 @@ pub record StopsAtSink (x y : View) (text out out' : List ℕ) : Type 0 where
   pub more : List Line
   pub script : script_of text ≡ lines_of (before ++ last ∷ []) ++ more
   pub ran : Ran x y (before ++ last ∷ [])
-  pub put : (a : FlatArray) → Holds x a → AddsPrefix (out ++ texts a before) out' (text_of (array_by a before) last)
+  pub put : (a : FlatArray) → VolumeIs x a → AddsPrefix (out ++ texts a before) out' (text_of (array_by a before) last)
 
 -- all lines of the text were answered, and this is the worst of the answers
 pub record StopsAtEnd (x y : View) (text out out' : List ℕ) (worst : Answer) : Type 0 where
@@ -166,9 +166,9 @@ ServesEvents SinkFault x y text rest out out' worst = StopsAtSink x y text out o
 -- Events of a run from a pool on to a moment, by what stops leave: at their moments, and what a stop between two of them or inside one leaves holds the pool
 -- by which the run goes.
 pub record HasGone (x : View) (stops : ℕ → Image → Type 0) (events : List Event) (last : Moment) : Type 0 where
-  pub timeline : (a : FlatArray) → Timeline (x.bay.traced × Holds x a) stops (moment_of x) a events last
+  pub timeline : (a : FlatArray) → Timeline (x.bay.traced × VolumeIs x a) stops (moment_of x) a events last
   pub steps : Steps (moment_of x) events last
-  pub steps_are : (a : FlatArray) → steps_of (x.bay.traced × Holds x a) stops (moment_of x) a events last (timeline a) ≡ steps
+  pub steps_are : (a : FlatArray) → steps_of (x.bay.traced × VolumeIs x a) stops (moment_of x) a events last (timeline a) ≡ steps
   pub between :
       (a : FlatArray) → IsServing x a → x.bay.traced → (f : Found) → BeginsOn (HaveOwnAreas f) x → GoesBy (TargetsLand f) None f x
       → HoldsEach stops (AreSerial f.state) (TargetsLand f) (HaveOwnAreas f) [] f (moment_of x) events last steps
@@ -188,7 +188,7 @@ pub record Grew (x y : View) (lines : List Line) (worst : Answer) (Put : List �
   pub worst_is : worse (worst_of events) answer ≡ worst
   pub grown : GrowsAlong (x.shelf.told × x.bay.traced) last (first ∷ more) said answer (moment_of y)
   pub growing : IsGrowing last grown.0 first
-  pub put : (a : FlatArray) → Holds x a → Put (texts a events ++ said)
+  pub put : (a : FlatArray) → VolumeIs x a → Put (texts a events ++ said)
 
 -- these are the lines of a text that were begun, by why it was left
 abbrev pub AreBegun : Stop → List ℕ → List ℕ → List Line → Type 0

@@ -1,6 +1,6 @@
 -- What is done on an opened pool, and how that came out.
 use Rattle.std.specs.Prelude.{ℕ, Bool, true, false, List, [], codes}
-use Rattle.rack.specs.Seen.{Seen}
+use Rattle.rack.specs.Seen.{RackView}
 use Rattle.flat_array.specs.Array.{FlatArray}
 use Rattle.shr_tool.specs.declared.status.Status.{Status}
 use Rattle.shr_tool.specs.declared.opening.Task.{Task}
@@ -12,7 +12,7 @@ use Rattle.shr_tool.specs.Trial.{TrialOutcome}
 use Rattle.pool.specs.Moment.{Moment}
 
 -- by the task: `status` is the script of that one line
-abbrev pub TaskOutcome : Task → Status → Type 0 → Type 0 → Seen → Seen → Moment → FlatArray → List ℕ → List ℕ → List ℕ → List ℕ → Type 0
+abbrev pub TaskOutcome : Task → Status → Type 0 → Type 0 → RackView → RackView → Moment → FlatArray → List ℕ → List ℕ → List ℕ → List ℕ → Type 0
 TaskOutcome Serve status Told Traced x y from a text rest out out' = Outcome status Told Traced x y from a text rest out out'
 TaskOutcome Import status Told Traced x y from a text rest out out' = ImportOutcome status Told Traced x y from a text rest out out'
 TaskOutcome Export status Told Traced x y from a text rest out out' = ExportOutcome status Told Traced x y from a out out'

@@ -10,10 +10,10 @@ use Rattle.slice_rack.specs.Changes.{Seats}
 use Rattle.slice_rack.specs.Runs.{IsSliced}
 use Rattle.slice_rack.specs.Slices.{Slices, disk_of, seat_of}
 use Rattle.lvm_group.specs.Runs.{sectors_in}
-use Rattle.raid_laws.specs.Book.{IsAfter}
+use Rattle.raid_laws.specs.Book.{OnlyMarksSince}
 use Rattle.raid_laws.specs.Moves.{RaisesBy}
 use Rattle.raid_laws.specs.Losses.{has_other}
-use Rattle.pool.specs.Calls.{Passes}
+use Rattle.pool.specs.Calls.{CallFrame}
 use Rattle.pool.specs.Keeping.{HasMarkedSeats, KeepsBook, KeepsBookBut, KeepsWorks, Raises, most_raised}
 use Rattle.raid_laws.specs.Raid.{Raid}
 use Rattle.pool.specs.Moment.{IsNamed, Moment, moment_of}
@@ -24,7 +24,7 @@ use Rattle.pool.specs.Naming.{EntersNamed, LeavesNamed}
 use Rattle.pool.specs.Replaced.{ChangesDrive, DriveWentFrom, HasGrowCause, HasTable, IsDeclined, IsReplaced, LeavesNew, TakesImage, is_vacant}
 use Rattle.pool.specs.View.{View, book, contents_in, spent_by}
 use Rattle.pool.specs.Works.{HasRowsAlone, KeepsAllMembers, KeepsPlan, StopsStuck, left_by, works_by}
-use Rattle.pool.specs.Volume.{Holds, Means, PicksLive, size_of}
+use Rattle.pool.specs.Volume.{VolumeIs, Means, PicksLive, size_of}
 use Rattle.shr_tool.specs.Events.{Event, IsOfArray, Takes, Touches, TouchesLast, becomes, calls_in, calls_none, line_of, takes_disk, text_of, works_on}
 use Rattle.shr_tool.specs.StatusText.{status_text}
 use Rattle.shr_tool.specs.Events.Event.{answered, spent, lost, last, replaced, declined, stepped, stuck, shown}
@@ -67,7 +67,7 @@ HasCause p q (shown text) = text ≡ status_text q.linear q.book
 
 -- Marks alone come to the pool's state, each of a drive whose disk's faults rose or that the script lost.
 pub record MarksFor (p q : Moment) (event : Event) : Type 0 where
-  pub after : IsAfter p.book.state q.book.state
+  pub after : OnlyMarksSince p.book.state q.book.state
   pub cause :
       (place : ℕ) → is_current p.book.state place ≡ true → is_current q.book.state place ≡ false
       → Rose (p.faults (disk_of p.slices (log_slice place))) (q.faults (disk_of p.slices (log_slice place))) ⊎ (event ≡ lost place)
@@ -153,7 +153,7 @@ KeepsNamed p q (shown text) = Unit {0}
 -- An event: what a stop inside it leaves means the array before it or after it, and one at its end the array after it. But where a drive
 -- is to be replaced, the slices of drives stay where they lie, no disk is attached, and marks alone come to the state. Outside the slices
 -- disks hold what they held, but for one that the event took. The clock and what disks hold are told where stops are.
-pub record Happens (Traced : Type 0) (stops : ℕ → Image → Type 0) (p q : Moment) (a : FlatArray) (event : Event) : Type 0 where
+pub record EventContract (Traced : Type 0) (stops : ℕ → Image → Type 0) (p q : Moment) (a : FlatArray) (event : Event) : Type 0 where
   pub later : Traced → p.clock ≤ q.clock
   -- where no disk is asked nothing changes, and no time passes
   pub still : calls_none event ≡ true → q ≡ p
@@ -182,7 +182,7 @@ abbrev pub Timeline : Type 0 → (ℕ → Image → Type 0) → Moment → FlatA
 Timeline Traced stops p a [] q = p ≡ q
 Timeline Traced stops p a (event ∷ events) q =
     (at : Moment)
-    × Happens Traced stops p at a event
+    × EventContract Traced stops p at a event
     × Timeline Traced stops at (becomes a event) events q
 
 -- the moments at their ends
@@ -219,10 +219,10 @@ Changes x y (stuck count array) = Unit {0}
 Changes x y (shown text) = Unit {0}
 
 -- A line was answered on a pool by this text.
-pub record Performs (x y : View) (event : Event) (text : List ℕ) : Type 0 where
+pub record LineContract (x y : View) (event : Event) (text : List ℕ) : Type 0 where
   pub continues : Continues x y
   pub still : calls_none event ≡ true → moment_of y ≡ moment_of x
-  pub passes : takes_disk event ≡ false → Passes x y
+  pub passes : takes_disk event ≡ false → CallFrame x y
   pub outside : takes_disk event ≡ true → KeepsOutside x.slices y.slices (Takes y.shelf.names event) x.shelf.told x.bay y.bay
   pub changes : takes_disk event ≡ true → Changes x y event
   pub raises : Raises (calls_in (line_of event)) x y
@@ -230,11 +230,11 @@ pub record Performs (x y : View) (event : Event) (text : List ℕ) : Type 0 wher
   pub works : works_on event ≡ false → KeepsWorks (book x) (book y)
   pub cause : HasCause (moment_of x) (moment_of y) event
   pub marks : takes_disk event ≡ false → MarksFor (moment_of x) (moment_of y) event
-  pub text_is : (a : FlatArray) → Holds x a → text ≡ text_of a event
+  pub text_is : (a : FlatArray) → VolumeIs x a → text ≡ text_of a event
   -- whatever the volume holds, some array of its size is answered so
   pub reply : (a : FlatArray) × (a.size ≡ size_of x) × (text ≡ text_of a event)
-  pub holds : (a : FlatArray) → Holds x a → Holds y (becomes a event)
+  pub holds : (a : FlatArray) → VolumeIs x a → VolumeIs y (becomes a event)
   pub leaves :
-      x.bay.traced → (a : FlatArray) → Holds x a
+      x.bay.traced → (a : FlatArray) → VolumeIs x a
       → LeavesNew x y (λ i. MeansBefore (moment_of x) (moment_of y) event a i ⊎ Means y (becomes a event) i)
-  pub ends : x.bay.traced → (a : FlatArray) → Holds x a → (i : Image) → y.bay.stops y.bay.clock i → Means y (becomes a event) i
+  pub ends : x.bay.traced → (a : FlatArray) → VolumeIs x a → (i : Image) → y.bay.stops y.bay.clock i → Means y (becomes a event) i

@@ -1,7 +1,7 @@
 -- A trial: the turns that a generator draws, over the first sectors of a volume, and how that came out.
 use Rattle.std.specs.Prelude.{◌≡◌, ℕ, zero, suc, ◌+◌, ◌*◌, ◌/◌, ◌%◌, ◌^◌, ◌<◌, ◌≤◌, ◌==◌, nat_lt, if◌then◌else◌, cond, min, Bool, true, false, List, [], ◌∷◌, ◌++◌, map, length, count_by, get_or, codes, decimal, Result, Ok, Err, IfOk}
 use Rattle.std.specs.List.{range_with_len}
-use Rattle.rack.specs.Seen.{Seen}
+use Rattle.rack.specs.Seen.{RackView}
 use Rattle.lvm_group.specs.Runs.{sectors_in}
 use Rattle.shr_script.specs.declared.Command.TheVariants.{Read as ReadLine, Write as WriteLine, Fill as FillLine, Flush as FlushLine}
 use Rattle.shr_script.specs.Line.{Line}
@@ -16,13 +16,13 @@ use Rattle.shr_tool.specs.declared.trial.Turn.{Turn}
 use Rattle.shr_tool.specs.declared.trial.Turn.TheVariants.{Write, Read, Flush}
 use Rattle.shr_tool.specs.Events.{Event}
 use Rattle.shr_tool.specs.Events.Event.{answered, spent}
-use Rattle.shr_tool.specs.Outcome.{Lasts}
+use Rattle.shr_tool.specs.Outcome.{RunContract}
 use Rattle.shr_tool.specs.Saying.{Says}
 use Rattle.shr_tool.specs.Serving.{Ran}
-use Rattle.shr_tool.specs.Timeline.{Performs}
+use Rattle.shr_tool.specs.Timeline.{LineContract}
 use Rattle.pool.specs.Moment.{Moment}
 use Rattle.pool.specs.View.{View}
-use Rattle.pool.specs.Volume.{Holds, size_of}
+use Rattle.pool.specs.Volume.{VolumeIs, size_of}
 
 -- ---- the generator
 
@@ -173,22 +173,22 @@ IsWithin size Flush = Unit {0}
 -- A turn was done on a pool and added this to the sum, or it was refused at a sector.
 abbrev pub Takes : View → View → Turn → Result ℕ SpentAt → Type 0
 Takes x y turn (Ok byte) =
-    ((text : List ℕ) × Performs x y (answered (line_for turn)) text) × ((a : FlatArray) → Holds x a → byte ≡ byte_of a turn)
-Takes x y turn (Err at) = (text : List ℕ) × Performs x y (spent (line_for turn) at.sector) text
+    ((text : List ℕ) × LineContract x y (answered (line_for turn)) text) × ((a : FlatArray) → VolumeIs x a → byte ≡ byte_of a turn)
+Takes x y turn (Err at) = (text : List ℕ) × LineContract x y (spent (line_for turn) at.sector) text
 
 -- The lines of a trial were done on a pool so.
 pub record TriesOn (x y : View) (seed : ℕ) (result : Result Tally SpentAt) : Type 0 where
   pub events : List Event
   pub tries : Tries (lines_for seed (size_of x)) result events
-  pub tallied : (a : FlatArray) → Holds x a → IfOk result (λ tally. tally ≡ tally_for seed (size_of x))
+  pub tallied : (a : FlatArray) → VolumeIs x a → IfOk result (λ tally. tally ≡ tally_for seed (size_of x))
   pub ran : Ran x y events
 
 -- How a trial came out on a pool that held an array, where that was told. Where no sector was refused, what is put is the line of the seed and the volume's
 -- size, whatever the array was and whichever drives the pool lost. The end of the pool is the flush that ends the trial.
-pub record TrialOutcome (seed : ℕ) (status : Status) (Told Traced : Type 0) (x y : Seen) (from : Moment) (a : FlatArray) (out out' : List ℕ) : Type 0 where
+pub record TrialOutcome (seed : ℕ) (status : Status) (Told Traced : Type 0) (x y : RackView) (from : Moment) (a : FlatArray) (out out' : List ℕ) : Type 0 where
   pub result : Result Tally SpentAt
   pub events : List Event
   pub tries : Tries (lines_for seed (sectors_in from.linear)) result events
   pub tallied : Told → IfOk result (λ tally. tally ≡ tally_for seed (sectors_in from.linear))
-  pub lasts : Lasts Told Traced x y from a events
+  pub lasts : RunContract Told Traced x y from a events
   pub says : SaysTried result out out' status

@@ -2,7 +2,7 @@
 
 ghost use Rattle.std.specs.Prelude.{◌≡◌, ◌≢◌, ◌≤◌};
 ghost use Rattle.flat_array.specs.Array.{FlatArray};
-ghost use Rattle.pool.specs.Calls.{Passes};
+ghost use Rattle.pool.specs.Calls.{CallFrame};
 ghost use Rattle.pool.specs.View.{bay_in, view, volume};
 ghost use Rattle.shr_tool.specs.Serving.{IsServing};
 ghost use Rattle.shr_tool.specs.Exporting.{ExportOutcome, HasExportCause, Puts, export_status};
@@ -26,7 +26,7 @@ pub enum ExportFault {
 /// Puts the bytes of the volume, and ends the pool.
 pub fn export_pool<R: Bay, O: Sink>(pool: &mut Pool<R>, out: &mut O) -> Status
     requires { (volume (view R.seen R.shelf pool.old)).fit }
-    ensures passes { Passes (view R.seen R.shelf pool.old) (view R.seen R.shelf pool.new) }
+    ensures passes { CallFrame (view R.seen R.shelf pool.old) (view R.seen R.shelf pool.new) }
     ensures runs { R.runs (bay_in pool.old) (bay_in pool.new) }
     ensures sink { O.faults out.old ≤ O.faults out.new }
     ensures cause { HasStatusCause result 0 0 (O.faults out.old) (O.faults out.new) }
@@ -54,7 +54,7 @@ fn status_of(put: Result<(), ExportFault>) -> Status
 // Puts the bytes of each sector, up to the first that is refused.
 fn put_sectors<R: Bay, O: Sink>(pool: &mut Pool<R>, out: &mut O) -> Result<(), ExportFault>
     requires { (volume (view R.seen R.shelf pool.old)).fit }
-    ensures passes { Passes (view R.seen R.shelf pool.old) (view R.seen R.shelf pool.new) }
+    ensures passes { CallFrame (view R.seen R.shelf pool.old) (view R.seen R.shelf pool.new) }
     ensures runs { R.runs (bay_in pool.old) (bay_in pool.new) }
     ensures sink { O.faults out.old ≤ O.faults out.new }
     ensures cause { HasExportCause result (O.faults out.old) (O.faults out.new) }

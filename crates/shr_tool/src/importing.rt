@@ -3,7 +3,7 @@
 ghost use Rattle.std.specs.Prelude.{◌≡◌, ◌≢◌, ◌≤◌, ◌<◌, ◌+◌, ◌↔◌, ◌++◌, codes, decimal, take, replicate, length, IfOk, OnErr, [], ℕ};
 ghost use Rattle.rack.specs.Seen.{Rose};
 ghost use Rattle.flat_array.specs.Array.{FlatArray};
-ghost use Rattle.pool.specs.Calls.{Passes};
+ghost use Rattle.pool.specs.Calls.{CallFrame};
 ghost use Rattle.pool.specs.View.{bay_in, view, volume};
 ghost use Rattle.pool.specs.Volume.{size_of};
 ghost use Rattle.shr_tool.specs.Serving.{IsServing};
@@ -38,7 +38,7 @@ pub fn import_pool<R: Bay, I: Source, O: Sink>(
     out: &mut O,
 ) -> Status
     requires { (volume (view R.seen R.shelf pool.old)).fit }
-    ensures passes { Passes (view R.seen R.shelf pool.old) (view R.seen R.shelf pool.new) }
+    ensures passes { CallFrame (view R.seen R.shelf pool.old) (view R.seen R.shelf pool.new) }
     ensures runs { R.runs (bay_in pool.old) (bay_in pool.new) }
     ensures source { I.faults input.old ≤ I.faults input.new }
     ensures sink { O.faults out.old ≤ O.faults out.new }
@@ -72,7 +72,7 @@ fn say_written<O: Sink>(written: Result<u64, ImportFault>, out: &mut O) -> Statu
 // Writes each piece of the input to its sector, and answers the number of the input's bytes.
 fn write_pieces<R: Bay, I: Source>(pool: &mut Pool<R>, input: &mut I) -> Result<u64, ImportFault>
     requires { (volume (view R.seen R.shelf pool.old)).fit }
-    ensures passes { Passes (view R.seen R.shelf pool.old) (view R.seen R.shelf pool.new) }
+    ensures passes { CallFrame (view R.seen R.shelf pool.old) (view R.seen R.shelf pool.new) }
     ensures ended { (volume (view R.seen R.shelf pool.new)).fit }
     ensures runs { R.runs (bay_in pool.old) (bay_in pool.new) }
     ensures source { I.faults input.old ≤ I.faults input.new }

@@ -2,7 +2,7 @@
 
 ghost use Rattle.std.specs.Prelude.{◌≡◌, ◌≢◌, ◌≤◌, ◌<◌, []};
 ghost use Rattle.flat_array.specs.Array.{FlatArray};
-ghost use Rattle.pool.specs.Calls.{Passes};
+ghost use Rattle.pool.specs.Calls.{CallFrame};
 ghost use Rattle.pool.specs.Moment.{moment_of};
 ghost use Rattle.pool.specs.View.{bay_in, view, volume};
 ghost use Rattle.pool.specs.Volume.{size_of};
@@ -60,7 +60,7 @@ struct Tally {
 /// Does the trial of a seed, ends the pool, and says what the turns did.
 pub fn try_pool<R: Bay, O: Sink>(pool: &mut Pool<R>, seed: u64, out: &mut O) -> Status
     requires { (volume (view R.seen R.shelf pool.old)).fit }
-    ensures passes { Passes (view R.seen R.shelf pool.old) (view R.seen R.shelf pool.new) }
+    ensures passes { CallFrame (view R.seen R.shelf pool.old) (view R.seen R.shelf pool.new) }
     ensures runs { R.runs (bay_in pool.old) (bay_in pool.new) }
     ensures sink { O.faults out.old ≤ O.faults out.new }
     ensures cause { HasStatusCause result 0 0 (O.faults out.old) (O.faults out.new) }
@@ -108,7 +108,7 @@ fn tally_text(text: &mut ReplyText, tally: &Tally)
 // no sector has no turn: `create` makes none, but what a pool promises doesn't exclude it.
 fn take_turns<R: Bay>(pool: &mut Pool<R>, seed: u64) -> Result<Tally, SpentAt>
     requires { (volume (view R.seen R.shelf pool.old)).fit }
-    ensures passes { Passes (view R.seen R.shelf pool.old) (view R.seen R.shelf pool.new) }
+    ensures passes { CallFrame (view R.seen R.shelf pool.old) (view R.seen R.shelf pool.new) }
     ensures runs { R.runs (bay_in pool.old) (bay_in pool.new) }
     ensures tries { TriesOn (view R.seen R.shelf pool.old) (view R.seen R.shelf pool.new) seed result }
 {

@@ -2,7 +2,7 @@
 use Rattle.std.proofs.Common.{◌≡◌, ℕ, ◌+◌, ◌<◌, ◌≤◌, ◌^◌, nat_lt, if◌then◌else◌, false, List, [], Some, None, refl, sym, ◌∙◌, ap, subst, arith}
 use Rattle.std.specs.Prelude.{Option, unwrap_or}
 use Rattle.rack.specs.Values.{Keeps}
-use Rattle.rack.specs.Seen.{Image, Seen}
+use Rattle.rack.specs.Seen.{Image, RackView}
 use Rattle.rack.specs.Shelf.{Adds, IsSame, Shelf}
 use Rattle.rack.specs.Sequences.{OnlyReads}
 use Rattle.slice_rack.specs.Slices.{Slices, disk_of, first_of, place_of, seat_of, sectors_of}
@@ -19,7 +19,7 @@ shown_by t one two c same shows d s =
     shows d s ∙ ap (λ (v : List ℕ). if nat_lt s (sectors_of t d) then v else []) (sym (same d s))
 
 pub attached_reads :
-    (t : Slices) (a b : Seen) (s u : Shelf) (name : List ℕ) (number : ℕ)
+    (t : Slices) (a b : RackView) (s u : Shelf) (name : List ℕ) (number : ℕ)
     → Adds a b s u name number
     → s.told
     → 0 < a.disks
@@ -70,7 +70,7 @@ attached_reads t a b s u name number adds told some inside fit lasting unspent s
 
 -- a refusal
 pub unattached_reads :
-    (t : Slices) (a b : Seen) (s u : Shelf)
+    (t : Slices) (a b : RackView) (s u : Shelf)
     → IsSame a b s u
     → IsInside t a
     → b.fit

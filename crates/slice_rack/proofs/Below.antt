@@ -4,7 +4,7 @@ use Rattle.std.specs.Prelude.{unwrap_or}
 use Rattle.std.proofs.lemmas.Bool.{cases_eq, eq-eqb, eqb-true}
 use Rattle.rack.specs.declared.Gone.{Gone}
 use Rattle.rack.specs.Values.{Values, MayLeave, Keeps, append}
-use Rattle.rack.specs.Seen.{Image, Held, Seen, IsPick, Stays, appended}
+use Rattle.rack.specs.Seen.{Image, Held, RackView, IsPick, SameRack, appended}
 use Rattle.rack.specs.Moments.{Leaves}
 use Rattle.rack.specs.Calls.{KeepsAll, Reads, Writes}
 use Rattle.slice_rack.specs.Slices.{Slices, IsOrderly, seat_of, place_of, disk_of, first_of, sectors_of}
@@ -13,7 +13,7 @@ use Rattle.slice_rack.specs.Laws.{live_below, shows_inside}
 use Rattle.slice_rack.specs.Runs.{inside_still}
 
 -- what no call changes
-pub stays_sliced : {t : Slices} {a b : Seen} → IsInside t a → Stays a b → Stays (slices_of t a) (slices_of t b)
+pub stays_sliced : {t : Slices} {a b : RackView} → IsInside t a → SameRack a b → SameRack (slices_of t a) (slices_of t b)
 stays_sliced {t} {a} {b} inside stays = record {
   fit = (stays.fit, inside_still stays inside);
   disks = refl;
@@ -28,7 +28,7 @@ stays_sliced {t} {a} {b} inside stays = record {
 }
 
 -- stops leave in the slices what they leave below
-leaves_sliced : {t : Slices} {a b : Seen} (P Q : Image → Type 0) → ((below c : Image) → Shows t below c → P below → Q c)
+leaves_sliced : {t : Slices} {a b : RackView} (P Q : Image → Type 0) → ((below c : Image) → Shows t below c → P below → Q c)
     → Leaves a b P → Leaves (slices_of t a) (slices_of t b) Q
 leaves_sliced P Q shown leaves = record {
   later = leaves.later;
@@ -38,7 +38,7 @@ leaves_sliced P Q shown leaves = record {
 }
 
 -- a pick below is a pick of the slices
-pick_sliced : {t : Slices} {a b : Seen} (held sliced : Held) → IsOrderly t → IsInside t b
+pick_sliced : {t : Slices} {a b : RackView} (held sliced : Held) → IsOrderly t → IsInside t b
     → ((d s : ℕ) → s < sectors_of t d → held (disk_of t d) (first_of t d + s) ≡ sliced d s)
     → (below c : Image) → Shows t below c → IsPick a b held below → IsPick (slices_of t a) (slices_of t b) sliced c
 pick_sliced {t} held sliced orderly inside same below c shows pick d s live =
@@ -47,7 +47,7 @@ pick_sliced {t} held sliced orderly inside same below c shows pick d s live =
     (pick (disk_of t d) (first_of t d + s) (live_below orderly inside live)))
 
 -- no value comes, and no current value changes
-pub keeps_sliced : {t : Slices} {a b : Seen} → IsOrderly t → IsInside t b → KeepsAll a b → KeepsAll (slices_of t a) (slices_of t b)
+pub keeps_sliced : {t : Slices} {a b : RackView} → IsOrderly t → IsInside t b → KeepsAll a b → KeepsAll (slices_of t a) (slices_of t b)
 keeps_sliced {t} {a} {b} orderly inside keeps = record {
   held = λ d s live. keeps.held (disk_of t d) (first_of t d + s) (live_below orderly inside live);
   stops = λ traced. leaves_sliced (IsPick a b a.held) (IsPick (slices_of t a) (slices_of t b) (slices_of t a).held)
@@ -94,7 +94,7 @@ and_both : (p q : Bool) → p ≡ true → q ≡ true → (p && q) ≡ true
 and_both p q e f = rw (e, f) refl
 
 -- a write to a sector of a slice is the write to its sector below, and to no other
-appended_sliced : (t : Slices) (a : Seen) (d s : ℕ) (value : List ℕ) → IsOrderly t → s < sectors_of t d → (e u : ℕ) → u < sectors_of t e
+appended_sliced : (t : Slices) (a : RackView) (d s : ℕ) (value : List ℕ) → IsOrderly t → s < sectors_of t d → (e u : ℕ) → u < sectors_of t e
     → appended a.held (disk_of t d) (first_of t d + s) value (disk_of t e) (first_of t e + u) ≡ appended (slices_of t a).held d s value e u
 appended_sliced t a d s value orderly within e u e_within =
     let held : Values = a.held (disk_of t e) (first_of t e + u) in
@@ -112,7 +112,7 @@ appended_sliced t a d s value orderly within e u e_within =
     (eq-eqb (first_of t e + u) (first_of t d + s) (ap (λ f. first_of t f + u) same_slice ∙ ap (λ v. first_of t d + v) same_sector))))
 
 -- the stops of a write
-write_stops : {t : Slices} {a b : Seen} (d s : ℕ) (value : List ℕ) → IsOrderly t → IsInside t b → s < sectors_of t d
+write_stops : {t : Slices} {a b : RackView} (d s : ℕ) (value : List ℕ) → IsOrderly t → IsInside t b → s < sectors_of t d
     → Leaves a b (IsPick a b (appended a.held (disk_of t d) (first_of t d + s) value))
     → Leaves (slices_of t a) (slices_of t b) (IsPick (slices_of t a) (slices_of t b) (appended (slices_of t a).held d s value))
 write_stops {t} {a} {b} d s value orderly inside within =
@@ -121,7 +121,7 @@ write_stops {t} {a} {b} d s value orderly inside within =
     (λ e u e_within. appended_sliced t a d s value orderly within e u e_within))
 
 -- a write that was answered
-pub write_sliced : {t : Slices} {a b : Seen} (d s : ℕ) (value : List ℕ) → IsOrderly t → IsInside t a → s < sectors_of t d
+pub write_sliced : {t : Slices} {a b : RackView} (d s : ℕ) (value : List ℕ) → IsOrderly t → IsInside t a → s < sectors_of t d
     → Writes a b (disk_of t d) (first_of t d + s) value {X = Unit {0}} (Ok tt)
     → Writes (slices_of t a) (slices_of t b) d s value {X = Unit {0}} (Ok tt)
 write_sliced {t} {a} {b} d s value orderly inside within w = record {
@@ -135,7 +135,7 @@ write_sliced {t} {a} {b} d s value orderly inside within w = record {
 }
 
 -- a write that was refused
-pub refused_sliced : {t : Slices} {a b : Seen} (d s : ℕ) (value : List ℕ) (gone : Gone) → IsOrderly t → IsInside t a → s < sectors_of t d
+pub refused_sliced : {t : Slices} {a b : RackView} (d s : ℕ) (value : List ℕ) (gone : Gone) → IsOrderly t → IsInside t a → s < sectors_of t d
     → Writes a b (disk_of t d) (first_of t d + s) value {X = Unit {0}} (Err gone)
     → Writes (slices_of t a) (slices_of t b) d s value {X = Unit {0}} (Err (record { disk = d }))
 refused_sliced {t} {a} {b} d s value gone orderly inside within w = record {
@@ -151,7 +151,7 @@ refused_sliced {t} {a} {b} d s value gone orderly inside within w = record {
 }
 
 -- a read that was refused
-pub unread_sliced : {t : Slices} {a b : Seen} (d s : ℕ) (into : List ℕ) (gone : Gone) → IsOrderly t → IsInside t a
+pub unread_sliced : {t : Slices} {a b : RackView} (d s : ℕ) (into : List ℕ) (gone : Gone) → IsOrderly t → IsInside t a
     → Reads a b (disk_of t d) (first_of t d + s) into {X = Unit {0}} (Err gone)
     → Reads (slices_of t a) (slices_of t b) d s into {X = Unit {0}} (Err (record { disk = d }))
 unread_sliced {t} {a} {b} d s into gone orderly inside r = record {

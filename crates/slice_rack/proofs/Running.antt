@@ -3,7 +3,7 @@ use Rattle.std.proofs.Common.{◌≡◌, ◌≢◌, ◌⊎◌, ℕ, zero, suc, �
 use Rattle.std.proofs.lemmas.Bool.{cases_eq, cases_lt}
 use Rattle.rack.specs.declared.Gone.{Gone}
 use Rattle.rack.specs.Values.{MayLeave, Keeps}
-use Rattle.rack.specs.Seen.{Image, Seen, IsLive, Stays}
+use Rattle.rack.specs.Seen.{Image, RackView, IsLive, SameRack}
 use Rattle.rack.specs.Calls.{KeepsAll, Writes}
 use Rattle.rack.specs.Sequences.{OnlyReads, WritesOnly}
 use Rattle.rack.proofs.Writing.{only_quiet, only_written, only_refused}
@@ -13,10 +13,10 @@ use Rattle.slice_rack.specs.Runs.{IsSliced, Runs}
 
 -- ---- one call
 
-pub runs_quiet : (t : Slices) (a b : Seen) (own : Type 0) → own → Stays a b → KeepsAll a b → Runs t t a b own
+pub runs_quiet : (t : Slices) (a b : RackView) (own : Type 0) → own → SameRack a b → KeepsAll a b → Runs t t a b own
 runs_quiet t a b own is stays keeps = record { tables = refl; below = is; apart = λ fit inside. only_quiet (IsSliced t) stays keeps }
 
-pub runs_written : (t : Slices) (a b : Seen) (own : Type 0) (d s : ℕ) (v : List ℕ) → own → s < sectors_of t d
+pub runs_written : (t : Slices) (a b : RackView) (own : Type 0) (d s : ℕ) (v : List ℕ) → own → s < sectors_of t d
     → Writes a b (disk_of t d) (first_of t d + s) v {X = Unit {0}} (Ok tt) → Runs t t a b own
 runs_written t a b own d s v is there writes = record {
   tables = refl;
@@ -25,7 +25,7 @@ runs_written t a b own d s v is there writes = record {
       only_written (IsSliced t) (disk_of t d) (first_of t d + s) v (record { slice = d; at = s; within = there; disk_is = refl; sector_is = refl }) writes;
 }
 
-pub runs_refused : (t : Slices) (a b : Seen) (own : Type 0) (d s : ℕ) (v : List ℕ) (gone : Gone) → own → s < sectors_of t d
+pub runs_refused : (t : Slices) (a b : RackView) (own : Type 0) (d s : ℕ) (v : List ℕ) (gone : Gone) → own → s < sectors_of t d
     → Writes a b (disk_of t d) (first_of t d + s) v {X = Unit {0}} (Err gone) → Runs t t a b own
 runs_refused t a b own d s v gone is there writes = record {
   tables = refl;
@@ -82,7 +82,7 @@ sliced_or t d s none_past =
     ]
 
 -- a live sector of a slice
-live_above : (t : Slices) (a b : Seen) (d s : ℕ) (v : List ℕ) → (is : IsSliced t d s v) → is.slice < 272 → IsLive a b d s → IsLive (slices_of t a) (slices_of t b) is.slice is.at
+live_above : (t : Slices) (a b : RackView) (d s : ℕ) (v : List ℕ) → (is : IsSliced t d s v) → is.slice < 272 → IsLive a b d s → IsLive (slices_of t a) (slices_of t b) is.slice is.at
 live_above t a b d s v is few live = record {
   disk = few;
   sector = is.within;
@@ -91,7 +91,7 @@ live_above t a b d s v is few live = record {
 }
 
 -- calls that write slices alone, and none of these
-pub only_reads_below : (t : Slices) (a b : Seen) → ((k : ℕ) → 272 ≤ k → sectors_of t k ≡ 0)
+pub only_reads_below : (t : Slices) (a b : RackView) → ((k : ℕ) → 272 ≤ k → sectors_of t k ≡ 0)
     → WritesOnly a b (IsSliced t) → OnlyReads (slices_of t a) (slices_of t b) → OnlyReads a b
 only_reads_below t a b none_past only reads = record {
   stays = only.stays;

@@ -6,7 +6,7 @@ use Rattle.std.proofs.lemmas.Option.{unwrap_or-slice_get}
 use Rattle.std.proofs.lemmas.List.{get_or-set_same, get_or-set_other}
 use Rattle.std.proofs.lemmas.Bool.{cases_eq, eq-eqb}
 use Rattle.std.proofs.lemmas.Bool.Decides.{nat_tests}
-use Rattle.rack.specs.Seen.{Seen}
+use Rattle.rack.specs.Seen.{RackView}
 use Rattle.slice_rack.specs.declared.Slice.{Slice}
 use Rattle.slice_rack.specs.Slices.{Slices, IsOrderly, seat_of, place_of, disk_of, first_of, sectors_of}
 use Rattle.slice_rack.specs.Sliced.{IsInside}
@@ -42,7 +42,7 @@ empty_orderly t empty = record {
 }
 
 -- and lie inside any rack
-pub empty_inside : (t : Slices) (a : Seen) → IsEmpty t → ((disk : ℕ) → disk < a.disks → a.sectors disk < 2 ^ 48) → IsInside t a
+pub empty_inside : (t : Slices) (a : RackView) → IsEmpty t → ((disk : ℕ) → disk < a.disks → a.sectors disk < 2 ^ 48) → IsInside t a
 empty_inside t a empty small = record {
   small = small;
   seats = λ place disk at. let no : None ≡ Some disk = sym (empty.seats place) ∙ at in cc;
@@ -84,7 +84,7 @@ seats_orderly a b place seat change free orderly = record {
 }
 
 -- and the slices that are left still lie inside
-pub seats_inside : (a b : Slices) (place : ℕ) (seat : Option ℕ) (x : Seen) → Seats a b place seat → ((disk : ℕ) → seat ≡ Some disk → disk < x.disks)
+pub seats_inside : (a b : Slices) (place : ℕ) (seat : Option ℕ) (x : RackView) → Seats a b place seat → ((disk : ℕ) → seat ≡ Some disk → disk < x.disks)
     → IsInside a x → IsInside b x
 seats_inside a b place seat x change known inside = record {
   small = inside.small;
@@ -170,7 +170,7 @@ put_adds a b at slice here others seats = record {
 }
 
 -- and the slices still lie inside
-pub adds_inside : (a b : Slices) (at first sectors : ℕ) (x : Seen) → Adds a b at first sectors → IsWithin a x (place_of at) first sectors → IsInside a x → IsInside b x
+pub adds_inside : (a b : Slices) (at first sectors : ℕ) (x : RackView) → Adds a b at first sectors → IsWithin a x (place_of at) first sectors → IsInside a x → IsInside b x
 adds_inside a b at first sectors x adds within inside = record {
   small = inside.small;
   seats = λ place disk seat. inside.seats place disk (sym (adds.seats place) ∙ seat);

@@ -1,6 +1,6 @@
 -- Changes of the tables.
 use Rattle.std.specs.Prelude.{◌≡◌, ◌≢◌, ◌==◌, if◌then◌else◌, ℕ, ◌+◌, ◌<◌, ◌≤◌, Option, Some, None}
-use Rattle.rack.specs.Seen.{Seen}
+use Rattle.rack.specs.Seen.{RackView}
 use Rattle.slice_rack.specs.Slices.{Slices, seat_of, place_of, first_of, sectors_of}
 
 -- no place has a disk
@@ -22,10 +22,10 @@ pub record Adds (before after : Slices) (at first sectors : ℕ) : Type 0 where
   pub sectors_are : (d : ℕ) → sectors_of after d ≡ (if d == at then sectors else sectors_of before d)
 
 -- the slice would end past the disk of its place, or wouldn't
-abbrev pub IsPast : Slices → Seen → (place first sectors : ℕ) → Type 0
+abbrev pub IsPast : Slices → RackView → (place first sectors : ℕ) → Type 0
 IsPast t a place first sectors = (disk : ℕ) × (seat_of t place ≡ Some disk) × (a.sectors disk < first + sectors)
 
-abbrev pub IsWithin : Slices → Seen → (place first sectors : ℕ) → Type 0
+abbrev pub IsWithin : Slices → RackView → (place first sectors : ℕ) → Type 0
 IsWithin t a place first sectors = (disk : ℕ) × (seat_of t place ≡ Some disk) × (first + sectors ≤ a.sectors disk)
 
 -- some sectors share one with a slice

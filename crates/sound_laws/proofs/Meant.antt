@@ -1,7 +1,7 @@
 -- What sound contents give of an opening: they hold a sound pool, and mean one volume.
 use Rattle.std.proofs.Common.{◌≡◌, ℕ, ◌<◌, true, false, [], ◌∷◌, Option, Some, None, option_map, refl, ap, subst, sym}
 use Rattle.std.specs.Option.{option_map_or}
-use Rattle.rack.specs.Seen.{Image, Seen}
+use Rattle.rack.specs.Seen.{Image, RackView}
 use Rattle.lvm_text.specs.declared.group.Group.{Group}
 use Rattle.md_super.specs.declared.superblock.Super.{Super}
 use Rattle.array_image.specs.Supers.{is_named}
@@ -19,7 +19,7 @@ use Rattle.sound_laws.proofs.OnePool.{unrefused}
 
 -- Steady disks of sound contents with sound logs hold a sound pool, where the truth of each array is its own member's.
 pub hold_sound :
-    (growth : Growth) (x : Seen) (f : Found) → AreSteady x → IsSound growth (disks_of x) (now_in x) f → HasSoundLogs (disks_of x) (now_in x)
+    (growth : Growth) (x : RackView) (f : Found) → AreSteady x → IsSound growth (disks_of x) (now_in x) f → HasSoundLogs (disks_of x) (now_in x)
     → ((n : ℕ) (t : Super) → n < f.state.made → truth_of f n ≡ Some t → is_named t t.dev_number ≡ true) → HoldSound x f
 hold_sound growth x f steady sound logs own =
     record { steady = steady; found_is = sound.is_found; sound = record { rules = sound.rules.state; own = own }; logs = logs }

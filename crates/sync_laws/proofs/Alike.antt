@@ -2,7 +2,7 @@
 use Rattle.std.proofs.Common.{◌≡◌, ℕ, ◌+◌, ◌*◌, ◌<◌, ◌≤◌, Bool, false, List, [], map, take, length, refl, sym, ap, subst, ◌∙◌, inl, inr, le-ltb, ltb-false, arith}
 use Rattle.std.proofs.lemmas.Bool.{cases_lt, cases_eq}
 use Rattle.std.specs.List.{range_with_len}
-use Rattle.rack.specs.Seen.{Image, Seen, IsLive}
+use Rattle.rack.specs.Seen.{Image, RackView, IsLive}
 use Rattle.rack.specs.Targets.{look}
 use Rattle.rack.specs.Sequences.{OnlyReads}
 use Rattle.raid_map.specs.LeftSymmetric.{row_at}
@@ -54,12 +54,12 @@ whole_before v row last low whole =
     le-ltb 0 (wanting (row * 128 + 127) (members_of v)) (omega (arith, few, later))
 
 -- a member's sector that counts can be called
-pub live_at : (v : View) (a : Seen) (j t : ℕ) → j < v.truth.raid_disks → t < (member_on v j).reach → IsOpen (shape_of v) v.number a → IsLive a a (slice_on v j) (data_sector + t)
+pub live_at : (v : View) (a : RackView) (j t : ℕ) → j < v.truth.raid_disks → t < (member_on v j).reach → IsOpen (shape_of v) v.number a → IsLive a a (slice_on v j) (data_sector + t)
 live_at v a j t low counts opened =
     opened (member_on v j) t (subst (λ (ms : List Member). Among (member_on v j) ms) (sym (shape_members v)) (member_among v j v.truth.raid_disks low)) counts
 
 -- what they hold after reads they held before them
-pub alike_before : (v : View) (a b : Seen) (t : ℕ) → IsArray v → a.lasting → OnlyReads a b → lacks_row v (row_at t) ≡ false → IsAlike v b t → IsAlike v a t
+pub alike_before : (v : View) (a b : RackView) (t : ℕ) → IsArray v → a.lasting → OnlyReads a b → lacks_row v (row_at t) ≡ false → IsAlike v b t → IsAlike v a t
 alike_before v a b t is_array lasting reads whole alike opened =
     let most = (row_layout_is v t is_array).most in
     ap (xor_all 512)
@@ -71,7 +71,7 @@ alike_before v a b t is_array lasting reads whole alike opened =
 
 -- ---- nothing is written to them
 
-module _ (v : View) (rows : ℕ) (some : 0 < rows) (a b : Seen) (is_array : IsArray v) (lasting : a.lasting) (reads : OnlyReads a b)
+module _ (v : View) (rows : ℕ) (some : 0 < rows) (a b : RackView) (is_array : IsArray v) (lasting : a.lasting) (reads : OnlyReads a b)
     (lacks : lacks_row v (last_row v rows) ≡ false)
     (alike : AreAlike v a (v.resync * 128) (128 * rows))
     (opened : IsOpen (shape_of v) v.number a)

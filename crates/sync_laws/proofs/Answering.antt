@@ -4,7 +4,7 @@ use Rattle.std.proofs.lemmas.Bool.{both_ways}
 use Rattle.std.proofs.lemmas.List.{length-append}
 use Rattle.std.specs.Option.{option_map_or}
 use Rattle.rack.specs.Values.{Keeps}
-use Rattle.rack.specs.Seen.{Seen, IsLive}
+use Rattle.rack.specs.Seen.{RackView, IsLive}
 use Rattle.rack.specs.Targets.{Target, look}
 use Rattle.rack.specs.Sequences.{OnlyReads}
 use Rattle.array_image.specs.Places.{log_slice, place_of, slice_of}
@@ -46,7 +46,7 @@ seat_was v n other = by (slice_get v.seats n) other
     by (Some Missing) other = absurd (other refl)
     by (Some (Rebuilding to)) other = refl
 
-pub commit_leaves : (v : View) (l : LogView) (on lost : List ℕ) (a b : Seen) → v.number < 16 → AreOnMembers v l.added → CommitCall l on lost a b
+pub commit_leaves : (v : View) (l : LogView) (on lost : List ℕ) (a b : RackView) → v.number < 16 → AreOnMembers v l.added → CommitCall l on lost a b
     → KeepsElsewhere false v on a b
 commit_leaves v l on lost a b few members commit d t live other =
     let none : look l.added d t ≡ None =
@@ -70,7 +70,7 @@ commit_leaves v l on lost a b few members commit d t live other =
         subst (λ e. Keeps (a.held e t) (b.held e t)) own
         (commit.around (place_of d) t (subst (λ e. IsLive a b e t) (sym own) live) (omega (arith, later)) (inl log.1))
 
-pub row_elsewhere : (v : View) (l : LogView) (on lost : List ℕ) (a b c : Seen) → v.number < 16 → OnlyReads a b → AreOnMembers v l.added → CommitCall l on lost b c
+pub row_elsewhere : (v : View) (l : LogView) (on lost : List ℕ) (a b c : RackView) → v.number < 16 → OnlyReads a b → AreOnMembers v l.added → CommitCall l on lost b c
     → KeepsElsewhere false v on a c
 row_elsewhere v l on lost a b c few reads members commit =
     elsewhere_then false v on a b c reads.stays commit.stays (reads_elsewhere false v on a b reads) (commit_leaves v l on lost b c few members commit)

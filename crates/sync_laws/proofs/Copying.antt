@@ -3,7 +3,7 @@ use Rattle.std.proofs.Common.{◌≡◌, ◌⊎◌, ℕ, ◌+◌, ◌-◌, ◌<�
 use Rattle.std.proofs.lemmas.Bool.{both_ways, and_parts, cases_lt}
 use Rattle.std.proofs.lemmas.List.{length-append}
 use Rattle.std.specs.List.{list_any}
-use Rattle.rack.specs.Seen.{Seen}
+use Rattle.rack.specs.Seen.{RackView}
 use Rattle.rack.specs.Sequences.{IsPayload, OnlyReads}
 use Rattle.rack.specs.Targets.{Target, target, is_at}
 use Rattle.array_image.specs.Places.{data_sector}
@@ -211,7 +211,7 @@ copy_made v sector members made from xs ys is_array members_is low is only long 
     (λ t j inside. (inside.0, only j inside.1 (ap (λ s. is_source v s j) (sym inside.0) ∙ inside.2))) refl added
 
 -- the sector of a view before losses, with what its members held then
-pub sector_copies : (v u : View) (a b : Seen) (sector : ℕ) (from : List ℕ) (xs ys : List Target) → Notes v u a b → IsRowSum v a sector from
+pub sector_copies : (v u : View) (a b : RackView) (sector : ℕ) (from : List ℕ) (xs ys : List Target) → Notes v u a b → IsRowSum v a sector from
     → AddsCopies u (OfSector u sector (width (row_layout u sector))) (λ t w. w ≡ from) 1 xs ys
     → AddsCopies v (OfSector v sector (width (row_layout v sector))) (IsRowSum v a) 1 xs ys
 sector_copies v u a b sector from xs ys notes sum =
@@ -223,7 +223,7 @@ sector_copies v u a b sector from xs ys notes sum =
     (λ t j w is bytes. subst (λ i. IsRowSum v a i w) (sym is.0) (subst (λ x. IsRowSum v a sector x) (sym bytes) sum))
 
 -- one sector more of a row, read by a view after losses
-pub row_next : (v u : View) (a b : Seen) (first many : ℕ) (xs ys zs : List Target) → IsArray v → a.lasting → OnlyReads a b → Notes v u a b
+pub row_next : (v u : View) (a b : RackView) (first many : ℕ) (xs ys zs : List Target) → IsArray v → a.lasting → OnlyReads a b → Notes v u a b
     → AddsCopies v (OfRow v first many) (IsRowSum v a) many xs ys
     → AddsCopies u (OfSector u (first + many) (width (row_layout u (first + many)))) (IsRowSum u b) 1 ys zs
     → SourcesCount v (first + many) (width (row_layout v (first + many)))
@@ -266,7 +266,7 @@ added_length v within bytes many xs ys adds =
     omega (arith, few, sum)
 
 -- the same, by the sector that comes next
-pub row_step : (v u : View) (a b : Seen) (first sector : ℕ) (xs ys zs : List Target) → IsArray v → a.lasting → OnlyReads a b → Notes v u a b → first ≤ sector
+pub row_step : (v u : View) (a b : RackView) (first sector : ℕ) (xs ys zs : List Target) → IsArray v → a.lasting → OnlyReads a b → Notes v u a b → first ≤ sector
     → AddsCopies v (OfRow v first (sector - first)) (IsRowSum v a) (sector - first) xs ys
     → AddsCopies u (OfSector u sector (width (row_layout u sector))) (IsRowSum u b) 1 ys zs
     → SourcesCount u sector (width (row_layout u sector))

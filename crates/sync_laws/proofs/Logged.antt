@@ -2,7 +2,7 @@
 use Rattle.std.proofs.Common.{◌≡◌, ◌≢◌, ◌⊎◌, ℕ, ◌+◌, ◌<◌, Bool, true, false, ◌==◌, ◌&&◌, ◌||◌, not, List, [], ◌∷◌, slice_get, Option, Some, None, option_map, unwrap_or, refl, sym, ap, subst, ◌∙◌, inl, inr, eqb-true, lt-ltb, arith}
 use Rattle.std.proofs.lemmas.Bool.{both_ways, and_from, ne_eqb}
 use Rattle.std.specs.List.{list_all, list_any}
-use Rattle.rack.specs.Seen.{Image, Seen, IsLive, Stays}
+use Rattle.rack.specs.Seen.{Image, RackView, IsLive, SameRack}
 use Rattle.rack.specs.Targets.{Target, look}
 use Rattle.rack.specs.Sequences.{IsPayload, OnlyReads}
 use Rattle.pool_state.specs.declared.contents.State.{State}
@@ -15,7 +15,7 @@ use Rattle.array_image.proofs.Replays.{replayed_as_is}
 use Rattle.log_laws.specs.View.{LogView, names, next_number}
 use Rattle.log_laws.specs.Standing.{IsReady, SomeoneDecides}
 use Rattle.log_laws.specs.Commits.{CommitCall}
-use Rattle.log_laws.specs.Kept.{LogKept, Brings, gone_with}
+use Rattle.log_laws.specs.Kept.{LogInvariant, CarriesState, gone_with}
 use Rattle.log_laws.specs.Phases.{IsHad}
 use Rattle.log_laws.proofs.Kept.{brings_nothing, kept_ready, kept_decides, kept_idle}
 use Rattle.log_laws.proofs.KeptAfter.{kept_after, kept_keeps}
@@ -60,7 +60,7 @@ all_valid v (x ∷ xs) is_array on =
     (ap (λ (b : Bool). not b || (x.sector == 0)) (ne_eqb (slice_of x.disk) 0 (λ none. omega (arith, disk, few, none)))))
     (all_valid v xs is_array (λ d s u is. on d s u (inr is)))
 
-inside_slice : (v : View) (a : Seen) (d s : ℕ) (u : List ℕ) → HasSlices v a → IsOnMember v d s u → IsHad a d s
+inside_slice : (v : View) (a : RackView) (d s : ℕ) (u : List ℕ) → HasSlices v a → IsOnMember v d s u → IsHad a d s
 inside_slice v a d s u slices at =
     let disks = slices.disks at.position at.low at.there in
     let sectors = slices.sectors at.position at.low at.there in (
@@ -72,7 +72,7 @@ inside_slice v a d s u slices at =
           ]),
     )
 
-pub all_had : (v : View) (a b : Seen) (xs : List Target) → HasSlices v a → Stays a b → AreOnMembers v xs → (d s : ℕ) (u : List ℕ) → look xs d s ≡ Some u → IsHad b d s
+pub all_had : (v : View) (a b : RackView) (xs : List Target) → HasSlices v a → SameRack a b → AreOnMembers v xs → (d s : ℕ) (u : List ℕ) → look xs d s ≡ Some u → IsHad b d s
 all_had v a b xs slices stays on d s u is =
     let had = inside_slice v a d s u slices (on d s u (look_payload xs d s u is)) in
     (subst (λ k. d < k) (sym stays.disks) had.0, subst (λ k. s < k) (sym (stays.sectors d)) had.1)
@@ -89,11 +89,11 @@ any_place (x ∷ xs) p is = by (place_of x.disk == p) (list_any (λ x. place_of 
     by true rest at now later = (x.disk, x.sector, x.bytes, inl (is_at_own x, refl), eqb-true (place_of x.disk) p at)
     by false rest at now later = let one = later now in (one.0, one.1, one.2, inr one.3, one.4)
 
-module _ (s : State) (v w : View) (a b c : Seen) (l : LogView) (on lost : List ℕ)
+module _ (s : State) (v w : View) (a b c : RackView) (l : LogView) (on lost : List ℕ)
     (is_array : IsArray v) (lasting : a.lasting) (reads : OnlyReads a b) (members : AreOnMembers v l.added)
     (live : (d i : ℕ) (u : List ℕ) → IsPayload l.added d i u → IsLive a a d i)
     (commit : CommitCall l on lost b c) (may : MayCommit s v w l.number on a) (left : (place : ℕ) → has_gone w place ≡ false → names lost place ≡ false) where
-  kept_b : LogKept s l.number nobody b
+  kept_b : LogInvariant s l.number nobody b
   kept_b = kept_keeps s l.number nobody a b lasting reads.stays reads.keeps may.log
 
   -- a member that isn't missing is on a current place
@@ -124,7 +124,7 @@ module _ (s : State) (v w : View) (a b c : Seen) (l : LogView) (on lost : List �
       let few = is_array.few in
       omega (arith, disk, few))
 
-  brings : Brings s s l.added on
+  brings : CarriesState s s l.added on
   brings = brings_nothing s nobody l.added on may.places inside_on no_state
 
   pub log_ready : IsReady l on b
@@ -140,7 +140,7 @@ module _ (s : State) (v w : View) (a b c : Seen) (l : LogView) (on lost : List �
       (and_from (names on p) (not (names lost p)) (may.places p ∙ ap (λ (k : Bool). k && true) may.someone.1) (ap not (left p may.someone.2)))
       may.someone.1
 
-  pub log_kept : LogKept s (next_number l.number) (gone_with nobody lost) c
+  pub log_kept : LogInvariant s (next_number l.number) (gone_with nobody lost) c
   log_kept = kept_after s s nobody l on lost b c commit kept_b brings may.places log_ready log_decides
 
   pub log_quiet : (i : Image) → PicksLogs b i → (d t : ℕ) → replayed b.sectors i d t ≡ i d t

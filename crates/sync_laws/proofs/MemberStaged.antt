@@ -4,7 +4,7 @@ use Rattle.std.proofs.lemmas.Bool.{both_ways, cases_eq, cases_lt, and_parts}
 use Rattle.std.proofs.lemmas.List.{length-append}
 use Rattle.std.specs.List.{list_all}
 use Rattle.std.specs.Option.{option_map_or}
-use Rattle.rack.specs.Seen.{Seen, IsLive}
+use Rattle.rack.specs.Seen.{RackView, IsLive}
 use Rattle.rack.specs.Targets.{Target, look}
 use Rattle.rack.specs.Sequences.{IsPayload, OnlyReads}
 use Rattle.array_image.specs.Places.{data_sector}
@@ -45,7 +45,7 @@ use Rattle.array_image.specs.Stripes.{Layout, sector_in}
 use Rattle.array_model.proofs.Reading.{layout_same, spent_given}
 
 -- the superblocks by which the member counts in its row, and the row's sectors
-pub record MemberStaged (v : View) (place p to rows : ℕ) (a : Seen) (xs : List Target) : Type 0 where
+pub record MemberStaged (v : View) (place p to rows : ℕ) (a : RackView) (xs : List Target) : Type 0 where
   pub is : IsRebuilding v place p to rows
   pub unsynced : first_unsynced v.truth ≤ v.resync
   pub others : OthersGive v p (last_of to rows)
@@ -64,7 +64,7 @@ change_is v place p to rows row c is row_is change =
     change ∙ ap (rebuilt_by v place) (let whole = is.whole in let reach = is.reach in let e : (row + rows) * 128 ≡ reach_on v place + 128 * rows = omega (arith, row_is, whole, reach) in e)
 
 -- the others counted before losses
-others_before : (v u : View) (a b : Seen) (place p to rows last : ℕ) → IsRebuilding v place p to rows → last ≡ last_of to rows → Notes v u a b → row_spent u last ≡ false → OthersGive v p (last_of to rows)
+others_before : (v u : View) (a b : RackView) (place p to rows last : ℕ) → IsRebuilding v place p to rows → last ≡ last_of to rows → Notes v u a b → row_spent u last ≡ false → OthersGive v p (last_of to rows)
 others_before v u a b place p to rows last is last_is notes unspent =
     let disks : u.truth.raid_disks ≡ v.truth.raid_disks = ap (λ t. t.raid_disks) notes.same.truth in
     let low = is.low in
@@ -80,7 +80,7 @@ others_before v u a b place p to rows last is last_is notes unspent =
     } in
     subst (OthersGive v p) last_is here
 
-pub staged : (v u : View) (a b : Seen) (place p to rows row : ℕ) (c : Change) (x y z : List Target) → IsRebuilding v place p to rows → first_unsynced v.truth ≤ v.resync → row ≡ to / 128
+pub staged : (v u : View) (a b : RackView) (place p to rows row : ℕ) (c : Change) (x y z : List Target) → IsRebuilding v place p to rows → first_unsynced v.truth ≤ v.resync → row ≡ to / 128
     → c ≡ rebuilt_by v place ((row + rows) * 128) → x ≡ [] → AddsSupersOf (adopted c v) x y → AddsCopies v (OfMember p (row * 128) (128 * rows)) (IsGiven v a p) (128 * rows) y z
     → Notes v u a b → not (row_spent u (row + (rows - 1))) ≡ true
     → MemberStaged v place p to rows a z
@@ -108,7 +108,7 @@ whole_at (s ∷ seats) zero seat all is =
     ap is_whole_seat (sym same) ∙ (and_parts (is_whole_seat s) (list_all is_whole_seat seats) all).0
 whole_at (s ∷ seats) (suc k) seat all is = whole_at seats k seat (and_parts (is_whole_seat s) (list_all is_whole_seat seats) all).1 is
 
-module _ (v : View) (place p to rows : ℕ) (a b : Seen) (xs : List Target) (row : MemberStaged v place p to rows a xs) (lasting : a.lasting) (reads : OnlyReads a b) where
+module _ (v : View) (place p to rows : ℕ) (a b : RackView) (xs : List Target) (row : MemberStaged v place p to rows a xs) (lasting : a.lasting) (reads : OnlyReads a b) where
   abbrev is : IsRebuilding v place p to rows
   is = row.is
 
@@ -235,7 +235,7 @@ module _ (v : View) (place p to rows : ℕ) (a b : Seen) (xs : List Target) (row
   member_had slices = all_had v a b xs slices reads.stays member_on_members
 
 -- the whole step
-pub member_steps : (v u z w : View) (a b c : Seen) (l : LogView) (on lost : List ℕ) (place p to rows number after row : ℕ) (change : Change) (answered : Bool)
+pub member_steps : (v u z w : View) (a b c : RackView) (l : LogView) (on lost : List ℕ) (place p to rows number after row : ℕ) (change : Change) (answered : Bool)
     → MemberStaged v place p to rows a l.added → HasSlices v a → OnlyReads a b → Notes v u a b → CommitCall l on lost b c → IsSameButSeats u z → LosesPlaces u z (names lost) → IsArray z
     → row ≡ to / 128 → change ≡ rebuilt_by v place ((row + rows) * 128) → w ≡ adopted change z → l.number ≡ number → after ≡ next_number l.number
     → Steps v (rebuilt v place rows) w number after on a c answered
@@ -250,7 +250,7 @@ member_steps v u z w a b c l on lost place p to rows number after row change ans
     number_is after_is answered (λ spent. tt)
     (λ whole. member_unspent v place p to rows a b l.added staged_row slices.lasting reads)
 
-pub member_leaves : (v : View) (place p to rows : ℕ) (a b c : Seen) (l : LogView) (on lost : List ℕ) → MemberStaged v place p to rows a l.added → a.lasting → OnlyReads a b → CommitCall l on lost b c
+pub member_leaves : (v : View) (place p to rows : ℕ) (a b c : RackView) (l : LogView) (on lost : List ℕ) → MemberStaged v place p to rows a l.added → a.lasting → OnlyReads a b → CommitCall l on lost b c
     → KeepsElsewhere false v on a c
 member_leaves v place p to rows a b c l on lost staged_row lasting reads commit =
     row_elsewhere v l on lost a b c staged_row.is.is_array.few reads (member_on_members v place p to rows a b l.added staged_row lasting reads) commit

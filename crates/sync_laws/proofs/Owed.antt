@@ -2,7 +2,7 @@
 use Rattle.std.proofs.Common.{◌≡◌, ◌⊎◌, ℕ, zero, suc, ◌+◌, ◌<◌, Bool, true, false, nat_lt, if◌then◌else◌, List, [], ◌∷◌, ◌++◌, take, length, Option, Some, None, option_map, refl, sym, ap, subst, ◌∙◌, inl, inr, arith}
 use Rattle.std.specs.Option.{option_or}
 use Rattle.rack.specs.Values.{Values}
-use Rattle.rack.specs.Seen.{Image, Seen}
+use Rattle.rack.specs.Seen.{Image, RackView}
 use Rattle.rack.specs.Targets.{Target, look}
 use Rattle.rack.specs.Sequences.{IsPayload}
 use Rattle.rack.proofs.Phases.{look-append}
@@ -17,7 +17,7 @@ use Rattle.array_image.specs.Held.{Among, first_counting, member_at, source_in}
 use Rattle.array_image.specs.Spent.{wanting}
 use Rattle.array_model.specs.declared.Seat.{Seat}
 use Rattle.array_model.specs.View.{View, shape_of}
-use Rattle.array_model.specs.Says.{Says}
+use Rattle.array_model.specs.Says.{ImageShowsArray}
 use Rattle.array_model.specs.Stages.{AmongTargets}
 use Rattle.array_model.specs.ArrayCalls.{KeepsSupers, HasFields}
 use Rattle.array_model.specs.Rows.{written, source_at, sector_at}
@@ -33,10 +33,10 @@ restated v events offset resync seats marked = record v {
 }
 
 -- contents say the array before a step or after it
-abbrev pub SaysEither : State → (v g : View) → Seen → (vals : ℕ → Values) → (spent : ℕ → Bool) → Image → Type 0
+abbrev pub SaysEither : State → (v g : View) → RackView → (vals : ℕ → Values) → (spent : ℕ → Bool) → Image → Type 0
 SaysEither s v g a vals spent r =
-    (Says s v.number (shape_of v) vals spent r × KeepsSupers v.number a r)
-    ⊎ (Says s v.number (shape_of g) vals spent r × HasFields s v.number g.truth r)
+    (ImageShowsArray s v.number (shape_of v) vals spent r × KeepsSupers v.number a r)
+    ⊎ (ImageShowsArray s v.number (shape_of g) vals spent r × HasFields s v.number g.truth r)
 
 -- What a step owes, where g is the shape after it and `resync` the first row that it leaves: with its targets written, its members
 -- give each sector what they gave, by the sectors that gave it, and rows agree.

@@ -2,7 +2,7 @@
 use Rattle.std.proofs.Common.{◌≡◌, ◌⊎◌, ℕ, ◌+◌, ◌*◌, ◌<◌, ◌≤◌, Bool, true, false, nat_lt, if◌then◌else◌, List, map, take, length, Option, Some, None, unwrap_or, refl, sym, ap, ap₂, subst, ◌∙◌, inl, inr, lt-ltb, le-ltb, ltb-true, arith}
 use Rattle.std.proofs.lemmas.Bool.{cases_eq, cases_lt}
 use Rattle.std.specs.List.{range_with_len}
-use Rattle.rack.specs.Seen.{Image, Seen}
+use Rattle.rack.specs.Seen.{Image, RackView}
 use Rattle.rack.specs.Targets.{Target, look}
 use Rattle.rack.specs.Sequences.{OnlyReads}
 use Rattle.raid_map.specs.LeftSymmetric.{row_at}
@@ -48,12 +48,12 @@ unfolding shape_of
 size_is v = refl
 
 -- one of the row, and what is written there
-record IsTarget (v : View) (a : Seen) (xs : List Target) (p t : ℕ) : Type 0 where
+record IsTarget (v : View) (a : RackView) (xs : List Target) (p t : ℕ) : Type 0 where
   bytes : List ℕ
   found : look xs (slice_on v p) (data_sector + t) ≡ Some bytes
   is : IsGiven v a p t bytes
 
-module _ (v : View) (place p to rows : ℕ) (is : IsRebuilding v place p to rows) (a b : Seen) (xs : List Target) (lasting : a.lasting) (reads : OnlyReads a b)
+module _ (v : View) (place p to rows : ℕ) (is : IsRebuilding v place p to rows) (a b : RackView) (xs : List Target) (lasting : a.lasting) (reads : OnlyReads a b)
     (others : OthersGive v p (last_of to rows))
     (copies : AreCopies v (OfMember p to (128 * rows)) (IsGiven v a p) xs)
     (opened : IsOpen (shape_of v) v.number a)

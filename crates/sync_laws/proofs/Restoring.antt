@@ -2,7 +2,7 @@
 use Rattle.std.proofs.Common.{◌≡◌, ℕ, zero, suc, ◌+◌, ◌-◌, ◌*◌, ◌<◌, ◌≤◌, Bool, true, false, ◌&&◌, ◌||◌, not, nat_lt, if◌then◌else◌, List, [], ◌∷◌, ◌++◌, map, take, length, refl, sym, ap, ap₂, subst, ◌∙◌, inl, inr, lt-ltb, ltb-true, arith}
 use Rattle.std.proofs.lemmas.Bool.{both_ways, cases_eq, cases_lt}
 use Rattle.std.specs.List.{range_with_len}
-use Rattle.rack.specs.Seen.{Image, Seen}
+use Rattle.rack.specs.Seen.{Image, RackView}
 use Rattle.rack.specs.Sequences.{OnlyReads}
 use Rattle.rack.specs.Targets.{Target, target}
 use Rattle.raid_map.specs.LeftSymmetric.{row_at}
@@ -90,13 +90,13 @@ is_spent true rest is = absurd (both_ways false refl is)
 is_spent false rest is = is
 
 -- where it was had no more than one is wanting
-pub few_wanting : (v w : View) (a b : Seen) (p t : ℕ) → Notes v w a b → nat_lt t (member_on v p).reach ≡ false → member_spent w p t ≡ false → wanting t (members_of w) ≤ 1
+pub few_wanting : (v w : View) (a b : RackView) (p t : ℕ) → Notes v w a b → nat_lt t (member_on v p).reach ≡ false → member_spent w p t ≡ false → wanting t (members_of w) ≤ 1
 few_wanting v w a b p t notes lacks unspent =
     at_most_one (wanting t (members_of w)) (nat_lt (row_at t) w.resync)
     (not_spent (nat_lt t (member_on w p).reach) (spent_with (wanting t (members_of w)) (nat_lt (row_at t) w.resync)) (stays_lacking v w notes.lost p t notes.same.truth notes.loses lacks) unspent)
 
 -- what the others give after losses is what they gave
-pub given_here : (v w : View) (a b : Seen) (p t : ℕ) (x : List ℕ) → IsArray v → Notes v w a b → p < v.truth.raid_disks → nat_lt t (member_on v p).reach ≡ false
+pub given_here : (v w : View) (a b : RackView) (p t : ℕ) (x : List ℕ) → IsArray v → Notes v w a b → p < v.truth.raid_disks → nat_lt t (member_on v p).reach ≡ false
     → member_spent w p t ≡ false
     → (IsOpen (shape_of v) v.number a → x ≡ restored (row_layout w t) (row_of w (current_in a.held) t) p)
     → IsGiven v a p t x
@@ -115,7 +115,7 @@ pub spent_here : (w : View) (p t : ℕ) → member_spent w p t ≡ true → spen
 spent_here w p t = is_spent (nat_lt t (member_on w p).reach) (spent_with (wanting t (members_of w)) (nat_lt (row_at t) w.resync))
 
 -- and what they gave before calls that wrote nothing
-pub given_before : (v u : View) (a b : Seen) (p t : ℕ) (x : List ℕ) → IsArray v → a.lasting → OnlyReads a b → Notes v u a b → p < v.truth.raid_disks
+pub given_before : (v u : View) (a b : RackView) (p t : ℕ) (x : List ℕ) → IsArray v → a.lasting → OnlyReads a b → Notes v u a b → p < v.truth.raid_disks
     → nat_lt t (member_on v p).reach ≡ false → (p < width (row_layout v t) → wanting t (members_of u) ≤ 1)
     → IsGiven u b p t x → IsGiven v a p t x
 given_before v u a b p t x is_array lasting reads notes low lacks few is opened inside =
@@ -152,7 +152,7 @@ spent_at_last w row t most is =
 
 -- ---- its targets
 
-pub member_sector : (v : View) (a : Seen) (p t : ℕ) (from : List ℕ) (xs ys : List Target) → p < v.truth.raid_disks → length from ≡ 512 → IsGiven v a p t from
+pub member_sector : (v : View) (a : RackView) (p t : ℕ) (from : List ℕ) (xs ys : List Target) → p < v.truth.raid_disks → length from ≡ 512 → IsGiven v a p t from
     → ys ≡ xs ++ target (slice_on v p) (data_sector + t) from ∷ [] → AddsCopies v (OfMember p t 1) (IsGiven v a p) 1 xs ys
 member_sector v a p t from xs ys low long is added =
     one_target v (OfMember p t 1) (IsGiven v a p) t p from xs ys low long (omega arith, omega arith, refl)
@@ -160,7 +160,7 @@ member_sector v a p t from xs ys low long is added =
     is added
 
 -- the same, by a view before losses
-pub sector_before : (v u : View) (a b : Seen) (p t : ℕ) (xs ys : List Target) → IsArray v → a.lasting → OnlyReads a b → Notes v u a b → p < v.truth.raid_disks
+pub sector_before : (v u : View) (a b : RackView) (p t : ℕ) (xs ys : List Target) → IsArray v → a.lasting → OnlyReads a b → Notes v u a b → p < v.truth.raid_disks
     → nat_lt t (member_on v p).reach ≡ false → (p < width (row_layout v t) → wanting t (members_of u) ≤ 1)
     → AddsCopies u (OfMember p t 1) (IsGiven u b p) 1 xs ys → AddsCopies v (OfMember p t 1) (IsGiven v a p) 1 xs ys
 sector_before v u a b p t xs ys is_array lasting reads notes low lacks few =
@@ -172,7 +172,7 @@ sector_before v u a b p t xs ys is_array lasting reads notes low lacks few =
     subst (λ (i : ℕ). IsGiven v a p i x) at (given_before v u a b p t x is_array lasting reads notes low lacks few (subst (λ (i : ℕ). IsGiven u b p i x) (sym at) bytes)))
 
 -- one sector more of a member's row
-pub member_next : (v u w : View) (a b c : Seen) (p first sector : ℕ) (xs ys zs : List Target) → IsArray v → a.lasting → OnlyReads a b → Notes v u a b → Notes u w b c
+pub member_next : (v u w : View) (a b c : RackView) (p first sector : ℕ) (xs ys zs : List Target) → IsArray v → a.lasting → OnlyReads a b → Notes v u a b → Notes u w b c
     → p < v.truth.raid_disks → nat_lt sector (member_on v p).reach ≡ false → first ≤ sector
     → (p < width (row_layout u sector) → wanting sector (members_of w) ≤ 1)
     → AddsCopies v (OfMember p first (sector - first)) (IsGiven v a p) (sector - first) xs ys

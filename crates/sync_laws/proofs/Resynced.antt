@@ -2,7 +2,7 @@
 use Rattle.std.proofs.Common.{◌≡◌, ℕ, ◌+◌, ◌*◌, ◌<◌, ◌≤◌, Bool, true, false, not, if◌then◌else◌, List, map, take, length, Option, Some, None, unwrap_or, refl, sym, ap, subst, ◌∙◌, inl, inr, eq-eqb, lt-ltb, arith}
 use Rattle.std.proofs.lemmas.Bool.{both_ways, cases_lt, ne_eqb}
 use Rattle.std.specs.List.{range_with_len}
-use Rattle.rack.specs.Seen.{Image, Seen}
+use Rattle.rack.specs.Seen.{Image, RackView}
 use Rattle.rack.specs.Targets.{Target, look}
 use Rattle.rack.specs.Sequences.{OnlyReads}
 use Rattle.raid_map.specs.LeftSymmetric.{IsMemberCount, parity_at, row_at}
@@ -50,7 +50,7 @@ record IsMade (v : View) (rows d t : ℕ) : Type 0 where
   low : position < width (row_layout v t)
   made : is_source v t position ≡ false
 
-module _ (v : View) (rows : ℕ) (some : 0 < rows) (a b : Seen) (xs : List Target) (is_array : IsArray v) (lasting : a.lasting) (reads : OnlyReads a b)
+module _ (v : View) (rows : ℕ) (some : 0 < rows) (a b : RackView) (xs : List Target) (is_array : IsArray v) (lasting : a.lasting) (reads : OnlyReads a b)
     (lacks : lacks_row v (last_row v rows) ≡ false)
     (copies : AreCopies v (OfRow v (v.resync * 128) (128 * rows)) (IsRowSum v a) xs)
     (opened : IsOpen (shape_of v) v.number a)

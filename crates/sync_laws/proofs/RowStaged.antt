@@ -3,7 +3,7 @@ use Rattle.std.proofs.Common.{◌≡◌, ℕ, ◌+◌, ◌*◌, ◌<◌, ◌≤�
 use Rattle.std.proofs.lemmas.Bool.{both_ways, cases_lt}
 use Rattle.std.proofs.lemmas.List.{length-append}
 use Rattle.std.specs.List.{list_all}
-use Rattle.rack.specs.Seen.{Seen, IsLive}
+use Rattle.rack.specs.Seen.{RackView, IsLive}
 use Rattle.rack.specs.Targets.{Target, look}
 use Rattle.rack.specs.Sequences.{IsPayload, OnlyReads}
 use Rattle.array_image.specs.Places.{data_sector, member_slice}
@@ -48,7 +48,7 @@ raised_least n = by (nat_lt n (2 ^ 63 - 1))
     by false = omega arith
 
 -- the superblocks that leave the rows after so many, and the sectors of these that are made of others, unless they agree already
-pub record RowStaged (v : View) (rows : ℕ) (a : Seen) (xs : List Target) : Type 1 where
+pub record RowStaged (v : View) (rows : ℕ) (a : RackView) (xs : List Target) : Type 1 where
   pub is : IsUnsynced v rows
   pub lacks : lacks_row v (last_row v rows) ≡ false
   pub supers : List Target
@@ -58,12 +58,12 @@ pub record RowStaged (v : View) (rows : ℕ) (a : Seen) (xs : List Target) : Typ
   pub on : (d s : ℕ) (u : List ℕ) → IsPayload own_data d s u → IsCopy v (OfRow v (v.resync * 128) (128 * rows)) (IsRowSum v a) d s u
   pub apart : are_apart own_data ≡ true
   pub moves :
-      (b : Seen) → OnlyReads a b → IsOpen (shape_of v) v.number a
+      (b : RackView) → OnlyReads a b → IsOpen (shape_of v) v.number a
       → ((m : Member) (t : ℕ) → Among m (shape_of v).members → t < m.reach → length (current_in b.held (member_slice m.place v.number) (data_sector + t)) ≡ 512)
       → (spent : ℕ → Bool) → RowMoves v (shape_of v) (v.resync + rows) spent (current_in b.held) own_data
 
 -- what the rows' members make was so before reads
-rows_before : (v : View) (a b : Seen) (row rows : ℕ) (xs ys : List Target) → IsArray v → a.lasting → OnlyReads a b → 0 < rows → lacks_row v (row + (rows - 1)) ≡ false
+rows_before : (v : View) (a b : RackView) (row rows : ℕ) (xs ys : List Target) → IsArray v → a.lasting → OnlyReads a b → 0 < rows → lacks_row v (row + (rows - 1)) ≡ false
     → AddsCopies v (OfRow v (row * 128) (128 * rows)) (IsRowSum v b) (128 * rows) xs ys → AddsCopies v (OfRow v (row * 128) (128 * rows)) (IsRowSum v a) (128 * rows) xs ys
 rows_before v a b row rows xs ys is_array lasting reads some lacks =
     let within = OfRow v (row * 128) (128 * rows) in
@@ -75,7 +75,7 @@ rows_before v a b row rows xs ys is_array lasting reads some lacks =
     ∙ sum_kept v v a b t (width (row_layout v t)) lasting reads (notes_none v a b) most
     (λ k low is. all_counts v (row + (rows - 1)) k t lacks (omega (arith, low, most)) (omega (arith, last, some))) opened)
 
-pub staged : (v u : View) (a b e : Seen) (rows row offset : ℕ) (alike : Bool) (c : Change) (x y z : List Target) → IsUnsynced v rows → a.lasting → OnlyReads a b → row ≡ v.resync → offset ≡ offset_after v (row + rows)
+pub staged : (v u : View) (a b e : RackView) (rows row offset : ℕ) (alike : Bool) (c : Change) (x y z : List Target) → IsUnsynced v rows → a.lasting → OnlyReads a b → row ≡ v.resync → offset ≡ offset_after v (row + rows)
     → c ≡ resynced_to v offset → x ≡ [] → AddsSupersOf (adopted c v) x y
     → (alike ≡ true → AreAlike v a (row * 128) (128 * rows) × (z ≡ y)) → (alike ≡ false → AddsCopies v (OfRow v (row * 128) (128 * rows)) (IsRowSum v b) (128 * rows) y z)
     → Notes v u b e → not (lacks_row u (row + (rows - 1))) ≡ true
@@ -127,7 +127,7 @@ staged v u a b e rows row offset alike c x y z is lasting reads row_is offset_is
           moves = λ b reads opened sized. row_moves v rows is.some a b added.targets is.is_array lasting reads lacks own opened sized;
         }
 
-module _ (v : View) (rows : ℕ) (a b : Seen) (xs : List Target) (row : RowStaged v rows a xs) (lasting : a.lasting) (reads : OnlyReads a b) where
+module _ (v : View) (rows : ℕ) (a b : RackView) (xs : List Target) (row : RowStaged v rows a xs) (lasting : a.lasting) (reads : OnlyReads a b) where
   -- a sector that is made of others is one of a member's data
   data_on : (d t : ℕ) (u : List ℕ) → IsPayload row.own_data d t u → IsDataOn v d t u
   data_on d t u pay =
@@ -201,7 +201,7 @@ module _ (v : View) (rows : ℕ) (a b : Seen) (xs : List Target) (row : RowStage
   row_had slices = all_had v a b xs slices reads.stays row_members_on
 
 -- the whole step
-pub row_steps : (v u z w : View) (a b c : Seen) (l : LogView) (on lost : List ℕ) (rows number after row offset : ℕ) (change : Change) (answered : Bool)
+pub row_steps : (v u z w : View) (a b c : RackView) (l : LogView) (on lost : List ℕ) (rows number after row offset : ℕ) (change : Change) (answered : Bool)
     → RowStaged v rows a l.added → HasSlices v a → OnlyReads a b → Notes v u a b → CommitCall l on lost b c → IsSameButSeats u z → LosesPlaces u z (names lost) → IsArray z
     → row ≡ v.resync → offset ≡ offset_after v (row + rows) → change ≡ resynced_to v offset → w ≡ adopted change z → l.number ≡ number → after ≡ next_number l.number
     → Steps v (resynced v rows) w number after on a c answered
@@ -214,7 +214,7 @@ row_steps v u z w a b c l on lost rows number after row offset change answered s
     (next_same v z w rows row_s.is z_array same_v adopted_w) (next_loses v z w rows row_s.is z_array same_v adopted_w)
     number_is after_is answered (λ spent. tt) (λ whole. unspent_before v rows row_s.is.some row_s.lacks)
 
-pub row_leaves : (v : View) (rows : ℕ) (a b c : Seen) (l : LogView) (on lost : List ℕ) → RowStaged v rows a l.added → a.lasting → OnlyReads a b → CommitCall l on lost b c → KeepsElsewhere false v on a c
+pub row_leaves : (v : View) (rows : ℕ) (a b c : RackView) (l : LogView) (on lost : List ℕ) → RowStaged v rows a l.added → a.lasting → OnlyReads a b → CommitCall l on lost b c → KeepsElsewhere false v on a c
 row_leaves v rows a b c l on lost staged_row lasting reads commit =
     row_elsewhere v l on lost a b c staged_row.is.is_array.few reads (row_members_on v rows a b l.added staged_row lasting reads) commit
 

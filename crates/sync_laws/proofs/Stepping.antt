@@ -2,7 +2,7 @@
 use Rattle.std.proofs.Common.{◌≡◌, ◌≢◌, ℕ, ◌+◌, ◌-◌, ◌*◌, ◌<◌, ◌≤◌, ◌^◌, slice_get, length, Bool, true, false, ◌||◌, List, [], ◌∷◌, ◌++◌, Some, unwrap_or, refl, sym, ap, subst, ◌∙◌, inl, inr, eq-eqb, le-ltb, ltb-false, arith}
 use Rattle.std.proofs.lemmas.Bool.{both_ways}
 use Rattle.rack.specs.Values.{Values}
-use Rattle.rack.specs.Seen.{Image, Seen, IsLive, IsPick}
+use Rattle.rack.specs.Seen.{Image, RackView, IsLive, IsPick}
 use Rattle.rack.specs.Joins.{leaves_weaker}
 use Rattle.rack.specs.Targets.{Target, look}
 use Rattle.rack.specs.Sequences.{IsPayload, OnlyReads}
@@ -12,7 +12,7 @@ use Rattle.array_image.specs.Record.{are_apart}
 use Rattle.array_image.specs.Arrays.{Member, replayed}
 use Rattle.array_image.specs.Even.{AreEven}
 use Rattle.array_image.specs.SoundArray.{first_unsynced}
-use Rattle.array_image.specs.Held.{Among, IsSettled, current_in}
+use Rattle.array_image.specs.Held.{Among, IsSynced, current_in}
 use Rattle.array_image.specs.Marks.{lowered}
 use Rattle.array_model.specs.Rows.{written}
 use Rattle.array_image.specs.Left.{IsInside, IsLeft, PicksLogs}
@@ -20,19 +20,19 @@ use Rattle.array_image.specs.Spent.{wanting}
 use Rattle.log_laws.specs.View.{LogView, names, next_number}
 use Rattle.log_laws.specs.Commits.{CommitCall}
 use Rattle.log_laws.specs.Standing.{IsReady, SomeoneDecides}
-use Rattle.log_laws.specs.Kept.{LogKept, gone_with}
+use Rattle.log_laws.specs.Kept.{LogInvariant, gone_with}
 use Rattle.log_laws.proofs.KeptAfter.{kept_more}
 use Rattle.commit_log.proofs.Story.{payload_is}
 use Rattle.array_model.specs.declared.Seat.{Seat}
 use Rattle.array_model.specs.declared.Seat.TheVariants.{Missing}
 use Rattle.array_model.specs.Stages.{IsStateOf}
 use Rattle.array_model.specs.View.{View, IsArray, LosesPlaces, has_gone, is_missing_seat, is_whole_array, place_at, shape_of, spent_in}
-use Rattle.array_model.specs.Says.{Holds, IsOpen}
+use Rattle.array_model.specs.Says.{ArrayInvariant, IsOpen}
 use Rattle.array_model.specs.Members.{HasSlices, IsSameButSeats, Notes, members_of, slice_on}
-use Rattle.array_model.specs.ArrayCalls.{Covers, Turns, HasFields}
+use Rattle.array_model.specs.ArrayCalls.{IncludesSpent, ImageInCall, HasFields}
 use Rattle.array_model.proofs.Keeping.{keeping_calls, left_before, logs_of, open_after, pick_before}
 use Rattle.array_model.proofs.Looking.{look_payload}
-use Rattle.array_model.proofs.Moves.{Moves, moves_then}
+use Rattle.array_model.proofs.Moves.{CallRefines, moves_then}
 use Rattle.array_model.proofs.Noting.{covers_before, holds_noted, losing_by, losing_of}
 use Rattle.array_model.proofs.Reading.{missing_before}
 use Rattle.array_model.proofs.RowWrites.{gone_none}
@@ -58,15 +58,15 @@ use Rattle.sync_laws.proofs.Supers.{IsMemberSuper, supers_apart, supers_on}
 -- ---- reads
 
 -- during them contents say the array as before, with superblocks from before
-pub read_moves : (s : State) (v g : View) (a b : Seen) (vals : ℕ → Values) (spent : ℕ → Bool) → a.lasting → OnlyReads a b
-    → Moves v.number a b (Holds s (shape_of v) v vals spent a) (SaysEither s v g a vals spent) (Holds s (shape_of v) v vals spent a × Holds s (shape_of v) v vals spent b)
+pub read_moves : (s : State) (v g : View) (a b : RackView) (vals : ℕ → Values) (spent : ℕ → Bool) → a.lasting → OnlyReads a b
+    → CallRefines v.number a b (ArrayInvariant s (shape_of v) v vals spent a) (SaysEither s v g a vals spent) (ArrayInvariant s (shape_of v) v vals spent a × ArrayInvariant s (shape_of v) v vals spent b)
 read_moves s v g a b vals spent lasting reads =
     let keeps = keeping_calls a b lasting reads.stays reads.keeps s (shape_of v) v vals spent in
-    let H : Type 0 = Holds s (shape_of v) v vals spent a in
+    let H : Type 0 = ArrayInvariant s (shape_of v) v vals spent a in
     record {
       stays = keeps.stays;
       leaves = λ traced.
-          leaves_weaker (IsPick a b a.held) (λ c. IsInside a.sectors c → Turns v.number a b (λ r. H → SaysEither s v g a vals spent r) c)
+          leaves_weaker (IsPick a b a.held) (λ c. IsInside a.sectors c → ImageInCall v.number a b (λ r. H → SaysEither s v g a vals spent r) c)
           (λ c pick inside.
           let picks = pick_before lasting reads.stays c inside pick in
           record {
@@ -87,7 +87,7 @@ read_moves s v g a b vals spent lasting reads =
 
 -- ---- a row that was refused before its commit
 
-pub refused_steps : (v g w : View) (number : ℕ) (on : List ℕ) (a b : Seen) (answered : Bool) → a.lasting → IsArray v → OnlyReads a b → Notes v w a b → answered ≡ false
+pub refused_steps : (v g w : View) (number : ℕ) (on : List ℕ) (a b : RackView) (answered : Bool) → a.lasting → IsArray v → OnlyReads a b → Notes v w a b → answered ≡ false
     → Steps v g w number number on a b answered
 refused_steps v g w number on a b answered lasting is_array reads notes refused = record {
   is_done = false;
@@ -125,7 +125,7 @@ pub record IsDataOn (v : View) (d s : ℕ) (u : List ℕ) : Type 0 where
 
 -- A step makes another truth and other seats of an array, and writes these sectors of its members' data. It keeps the values of the
 -- sectors that aren't spent in maps that it can have.
-pub record Step (v : View) (events offset resync : ℕ) (seats : List Seat) (marked : Bool) (own_data : List Target) (a b : Seen) (needs : (ℕ → Bool) → Type 0) : Type 0 where
+pub record Step (v : View) (events offset resync : ℕ) (seats : List Seat) (marked : Bool) (own_data : List Target) (a b : RackView) (needs : (ℕ → Bool) → Type 0) : Type 0 where
   pub is_array : IsArray v
   pub next : IsArray (restated v events offset resync seats marked)
   pub on : (d t : ℕ) (u : List ℕ) → IsPayload own_data d t u → IsDataOn v d t u
@@ -137,8 +137,8 @@ pub record Step (v : View) (events offset resync : ℕ) (seats : List Seat) (mar
   pub some_low : some < v.truth.raid_disks
   pub some_there : is_missing_seat (slot_on (restated v events offset resync seats marked) some).seat ≡ false
   pub settled :
-      (v.marked ≡ true → is_whole_array v ≡ true) → (s : State) (vals : ℕ → Values) (spent : ℕ → Bool) → needs spent → Holds s (shape_of v) v vals spent b
-      → IsSettled (shape_of v) v.number b.held
+      (v.marked ≡ true → is_whole_array v ≡ true) → (s : State) (vals : ℕ → Values) (spent : ℕ → Bool) → needs spent → ArrayInvariant s (shape_of v) v vals spent b
+      → IsSynced (shape_of v) v.number b.held
   pub unmarked : (v.marked ≡ true → is_whole_array v ≡ true) → marked ≡ false
   pub state : (s : State) → IsStateOf v s → v.truth.events < 2 ^ 63 - 1 → IsStateOf (restated v events offset resync seats marked) s
   pub rows : HasRowRebuilds v → HasRowRebuilds (restated v events offset resync seats marked)
@@ -153,7 +153,7 @@ pub record Step (v : View) (events offset resync : ℕ) (seats : List Seat) (mar
 
 -- ---- its targets
 
-module _ {needs : (ℕ → Bool) → Type 0} (v : View) (events offset resync : ℕ) (seats : List Seat) (marked : Bool) (supers own_data : List Target) (a b : Seen)
+module _ {needs : (ℕ → Bool) → Type 0} (v : View) (events offset resync : ℕ) (seats : List Seat) (marked : Bool) (supers own_data : List Target) (a b : RackView)
     (step : Step v events offset resync seats marked own_data a b needs)
     (adds : AddsSupersOf (restated v events offset resync seats marked) [] supers) where
   abbrev after_step : View
@@ -225,7 +225,7 @@ none_named [] none = refl
 none_named (p ∷ places) none = absurd (both_ways (names (p ∷ places) p) (none p) (ap (λ (b : Bool). b || names places p) (eq-eqb p p refl)))
 
 -- a row that lacks nobody after losses lacked nobody before them
-pub lacks_before : (v u : View) (a b : Seen) (row : ℕ) → Notes v u a b → lacks_row u row ≡ false → lacks_row v row ≡ false
+pub lacks_before : (v u : View) (a b : RackView) (row : ℕ) → Notes v u a b → lacks_row u row ≡ false → lacks_row v row ≡ false
 lacks_before v u a b row notes lacks =
     let t = row * 128 + 127 in
     let more : wanting t (members_of v) ≤ wanting t (members_of u) =
@@ -234,7 +234,7 @@ lacks_before v u a b row notes lacks =
     let none : wanting t (members_of u) ≤ 0 = ltb-false 0 (wanting t (members_of u)) lacks in
     le-ltb 0 (wanting t (members_of v)) (omega (arith, more, none))
 
-module _ {needs : (ℕ → Bool) → Type 0} (v u z w : View) (events offset resync : ℕ) (seats : List Seat) (marked : Bool) (a b c : Seen) (l : LogView) (on lost : List ℕ) (supers own_data : List Target) (number after : ℕ)
+module _ {needs : (ℕ → Bool) → Type 0} (v u z w : View) (events offset resync : ℕ) (seats : List Seat) (marked : Bool) (a b c : RackView) (l : LogView) (on lost : List ℕ) (supers own_data : List Target) (number after : ℕ)
     (step : Step v events offset resync seats marked own_data a b needs)
     (adds : AddsSupersOf (restated v events offset resync seats marked) [] supers) (added : l.added ≡ supers ++ own_data)
     (slices : HasSlices v a) (reads : OnlyReads a b) (notes : Notes v u a b)
@@ -270,9 +270,9 @@ module _ {needs : (ℕ → Bool) → Type 0} (v u z w : View) (events offset res
       all_live v events offset resync seats marked supers own_data a b step adds s w number on slices may.commit
       (step.live may.commit.renew.rows may.commit.opened may.opened) d t x (subst (λ xs. IsPayload xs d t x) added pay)
 
-  module _ (s : State) (vals : ℕ → Values) (spent : ℕ → Bool) (covers : Covers w spent) (may : MayStep s v (restated v events offset resync seats marked) w number on a) (meets : needs spent) where
+  module _ (s : State) (vals : ℕ → Values) (spent : ℕ → Bool) (covers : IncludesSpent w spent) (may : MayStep s v (restated v events offset resync seats marked) w number on a) (meets : needs spent) where
     abbrev Middle : Type 0
-    Middle = Holds s (shape_of v) v vals spent a × Holds s (shape_of v) v vals spent b
+    Middle = ArrayInvariant s (shape_of v) v vals spent a × ArrayInvariant s (shape_of v) v vals spent b
 
     opened_b : Middle → IsOpen (shape_of (restated v events offset resync seats marked)) v.number b
     opened_b held = open_after lasting reads.stays (shape_of g) v.number may.opened
@@ -280,7 +280,7 @@ module _ {needs : (ℕ → Bool) → Type 0} (v u z w : View) (events offset res
     moves_b : Middle → RowMoves v (shape_of (restated v events offset resync seats marked)) resync spent (current_in b.held) own_data
     moves_b held = step.moves may.commit.renew.rows held.0.shape.open_slices held.1.shape.sized held.1.shape.even spent meets
 
-    single_b : Middle → IsSettled (shape_of v) v.number b.held
+    single_b : Middle → IsSynced (shape_of v) v.number b.held
     single_b held = step.settled may.commit.steady s vals spent meets held.1
 
     ready : IsReady l on b
@@ -289,13 +289,13 @@ module _ {needs : (ℕ → Bool) → Type 0} (v u z w : View) (events offset res
     decides : SomeoneDecides l.added on lost b
     decides = log_decides s v w a b c l on lost is_array lasting reads members_on (live_all s may) commit (may_log s may.commit) left_w
 
-    kept_log : LogKept s (next_number l.number) (gone_with nobody lost) c
+    kept_log : LogInvariant s (next_number l.number) (gone_with nobody lost) c
     kept_log = log_kept s v w a b c l on lost is_array lasting reads members_on (live_all s may) commit (may_log s may.commit) left_w
 
     quiet : (i : Image) → PicksLogs b i → (d t : ℕ) → replayed b.sectors i d t ≡ i d t
     quiet = log_quiet s v w a b c l on lost is_array lasting reads members_on (live_all s may) commit (may_log s may.commit) left_w
 
-    commit_moves : Moves v.number b c Middle (SaysEither s v (restated v events offset resync seats marked) a vals spent) (Holds s (shape_of (restated v events offset resync seats marked)) w vals spent c)
+    commit_moves : CallRefines v.number b c Middle (SaysEither s v (restated v events offset resync seats marked) a vals spent) (ArrayInvariant s (shape_of (restated v events offset resync seats marked)) w vals spent c)
     commit_moves =
         moved s v w events offset resync seats marked a b c l on lost (λ place. names lost place || notes.lost place) supers own_data
         is_array step.next may.commit.renew.fresh (step.unmarked may.commit.steady)
@@ -311,12 +311,12 @@ module _ {needs : (ℕ → Bool) → Type 0} (v u z w : View) (events offset res
         (λ none. none_named lost (λ place. left_w place (gone_none w none place)))
         vals spent covers Middle (λ held. held.1) single_b opened_b moves_b
 
-    pub all_moves : Moves v.number a c (Holds s (shape_of v) v vals spent a) (SaysEither s v (restated v events offset resync seats marked) a vals spent) (Holds s (shape_of (restated v events offset resync seats marked)) w vals spent c)
+    pub all_moves : CallRefines v.number a c (ArrayInvariant s (shape_of v) v vals spent a) (SaysEither s v (restated v events offset resync seats marked) a vals spent) (ArrayInvariant s (shape_of (restated v events offset resync seats marked)) w vals spent c)
     all_moves =
-        moves_then v.number a b c (Holds s (shape_of v) v vals spent a) Middle (Holds s (shape_of g) w vals spent c) (SaysEither s v g a vals spent)
+        moves_then v.number a b c (ArrayInvariant s (shape_of v) v vals spent a) Middle (ArrayInvariant s (shape_of g) w vals spent c) (SaysEither s v g a vals spent)
         lasting (λ d t live other. reads.keeps.held d t live) (read_moves s v g a b vals spent lasting reads) commit_moves
 
-    pub all_durable : Holds s (shape_of v) v vals spent a → (r : Image) → IsLeft c r → HasFields s v.number (restated v events offset resync seats marked).truth r
+    pub all_durable : ArrayInvariant s (shape_of v) v vals spent a → (r : Image) → IsLeft c r → HasFields s v.number (restated v events offset resync seats marked).truth r
     all_durable held r left =
         durable_now s v w events offset resync seats marked a b c l on lost (λ place. names lost place || notes.lost place) supers own_data
         is_array step.next may.commit.renew.fresh (step.unmarked may.commit.steady)
@@ -333,7 +333,7 @@ module _ {needs : (ℕ → Bool) → Type 0} (v u z w : View) (events offset res
         vals spent covers Middle (λ both. both.1) single_b opened_b moves_b
         ((read_moves s v g a b vals spent lasting reads).holds held) r left
 
-    pub all_data : Holds s (shape_of v) v vals spent a → (r : Image) → IsLeft c r → (m : Member) (t : ℕ) → Among m (shape_of (restated v events offset resync seats marked)).members → t < m.reach
+    pub all_data : ArrayInvariant s (shape_of v) v vals spent a → (r : Image) → IsLeft c r → (m : Member) (t : ℕ) → Among m (shape_of (restated v events offset resync seats marked)).members → t < m.reach
         → r (member_slice m.place v.number) (data_sector + t) ≡ written own_data (current_in b.held) (member_slice m.place v.number) (data_sector + t)
     all_data held =
         data_after s v w events offset resync seats marked a b c l on lost (λ place. names lost place || notes.lost place) supers own_data
@@ -351,7 +351,7 @@ module _ {needs : (ℕ → Bool) → Type 0} (v u z w : View) (events offset res
         vals spent covers Middle (λ both. both.1) single_b opened_b moves_b
         ((read_moves s v g a b vals spent lasting reads).holds held)
 
-    pub all_current : Holds s (shape_of v) v vals spent a → (m : Member) (t : ℕ) → Among m (shape_of (restated v events offset resync seats marked)).members → t < m.reach
+    pub all_current : ArrayInvariant s (shape_of v) v vals spent a → (m : Member) (t : ℕ) → Among m (shape_of (restated v events offset resync seats marked)).members → t < m.reach
         → (names lost m.place || notes.lost m.place) ≡ false
         → current_in c.held (member_slice m.place v.number) (data_sector + t) ≡ written own_data (current_in b.held) (member_slice m.place v.number) (data_sector + t)
     all_current held =
@@ -370,7 +370,7 @@ module _ {needs : (ℕ → Bool) → Type 0} (v u z w : View) (events offset res
         vals spent covers Middle (λ both. both.1) single_b opened_b moves_b
         ((read_moves s v g a b vals spent lasting reads).holds held)
 
-    pub all_settled : Holds s (shape_of v) v vals spent a → IsSettled (lowered (λ place. names lost place || notes.lost place) (shape_of (restated v events offset resync seats marked))) v.number c.held
+    pub all_settled : ArrayInvariant s (shape_of v) v vals spent a → IsSynced (lowered (λ place. names lost place || notes.lost place) (shape_of (restated v events offset resync seats marked))) v.number c.held
     all_settled held =
         settled_now s v w events offset resync seats marked a b c l on lost (λ place. names lost place || notes.lost place) supers own_data
         is_array step.next may.commit.renew.fresh (step.unmarked may.commit.steady)
@@ -398,9 +398,9 @@ module _ {needs : (ℕ → Bool) → Type 0} (v u z w : View) (events offset res
     ];
   }
 
-  pub all_kept : (s : State) → MayStep s v (restated v events offset resync seats marked) w number on a → LogKept s after (has_gone w) c
+  pub all_kept : (s : State) → MayStep s v (restated v events offset resync seats marked) w number on a → LogInvariant s after (has_gone w) c
   all_kept s may =
-      subst (λ k. LogKept s k (has_gone w) c) (sym after_is)
+      subst (λ k. LogInvariant s k (has_gone w) c) (sym after_is)
       (kept_more s (next_number l.number) (gone_with nobody lost) (has_gone w) c
       (λ place named. loses_g.went place ∙ ap (λ (p : Bool). (p || notes.lost place) || has_gone g place) named)
       (log_kept s v w a b c l on lost is_array lasting reads members_on (live_all s may) commit (may_log s may.commit) left_w))

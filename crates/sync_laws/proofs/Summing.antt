@@ -2,7 +2,7 @@
 use Rattle.std.proofs.Common.{◌≡◌, ℕ, zero, suc, ◌+◌, ◌*◌, ◌/◌, ◌<◌, ◌≤◌, Bool, true, false, ◌&&◌, not, nat_lt, if◌then◌else◌, List, [], ◌∷◌, ◌++◌, map, length, refl, sym, ap, ap₂, subst, ◌∙◌, inl, inr, ltb-true, lt-ltb, le-ltb, append-nil, arith}
 use Rattle.std.proofs.lemmas.Bool.{both_ways, cases_lt}
 use Rattle.std.specs.List.{range_with_len}
-use Rattle.rack.specs.Seen.{Image, Seen}
+use Rattle.rack.specs.Seen.{Image, RackView}
 use Rattle.rack.specs.Sequences.{OnlyReads}
 use Rattle.md_super.specs.declared.superblock.Super.{Super}
 use Rattle.raid_map.specs.LeftSymmetric.{row_at}
@@ -34,7 +34,7 @@ pub count_same : (v w : View) → IsSameButSeats v w → w.truth.raid_disks ≡ 
 count_same v w same = ap (λ (t : Super). t.raid_disks) same.truth
 
 -- a member that counts after losses counted before them
-pub counted_before : (v w : View) (a b : Seen) (k sector : ℕ) → Notes v w a b → sector < (member_on w k).reach → sector < (member_on v k).reach
+pub counted_before : (v w : View) (a b : RackView) (k sector : ℕ) → Notes v w a b → sector < (member_on w k).reach → sector < (member_on v k).reach
 counted_before v w a b k sector notes counts =
     let Goal : Bool → Type 0 = λ test. nat_lt sector (member_on v k).reach ≡ test → sector < (member_on v k).reach in
     let goal : Goal (nat_lt sector (member_on v k).reach) = elim (nat_lt sector (member_on v k).reach) as Goal [
@@ -86,7 +86,7 @@ wanting_later s t (m ∷ others) low =
 -- ---- one member's sector
 
 -- its own sector is what was read
-pub piece_is : (v w : View) (a b : Seen) (k sector : ℕ) (x : List ℕ) → IsArray v → Notes v w a b → k < width (row_layout v sector) → v.resync ≤ row_at sector
+pub piece_is : (v w : View) (a b : RackView) (k sector : ℕ) (x : List ℕ) → IsArray v → Notes v w a b → k < width (row_layout v sector) → v.resync ≤ row_at sector
     → member_spent w k sector ≡ false
     → (IsOpen (shape_of v) v.number a → x ≡ restored (row_layout w sector) (row_of w (current_in a.held) sector) k)
     → IsOpen (shape_of v) v.number a → x ≡ current_in a.held (slice_on v k) (data_sector + sector)
@@ -102,7 +102,7 @@ piece_is v w a b k sector x is_array notes low left unspent value opened =
     let own = restored_own w c (row_layout w sector) sector k (c (slice_on w k) (data_sector + sector)) most_w low_w (column_there c w.number sector (member_on w k) counts) in
     value opened ∙ sym own ∙ ap (λ d. c d (data_sector + sector)) (slice_same v w k same)
 
-pub piece_counts : (v w : View) (a b : Seen) (k sector : ℕ) → IsArray v → Notes v w a b → k < width (row_layout v sector) → v.resync ≤ row_at sector
+pub piece_counts : (v w : View) (a b : RackView) (k sector : ℕ) → IsArray v → Notes v w a b → k < width (row_layout v sector) → v.resync ≤ row_at sector
     → member_spent w k sector ≡ false → sector < (member_on v k).reach
 piece_counts v w a b k sector is_array notes low left unspent =
     let most = (row_layout_is v sector is_array).most in
@@ -157,7 +157,7 @@ sum_more v c sector k =
     ∙ xor_is_a_group.commutes (f k) (xor_all 512 vs)
 
 -- by a view without the members that went, and by what reads kept
-pub source_kept : (v u : View) (a b : Seen) (sector k : ℕ) → a.lasting → OnlyReads a b → Notes v u a b → k < v.truth.raid_disks
+pub source_kept : (v u : View) (a b : RackView) (sector k : ℕ) → a.lasting → OnlyReads a b → Notes v u a b → k < v.truth.raid_disks
     → (is_source v sector k ≡ true → sector < (member_on v k).reach) → IsOpen (shape_of v) v.number a
     → source_sector u (current_in b.held) sector k ≡ source_sector v (current_in a.held) sector k
 source_kept v u a b sector k lasting reads notes low counts opened =
@@ -177,7 +177,7 @@ source_kept v u a b sector k lasting reads notes low counts opened =
     ap (λ (t : Bool). if t then current_in b.held (slice_on u k) (data_sector + sector) else zeros 512) source ∙ goal refl
 
 -- one member more
-pub sum_next : (v u : View) (a b : Seen) (sector k : ℕ) (sum next : List ℕ) → a.lasting → OnlyReads a b → Notes v u a b → k < v.truth.raid_disks
+pub sum_next : (v u : View) (a b : RackView) (sector k : ℕ) (sum next : List ℕ) → a.lasting → OnlyReads a b → Notes v u a b → k < v.truth.raid_disks
     → (is_source u sector k ≡ true → sector < (member_on u k).reach)
     → (IsOpen (shape_of v) v.number a → sum ≡ row_sum v (current_in a.held) sector k)
     → (IsOpen (shape_of u) u.number b → next ≡ xor sum (source_sector u (current_in b.held) sector k))
@@ -190,7 +190,7 @@ sum_next v u a b sector k sum next lasting reads notes low counts so_far here op
     ∙ ap₂ xor (so_far opened) (source_kept v u a b sector k lasting reads notes low counted opened)
     ∙ sym (sum_more v (current_in a.held) sector k)
 
-pub counts_next : (v u : View) (a b : Seen) (sector k : ℕ) → Notes v u a b
+pub counts_next : (v u : View) (a b : RackView) (sector k : ℕ) → Notes v u a b
     → (is_source u sector k ≡ true → sector < (member_on u k).reach) → SourcesCount v sector k → SourcesCount v sector (k + 1)
 counts_next v u a b sector k notes counts so_far j low is =
     elim (cases_lt j k) [
@@ -203,7 +203,7 @@ counts_next v u a b sector k notes counts so_far j low is =
     ]
 
 -- the whole sum
-pub sum_kept : (v u : View) (a b : Seen) (sector many : ℕ) → a.lasting → OnlyReads a b → Notes v u a b → many ≤ v.truth.raid_disks
+pub sum_kept : (v u : View) (a b : RackView) (sector many : ℕ) → a.lasting → OnlyReads a b → Notes v u a b → many ≤ v.truth.raid_disks
     → SourcesCount v sector many → IsOpen (shape_of v) v.number a
     → row_sum u (current_in b.held) sector many ≡ row_sum v (current_in a.held) sector many
 sum_kept v u a b sector zero lasting reads notes low counts opened = no_sum u (current_in b.held) sector ∙ sym (no_sum v (current_in a.held) sector)

@@ -3,7 +3,7 @@ use Rattle.std.proofs.Common.{◌≡◌, ◌≢◌, ℕ, ◌+◌, ◌-◌, ◌*�
 use Rattle.std.proofs.lemmas.Bool.{and_parts, both_ways, cases_Bool}
 use Rattle.std.proofs.lemmas.List.{length-append}
 use Rattle.std.specs.List.{list_all}
-use Rattle.rack.specs.Seen.{Seen, IsLive}
+use Rattle.rack.specs.Seen.{RackView, IsLive}
 use Rattle.rack.specs.Targets.{Target, look}
 use Rattle.rack.specs.Sequences.{IsPayload}
 use Rattle.raid_map.specs.LeftSymmetric.{row_at}
@@ -12,7 +12,7 @@ use Rattle.array_image.specs.Places.{data_sector}
 use Rattle.array_image.specs.Record.{are_apart, is_target}
 use Rattle.array_image.specs.SoundArray.{first_unsynced}
 use Rattle.array_image.specs.Arrays.{Member, Shape, value_by}
-use Rattle.array_image.specs.Held.{Among, IsSettled, current_in}
+use Rattle.array_image.specs.Held.{Among, IsSynced, current_in}
 use Rattle.array_image.specs.Marks.{lowered}
 use Rattle.array_image.specs.Spent.{wanting}
 use Rattle.log_laws.specs.View.{LogView, names, next_number}
@@ -181,7 +181,7 @@ zeroed_array v rows is =
       reshape = old.reshape;
     }
 
-module _ (v : View) (rows : ℕ) (a : Seen) (xs : List Target) (row : ZeroStaged v rows xs) where
+module _ (v : View) (rows : ℕ) (a : RackView) (xs : List Target) (row : ZeroStaged v rows xs) where
   -- one of the first two members counts
   one_counts : (j : ℕ) × (j < v.truth.raid_disks) × (counts_in v (first_unsynced v.truth) j ≡ true)
   one_counts =
@@ -221,7 +221,7 @@ module _ (v : View) (rows : ℕ) (a : Seen) (xs : List Target) (row : ZeroStaged
 
   -- what it needs of the map of spent sectors, and of the members
   abbrev Needs : (ℕ → Bool) → Type 0
-  Needs spent = ((y : ℕ) → spent y ≡ false → row_in (zeroing v) y < first_unsynced v.truth) × IsSettled (shape_of (zeroing v)) v.number a.held
+  Needs spent = ((y : ℕ) → spent y ≡ false → row_in (zeroing v) y < first_unsynced v.truth) × IsSynced (shape_of (zeroing v)) v.number a.held
 
   copies_zeroing : AreCopies (zeroing v) (OfCounting (zeroing v) (first_unsynced v.truth * 128) (128 * rows) v.truth.raid_disks) AreZeros row.own_data
   copies_zeroing = record {
@@ -303,7 +303,7 @@ module _ (v : View) (rows : ℕ) (a : Seen) (xs : List Target) (row : ZeroStaged
   pub zero_had : HasSlices v a → (d s : ℕ) (u : List ℕ) → look xs d s ≡ Some u → IsHad a d s
   zero_had slices = all_had v a a xs slices (only_reads_start a slices.fit).stays zero_members_on
 
-zeroing_slices : (v : View) (a : Seen) → HasSlices v a → HasSlices (zeroing v) a
+zeroing_slices : (v : View) (a : RackView) → HasSlices v a → HasSlices (zeroing v) a
 zeroing_slices v a slices = record { fit = slices.fit; lasting = slices.lasting; disks = slices.disks; sectors = slices.sectors }
 
 zeroing_same : (v z : View) → IsSameButSeats v z → IsSameButSeats (zeroing v) (zeroing z)
@@ -313,12 +313,12 @@ zeroing_loses : (v z : View) (lost : ℕ → Bool) → LosesPlaces v z lost → 
 zeroing_loses v z lost loses = record { seats = loses.seats; went = loses.went }
 
 -- nobody went in no call
-abbrev no_notes : (v : View) (a : Seen) → Notes v v a a
+abbrev no_notes : (v : View) (a : RackView) → Notes v v a a
 no_notes v a = record { same = same_view v; lost = λ place. false; loses = loses_nobody v; cause = λ place is. absurd (both_ways false refl is) }
 
 -- ---- the whole step
 
-module _ (v z w : View) (a c : Seen) (l : LogView) (on lost : List ℕ) (rows number after : ℕ) (staged_row : ZeroStaged v rows l.added) (slices : HasSlices v a)
+module _ (v z w : View) (a c : RackView) (l : LogView) (on lost : List ℕ) (rows number after : ℕ) (staged_row : ZeroStaged v rows l.added) (slices : HasSlices v a)
     (commit : CommitCall l on lost a c) (same : IsSameButSeats v z) (loses : LosesPlaces v z (names lost)) (z_array : IsArray z)
     (adopts : w ≡ adopted (resynced_to v (offset_after v (first_unsynced v.truth + rows))) z) (number_is : l.number ≡ number) (after_is : after ≡ next_number l.number) where
   same_g : IsSameButSeats (resynced (zeroing v) rows) (zeroing w)
@@ -379,8 +379,8 @@ module _ (v z w : View) (a c : Seen) (l : LogView) (on lost : List ℕ) (rows nu
           (subst (λ (f : Shape). Among m f.members) (sym (next_shape (zeroing v) rows)) among))
           y row;
       single =
-          subst (λ (f : Shape). IsSettled f (zeroing w).number c.held) (sym (shape_then (resynced (zeroing v) rows) (zeroing w) (λ place. names lost place || false) same_g.truth loses_g))
-          (subst (λ (n : ℕ). IsSettled (lowered (λ place. names lost place || false) (shape_of (resynced (zeroing v) rows))) n c.held) (sym same_g.number)
+          subst (λ (f : Shape). IsSynced f (zeroing w).number c.held) (sym (shape_then (resynced (zeroing v) rows) (zeroing w) (λ place. names lost place || false) same_g.truth loses_g))
+          (subst (λ (n : ℕ). IsSynced (lowered (λ place. names lost place || false) (shape_of (resynced (zeroing v) rows))) n c.held) (sym same_g.number)
           (all_settled (zeroing v) (zeroing v) (zeroing z) (zeroing w) (raised v.truth.events) (offset_after v (first_unsynced v.truth + rows)) (first_unsynced v.truth + rows) v.seats false a a c l on lost staged_row.supers staged_row.own_data number after
           (zero_step v rows a l.added staged_row) staged_row.adds staged_row.added (zeroing_slices v a slices) (only_reads_start a slices.fit) (no_notes (zeroing v) a)
           commit (zeroing_same v z same) (zeroing_loses v z (names lost) loses) same_g (λ lost_v loses_z. next_loses v z w rows staged_row.is z_array same adopts lost_v loses_z) number_is after_is
@@ -393,7 +393,7 @@ module _ (v z w : View) (a c : Seen) (l : LogView) (on lost : List ℕ) (rows nu
   }
 
 -- a row that was refused before its commit
-pub zero_refused : (v : View) (rows number : ℕ) (on : List ℕ) (a : Seen) (answered : Bool) → HasSlices v a → IsYoung v rows → answered ≡ false → Zeroes v v rows number number on a a answered
+pub zero_refused : (v : View) (rows number : ℕ) (on : List ℕ) (a : RackView) (answered : Bool) → HasSlices v a → IsYoung v rows → answered ≡ false → Zeroes v v rows number number on a a answered
 zero_refused v rows number on a answered slices is refused =
     let reads = only_reads_start a slices.fit in
     record {
@@ -407,6 +407,6 @@ zero_refused v rows number on a answered slices is refused =
       kept = λ s may. refused_kept s number (zeroing v) a a slices.lasting reads may.commit.log;
     }
 
-pub zero_leaves : (v : View) (rows : ℕ) (a c : Seen) (l : LogView) (on lost : List ℕ) → ZeroStaged v rows l.added → HasSlices v a → CommitCall l on lost a c → KeepsElsewhere false v on a c
+pub zero_leaves : (v : View) (rows : ℕ) (a c : RackView) (l : LogView) (on lost : List ℕ) → ZeroStaged v rows l.added → HasSlices v a → CommitCall l on lost a c → KeepsElsewhere false v on a c
 zero_leaves v rows a c l on lost staged_row slices commit =
     row_elsewhere v l on lost a a c staged_row.is.is_array.few (only_reads_start a slices.fit) (zero_members_on v rows a l.added staged_row) commit

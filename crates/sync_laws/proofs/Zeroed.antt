@@ -2,7 +2,7 @@
 use Rattle.std.proofs.Common.{◌≡◌, ◌⊎◌, ℕ, zero, suc, ◌+◌, ◌-◌, ◌*◌, ◌<◌, ◌≤◌, Bool, true, false, nat_lt, if◌then◌else◌, List, [], ◌∷◌, ◌++◌, map, take, drop, length, slice_get, Option, Some, None, unwrap_or, refl, sym, ap, ap₂, subst, ◌∙◌, inl, inr, ltb-true, lt-ltb, mul-le-mul_left, arith}
 use Rattle.std.proofs.lemmas.Bool.{cases_lt}
 use Rattle.std.specs.Option.{option_map_or}
-use Rattle.rack.specs.Seen.{Image, Seen}
+use Rattle.rack.specs.Seen.{Image, RackView}
 use Rattle.rack.specs.Targets.{Target, look, target}
 use Rattle.raid_map.specs.LeftSymmetric.{row_at}
 use Rattle.parity.specs.Xor.{xor, xor_all, zeros}
@@ -178,7 +178,7 @@ all_xor c n t (m ∷ ms) all = ap₂ xor (all m (inl refl)) (all_xor c n t ms (�
 
 -- ---- the rows
 
-module _ (v : View) (rows : ℕ) (b : Seen) (xs : List Target) (is_array : IsArray v) (rebuilds : HasRowRebuilds v) (copies : AreCopies v (OfCounting v (v.resync * 128) (128 * rows) v.truth.raid_disks) AreZeros xs) where
+module _ (v : View) (rows : ℕ) (b : RackView) (xs : List Target) (is_array : IsArray v) (rebuilds : HasRowRebuilds v) (copies : AreCopies v (OfCounting v (v.resync * 128) (128 * rows) v.truth.raid_disks) AreZeros xs) where
   abbrev n : ℕ
   n = v.number
 

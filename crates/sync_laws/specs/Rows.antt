@@ -2,7 +2,7 @@
 -- that are written for them.
 use Rattle.std.specs.Prelude.{◌≡◌, ℕ, ◌+◌, ◌*◌, ◌<◌, ◌≤◌, Bool, true, false, ◌==◌, ◌&&◌, ◌||◌, not, nat_lt, if◌then◌else◌, List, ◌++◌, map, length}
 use Rattle.std.specs.List.{list_all, range_with_len}
-use Rattle.rack.specs.Seen.{Image, Seen}
+use Rattle.rack.specs.Seen.{Image, RackView}
 use Rattle.rack.specs.Targets.{Target}
 use Rattle.rack.specs.Sequences.{IsPayload}
 use Rattle.raid_map.specs.LeftSymmetric.{parity_at, row_at}
@@ -41,7 +41,7 @@ abbrev pub SourcesCount : View → ℕ → ℕ → Type 0
 SourcesCount v sector many = (j : ℕ) → j < many → is_source v sector j ≡ true → sector < (member_on v j).reach
 
 -- what the row's members hold makes these bytes, where they are told
-abbrev pub IsRowSum : View → Seen → ℕ → List ℕ → Type 0
+abbrev pub IsRowSum : View → RackView → ℕ → List ℕ → Type 0
 IsRowSum v a sector bytes = IsOpen (shape_of v) v.number a → bytes ≡ row_sum v (current_in a.held) sector (width (row_layout v sector))
 
 -- ---- rows whose members agree
@@ -51,11 +51,11 @@ abbrev pub held_sum : View → Image → ℕ → ℕ → List ℕ
 held_sum v c sector many = xor_all 512 (map (λ j. c (slice_on v j) (data_sector + sector)) (range_with_len 0 many))
 
 -- the members of a sector's row agree in it, where they are told: a mirror's two are equal, and RAID-5 has its parity
-abbrev pub IsAlike : View → Seen → ℕ → Type 0
+abbrev pub IsAlike : View → RackView → ℕ → Type 0
 IsAlike v a sector = IsOpen (shape_of v) v.number a → held_sum v (current_in a.held) sector (width (row_layout v sector)) ≡ zeros 512
 
 -- so they do in those from one on
-abbrev pub AreAlike : View → Seen → (first many : ℕ) → Type 0
+abbrev pub AreAlike : View → RackView → (first many : ℕ) → Type 0
 AreAlike v a first many = (t : ℕ) → first ≤ t → t < first + many → IsAlike v a t
 
 -- ---- a member that is rebuilt
@@ -69,7 +69,7 @@ abbrev pub row_spent : View → ℕ → Bool
 row_spent v row = spent_with (wanting (row * 128 + 127) (members_of v)) (nat_lt row v.resync)
 
 -- these bytes are what the members of its row give at a position, where the row has that position and is told
-abbrev pub IsGiven : View → Seen → ℕ → ℕ → List ℕ → Type 0
+abbrev pub IsGiven : View → RackView → ℕ → ℕ → List ℕ → Type 0
 IsGiven v a position sector bytes =
     IsOpen (shape_of v) v.number a → position < width (row_layout v sector)
     → bytes ≡ given (row_layout v sector) (row_of v (current_in a.held) sector) position

@@ -1,7 +1,7 @@
 -- The plan's end: what shows a book shows it without its plan.
 use Rattle.std.proofs.Common.{◌≡◌, ℕ, ◌<◌, true, false, List, Some, None, refl, sym, ap, subst, ◌∙◌, inl, arith}
 use Rattle.rack.specs.Values.{Values}
-use Rattle.rack.specs.Seen.{Image, Seen}
+use Rattle.rack.specs.Seen.{Image, RackView}
 use Rattle.rack.specs.Targets.{look, put, Target}
 use Rattle.md_super.specs.declared.superblock.Super.{Super}
 use Rattle.pool_state.specs.declared.contents.State.{State}
@@ -67,7 +67,7 @@ rests_closed s u p n vals r shows =
 -- ---- where nobody has gone, and the targets are copies alone
 
 -- contents with targets that have nothing of an array agree with them replayed
-pub idle_agrees : (d v : Raid) (p : Promise) (vals : ℕ → ℕ → Values) (xs : List Target) (a : Seen) (n : ℕ) (c : Image) → Stands d v p vals a
+pub idle_agrees : (d v : Raid) (p : Promise) (vals : ℕ → ℕ → Values) (xs : List Target) (a : RackView) (n : ℕ) (c : Image) → Stands d v p vals a
     → ((q : ℕ) → is_current d.state q ≡ true → gone_in v q ≡ false) → ((place u : ℕ) → look xs (member_slice place n) u ≡ None) → Picks a c
     → Agree n (put a.sectors xs c) (replayed a.sectors c)
 idle_agrees d v p vals xs a n c stands none others picks place u =
@@ -75,7 +75,7 @@ idle_agrees d v p vals xs a n c stands none others picks place u =
     ∙ sym (replayed_as_is a.sectors c (member_slice place n) u
     (ap (λ (ts : List Target). look ts (member_slice place n) u) (kept_idle d.state v.number (gone_in v) a c stands.log (logs_of c picks) none) ∙ look_nothing (member_slice place n) u))
 
-pub stages_closed : (d v w : Raid) (vals : ℕ → ℕ → Values) (xs : List Target) (a b : Seen) → ((q : ℕ) → is_current d.state q ≡ true → gone_in v q ≡ false)
+pub stages_closed : (d v w : Raid) (vals : ℕ → ℕ → Values) (xs : List Target) (a b : RackView) → ((q : ℕ) → is_current d.state q ≡ true → gone_in v q ≡ false)
     → ((n place u : ℕ) → n < 16 → look xs (member_slice place n) u ≡ None) → (p : Promise) → Stages closed d v w p vals xs a b
 stages_closed d v w vals xs a b none others p = record {
   new = λ promised stands n live high low. absurd (omega (arith, high, low));

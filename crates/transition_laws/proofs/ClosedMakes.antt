@@ -1,7 +1,7 @@
 -- The commit that ends the plan makes that change of the book.
 use Rattle.std.proofs.Common.{◌≡◌, ℕ, Bool, true, false, ◌&&◌, not, List, [], ◌∷◌, refl, sym, ap, subst, ◌∙◌, arith}
 use Rattle.rack.specs.Values.{Values}
-use Rattle.rack.specs.Seen.{IsLive, Seen}
+use Rattle.rack.specs.Seen.{IsLive, RackView}
 use Rattle.pool_state.specs.declared.contents.Plan.TheVariants.{Nothing}
 use Rattle.array_image.specs.Places.{log_slice, member_slice}
 use Rattle.array_image.specs.States.{is_current}
@@ -26,7 +26,7 @@ and_true : (b : Bool) → (b && true) ≡ b
 and_true true = refl
 and_true false = refl
 
-module _ (v : Raid) (on gone : List ℕ) (l : LogView) (f : ℕ → View) (b c : Seen) (commit : IsClosing v on gone l f b c) (due : v.state.plan ≡ Nothing → ⊥) where
+module _ (v : Raid) (on gone : List ℕ) (l : LogView) (f : ℕ → View) (b c : RackView) (commit : IsClosing v on gone l f b c) (due : v.state.plan ≡ Nothing → ⊥) where
   left : (q : ℕ) → is_current v.state q ≡ (is_current v.state q && not (gone_in v q))
   left q = sym (and_true (is_current v.state q)) ∙ ap (λ (g : Bool). is_current v.state q && not g) (sym (heeded_gone v commit.heeded q))
 

@@ -2,7 +2,7 @@
 use Rattle.std.proofs.Common.{◌≡◌, ◌⊎◌, ℕ, ◌+◌, ◌-◌, ◌^◌, ◌<◌, Bool, true, false, ◌&&◌, ◌||◌, not, List, [], ◌∷◌, map, length, Some, refl, sym, ap, ap₂, subst, ◌∙◌, inl, inr, arith}
 use Rattle.std.proofs.lemmas.Bool.{and_from, cases_lt}
 use Rattle.rack.specs.Values.{Values}
-use Rattle.rack.specs.Seen.{Image, IsLive, Seen}
+use Rattle.rack.specs.Seen.{Image, IsLive, RackView}
 use Rattle.rack.specs.Moments.{Leaves}
 use Rattle.rack.specs.Joins.{leaves_weaker}
 use Rattle.rack.specs.Targets.{look, put}
@@ -16,13 +16,13 @@ use Rattle.array_image.specs.Places.{data_sector, log_slice, member_slice}
 use Rattle.array_image.specs.SoundArray.{first_unsynced, IsWrittenSuper}
 use Rattle.array_image.specs.States.{is_current}
 use Rattle.array_image.proofs.Frames.{Agree}
-use Rattle.log_laws.specs.Commits.{Commits as AllOrNothing}
-use Rattle.log_laws.specs.Kept.{LogKept}
-use Rattle.log_laws.specs.Saying.{SaysState}
+use Rattle.log_laws.specs.Commits.{ImageInCommit as AllOrNothing}
+use Rattle.log_laws.specs.Kept.{LogInvariant}
+use Rattle.log_laws.specs.Saying.{RecoversTo}
 use Rattle.log_laws.specs.View.{LogView, names, next_number}
 use Rattle.log_laws.proofs.Kept.{before_inside, joined_decides, joined_ready, joined_state, stands_of}
 use Rattle.log_laws.proofs.KeptAfter.{joined_after}
-use Rattle.array_model.specs.Says.{HoldsShape, IsEarlier, IsOpen, Says}
+use Rattle.array_model.specs.Says.{ShapeInvariant, IsEarlier, IsOpen, ImageShowsArray}
 use Rattle.array_model.specs.View.{may_vary, shape_of}
 use Rattle.array_model.proofs.Keeping.{even_kept, held_kept, inside_before, KeepsData, live_after, live_on, open_after, same_value, settled_kept}
 use Rattle.array_model.proofs.Losses.{data_of, IsLosing, marked_holds, noted_holds}
@@ -34,7 +34,7 @@ use Rattle.raid_laws.specs.Since.{AreEach, KeepsEach}
 use Rattle.transition_laws.specs.Holds.{HoldsBook, HoldsMembers, IsFrom, IsPromised, IsSameArrayAs, is_sector, moved_to, has_sector, Promise, RestsArrays, spent_at, Stands, StandsArray}
 use Rattle.transition_laws.specs.Makes.{Makes, OwnsCopies}
 use Rattle.raid_laws.specs.Moves.{AreMarked}
-use Rattle.raid_laws.specs.Raid.{gone_in, is_over, Raid}
+use Rattle.raid_laws.specs.Raid.{gone_in, is_failed, Raid}
 use Rattle.transition_laws.specs.Stages.{Commits, Stages, StagesArray}
 use Rattle.array_core.proofs.Stripped.{some_same}
 use Rattle.raid_laws.proofs.Marking.{alike_agree, alike_state, closed_after, commit_each, copies_made, data_kept, logs_made, MarksCall, still_after}
@@ -51,7 +51,7 @@ lowered_none shape = ap (λ (ms : List Member). record shape { members = ms }) (
 is_left_on : (named lost : Bool) → named ≡ true → lost ≡ false → (named && not lost) ≡ true
 is_left_on named lost is none = and_from named (not lost) is (ap not none)
 
-module _ (x : Change) (d v w : Raid) (vals : ℕ → ℕ → Values) (l : LogView) (on lost : List ℕ) (a b : Seen)
+module _ (x : Change) (d v w : Raid) (vals : ℕ → ℕ → Values) (l : LogView) (on lost : List ℕ) (a b : RackView)
     (commit : Commits x d v w l on lost a b) (p : Promise) (stages : Stages x d v w p vals l.added a b) (promised : IsPromised p w) (owned : OwnsCopies p (changed x d).state) (stands : Stands d v p vals a) where
   abbrev t : State
   t = (changed x d).state
@@ -59,14 +59,14 @@ module _ (x : Change) (d v w : Raid) (vals : ℕ → ℕ → Values) (l : LogVie
   made_later : (n : ℕ) → n < d.state.made → n < w.state.made
   made_later n low = subst (λ (s : State). n < s.made) (sym commit.state) (let more = commit.more in omega (arith, low, more))
 
-  over : is_over w p.one ≡ false
+  over : is_failed w p.one ≡ false
   over = promised.goes p.one promised.is_one (made_later p.one stands.one)
 
   rooms : (l.number < 2 ^ 63 - 1) × (d.state.epoch < 2 ^ 63 - 1)
   rooms = commit.room p.one over
 
-  kept : LogKept d.state l.number (gone_in v) a
-  kept = subst (λ k. LogKept d.state k (gone_in v) a) (sym commit.number) stands.log
+  kept : LogInvariant d.state l.number (gone_in v) a
+  kept = subst (λ k. LogInvariant d.state k (gone_in v) a) (sym commit.number) stands.log
 
   one : (q : ℕ) × (is_current d.state q ≡ true) × (gone_in v q ≡ false) × (is_current (changed x d).state q ≡ true) × (names lost q ≡ false)
   one = commit.someone p.one stands.one over
@@ -110,7 +110,7 @@ module _ (x : Change) (d v w : Raid) (vals : ℕ → ℕ → Values) (l : LogVie
         rests_same (changed x d).state ((changed x d).arrays n) p n (vals n) r (put a.sectors l.added before) (agree n new.few) new.number (new.shows before picks)
   ]
 
-  moment : (c : Image) → AreEach (IsFrom p.origin) a.sectors c → (SaysState d.state a.sectors c ⊎ SaysState (changed x d).state a.sectors c) → IsInside a.sectors c → AllOrNothing l.added a c
+  moment : (c : Image) → AreEach (IsFrom p.origin) a.sectors c → (RecoversTo d.state a.sectors c ⊎ RecoversTo (changed x d).state a.sectors c) → IsInside a.sectors c → AllOrNothing l.added a c
       → HoldsBook d p vals a.sectors c ⊎ HoldsBook (changed x d) p vals a.sectors c
   moment c since says inside commits =
       let before = commits.before in
@@ -153,7 +153,7 @@ module _ (x : Change) (d v w : Raid) (vals : ℕ → ℕ → Values) (l : LogVie
   pub stops : a.traced → Leaves a b (λ c. IsInside a.sectors c → HoldsBook d p vals a.sectors c ⊎ HoldsBook (changed x d) p vals a.sectors c)
   stops traced =
       let First : Image → Type 0 = λ c. LogsInside a.sectors c → AllOrNothing l.added a c in
-      let Second : Image → Type 0 = λ c. IsInside a.sectors c → SaysState d.state a.sectors c ⊎ SaysState (changed x d).state a.sectors c in
+      let Second : Image → Type 0 = λ c. IsInside a.sectors c → RecoversTo d.state a.sectors c ⊎ RecoversTo (changed x d).state a.sectors c in
       let Third : Image → Type 0 = λ c. IsInside a.sectors c → AreEach (IsFrom p.origin) a.sectors c in
       leaves_weaker (λ c. (First c × Second c) × Third c) (λ c. IsInside a.sectors c → HoldsBook d p vals a.sectors c ⊎ HoldsBook (changed x d) p vals a.sectors c)
       (λ c both inside. moment c (both.1 inside) (both.0.1 inside) inside (both.0.0 (λ place u out. inside (log_slice place) u out)))
@@ -176,9 +176,9 @@ module _ (x : Change) (d v w : Raid) (vals : ℕ → ℕ → Values) (l : LogVie
     durable : Shape
     durable = shape_of (d.arrays n)
 
-    held : HoldsShape d.state n (shape_of (d.arrays n)) (shape_of (v.arrays n)) (v.arrays n).resync (may_vary (v.arrays n)) (vals n) (spent_at p n ((changed x d).arrays n)) a
+    held : ShapeInvariant d.state n (shape_of (d.arrays n)) (shape_of (v.arrays n)) (v.arrays n).resync (may_vary (v.arrays n)) (vals n) (spent_at p n ((changed x d).arrays n)) a
     held =
-        subst (λ (spent : ℕ → Bool). HoldsShape d.state n (shape_of (d.arrays n)) (shape_of (v.arrays n)) (v.arrays n).resync (may_vary (v.arrays n)) (vals n) spent a)
+        subst (λ (spent : ℕ → Bool). ShapeInvariant d.state n (shape_of (d.arrays n)) (shape_of (v.arrays n)) (v.arrays n).resync (may_vary (v.arrays n)) (vals n) spent a)
         (spent_same p n (d.arrays n) ((changed x d).arrays n) (λ y. sym ((stands.arrays n is low).sectors y) ∙ (stage n is low).sectors y)) (stands_shape d v p vals a stands n is low)
 
     -- no member's data is written
@@ -189,13 +189,13 @@ module _ (x : Change) (d v w : Raid) (vals : ℕ → ℕ → Values) (l : LogVie
         → replayed b.sectors c (member_slice place n) (data_sector + sector) ≡ c (member_slice place n) (data_sector + sector)
     still c picks place sector = still_after d.state (changed x d).state (gone_in v) l on lost a b n place sector c (small n is low) call picks
 
-    says : (r : Image) → IsLeft b r → Says (changed x d).state n (shape_of ((changed x d).arrays n)) (vals n) (spent_at p n ((changed x d).arrays n)) r
+    says : (r : Image) → IsLeft b r → ImageShowsArray (changed x d).state n (shape_of ((changed x d).arrays n)) (vals n) (spent_at p n ((changed x d).arrays n)) r
     says r left =
         says_same (changed x d).state n (shape_of ((changed x d).arrays n)) (vals n) (spent_at p n ((changed x d).arrays n)) r (replayed b.sectors left.0) (λ place u. left.2 _ u)
         (images left.0 left.1 n is (let more = commit.more in omega (arith, low, more))).shows.says
 
     -- the array as it holds before whoever went is noted
-    whole : HoldsShape (changed x d).state n (shape_of ((changed x d).arrays n)) (shape_of (v.arrays n)) (v.arrays n).resync (may_vary (v.arrays n)) (vals n) (spent_at p n ((changed x d).arrays n)) b
+    whole : ShapeInvariant (changed x d).state n (shape_of ((changed x d).arrays n)) (shape_of (v.arrays n)) (v.arrays n).resync (may_vary (v.arrays n)) (vals n) (spent_at p n ((changed x d).arrays n)) b
     whole = elim (stage n is low).shape [
       | inl same ↦
           let left = keeps (shape_of (v.arrays n)) held.open_left in
@@ -215,9 +215,9 @@ module _ (x : Change) (d v w : Raid) (vals : ℕ → ℕ → Values) (l : LogVie
           says
       | inr settled ↦
           let noted = shape_of (v.arrays n) in
-          let say : (r : Image) → IsLeft b r → Says (changed x d).state n (shape_of (v.arrays n)) (vals n) (spent_at p n ((changed x d).arrays n)) r =
-          λ r left. subst (λ (shape : Shape). Says (changed x d).state n shape (vals n) (spent_at p n ((changed x d).arrays n)) r) settled.0 (says r left) in
-          subst (λ (shape : Shape). HoldsShape (changed x d).state n shape (shape_of (v.arrays n)) (v.arrays n).resync (may_vary (v.arrays n)) (vals n) (spent_at p n ((changed x d).arrays n)) b) (sym settled.0)
+          let say : (r : Image) → IsLeft b r → ImageShowsArray (changed x d).state n (shape_of (v.arrays n)) (vals n) (spent_at p n ((changed x d).arrays n)) r =
+          λ r left. subst (λ (shape : Shape). ImageShowsArray (changed x d).state n shape (vals n) (spent_at p n ((changed x d).arrays n)) r) settled.0 (says r left) in
+          subst (λ (shape : Shape). ShapeInvariant (changed x d).state n shape (shape_of (v.arrays n)) (v.arrays n).resync (may_vary (v.arrays n)) (vals n) (spent_at p n ((changed x d).arrays n)) b) (sym settled.0)
           (marked_holds (changed x d).state n (shape_of (v.arrays n)) (v.arrays n).resync (may_vary (v.arrays n)) (vals n) (spent_at p n ((changed x d).arrays n)) a b (data_of held) settled.1 commit.lasting commit.call.stays
           (keeps (shape_of (v.arrays n)) held.open_left) (λ c picks m sector among counts. still c picks m.place sector)
           (λ r left. ((say r left).shape_is, (say r left).is_sound)))
@@ -290,8 +290,8 @@ module _ (x : Change) (d v w : Raid) (vals : ℕ → ℕ → Values) (l : LogVie
   after = record {
     few = commit.few stands.few;
     one = let low = stands.one in let more = commit.more in omega (arith, low, more);
-    log = subst (λ k. LogKept (changed x d).state k (gone_in w) b) (sym commit.number_after)
-        (subst (λ g. LogKept (changed x d).state (next_number l.number) g b) (λ i q. sym (commit.gone p.one stands.one q) i)
+    log = subst (λ k. LogInvariant (changed x d).state k (gone_in w) b) (sym commit.number_after)
+        (subst (λ g. LogInvariant (changed x d).state (next_number l.number) g b) (λ i q. sym (commit.gone p.one stands.one q) i)
         (joined_after d.state (changed x d).state (gone_in v) l on commit.takes lost a b commit.call kept (commit.brings rooms.1) commit.are_left call.ready call.decides));
     someone = (one.0, one.3, commit.gone p.one stands.one one.0 ∙ ap₂ (λ (g : Bool) (k : Bool). (g && not (names commit.takes one.0)) || k) one.2 one.4);
     copies = copies_made d.state (changed x d).state (gone_in v) l on lost a b call kept;
@@ -311,7 +311,7 @@ module _ (x : Change) (d v w : Raid) (vals : ℕ → ℕ → Values) (l : LogVie
         (commit.slices stands.slices n place u made few (subst (λ k. u < k) (commit.call.stays.sectors (member_slice place n)) there)));
   }
 
-pub commit_makes : (x : Change) (d v w : Raid) (vals : ℕ → ℕ → Values) (l : LogView) (on lost : List ℕ) (a b : Seen)
+pub commit_makes : (x : Change) (d v w : Raid) (vals : ℕ → ℕ → Values) (l : LogView) (on lost : List ℕ) (a b : RackView)
     → Commits x d v w l on lost a b → ((p : Promise) → Stages x d v w p vals l.added a b) → Makes (x ∷ []) d v w vals vals a b
 commit_makes x d v w vals l on lost a b commit stages = record {
   due = (commit.due, tt);

@@ -2,13 +2,13 @@
 use Rattle.std.proofs.Common.{◌≡◌, ◌⊎◌, ℕ, ◌-◌, ◌^◌, ◌<◌, ◌≤◌, Bool, true, false, ◌&&◌, ◌||◌, not, List, [], ◌∷◌, Some, refl, sym, ap, subst, ◌∙◌, inl, inr, arith}
 use Rattle.std.proofs.lemmas.Bool.{and_from, and_parts, both_ways, cases_Bool, cases_lt}
 use Rattle.rack.specs.Values.{Values}
-use Rattle.rack.specs.Seen.{IsLive, Seen}
+use Rattle.rack.specs.Seen.{IsLive, RackView}
 use Rattle.rack.specs.Targets.{look}
 use Rattle.pool_state.specs.declared.contents.State.{State}
 use Rattle.array_image.specs.Places.{log_slice}
 use Rattle.array_image.specs.States.{is_current}
 use Rattle.log_laws.specs.Commits.{CommitCall}
-use Rattle.log_laws.specs.Kept.{Brings as BringsState}
+use Rattle.log_laws.specs.Kept.{CarriesState as BringsState}
 use Rattle.log_laws.specs.Saying.{AreOwnCopies, KeepsDrives}
 use Rattle.log_laws.specs.View.{LogView, names, next_number}
 use Rattle.log_laws.proofs.Kept.{brings_to}
@@ -41,7 +41,7 @@ book_with v book_number g = record v { number = book_number; arrays = g }
 abbrev pub run_after : Raid → State → ℕ → (ℕ → View) → Raid
 run_after v t number f = record v { state = t; number = number; arrays = f }
 
-pub record IsCommitting (x : Change) (v : Raid) (book_number : ℕ) (g : ℕ → View) (on gone : List ℕ) (l : LogView) (f : ℕ → View) (b c : Seen) : Type 0 where
+pub record IsCommitting (x : Change) (v : Raid) (book_number : ℕ) (g : ℕ → View) (on gone : List ℕ) (l : LogView) (f : ℕ → View) (b c : RackView) : Type 0 where
   pub due : is_due x (book_with v book_number g)
   pub set : IsSet v b
   pub call : CommitCall l on gone b c
@@ -68,7 +68,7 @@ pub record IsCommitting (x : Change) (v : Raid) (book_number : ℕ) (g : ℕ →
       AreLive v.state.made b → ((q u : ℕ) → q < 16 → u < b.sectors (log_slice q) → IsLive b b (log_slice q) u)
       → (e u : ℕ) (y : List ℕ) → look l.added e u ≡ Some y → IsLive b b e u
 
-module _ (x : Change) (v : Raid) (book_number : ℕ) (g : ℕ → View) (on gone : List ℕ) (l : LogView) (f : ℕ → View) (b c : Seen) (commit : IsCommitting x v book_number g on gone l f b c) where
+module _ (x : Change) (v : Raid) (book_number : ℕ) (g : ℕ → View) (on gone : List ℕ) (l : LogView) (f : ℕ → View) (b c : RackView) (commit : IsCommitting x v book_number g on gone l f b c) where
   abbrev t : State
   t = (changed x (book_with v book_number g)).state
 

@@ -9,7 +9,7 @@ use Rattle.array_model.specs.declared.Seat.{Seat}
 use Rattle.array_model.specs.declared.Seat.TheVariants.{Missing}
 use Rattle.array_model.specs.View.{member_by_seat, member_on, place_at, seat_unless, shape_of, View}
 use Rattle.log_laws.specs.View.{names}
-use Rattle.raid_laws.specs.Book.{after_same, after_then, IsAfter}
+use Rattle.raid_laws.specs.Book.{after_same, after_then, OnlyMarksSince}
 use Rattle.transition_laws.specs.Changes.{Along, AreKeeping, by, Change, changed, closed, enlists, failed, FollowsView, is_keeping, lacking, makes, readied, rewritten, seats_without, steps, wrote}
 use Rattle.array_core.specs.Superblocks.{settled}
 use Rattle.sync_laws.specs.Steps.{resynced}
@@ -28,7 +28,7 @@ use Rattle.raid_laws.proofs.Missing.{current_marked}
 -- ---- one array of them
 
 pub record Follows (v w : Raid) : Type 0 where
-  pub after : IsAfter v.state w.state
+  pub after : OnlyMarksSince v.state w.state
   pub views : (n : ℕ) → FollowsView (is_current w.state) (v.arrays n) (w.arrays n)
 
 pub view_same : (on : ℕ → Bool) (u : View) → FollowsView on u u

@@ -2,14 +2,14 @@
 use Rattle.std.proofs.Common.{◌≡◌, ℕ, ◌<◌, ◌≤◌, true, false, not, [], sym, ap, subst, ◌∙◌, arith}
 use Rattle.std.proofs.lemmas.Bool.{and_from, and_parts}
 use Rattle.rack.specs.Values.{Values}
-use Rattle.rack.specs.Seen.{Seen}
+use Rattle.rack.specs.Seen.{RackView}
 use Rattle.rack.specs.Joins.{leaves_same, stays_same}
 use Rattle.pool_state.specs.declared.contents.State.{State}
 use Rattle.array_image.specs.Arrays.{Shape}
 use Rattle.array_image.specs.Left.{IsInside}
 use Rattle.array_image.specs.Places.{member_slice}
 use Rattle.array_image.specs.States.{is_current}
-use Rattle.array_model.specs.ArrayCalls.{Covers}
+use Rattle.array_model.specs.ArrayCalls.{IncludesSpent}
 use Rattle.array_model.specs.View.{may_vary, present, shape_of, View}
 use Rattle.array_core.specs.Seats.{heeded}
 use Rattle.raid_laws.specs.Moves.{AreMarked}
@@ -20,11 +20,11 @@ use Rattle.transition_laws.specs.Holds.{HoldsBook, HoldsMembers, IsPromised, IsS
 use Rattle.transition_laws.specs.Makes.{Makes}
 use Rattle.transition_laws.proofs.MoreArrays.{GoesOn, over_before}
 
-covers_heeded : (p : Promise) (n : ℕ) (u : View) → Covers (heeded u) (spent_at p n (heeded u)) → Covers u (spent_at p n u)
+covers_heeded : (p : Promise) (n : ℕ) (u : View) → IncludesSpent (heeded u) (spent_at p n (heeded u)) → IncludesSpent u (spent_at p n u)
 unfolding shape_of
 covers_heeded p n u covers = covers
 
-module _ (d v : Raid) (f : ℕ → View) (x : Seen) (fit : x.fit) (arrays : (n : ℕ) → n < v.state.made → f n ≡ heeded (v.arrays n)) (marked : AreMarked v) (same : v.state ≡ d.state)
+module _ (d v : Raid) (f : ℕ → View) (x : RackView) (fit : x.fit) (arrays : (n : ℕ) → n < v.state.made → f n ≡ heeded (v.arrays n)) (marked : AreMarked v) (same : v.state ≡ d.state)
     (vals : ℕ → ℕ → Values) where
   goes_on : GoesOn v (with_arrays v f)
   goes_on = record {
@@ -49,7 +49,7 @@ module _ (d v : Raid) (f : ℕ → View) (x : Seen) (fit : x.fit) (arrays : (n :
     back = record {
       is_one = promised.is_one;
       goes = λ n live low. over_before v (with_arrays v f) goes_on n low (promised.goes n live low);
-      covers = λ n live low. covers_heeded p n (v.arrays n) (subst (λ (u : View). Covers u (spent_at p n u)) (arrays n low) (promised.covers n live low));
+      covers = λ n live low. covers_heeded p n (v.arrays n) (subst (λ (u : View). IncludesSpent u (spent_at p n u)) (arrays n low) (promised.covers n live low));
     }
 
     module _ (stands : Stands d v p vals x) where

@@ -2,7 +2,7 @@
 use Rattle.std.proofs.Common.{◌≡◌, ℕ, ◌<◌, Bool, true, false, ◌&&◌, not, List, [], ◌∷◌, ◌++◌, None, refl, sym, ap, ap₂, subst, ◌∙◌, arith}
 use Rattle.std.proofs.lemmas.Bool.{both_ways}
 use Rattle.rack.specs.Values.{Values}
-use Rattle.rack.specs.Seen.{Image, Seen}
+use Rattle.rack.specs.Seen.{Image, RackView}
 use Rattle.rack.specs.Joins.{leaves_same, stays_same}
 use Rattle.rack.specs.Targets.{put, Target}
 use Rattle.md_super.specs.declared.superblock.Super.{Super}
@@ -23,7 +23,7 @@ use Rattle.array_core.specs.Seats.{heeded}
 use Rattle.array_core.specs.Superblocks.{left_offset}
 use Rattle.raid_laws.specs.Losing.{only_same}
 use Rattle.raid_laws.specs.Moves.{AreMarked, IsSet}
-use Rattle.raid_laws.specs.Raid.{gone_in, is_over, Raid}
+use Rattle.raid_laws.specs.Raid.{gone_in, is_failed, Raid}
 use Rattle.raid_laws.specs.Settling.{state_after}
 use Rattle.raid_laws.proofs.Committed.{after_further, IsCommit, raid_after}
 use Rattle.raid_laws.proofs.Losing.{only_gone, only_heeded}
@@ -52,7 +52,7 @@ left_now true false is = (refl, refl)
 left_now true true is = absurd (both_ways false refl is)
 left_now false c is = absurd (both_ways false refl is)
 
-module _ (u v : Raid) (book_number : ℕ) (g : ℕ → View) (lost on gone : List ℕ) (l : LogView) (xs : List Target) (f : ℕ → View) (a b c : Seen)
+module _ (u v : Raid) (book_number : ℕ) (g : ℕ → View) (lost on gone : List ℕ) (l : LogView) (xs : List Target) (f : ℕ → View) (a b c : RackView)
     (commit : IsCommit v lost on gone l xs f b c) (run : IsRunOf (book_with v book_number g) v) (settles : SettlesBook u v u.state.made a b) (same : u.state ≡ v.state) where
   abbrev book : Raid
   book = book_with v book_number g
@@ -130,7 +130,7 @@ module _ (u v : Raid) (book_number : ℕ) (g : ℕ → View) (lost on gone : Lis
   }
 
 -- The arrays are settled and one commit marks whoever went: this change is made of each book that the run has.
-pub commit_losses : (d u v : Raid) (lost on gone : List ℕ) (l : LogView) (xs : List Target) (f : ℕ → View) (a b c : Seen) → IsCommit v lost on gone l xs f b c → IsRunOf d v
+pub commit_losses : (d u v : Raid) (lost on gone : List ℕ) (l : LogView) (xs : List Target) (f : ℕ → View) (a b c : RackView) → IsCommit v lost on gone l xs f b c → IsRunOf d v
     → SettlesBook u v u.state.made a b → u.state ≡ v.state → (AreMarked u → ⊥) → MakesLosses d u (raid_after v lost (next_number l.number) f) a c
 commit_losses d u v lost on gone l xs f a b c commit run settles same some =
     let whole : book_with v d.number d.arrays ≡ d = λ i. record { state = run.same i; arrays = d.arrays; number = d.number } in
@@ -138,7 +138,7 @@ commit_losses d u v lost on gone l xs f a b c commit run settles same some =
     (book_losses u v d.number d.arrays lost on gone l xs f a b c commit (subst (λ (e : Raid). IsRunOf e v) (sym whole) run) settles same some)
 
 -- Where nobody is left, the marks are in the run alone: nothing is promised of it any more.
-pub empty_losses : (d u v : Raid) (lost : List ℕ) (a b : Seen) → IsSet v b → IsRunOf d v → SettlesBook u v u.state.made a b → u.state ≡ v.state
+pub empty_losses : (d u v : Raid) (lost : List ℕ) (a b : RackView) → IsSet v b → IsRunOf d v → SettlesBook u v u.state.made a b → u.state ≡ v.state
     → ((p : ℕ) → names lost p ≡ (is_current v.state p && gone_in v p)) → ((n p : ℕ) → n < v.state.made → names lost p ≡ true → has_gone (v.arrays n) p ≡ true)
     → ((p : ℕ) → is_current (state_after v lost) p ≡ false) → (AreMarked u → ⊥) → MakesLosses d u (record v { state = state_after v lost }) a b
 empty_losses d u v lost a b set run settles same lost_is noted nobody some = record {
@@ -151,13 +151,13 @@ empty_losses d u v lost a b set run settles same lost_is noted nobody some = rec
   none = λ are. absurd (some are);
 }
   where
-    over : (n : ℕ) → is_over (record v { state = state_after v lost }) n ≡ false → ⊥
+    over : (n : ℕ) → is_failed (record v { state = state_after v lost }) n ≡ false → ⊥
     over n goes = let left = someone_left (record v { state = state_after v lost }) n goes in both_ways (is_current (state_after v lost) left.0) (nobody left.0) left.1
 
 -- ---- calls that make none
 
 -- losses that are noted before arrays are settled
-pub settles_behind : (t u v : Raid) (k : ℕ) (a b c : Seen) → t.state ≡ u.state → ((d : Raid) (vals : ℕ → ℕ → Values) → t.state ≡ d.state → Makes [] d t u vals vals a b)
+pub settles_behind : (t u v : Raid) (k : ℕ) (a b c : RackView) → t.state ≡ u.state → ((d : Raid) (vals : ℕ → ℕ → Values) → t.state ≡ d.state → Makes [] d t u vals vals a b)
     → ((n : ℕ) → n < t.state.made → left_offset (u.arrays n) ≡ left_offset (t.arrays n)) → SettlesBook u v k b c → SettlesBook t v k a c
 settles_behind t u v k a b c state early left settles = record {
   makes = λ d vals same. makes_then [] [] d t u v vals vals vals a b c (early d vals same) (settles.makes d vals (sym state ∙ same));
@@ -169,7 +169,7 @@ settles_behind t u v k a b c state early left settles = record {
 }
 
 -- somebody else went while they were settled, and nothing is committed
-pub early_losses : (d u v : Raid) (k : ℕ) (a b : Seen) → IsRunOf d v → u.state ≡ v.state → SettlesBook u v k a b → MakesLosses d u v a b
+pub early_losses : (d u v : Raid) (k : ℕ) (a b : RackView) → IsRunOf d v → u.state ≡ v.state → SettlesBook u v k a b → MakesLosses d u v a b
 early_losses d u v k a b run same settles = record {
   changes = [];
   losses = tt;
@@ -179,7 +179,7 @@ early_losses d u v k a b run same settles = record {
 }
 
 -- nothing is called
-pub no_losses : (d v : Raid) (x : Seen) → x.fit → IsRunOf d v → MakesLosses d v v x x
+pub no_losses : (d v : Raid) (x : RackView) → x.fit → IsRunOf d v → MakesLosses d v v x x
 no_losses d v x fit run = record {
   changes = [];
   losses = tt;
@@ -201,7 +201,7 @@ losses_joined : (xs ys : List Change) → AreLosses xs → AreLosses ys → AreL
 losses_joined [] ys one two = two
 losses_joined (x ∷ xs) ys one two = (one.0, losses_joined xs ys one.1 two)
 
-pub losses_then : (d v w z : Raid) (a b c : Seen) (one : MakesLosses d v w a b) → MakesLosses (by one.changes d) w z b c → (AreMarked v → AreMarked w) → MakesLosses d v z a c
+pub losses_then : (d v w z : Raid) (a b c : RackView) (one : MakesLosses d v w a b) → MakesLosses (by one.changes d) w z b c → (AreMarked v → AreMarked w) → MakesLosses d v z a c
 losses_then d v w z a b c one two still = record {
   changes = one.changes ++ two.changes;
   losses = losses_joined one.changes two.changes one.losses two.losses;
@@ -211,7 +211,7 @@ losses_then d v w z a b c one two still = record {
 }
 
 -- and then nobody counts as gone
-pub losses_heeded : (d v w : Raid) (f : ℕ → View) (a b : Seen) → b.fit → MakesLosses d v w a b → AreMarked w → ((n : ℕ) → n < w.state.made → f n ≡ heeded (w.arrays n))
+pub losses_heeded : (d v w : Raid) (f : ℕ → View) (a b : RackView) → b.fit → MakesLosses d v w a b → AreMarked w → ((n : ℕ) → n < w.state.made → f n ≡ heeded (w.arrays n))
     → MakesLosses d v (with_arrays w f) a b
 losses_heeded d v w f a b fit one are arrays =
     let e : Raid = by one.changes d in

@@ -2,7 +2,7 @@
 use Rattle.std.proofs.Common.{◌≡◌, ℕ, ◌<◌, true, List, [], ◌∷◌, refl, ◌∙◌, inr, arith}
 use Rattle.rack.specs.Values.{Values}
 use Rattle.rack.specs.Joins.{stays_then}
-use Rattle.rack.specs.Seen.{Seen}
+use Rattle.rack.specs.Seen.{RackView}
 use Rattle.rack.specs.Targets.{Target}
 use Rattle.log_laws.specs.View.{LogView, next_number}
 use Rattle.array_model.specs.View.{View}
@@ -20,7 +20,7 @@ use Rattle.transition_laws.proofs.Committing.{book_with, commits, IsCommitting}
 use Rattle.raid_laws.proofs.KeptDrives.{after_drives}
 use Rattle.transition_laws.proofs.Rewritten.{IsRestated, stages_failed}
 
-module _ (v : Raid) (book_number : ℕ) (g : ℕ → View) (events : ℕ → ℕ) (lost on gone : List ℕ) (l : LogView) (xs : List Target) (f : ℕ → View) (b c : Seen) (commit : IsCommit v lost on gone l xs f b c) where
+module _ (v : Raid) (book_number : ℕ) (g : ℕ → View) (events : ℕ → ℕ) (lost on gone : List ℕ) (l : LogView) (xs : List Target) (f : ℕ → View) (b c : RackView) (commit : IsCommit v lost on gone l xs f b c) where
   marking_committing : IsCommitting (failed lost events) v book_number g on gone l f b c
   marking_committing =
       let marking = commit.marking in
@@ -58,7 +58,7 @@ module _ (v : Raid) (book_number : ℕ) (g : ℕ → View) (events : ℕ → ℕ
   after_it = raid_after v lost (next_number l.number) f
 
   -- The arrays are settled by calls that make no change of the book, and the commit has their superblocks.
-  pub mark_makes : (u : Raid) (vals : ℕ → ℕ → Values) (a : Seen) → Makes [] (book_with v book_number g) u v vals vals a b
+  pub mark_makes : (u : Raid) (vals : ℕ → ℕ → Values) (a : RackView) → Makes [] (book_with v book_number g) u v vals vals a b
       → ((p : Promise) → IsPromised p (raid_after v lost (next_number l.number) f) → IsPromised p v → Stands (book_with v book_number g) u p vals a → Stands (book_with v book_number g) v p vals b
       → (n : ℕ) → p.live n ≡ true → n < v.state.made → IsRestated lost events (book_with v book_number g) v n l.added b)
       → Makes (failed lost events ∷ []) (book_with v book_number g) u (raid_after v lost (next_number l.number) f) vals vals a c

@@ -2,7 +2,7 @@
 use Rattle.std.proofs.Common.{◌≡◌, ℕ, ◌<◌, ◌≤◌, Bool, true, false, ◌==◌, List, [], ◌∷◌, Some, refl, sym, ap, subst, ◌∙◌, eq-eqb, eqb-true, arith, inr}
 use Rattle.std.proofs.lemmas.Bool.{both_ways}
 use Rattle.rack.specs.Values.{Values}
-use Rattle.rack.specs.Seen.{Image, Seen}
+use Rattle.rack.specs.Seen.{Image, RackView}
 use Rattle.rack.specs.Moments.{Leaves}
 use Rattle.rack.specs.Joins.{leaves_weaker}
 use Rattle.md_super.specs.declared.superblock.Super.{Super}
@@ -10,12 +10,12 @@ use Rattle.pool_state.specs.declared.contents.State.{State}
 use Rattle.array_image.specs.Arrays.{Shape, replayed, shape_in}
 use Rattle.array_image.specs.States.{is_current, state_in}
 use Rattle.array_image.specs.Supers.{truth_in}
-use Rattle.array_image.specs.Left.{IsClosed, IsInside, IsLeft, Picks}
-use Rattle.log_laws.specs.Kept.{LogKept}
+use Rattle.array_image.specs.Left.{NothingPending, IsInside, IsLeft, Picks}
+use Rattle.log_laws.specs.Kept.{LogInvariant}
 use Rattle.log_laws.proofs.HeldCopies.{kept_holds}
-use Rattle.array_model.specs.ArrayCalls.{Covers}
+use Rattle.array_model.specs.ArrayCalls.{IncludesSpent}
 use Rattle.array_model.specs.View.{may_vary, shape_of, spent_in}
-use Rattle.raid_laws.specs.Book.{after_same, after_then, IsAfter}
+use Rattle.raid_laws.specs.Book.{after_same, after_then, OnlyMarksSince}
 use Rattle.transition_laws.specs.Changes.{AreKeeping, by, Change, changed}
 use Rattle.raid_laws.specs.Frames.{frame_of, HasFrame}
 use Rattle.transition_laws.specs.Holds.{begun, HoldsBook, HoldsMembers, IsFrom, IsPromised, IsSameArrayAs, Promise, RestsArray, ShowsArray, Stands, StandsArray}
@@ -23,8 +23,8 @@ use Rattle.array_core.specs.Superblocks.{is_settled}
 use Rattle.array_core.specs.Contents.{lacking_in}
 use Rattle.raid_laws.specs.Logs.{LogsBetween}
 use Rattle.transition_laws.specs.Makes.{AreOwned, IsFree, Makes, Suits}
-use Rattle.raid_laws.specs.Runs.{IsBetween, KeepsMoments}
-use Rattle.raid_laws.specs.Raid.{AreLive, gone_in, held_in, is_over, IsTold, Raid, spent_of, Stood, StopsInside}
+use Rattle.raid_laws.specs.Runs.{IsBetween, CrashInvariant}
+use Rattle.raid_laws.specs.Raid.{AreLive, gone_in, held_in, is_failed, IsTracked, Raid, spent_of, InvariantInCall, StopsInside}
 use Rattle.raid_laws.specs.Laws.{stood_left}
 use Rattle.raid_laws.specs.Reach.{KeepsReach, KeepsReachOn, ReachBetween}
 use Rattle.raid_laws.specs.Rows.{KeepsLacking, KeepsRows, LackingFrom, LeavesFrom, LeavesLacking, LeavesRows}
@@ -101,29 +101,29 @@ abbrev pub promise_of : ℕ → (ℕ → Bool) → (kept lacks : Bool) → State
 promise_of n spent kept lacks base = record { live = λ k. k == n; one = n; spent = λ k. spent; growing = false; kept = λ k. kept; lacks = λ k. lacks; origin = begun base }
 
 -- Calls between which nobody has gone who isn't marked, and that make changes of the book.
-pub record IsCalled (xs : List Change) (v w : Raid) (a b : Seen) : Type 0 where
+pub record IsCalled (xs : List Change) (v w : Raid) (a b : RackView) : Type 0 where
   pub vals : ℕ → ℕ → Values
   pub makes : Makes xs v v w (held_in v a) vals a b
   pub keeping : AreKeeping xs v
   pub inside : StopsInside b
   pub before : AreMarked v
   pub marked : AreMarked w
-  pub still : (n : ℕ) → is_over w n ≡ false → is_over v n ≡ false
-  pub low : (n : ℕ) → is_over w n ≡ false → n < w.state.made
-  pub low_before : (n : ℕ) → is_over w n ≡ false → n < v.state.made
+  pub still : (n : ℕ) → is_failed w n ≡ false → is_failed v n ≡ false
+  pub low : (n : ℕ) → is_failed w n ≡ false → n < w.state.made
+  pub low_before : (n : ℕ) → is_failed w n ≡ false → n < v.state.made
   pub few : w.state.made ≤ 16
   pub joined : w.state.joined ≡ v.state.joined
   -- for what arrays hold after them
   pub heeded : IsHeeded w
   pub set : IsSet w b
-  pub spares : (n y : ℕ) → is_over w n ≡ false → spent_in (w.arrays n) y ≡ false → spent_in (v.arrays n) y ≡ false
+  pub spares : (n y : ℕ) → is_failed w n ≡ false → spent_in (w.arrays n) y ≡ false → spent_in (v.arrays n) y ≡ false
 
 -- the spent map that a promise of array n goes by
 abbrev pub Covered : (v w : Raid) → ℕ → (ℕ → Bool) → Type 0
 Covered v w n spent = (y : ℕ) → spent y ≡ false → (spent_of v n y ≡ false) × (spent_in (w.arrays n) y ≡ false)
 
 -- each book that changes lead to came of the first one's state
-owned_by : (p : Promise) (base : State) (xs : List Change) (v : Raid) → AreKeeping xs v → p.origin ≡ begun base → IsAfter base v.state → AreOwned p xs v
+owned_by : (p : Promise) (base : State) (xs : List Change) (v : Raid) → AreKeeping xs v → p.origin ≡ begun base → OnlyMarksSince base v.state → AreOwned p xs v
 owned_by p base [] v keeping origin after = tt
 owned_by p base (x ∷ xs) v keeping origin after =
     let next = after_then base v.state (changed x v).state after (follows_change x v keeping.0).after in (
@@ -131,13 +131,13 @@ owned_by p base (x ∷ xs) v keeping origin after =
       owned_by p base xs (changed x v) keeping.1 origin next,
     )
 
-none_gone : (v : Raid) → (someone : (p : ℕ) → is_current v.state p ≡ true → gone_in v p ≡ false) → (x : Seen) (s : State) (number : ℕ)
-    → LogKept v.state v.number (λ p. false) x → LogKept v.state v.number (gone_in v) x
+none_gone : (v : Raid) → (someone : (p : ℕ) → is_current v.state p ≡ true → gone_in v p ≡ false) → (x : RackView) (s : State) (number : ℕ)
+    → LogInvariant v.state v.number (λ p. false) x → LogInvariant v.state v.number (gone_in v) x
 none_gone v none x s number kept = kept_marked v.state v.number (λ p. false) (gone_in v) x (λ p current. refl) kept
 
-module _ (xs : List Change) (v w : Raid) (a b : Seen) (called : IsCalled xs v w a b)
-    (n : ℕ) (told : IsTold v a n) (goes : is_over w n ≡ false) (spent : ℕ → Bool) (covered : Covered v w n spent) (kept lacks : Bool) (base : State)
-    (free : IsFree (promise_of n spent kept lacks base) xs) (after_base : IsAfter base v.state) (since : HoldsSince base a)
+module _ (xs : List Change) (v w : Raid) (a b : RackView) (called : IsCalled xs v w a b)
+    (n : ℕ) (told : IsTracked v a n) (goes : is_failed w n ≡ false) (spent : ℕ → Bool) (covered : Covered v w n spent) (kept lacks : Bool) (base : State)
+    (free : IsFree (promise_of n spent kept lacks base) xs) (after_base : OnlyMarksSince base v.state) (since : HoldsSince base a)
     (kept_rows : kept ≡ true → LeavesRows v a n) (lacking_rows : lacks ≡ true → LeavesLacking v a n) where
   own : (P : ℕ → Type 0) (k : ℕ) → (k == n) ≡ true → P n → P k
   own P k is at = subst P (sym (eqb-true k n is)) at
@@ -145,8 +145,8 @@ module _ (xs : List Change) (v w : Raid) (a b : Seen) (called : IsCalled xs v w 
   promised : IsPromised (promise_of n spent kept lacks base) w
   promised = record {
     is_one = eq-eqb n n refl;
-    goes = λ k is low. own (λ j. is_over w j ≡ false) k is goes;
-    covers = λ k is low. own (λ j. Covers (w.arrays j) spent) k is (λ y alive. (covered y alive).1);
+    goes = λ k is low. own (λ j. is_failed w j ≡ false) k is goes;
+    covers = λ k is low. own (λ j. IncludesSpent (w.arrays j) spent) k is (λ y alive. (covered y alive).1);
   }
 
   -- it is among those that are made, before and after
@@ -154,7 +154,7 @@ module _ (xs : List Change) (v w : Raid) (a b : Seen) (called : IsCalled xs v w 
   low_before = called.low_before n goes
 
   -- an array that is told stands by the book
-  stood : Stood v.state (shape_of (v.arrays n)) (held_in v a n) (spent_of v n) (λ place. false) v a n
+  stood : InvariantInCall v.state (shape_of (v.arrays n)) (held_in v a n) (spent_of v n) (λ place. false) v a n
   stood = told.stood (called.still n goes)
 
   shown : (c : Image) → Picks a c → RestsArray v.state (v.arrays n) (promise_of n spent kept lacks base) n (held_in v a n) (replayed a.sectors c)
@@ -201,7 +201,7 @@ module _ (xs : List Change) (v w : Raid) (a b : Seen) (called : IsCalled xs v w 
             even = held.even;
             settled = held.settled;
           });
-      closed = λ none. subst (λ k. IsClosed k a) stood.number (stood.holds.closed none);
+      closed = λ none. subst (λ k. NothingPending k a) stood.number (stood.holds.closed none);
       truth = record { fields = refl; events = omega arith };
       mark = λ is. is;
       roles = refl;
@@ -338,20 +338,20 @@ none_free n spent lacks base xs k is = absurd (both_ways false refl is)
 nothing : (v w : Raid) (n : ℕ) → Covered v w n (λ y. true)
 nothing v w n y alive = absurd (both_ways true alive refl)
 
-no_rows : (v : Raid) (a : Seen) (n : ℕ) → false ≡ true → LeavesRows v a n
+no_rows : (v : Raid) (a : RackView) (n : ℕ) → false ≡ true → LeavesRows v a n
 no_rows v a n is = absurd (both_ways false refl is)
 
-no_lacking : (v : Raid) (a : Seen) (n : ℕ) → false ≡ true → LeavesLacking v a n
+no_lacking : (v : Raid) (a : RackView) (n : ℕ) → false ≡ true → LeavesLacking v a n
 no_lacking v a n is = absurd (both_ways false refl is)
 
 -- what is spent after them is what is promised of none before
-spent_covered : (xs : List Change) (v w : Raid) (a b : Seen) → IsCalled xs v w a b → (n : ℕ) → is_over w n ≡ false → Covered v w n (spent_of w n)
+spent_covered : (xs : List Change) (v w : Raid) (a b : RackView) → IsCalled xs v w a b → (n : ℕ) → is_failed w n ≡ false → Covered v w n (spent_of w n)
 spent_covered xs v w a b called n goes y alive =
-    let own = (or_parts (is_over w n) (spent_in (w.arrays n) y) alive).1 in
-    (or_from (is_over v n) (spent_in (v.arrays n) y) (called.still n goes) (called.spares n y goes own), own)
+    let own = (or_parts (is_failed w n) (spent_in (w.arrays n) y) alive).1 in
+    (or_from (is_failed v n) (spent_in (v.arrays n) y) (called.still n goes) (called.spares n y goes own), own)
 
 -- an array that was told is told
-told_of : (xs : List Change) (v w : Raid) (a b : Seen) → IsCalled xs v w a b → (n : ℕ) → IsTold v a n → IsTold w b n
+told_of : (xs : List Change) (v w : Raid) (a b : RackView) → IsCalled xs v w a b → (n : ℕ) → IsTracked v a n → IsTracked w b n
 told_of xs v w a b called n told = record {
   joined = subst (λ k. n < k) (sym called.joined) told.joined;
   stood = λ goes.
@@ -367,9 +367,9 @@ told_of xs v w a b called n told = record {
       let ready : n < e.state.joined = subst (λ (s : State). n < s.joined) now.same (subst (λ m. n < m) (sym called.joined) told.joined) in
       let shape = (now.alike called.marked n live made).shape in
       stood_own w b n vals called.heeded called.set (called.low n goes)
-      (subst (λ (s : State). Stood s (shape_of (w.arrays n)) vals (spent_of w n) (λ place. false) w b n) (sym now.same)
-      (subst (λ (s : Shape). Stood e.state s vals (spent_of w n) (λ place. false) w b n) (sym shape)
-      (subst (λ g. Stood e.state (shape_of (e.arrays n)) vals (spent_of w n) g w b n) (λ i q. heeded_gone w called.heeded q i)
+      (subst (λ (s : State). InvariantInCall s (shape_of (w.arrays n)) vals (spent_of w n) (λ place. false) w b n) (sym now.same)
+      (subst (λ (s : Shape). InvariantInCall e.state s vals (spent_of w n) (λ place. false) w b n) (sym shape)
+      (subst (λ g. InvariantInCall e.state (shape_of (e.arrays n)) vals (spent_of w n) g w b n) (λ i q. heeded_gone w called.heeded q i)
       (stood_of e w p called.vals b now n live made ready))));
   slices = λ goes.
       let began = kept_since v.state v.number a (told.stood (called.still n goes)).log in
@@ -379,10 +379,10 @@ told_of xs v w a b called n told = record {
       subst (λ (s : State). AreLive s.made b) (sym now.same) now.slices;
 }
 
-pub moments_of : (xs : List Change) (v w : Raid) (a b : Seen) → IsCalled xs v w a b → KeepsMoments v w a b
+pub moments_of : (xs : List Change) (v w : Raid) (a b : RackView) → IsCalled xs v w a b → CrashInvariant v w a b
 moments_of xs v w a b called =
     let all : ℕ → Bool = λ y. true in
-    let began : (n : ℕ) → IsTold v a n → is_over w n ≡ false → HoldsSince v.state a = λ n told goes. kept_since v.state v.number a (told.stood (called.still n goes)).log in
+    let began : (n : ℕ) → IsTracked v a n → is_failed w n ≡ false → HoldsSince v.state a = λ n told goes. kept_since v.state v.number a (told.stood (called.still n goes)).log in
     let free = none_free in
     record {
       still = called.still;

@@ -3,7 +3,7 @@ use Rattle.std.proofs.Common.{◌≡◌, ℕ, ◌<◌, ◌≤◌, Bool, true, fa
 use Rattle.std.proofs.lemmas.Bool.{both_ways, cases_Bool}
 use Rattle.std.specs.List.{list_any, range_with_len}
 use Rattle.array_model.specs.View.{present}
-use Rattle.raid_laws.specs.Raid.{is_empty, is_left, is_over, is_used_up, last_number, Raid}
+use Rattle.raid_laws.specs.Raid.{is_empty, is_left, is_failed, is_used_up, last_number, Raid}
 use Rattle.raid_laws.proofs.Over.{event_room, not_false, number_room, or_from, or_parts}
 use Rattle.raid_laws.proofs.Ranges.{any_some, any_wider}
 
@@ -22,7 +22,7 @@ below m n top less room = elim (cases_Bool (nat_lt top m)) [
   | inr none ↦ none
 ]
 
-pub over_before : (v w : Raid) → GoesOn v w → (n : ℕ) → n < v.state.made → is_over w n ≡ false → is_over v n ≡ false
+pub over_before : (v w : Raid) → GoesOn v w → (n : ℕ) → n < v.state.made → is_failed w n ≡ false → is_failed v n ≡ false
 over_before v w further n low goes =
     let parts = or_parts (is_empty w) (is_used_up w || (present (w.arrays n).seats == 0)) goes in
     let rest = or_parts (is_used_up w) (present (w.arrays n).seats == 0) parts.1 in

@@ -2,16 +2,16 @@
 use Rattle.std.proofs.Common.{◌≡◌, ℕ, ◌<◌, ◌≤◌, true, ◌&&◌, ◌||◌, not, List, [], sym, ap, subst, ◌∙◌, arith}
 use Rattle.std.proofs.lemmas.Bool.{both_ways}
 use Rattle.rack.specs.Values.{Values}
-use Rattle.rack.specs.Seen.{Seen}
+use Rattle.rack.specs.Seen.{RackView}
 use Rattle.rack.specs.Joins.{leaves_same, stays_same}
 use Rattle.md_super.specs.declared.superblock.Super.{Super}
 use Rattle.pool_state.specs.declared.contents.State.{State}
 use Rattle.array_image.specs.Held.{current_in}
-use Rattle.array_image.specs.Left.{IsClosed, IsInside}
+use Rattle.array_image.specs.Left.{NothingPending, IsInside}
 use Rattle.array_image.specs.States.{is_current}
 use Rattle.log_laws.specs.View.{names}
 use Rattle.log_laws.proofs.KeptAfter.{kept_more}
-use Rattle.array_model.specs.Says.{HoldsShape, IsEarlier}
+use Rattle.array_model.specs.Says.{ShapeInvariant, IsEarlier}
 use Rattle.array_model.specs.View.{may_vary, present, shape_of, View}
 use Rattle.array_model.proofs.Losses.{IsLosing, losing_holds}
 use Rattle.array_model.proofs.Noting.{laid_out, unspent_then}
@@ -27,7 +27,7 @@ use Rattle.transition_laws.proofs.MoreArrays.{GoesOn, over_before}
 use Rattle.transition_laws.proofs.Shown.{members_of}
 use Rattle.transition_laws.proofs.Standing.{holds_of}
 
-module _ (lost : List ℕ) (d v : Raid) (f : ℕ → View) (x : Seen) (set : IsSet v x) (noting : IsNoting lost v f) (same : v.state ≡ d.state)
+module _ (lost : List ℕ) (d v : Raid) (f : ℕ → View) (x : RackView) (set : IsSet v x) (noting : IsNoting lost v f) (same : v.state ≡ d.state)
     (vals : ℕ → ℕ → Values) where
   has_gone_one : (n : ℕ) → n < v.state.made → names (f n).went noting.one ≡ true
   has_gone_one n low = noted_went lost v f noting n noting.one low noting.few ∙ or_last (names (v.arrays n).went noting.one) (names lost noting.one) noting.named
@@ -88,8 +88,8 @@ module _ (lost : List ℕ) (d v : Raid) (f : ℕ → View) (x : Seen) (set : IsS
             few = at.few;
             written = subst IsWritten (sym (noting.arrays n low)) at.written;
             members = members_of d.state n (shape_of (d.arrays n)) (shape_of (f n)) (f n).resync (may_vary (f n)) (vals n) (spent_at p n (d.arrays n)) x
-                (subst (λ k. HoldsShape d.state k (shape_of (d.arrays n)) (shape_of (f n)) (f n).resync (may_vary (f n)) (vals n) (spent_at p n (d.arrays n)) x) number after.shape);
-            closed = λ none. subst (λ k. IsClosed k x) number (after.closed none);
+                (subst (λ k. ShapeInvariant d.state k (shape_of (d.arrays n)) (shape_of (f n)) (f n).resync (may_vary (f n)) (vals n) (spent_at p n (d.arrays n)) x) number after.shape);
+            closed = λ none. subst (λ k. NothingPending k x) number (after.closed none);
             truth = subst (IsEarlier (d.arrays n).truth) (sym is.truth) at.truth;
             mark = λ marked. at.mark (is.marked marked);
             roles = ap (λ (t : Super). t.roles.items) is.truth ∙ at.roles;

@@ -1,15 +1,15 @@
 -- Where whoever went is marked, a run that stands by a book stands by the book that has just its arrays: so calls may follow each other.
 use Rattle.std.proofs.Common.{◌≡◌, ℕ, ◌<◌, Bool, true, unwrap_or, None, refl, sym, ap, subst, ◌∙◌, arith}
 use Rattle.rack.specs.Values.{Values}
-use Rattle.rack.specs.Seen.{Image, Seen}
+use Rattle.rack.specs.Seen.{Image, RackView}
 use Rattle.pool_state.specs.declared.contents.State.{State}
 use Rattle.array_image.specs.Arrays.{place_with, replayed, Shape}
 use Rattle.array_image.specs.Left.{Picks}
 use Rattle.array_image.specs.States.{is_current}
 use Rattle.array_image.specs.Supers.{super_in}
-use Rattle.log_laws.specs.Kept.{LogKept}
+use Rattle.log_laws.specs.Kept.{LogInvariant}
 use Rattle.log_laws.specs.Saying.{HoldsCopies}
-use Rattle.array_model.specs.Says.{Says}
+use Rattle.array_model.specs.Says.{ImageShowsArray}
 use Rattle.array_model.specs.View.{may_vary, shape_of}
 use Rattle.array_core.specs.Contents.{lacking_in}
 use Rattle.raid_laws.specs.Moves.{AreMarked}
@@ -18,7 +18,7 @@ use Rattle.transition_laws.specs.Holds.{HoldsMembers, IsSameArrayAs, Promise, Re
 use Rattle.transition_laws.proofs.Shown.{spent_same}
 use Rattle.transition_laws.proofs.Standing.{earlier_then}
 
-module _ (d v : Raid) (p : Promise) (vals : ℕ → ℕ → Values) (x : Seen) (stands : Stands d v p vals x) (marked : AreMarked v) (n : ℕ) (live : p.live n ≡ true) (low : n < d.state.made) where
+module _ (d v : Raid) (p : Promise) (vals : ℕ → ℕ → Values) (x : RackView) (stands : Stands d v p vals x) (marked : AreMarked v) (n : ℕ) (live : p.live n ≡ true) (low : n < d.state.made) where
   at : StandsArray (d.arrays n) (v.arrays n) n (vals n) (spent_at p n (d.arrays n)) x
   at = stands.arrays n live low
 
@@ -35,8 +35,8 @@ module _ (d v : Raid) (p : Promise) (vals : ℕ → ℕ → Values) (x : Seen) (
       let same = alike.resync in
       record {
         shows = record {
-          says = subst (λ (unspent : ℕ → Bool). Says d.state n (shape_of (v.arrays n)) (vals n) unspent r) spent
-              (subst (λ (shape : Shape). Says d.state n shape (vals n) (spent_at p n (d.arrays n)) r) (sym alike.shape) was.shows.says);
+          says = subst (λ (unspent : ℕ → Bool). ImageShowsArray d.state n (shape_of (v.arrays n)) (vals n) unspent r) spent
+              (subst (λ (shape : Shape). ImageShowsArray d.state n shape (vals n) (spent_at p n (d.arrays n)) r) (sym alike.shape) was.shows.says);
           rows = λ old kept t is. let rows = was.shows.rows (sym alike.young ∙ old) kept t is in omega (arith, rows, same);
           lacks = λ old wanted some t is.
               let rows = was.shows.lacks (sym alike.young ∙ old) wanted (subst (λ (shape : Shape). 0 < lacking_in shape) alike.shape some) t is in
@@ -67,14 +67,14 @@ module _ (d v : Raid) (p : Promise) (vals : ℕ → ℕ → Values) (x : Seen) (
     sectors = λ y. refl;
   }
 
-pub stands_own : (d v : Raid) (p : Promise) (vals : ℕ → ℕ → Values) (x : Seen) → Stands d v p vals x → AreMarked v → Stands v v p vals x
+pub stands_own : (d v : Raid) (p : Promise) (vals : ℕ → ℕ → Values) (x : RackView) → Stands d v p vals x → AreMarked v → Stands v v p vals x
 stands_own d v p vals x stands marked =
     let back = sym stands.same in
     let there : (n : ℕ) → n < v.state.made → n < d.state.made = λ n low. subst (λ (s : State). n < s.made) stands.same low in
     record {
       few = subst (λ (s : State). s.joined < 17) back stands.few;
       one = subst (λ (s : State). p.one < s.made) back stands.one;
-      log = subst (λ (s : State). LogKept s v.number (gone_in v) x) back stands.log;
+      log = subst (λ (s : State). LogInvariant s v.number (gone_in v) x) back stands.log;
       someone = (stands.someone.0, subst (λ (s : State). is_current s stands.someone.0 ≡ true) back stands.someone.1, stands.someone.2);
       copies = subst (λ (s : State). HoldsCopies s x) back stands.copies;
       since = stands.since;

@@ -2,27 +2,27 @@
 use Rattle.std.proofs.Common.{◌≡◌, ℕ, ◌<◌, Bool, true, false, [], refl, sym, ap, subst, ◌∙◌, inl, inr, arith}
 use Rattle.rack.specs.Values.{Values}
 use Rattle.pool_state.specs.declared.contents.State.{State}
-use Rattle.rack.specs.Seen.{IsPick, Seen}
+use Rattle.rack.specs.Seen.{IsPick, RackView}
 use Rattle.rack.specs.Joins.{leaves_weaker}
 use Rattle.rack.specs.Sequences.{OnlyReads}
 use Rattle.array_image.specs.Arrays.{replayed}
-use Rattle.array_image.specs.Left.{IsClosed, IsInside}
+use Rattle.array_image.specs.Left.{NothingPending, IsInside}
 use Rattle.array_image.specs.SoundArray.{first_unsynced}
 use Rattle.array_image.specs.States.{is_current}
-use Rattle.log_laws.specs.Kept.{LogKept}
+use Rattle.log_laws.specs.Kept.{LogInvariant}
 use Rattle.log_laws.proofs.HeldCopies.{holds_keeps}
 use Rattle.log_laws.proofs.KeptAfter.{kept_keeps, kept_more}
 use Rattle.md_super.specs.declared.superblock.Super.{Super}
-use Rattle.array_model.specs.ArrayCalls.{Covers}
+use Rattle.array_model.specs.ArrayCalls.{IncludesSpent}
 use Rattle.array_model.specs.Members.{IsSameButSeats}
-use Rattle.array_model.specs.Says.{Holds, HoldsShape, IsEarlier}
+use Rattle.array_model.specs.Says.{ArrayInvariant, ShapeInvariant, IsEarlier}
 use Rattle.array_model.specs.View.{may_vary, shape_of, spent_in, View}
 use Rattle.raid_laws.specs.Frames.{frame_of}
 use Rattle.array_model.proofs.Keeping.{keeping_calls, left_before, pick_before}
 use Rattle.transition_laws.specs.Holds.{has_sector, HoldsBook, IsFrom, IsPromised, IsSameArrayAs, is_sector, moved_to, Promise, RestsArrays, spent_at, Stands, StandsArray}
 use Rattle.transition_laws.specs.Makes.{Makes, Suits}
 use Rattle.raid_laws.specs.Moves.{AreMarked}
-use Rattle.raid_laws.specs.Raid.{gone_in, is_over, IsWritten, Raid}
+use Rattle.raid_laws.specs.Raid.{gone_in, is_failed, IsWritten, Raid}
 use Rattle.raid_laws.proofs.Noted.{live_later}
 use Rattle.transition_laws.proofs.Shown.{members_of, spent_other, stands_book}
 use Rattle.transition_laws.proofs.Standing.{earlier_then, holds_of}
@@ -30,17 +30,17 @@ use Rattle.std.proofs.lemmas.Bool.{cases_eq}
 use Rattle.raid_laws.proofs.Since.{each_read}
 
 -- the run afterwards: places may have gone, and arrays are as it has noted them
-pub record Reads (d v w : Raid) (vals : ℕ → ℕ → Values) (a b : Seen) : Type 0 where
+pub record Reads (d v w : Raid) (vals : ℕ → ℕ → Values) (a b : RackView) : Type 0 where
   pub lasting : a.lasting
   pub reads : OnlyReads a b
   pub state : w.state ≡ v.state
-  pub kept : (p : Promise) → IsPromised p w → Stands d v p vals a → LogKept d.state w.number (gone_in w) b
+  pub kept : (p : Promise) → IsPromised p w → Stands d v p vals a → LogInvariant d.state w.number (gone_in w) b
   pub back : (p : Promise) → Suits p [] d → IsPromised p w → IsPromised p v
-  pub someone : (n : ℕ) → is_over w n ≡ false → (q : ℕ) × (is_current d.state q ≡ true) × (gone_in w q ≡ false)
+  pub someone : (n : ℕ) → is_failed w n ≡ false → (q : ℕ) × (is_current d.state q ≡ true) × (gone_in w q ≡ false)
   pub arrays : (p : Promise) → IsPromised p w → Stands d v p vals a → (n : ℕ) → p.live n ≡ true → n < d.state.made → StandsArray (d.arrays n) (w.arrays n) n (vals n) (spent_at p n (d.arrays n)) b
   pub alike : (p : Promise) → IsPromised p w → Stands d v p vals a → AreMarked w → (n : ℕ) → p.live n ≡ true → n < d.state.made → IsSameArrayAs (d.arrays n) (w.arrays n)
 
-pub read_makes : (d v w : Raid) (vals : ℕ → ℕ → Values) (a b : Seen) → Reads d v w vals a b → Makes [] d v w vals vals a b
+pub read_makes : (d v w : Raid) (vals : ℕ → ℕ → Values) (a b : RackView) → Reads d v w vals a b → Makes [] d v w vals vals a b
 read_makes d v w vals a b call =
     let stays = call.reads.stays in
     let keeps = call.reads.keeps in
@@ -70,10 +70,10 @@ read_makes d v w vals a b call =
     }
 
 -- the log is kept by them where its number stays
-pub read_log : (d v w : Raid) (a b : Seen) → a.lasting → OnlyReads a b → w.number ≡ v.number → ((q : ℕ) → gone_in v q ≡ true → gone_in w q ≡ true)
-    → LogKept d.state v.number (gone_in v) a → LogKept d.state w.number (gone_in w) b
+pub read_log : (d v w : Raid) (a b : RackView) → a.lasting → OnlyReads a b → w.number ≡ v.number → ((q : ℕ) → gone_in v q ≡ true → gone_in w q ≡ true)
+    → LogInvariant d.state v.number (gone_in v) a → LogInvariant d.state w.number (gone_in w) b
 read_log d v w a b lasting reads number gone log =
-    subst (λ k. LogKept d.state k (gone_in w) b) (sym number)
+    subst (λ k. LogInvariant d.state k (gone_in w) b) (sym number)
     (kept_more d.state v.number (gone_in v) (gone_in w) b gone (kept_keeps d.state v.number (gone_in v) a b lasting reads.stays reads.keeps log))
 
 -- ---- a call of one array
@@ -105,7 +105,7 @@ keeps_noted u w same = record {
 }
 
 -- A call of array m that writes nothing: whoever goes is noted, and what it holds stays.
-pub record ReadsOne (m : ℕ) (d v w : Raid) (vals : ℕ → ℕ → Values) (a b : Seen) : Type 0 where
+pub record ReadsOne (m : ℕ) (d v w : Raid) (vals : ℕ → ℕ → Values) (a b : RackView) : Type 0 where
   pub lasting : a.lasting
   pub reads : OnlyReads a b
   pub state : w.state ≡ v.state
@@ -113,16 +113,16 @@ pub record ReadsOne (m : ℕ) (d v w : Raid) (vals : ℕ → ℕ → Values) (a 
   pub noted : KeepsArray (v.arrays m) (w.arrays m)
   pub written : IsWritten (v.arrays m) → IsWritten (w.arrays m)
   pub shape : AreMarked w → AreMarked v × (shape_of (w.arrays m) ≡ shape_of (v.arrays m))
-  pub kept : (p : Promise) → IsPromised p w → Stands d v p vals a → LogKept d.state w.number (gone_in w) b
+  pub kept : (p : Promise) → IsPromised p w → Stands d v p vals a → LogInvariant d.state w.number (gone_in w) b
   pub holds :
-      (p : Promise) → IsPromised p w → Stands d v p vals a → (spent : ℕ → Bool) → Covers (w.arrays m) spent
-      → Holds d.state (shape_of (d.arrays m)) (v.arrays m) (vals m) spent a → Holds d.state (shape_of (d.arrays m)) (w.arrays m) (vals m) spent b
-  pub goes : (n : ℕ) → n < v.state.made → is_over w n ≡ false → is_over v n ≡ false
-  pub someone : (n : ℕ) → is_over w n ≡ false → (q : ℕ) × (is_current d.state q ≡ true) × (gone_in w q ≡ false)
+      (p : Promise) → IsPromised p w → Stands d v p vals a → (spent : ℕ → Bool) → IncludesSpent (w.arrays m) spent
+      → ArrayInvariant d.state (shape_of (d.arrays m)) (v.arrays m) (vals m) spent a → ArrayInvariant d.state (shape_of (d.arrays m)) (w.arrays m) (vals m) spent b
+  pub goes : (n : ℕ) → n < v.state.made → is_failed w n ≡ false → is_failed v n ≡ false
+  pub someone : (n : ℕ) → is_failed w n ≡ false → (q : ℕ) × (is_current d.state q ≡ true) × (gone_in w q ≡ false)
   -- what was spent stays so
   pub spares : (y : ℕ) → spent_in (w.arrays m) y ≡ false → spent_in (v.arrays m) y ≡ false
 
-module _ (m : ℕ) (d v w : Raid) (vals : ℕ → ℕ → Values) (a b : Seen) (call : ReadsOne m d v w vals a b) where
+module _ (m : ℕ) (d v w : Raid) (vals : ℕ → ℕ → Values) (a b : RackView) (call : ReadsOne m d v w vals a b) where
   -- by cases on the array
   each : (X : ℕ → View → Type 0) → X m (w.arrays m) → (n : ℕ) → ((n ≡ m → ⊥) → X n (v.arrays n)) → X n (w.arrays n)
   each X own n other = elim (cases_eq n m) [
@@ -142,11 +142,11 @@ module _ (m : ℕ) (d v w : Raid) (vals : ℕ → ℕ → Values) (a b : Seen) (
       is_one = promised.is_one;
       goes = λ n live low. call.goes n low (promised.goes n live (low_in n low));
       covers = λ n live low. elim (cases_eq n m) [
-        | inl same ↦ subst (λ k. Covers (v.arrays k) (spent_at p k (v.arrays k))) (sym same) (λ y alive.
+        | inl same ↦ subst (λ k. IncludesSpent (v.arrays k) (spent_at p k (v.arrays k))) (sym same) (λ y alive.
             call.spares y
             (promised.covers m (subst (λ k. p.live k ≡ true) same live) (low_in m (subst (λ k. k < v.state.made) same low)) y
             (spent_other p m (w.arrays m) (v.arrays m) own_sectors y ∙ alive)))
-        | inr apart ↦ subst (λ (u : View). Covers u (spent_at p n u)) (call.others n apart) (promised.covers n live (low_in n low))
+        | inr apart ↦ subst (λ (u : View). IncludesSpent u (spent_at p n u)) (call.others n apart) (promised.covers n live (low_in n low))
       ];
     }
 
@@ -168,8 +168,8 @@ module _ (m : ℕ) (d v w : Raid) (vals : ℕ → ℕ → Values) (a b : Seen) (
             few = at.few;
             written = call.written at.written;
             members = members_of d.state m (shape_of (d.arrays m)) (shape_of (w.arrays m)) (w.arrays m).resync (may_vary (w.arrays m)) (vals m) (spent_at p m (d.arrays m)) b
-                (subst (λ k. HoldsShape d.state k (shape_of (d.arrays m)) (shape_of (w.arrays m)) (w.arrays m).resync (may_vary (w.arrays m)) (vals m) (spent_at p m (d.arrays m)) b) number after.shape);
-            closed = λ none. subst (λ k. IsClosed k b) number (after.closed none);
+                (subst (λ k. ShapeInvariant d.state k (shape_of (d.arrays m)) (shape_of (w.arrays m)) (w.arrays m).resync (may_vary (w.arrays m)) (vals m) (spent_at p m (d.arrays m)) b) number after.shape);
+            closed = λ none. subst (λ k. NothingPending k b) number (after.closed none);
             truth = earlier_then (d.arrays m).truth (v.arrays m).truth (w.arrays m).truth at.truth call.noted.truth;
             mark = λ marked. at.mark (call.noted.mark marked);
             roles = call.noted.roles ∙ at.roles;
@@ -189,8 +189,8 @@ module _ (m : ℕ) (d v w : Raid) (vals : ℕ → ℕ → Values) (a b : Seen) (
             few = at.few;
             written = at.written;
             members = members_of d.state n (shape_of (d.arrays n)) (shape_of (v.arrays n)) (v.arrays n).resync (may_vary (v.arrays n)) (vals n) (spent_at p n (d.arrays n)) b
-                (subst (λ k. HoldsShape d.state k (shape_of (d.arrays n)) (shape_of (v.arrays n)) (v.arrays n).resync (may_vary (v.arrays n)) (vals n) (spent_at p n (d.arrays n)) b) at.number after.shape);
-            closed = λ none. subst (λ k. IsClosed k b) at.number (after.closed none);
+                (subst (λ k. ShapeInvariant d.state k (shape_of (d.arrays n)) (shape_of (v.arrays n)) (v.arrays n).resync (may_vary (v.arrays n)) (vals n) (spent_at p n (d.arrays n)) b) at.number after.shape);
+            closed = λ none. subst (λ k. NothingPending k b) at.number (after.closed none);
             truth = at.truth;
             mark = at.mark;
             roles = at.roles;

@@ -1,7 +1,7 @@
 -- The last array is ready for the volume: what shows a book shows it so.
 use Rattle.std.proofs.Common.{◌≡◌, ℕ, ◌<◌, true, false, List, Some, None, refl, sym, subst, ◌∙◌, inl, arith, Bool, false, ap, if◌then◌else◌, ne_eqb}
 use Rattle.rack.specs.Values.{Values}
-use Rattle.rack.specs.Seen.{Image, Seen}
+use Rattle.rack.specs.Seen.{Image, RackView}
 use Rattle.rack.specs.Targets.{look, put, Target}
 use Rattle.md_super.specs.declared.superblock.Super.{Super}
 use Rattle.pool_state.specs.declared.contents.State.{State}
@@ -58,7 +58,7 @@ rests_readied s u p n vals r ready shows =
       alone = λ place current other. super_readied s r u.number place ∙ shows.alone place current other;
     }
 
-pub stages_readied : (d v w : Raid) (vals : ℕ → ℕ → Values) (xs : List Target) (a b : Seen) → (p : Promise) → (IsPromised p w → (n : ℕ) → p.live n ≡ true → n < d.state.made → n < d.state.joined)
+pub stages_readied : (d v w : Raid) (vals : ℕ → ℕ → Values) (xs : List Target) (a b : RackView) → (p : Promise) → (IsPromised p w → (n : ℕ) → p.live n ≡ true → n < d.state.made → n < d.state.joined)
     → ((q : ℕ) → is_current d.state q ≡ true → gone_in v q ≡ false)
     → ((n place u : ℕ) → n < 16 → look xs (member_slice place n) u ≡ None) → Stages readied d v w p vals xs a b
 stages_readied d v w vals xs a b p ready none others = record {

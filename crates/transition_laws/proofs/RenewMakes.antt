@@ -2,23 +2,23 @@
 use Rattle.std.proofs.Common.{◌≡◌, ℕ, ◌+◌, ◌-◌, ◌^◌, ◌<◌, ◌≤◌, Bool, true, false, nat_lt, if◌then◌else◌, List, [], ◌∷◌, None, unwrap_or, refl, sym, ap, subst, ◌∙◌, inl, inr, arith}
 use Rattle.std.proofs.lemmas.Bool.{both_ways, cases_Bool}
 use Rattle.rack.specs.Values.{Values}
-use Rattle.rack.specs.Seen.{Image, Seen}
+use Rattle.rack.specs.Seen.{Image, RackView}
 use Rattle.rack.specs.Joins.{leaves_weaker}
 use Rattle.md_super.specs.declared.superblock.Super.{Super}
 use Rattle.pool_state.specs.declared.contents.State.{State}
 use Rattle.array_image.specs.Arrays.{place_with, replayed, Shape}
-use Rattle.array_image.specs.Left.{IsClosed, IsInside, IsLeft}
+use Rattle.array_image.specs.Left.{NothingPending, IsInside, IsLeft}
 use Rattle.array_image.specs.Places.{member_slice}
 use Rattle.array_image.specs.SoundArray.{array_fields, first_unsynced}
 use Rattle.array_image.specs.States.{is_current}
 use Rattle.array_image.specs.Supers.{super_in}
 use Rattle.array_image.proofs.Frames.{super_of_sector, truth_by_supers}
-use Rattle.log_laws.specs.Kept.{LogKept}
-use Rattle.array_model.specs.ArrayCalls.{Covers, Keeping, KeepsSupers, Turns}
+use Rattle.log_laws.specs.Kept.{LogInvariant}
+use Rattle.array_model.specs.ArrayCalls.{IncludesSpent, Keeping, KeepsSupers, ImageInCall}
 use Rattle.array_model.specs.Members.{IsSameButSeats}
-use Rattle.array_model.specs.Says.{Holds, HoldsShape, IsEarlier, Says}
+use Rattle.array_model.specs.Says.{ArrayInvariant, ShapeInvariant, IsEarlier, ImageShowsArray}
 use Rattle.array_model.specs.View.{IsArray, may_vary, shape_of, View}
-use Rattle.array_model.proofs.Moves.{Moves as CallMoves}
+use Rattle.array_model.proofs.Moves.{CallRefines as CallMoves}
 use Rattle.array_core.specs.Contents.{lacking_in}
 use Rattle.array_core.specs.Superblocks.{raised, settled}
 use Rattle.array_core.specs.TruthLeft.{HasTruthOf, LeavesSupers, LeavesTruth}
@@ -26,7 +26,7 @@ use Rattle.raid_laws.proofs.Marking.{earlier_same}
 use Rattle.raid_laws.proofs.Rows.{left_rows}
 use Rattle.raid_laws.specs.Frames.{frame_of}
 use Rattle.raid_laws.specs.Moves.{AreMarked}
-use Rattle.raid_laws.specs.Raid.{gone_in, is_over, IsWritten, Raid}
+use Rattle.raid_laws.specs.Raid.{gone_in, is_failed, IsWritten, Raid}
 use Rattle.transition_laws.specs.Holds.{has_sector, HoldsMembers, IsPromised, IsSameArrayAs, is_sector, moved_to, Promise, RestsArray, ShowsArray, spent_at, Stands, StandsArray}
 use Rattle.transition_laws.specs.Makes.{Makes}
 use Rattle.transition_laws.proofs.Shown.{leaves_both, members_of, rests_same, spent_other, spent_same}
@@ -34,7 +34,7 @@ use Rattle.transition_laws.proofs.SettledMakes.{settled_sectors}
 use Rattle.transition_laws.specs.Changes.{Change, steps}
 use Rattle.transition_laws.proofs.Standing.{earlier_then, holds_of}
 use Rattle.transition_laws.proofs.TurnMakes.{act_makes, turn_makes, Turning, TurnsOne}
-use Rattle.rack.specs.Seen.{Stays}
+use Rattle.rack.specs.Seen.{SameRack}
 
 -- The array with other events, and other rows that its superblocks leave: no fewer than are left in it, unless it is young.
 pub record IsRenewed (u next : View) : Type 0 where
@@ -48,23 +48,23 @@ pub record IsRenewed (u next : View) : Type 0 where
   pub unmarked : next.marked ≡ false
 
 -- A call of array m that may renew it: at each moment images have the truth that one had before it, or that of the renewed array.
-pub record RenewsOne (m : ℕ) (next : View) (v w : Raid) (vals : ℕ → ℕ → Values) (a b : Seen) : Type 0 where
+pub record RenewsOne (m : ℕ) (next : View) (v w : Raid) (vals : ℕ → ℕ → Values) (a b : RackView) : Type 0 where
   pub few : m < 16
   pub low : m < v.state.made
   pub lasting : a.lasting
-  pub stays : Stays a b
+  pub stays : SameRack a b
   pub marked : AreMarked v
   pub others : (n : ℕ) → (n ≡ m → ⊥) → w.arrays n ≡ v.arrays n
   pub same : w.state ≡ v.state
   pub back : (p : Promise) → IsPromised p w → IsPromised p v
-  pub someone : (n : ℕ) → is_over w n ≡ false → (place : ℕ) × (is_current v.state place ≡ true) × (gone_in w place ≡ false)
+  pub someone : (n : ℕ) → is_failed w n ≡ false → (place : ℕ) × (is_current v.state place ≡ true) × (gone_in w place ≡ false)
   -- the call
-  pub acts : (p : Promise) → IsPromised p w → Stands v v p vals a → (spent : ℕ → Bool) → Covers (w.arrays m) spent
+  pub acts : (p : Promise) → IsPromised p w → Stands v v p vals a → (spent : ℕ → Bool) → IncludesSpent (w.arrays m) spent
       → Keeping v.state (v.arrays m) (w.arrays m) spent a b (shape_of (v.arrays m)) (vals m)
-  pub truths : (p : Promise) → IsPromised p w → Stands v v p vals a → (spent : ℕ → Bool) → Covers (w.arrays m) spent
+  pub truths : (p : Promise) → IsPromised p w → Stands v v p vals a → (spent : ℕ → Bool) → IncludesSpent (w.arrays m) spent
       → LeavesTruth v.state (v.arrays m).number (λ t. array_fields t ≡ array_fields next.truth)
-      (Holds v.state (shape_of (v.arrays m)) (v.arrays m) (vals m) spent a) a b
-  pub kept : (p : Promise) → IsPromised p w → Stands v v p vals a → LogKept v.state w.number (gone_in w) b
+      (ArrayInvariant v.state (shape_of (v.arrays m)) (v.arrays m) (vals m) spent a) a b
+  pub kept : (p : Promise) → IsPromised p w → Stands v v p vals a → LogInvariant v.state w.number (gone_in w) b
   pub number : (v.arrays m).number ≡ m
   pub renewed : IsRenewed (v.arrays m) next
   pub noted : IsSameButSeats next (w.arrays m)
@@ -82,7 +82,7 @@ raised_by n = by (nat_lt n (2 ^ 63 - 1))
     by true = omega arith
     by false = omega arith
 
-module _ (m : ℕ) (next : View) (v w : Raid) (vals : ℕ → ℕ → Values) (a b : Seen) (call : RenewsOne m next v w vals a b) (p : Promise) (promised : IsPromised p w) (stands : Stands v v p vals a) where
+module _ (m : ℕ) (next : View) (v w : Raid) (vals : ℕ → ℕ → Values) (a b : RackView) (call : RenewsOne m next v w vals a b) (p : Promise) (promised : IsPromised p w) (stands : Stands v v p vals a) where
   number_after : (w.arrays m).number ≡ m
   number_after = call.noted.number ∙ call.renewed.number ∙ call.number
 
@@ -92,25 +92,25 @@ module _ (m : ℕ) (next : View) (v w : Raid) (vals : ℕ → ℕ → Values) (a
   abbrev IsNew : Super → Type 0
   IsNew t = array_fields t ≡ array_fields next.truth
 
-  moves : (spent : ℕ → Bool) → Covers (w.arrays m) spent
-      → CallMoves m a b (Holds v.state (shape_of (v.arrays m)) (v.arrays m) (vals m) spent a)
-      (λ r. Says v.state m (shape_of (v.arrays m)) (vals m) spent r × HasTruthOf v.state m a (λ t. array_fields t ≡ array_fields next.truth) r)
-      (Holds v.state (shape_of (v.arrays m)) (w.arrays m) (vals m) spent b)
+  moves : (spent : ℕ → Bool) → IncludesSpent (w.arrays m) spent
+      → CallMoves m a b (ArrayInvariant v.state (shape_of (v.arrays m)) (v.arrays m) (vals m) spent a)
+      (λ r. ImageShowsArray v.state m (shape_of (v.arrays m)) (vals m) spent r × HasTruthOf v.state m a (λ t. array_fields t ≡ array_fields next.truth) r)
+      (ArrayInvariant v.state (shape_of (v.arrays m)) (w.arrays m) (vals m) spent b)
   moves spent covers =
       let acts = call.acts p promised stands spent covers in
       let truths = call.truths p promised stands spent covers in
-      let H = Holds v.state (shape_of (v.arrays m)) (v.arrays m) (vals m) spent a in
-      let Q = Holds v.state (shape_of (v.arrays m)) (w.arrays m) (vals m) spent b in
-      subst (λ k. CallMoves k a b H (λ r. Says v.state k (shape_of (v.arrays m)) (vals m) spent r × HasTruthOf v.state k a (λ t. array_fields t ≡ array_fields next.truth) r) Q) call.number
+      let H = ArrayInvariant v.state (shape_of (v.arrays m)) (v.arrays m) (vals m) spent a in
+      let Q = ArrayInvariant v.state (shape_of (v.arrays m)) (w.arrays m) (vals m) spent b in
+      subst (λ k. CallMoves k a b H (λ r. ImageShowsArray v.state k (shape_of (v.arrays m)) (vals m) spent r × HasTruthOf v.state k a (λ t. array_fields t ≡ array_fields next.truth) r) Q) call.number
       (record {
         stays = acts.stays;
         leaves = λ traced.
-            let First : Image → Type 0 = λ c. IsInside a.sectors c → Turns (v.arrays m).number a b (λ r. H → Says v.state (v.arrays m).number (shape_of (v.arrays m)) (vals m) spent r) c in
+            let First : Image → Type 0 = λ c. IsInside a.sectors c → ImageInCall (v.arrays m).number a b (λ r. H → ImageShowsArray v.state (v.arrays m).number (shape_of (v.arrays m)) (vals m) spent r) c in
             let Second : Image → Type 0 = λ c. IsInside a.sectors c → H → HasTruthOf v.state (v.arrays m).number a IsNew (replayed a.sectors c) in
             leaves_weaker (λ c. First c × Second c)
             (λ c. IsInside a.sectors c
-            → Turns (v.arrays m).number a b
-            (λ r. H → Says v.state (v.arrays m).number (shape_of (v.arrays m)) (vals m) spent r × HasTruthOf v.state (v.arrays m).number a IsNew r) c)
+            → ImageInCall (v.arrays m).number a b
+            (λ r. H → ImageShowsArray v.state (v.arrays m).number (shape_of (v.arrays m)) (vals m) spent r × HasTruthOf v.state (v.arrays m).number a IsNew r) c)
             (λ c both inside.
             let turns = both.0 inside in
             record {
@@ -137,14 +137,14 @@ module _ (m : ℕ) (next : View) (v w : Raid) (vals : ℕ → ℕ → Values) (a
       (λ i. is_sector (frame_of (call.noted.truth i)) (moved_to (call.noted.truth i)) (call.noted.young i) (first_unsynced (call.noted.truth i)) y) ∙ sectors y
 
   module _ (live : p.live m ≡ true) where
-    covers : Covers (w.arrays m) (spent_at p m (v.arrays m))
+    covers : IncludesSpent (w.arrays m) (spent_at p m (v.arrays m))
     covers y alive =
         promised.covers m live (subst (λ (s : State). m < s.made) (sym call.same) call.low) y (spent_other p m (w.arrays m) (v.arrays m) sectors_after y ∙ alive)
 
-    holds : Holds v.state (shape_of (v.arrays m)) (v.arrays m) (vals m) (spent_at p m (v.arrays m)) a
+    holds : ArrayInvariant v.state (shape_of (v.arrays m)) (v.arrays m) (vals m) (spent_at p m (v.arrays m)) a
     holds = holds_of v v p vals a stands m live call.low
 
-    after : Holds v.state (shape_of (v.arrays m)) (w.arrays m) (vals m) (spent_at p m (v.arrays m)) b
+    after : ArrayInvariant v.state (shape_of (v.arrays m)) (w.arrays m) (vals m) (spent_at p m (v.arrays m)) b
     after = (moves (spent_at p m (v.arrays m)) covers).holds holds
 
     before : (i : Image) → IsLeft a i → RestsArray v.state (v.arrays m) p m (vals m) i
@@ -158,7 +158,7 @@ module _ (m : ℕ) (next : View) (v w : Raid) (vals : ℕ → ℕ → Values) (a
         let low = call.renewed.rows old in
         omega (arith, first, low)
 
-    shows : (r : Image) → Says v.state m (shape_of (v.arrays m)) (vals m) (spent_at p m (v.arrays m)) r → HasTruthOf v.state m a IsNew r → ShowsArray v.state (v.arrays m) p m (vals m) r
+    shows : (r : Image) → ImageShowsArray v.state m (shape_of (v.arrays m)) (vals m) (spent_at p m (v.arrays m)) r → HasTruthOf v.state m a IsNew r → ShowsArray v.state (v.arrays m) p m (vals m) r
     shows r says truths = record {
       says = says;
       rows = λ old kept t is. elim (truths t is) [
@@ -175,8 +175,8 @@ module _ (m : ℕ) (next : View) (v w : Raid) (vals : ℕ → ℕ → Values) (a
     renewed_shows : (r : Image) → ShowsArray v.state (v.arrays m) p m (vals m) r → ShowsArray v.state next p m (vals m) r
     renewed_shows r it = record {
       says =
-          subst (λ (spent : ℕ → Bool). Says v.state m (shape_of next) (vals m) spent r) (sym (spent_same p m next (v.arrays m) sectors))
-          (subst (λ (shape : Shape). Says v.state m shape (vals m) (spent_at p m (v.arrays m)) r) (sym call.renewed.shape) it.says);
+          subst (λ (spent : ℕ → Bool). ImageShowsArray v.state m (shape_of next) (vals m) spent r) (sym (spent_same p m next (v.arrays m) sectors))
+          (subst (λ (shape : Shape). ImageShowsArray v.state m shape (vals m) (spent_at p m (v.arrays m)) r) (sym call.renewed.shape) it.says);
       rows = λ old kept t is. let low = it.rows (sym call.renewed.young ∙ old) kept t is in let same = call.renewed.resync in omega (arith, low, same);
       lacks = λ old wanted some t is.
           let low =
@@ -190,7 +190,7 @@ module _ (m : ℕ) (next : View) (v w : Raid) (vals : ℕ → ℕ → Values) (a
         let truths : HasTruthOf v.state m a IsNew r =
         subst (λ k. HasTruthOf v.state k a IsNew r) call.number ((call.truths p promised stands (spent_at p m (v.arrays m)) covers).after holds r left) in
         record {
-          shows = renewed_shows r (shows r (subst (λ k. Says v.state k (shape_of (v.arrays m)) (vals m) (spent_at p m (v.arrays m)) r) number_after (after.shape.says r left)) truths);
+          shows = renewed_shows r (shows r (subst (λ k. ImageShowsArray v.state k (shape_of (v.arrays m)) (vals m) (spent_at p m (v.arrays m)) r) number_after (after.shape.says r left)) truths);
           truth = λ t is. elim (truths t is) [
             | inl was ↦
                 earlier_then t (v.arrays m).truth next.truth ((before was.0 was.1).truth t was.2)
@@ -217,8 +217,8 @@ module _ (m : ℕ) (next : View) (v w : Raid) (vals : ℕ → ℕ → Values) (a
               (sym (spent_same p m next (v.arrays m) sectors))
               (subst (λ (shape : Shape). HoldsMembers m shape (shape_of (w.arrays m)) (w.arrays m).resync (may_vary (w.arrays m)) (vals m) (spent_at p m (v.arrays m)) b) (sym call.renewed.shape)
               (members_of v.state m (shape_of (v.arrays m)) (shape_of (w.arrays m)) (w.arrays m).resync (may_vary (w.arrays m)) (vals m) (spent_at p m (v.arrays m)) b
-              (subst (λ k. HoldsShape v.state k (shape_of (v.arrays m)) (shape_of (w.arrays m)) (w.arrays m).resync (may_vary (w.arrays m)) (vals m) (spent_at p m (v.arrays m)) b) number_after after.shape)));
-          closed = λ none. subst (λ k. IsClosed k b) number_after (after.closed none);
+              (subst (λ k. ShapeInvariant v.state k (shape_of (v.arrays m)) (shape_of (w.arrays m)) (w.arrays m).resync (may_vary (w.arrays m)) (vals m) (spent_at p m (v.arrays m)) b) number_after after.shape)));
+          closed = λ none. subst (λ k. NothingPending k b) number_after (after.closed none);
           truth = subst (IsEarlier next.truth) (sym call.noted.truth) (record { fields = refl; events = omega arith });
           mark = λ marked. absurd (both_ways (w.arrays m).marked (call.noted.marked ∙ call.renewed.unmarked) marked);
           roles = ap (λ (u : Super). u.roles.items) call.noted.truth;
@@ -229,9 +229,9 @@ module _ (m : ℕ) (next : View) (v w : Raid) (vals : ℕ → ℕ → Values) (a
   renew_turning : Turning m next v w p vals a b
   renew_turning = elim (cases_Bool (p.live m)) [
     | inl live ↦ record {
-      H = Holds v.state (shape_of (v.arrays m)) (v.arrays m) (vals m) (spent_at p m (v.arrays m)) a;
-      Q = Holds v.state (shape_of (v.arrays m)) (w.arrays m) (vals m) (spent_at p m (v.arrays m)) b;
-      P = λ r. Says v.state m (shape_of (v.arrays m)) (vals m) (spent_at p m (v.arrays m)) r × HasTruthOf v.state m a IsNew r;
+      H = ArrayInvariant v.state (shape_of (v.arrays m)) (v.arrays m) (vals m) (spent_at p m (v.arrays m)) a;
+      Q = ArrayInvariant v.state (shape_of (v.arrays m)) (w.arrays m) (vals m) (spent_at p m (v.arrays m)) b;
+      P = λ r. ImageShowsArray v.state m (shape_of (v.arrays m)) (vals m) (spent_at p m (v.arrays m)) r × HasTruthOf v.state m a IsNew r;
       moves = moves (spent_at p m (v.arrays m)) (covers live);
       kept = call.kept p promised stands;
       own = λ is. (holds is, λ r there. inl (shows is r there.0 there.1));
@@ -240,9 +240,9 @@ module _ (m : ℕ) (next : View) (v w : Raid) (vals : ℕ → ℕ → Values) (a
       alike = λ live marked. call.lost marked;
     }
     | inr none ↦ record {
-      H = Holds v.state (shape_of (v.arrays m)) (v.arrays m) (vals m) (λ y. true) a;
-      Q = Holds v.state (shape_of (v.arrays m)) (w.arrays m) (vals m) (λ y. true) b;
-      P = λ r. Says v.state m (shape_of (v.arrays m)) (vals m) (λ y. true) r × HasTruthOf v.state m a IsNew r;
+      H = ArrayInvariant v.state (shape_of (v.arrays m)) (v.arrays m) (vals m) (λ y. true) a;
+      Q = ArrayInvariant v.state (shape_of (v.arrays m)) (w.arrays m) (vals m) (λ y. true) b;
+      P = λ r. ImageShowsArray v.state m (shape_of (v.arrays m)) (vals m) (λ y. true) r × HasTruthOf v.state m a IsNew r;
       moves = moves (λ y. true) (λ y alive. absurd (both_ways true alive refl));
       kept = call.kept p promised stands;
       own = λ live. absurd (both_ways (p.live m) none live);
@@ -252,7 +252,7 @@ module _ (m : ℕ) (next : View) (v w : Raid) (vals : ℕ → ℕ → Values) (a
     }
   ]
 
-module _ (m : ℕ) (next : View) (v w : Raid) (vals : ℕ → ℕ → Values) (a b : Seen) (call : RenewsOne m next v w vals a b) where
+module _ (m : ℕ) (next : View) (v w : Raid) (vals : ℕ → ℕ → Values) (a b : RackView) (call : RenewsOne m next v w vals a b) where
   renew_turns : (xs : List Change) → TurnsOne xs m next v w vals vals a b
   renew_turns xs = record {
     grows = λ n y u may. may;
@@ -273,7 +273,7 @@ module _ (m : ℕ) (next : View) (v w : Raid) (vals : ℕ → ℕ → Values) (a
   renew_makes = turn_makes (steps m next) m next v w vals vals a b call.low refl (renew_turns (steps m next ∷ []))
 
 -- where its superblocks stay as they were, no change is made
-pub undone_makes : (m : ℕ) (v w : Raid) (vals : ℕ → ℕ → Values) (a b : Seen) → RenewsOne m (v.arrays m) v w vals a b → Makes [] v v w vals vals a b
+pub undone_makes : (m : ℕ) (v w : Raid) (vals : ℕ → ℕ → Values) (a b : RackView) → RenewsOne m (v.arrays m) v w vals a b → Makes [] v v w vals vals a b
 undone_makes m v w vals a b call = act_makes m v w vals vals a b (renew_turns m (v.arrays m) v w vals a b call [])
 
 -- ---- arrays that are renewed
@@ -303,7 +303,7 @@ settled_renewed u is_array = record {
 }
 
 -- superblocks that stay as they were are those of a truth from before
-pub supers_truths : (s : State) (n : ℕ) (new : Super → Type 0) (H : Type 0) (a b : Seen) → LeavesSupers n a b → LeavesTruth s n new H a b
+pub supers_truths : (s : State) (n : ℕ) (new : Super → Type 0) (H : Type 0) (a b : RackView) → LeavesSupers n a b → LeavesTruth s n new H a b
 supers_truths s n new H a b supers = record {
   leaves = λ traced.
       leaves_weaker (λ c. IsInside a.sectors c → KeepsSupers n a (replayed a.sectors c)) (λ c. IsInside a.sectors c → H → HasTruthOf s n a new (replayed a.sectors c))

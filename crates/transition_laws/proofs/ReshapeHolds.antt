@@ -3,7 +3,7 @@ use Rattle.std.proofs.Common.{◌≡◌, ◌⊎◌, ℕ, ◌-◌, ◌*◌, ◌<�
 use Rattle.std.specs.Option.{option_map_or}
 use Rattle.std.proofs.lemmas.Bool.{cases_Bool}
 use Rattle.rack.specs.Values.{MayLeave, only, Values}
-use Rattle.rack.specs.Seen.{Seen}
+use Rattle.rack.specs.Seen.{RackView}
 use Rattle.pool_state.specs.declared.contents.State.{State}
 use Rattle.md_super.specs.Profile.{is_mirror}
 use Rattle.raid_map.specs.LeftSymmetric.{IsMemberCount}
@@ -12,7 +12,7 @@ use Rattle.array_image.specs.Arrays.{final_layout, first_layout, layout_at, Memb
 use Rattle.array_image.specs.Held.{Among, current_in, held_by, held_of}
 use Rattle.array_image.specs.Stripes.{capacity, Layout, parity, position_in, sector_in}
 use Rattle.array_image.specs.Supers.{is_reshaping}
-use Rattle.array_model.specs.Says.{Holds}
+use Rattle.array_model.specs.Says.{ArrayInvariant}
 use Rattle.array_model.specs.View.{IsArray, sectors_of, shape_of, View}
 use Rattle.reshape_laws.specs.Ahead.{ahead_by}
 use Rattle.reshape_laws.proofs.Addresses.{old_count}
@@ -51,7 +51,7 @@ module _ (v : View) (is_array : IsArray v) (reshaping : is_reshaping v.truth ≡
       let reach = low m among in
       omega (arith, reach, at)
 
-  held_past : (x : Seen) (y : ℕ) → IsPast y → held_by (shape_of v) x.held v.number y ≡ only (zeros 512)
+  held_past : (x : RackView) (y : ℕ) → IsPast y → held_by (shape_of v) x.held v.number y ≡ only (zeros 512)
   unfolding held_by
   held_past x y past =
       let l : Layout = layout_at (shape_of v) y in
@@ -61,8 +61,8 @@ module _ (v : View) (is_array : IsArray v) (reshaping : is_reshaping v.truth ≡
       ∙ ap only (none_value (shape_of v) (current_in x.held) v.number y (none y past))
 
   -- the same with sectors past its end that are zeros
-  pub holds_past : (s : State) (vals : ℕ → Values) (spent less : ℕ → Bool) (x : Seen)
-      → ((y : ℕ) → less y ≡ false → (spent y ≡ false) ⊎ (IsPast y × ((vals y).current ≡ zeros 512))) → Holds s (shape_of v) v vals spent x → Holds s (shape_of v) v vals less x
+  pub holds_past : (s : State) (vals : ℕ → Values) (spent less : ℕ → Bool) (x : RackView)
+      → ((y : ℕ) → less y ≡ false → (spent y ≡ false) ⊎ (IsPast y × ((vals y).current ≡ zeros 512))) → ArrayInvariant s (shape_of v) v vals spent x → ArrayInvariant s (shape_of v) v vals less x
   holds_past s vals spent less x past holds =
       let shape = holds.shape in
       record {
@@ -103,11 +103,11 @@ module _ (v : View) (is_array : IsArray v) (reshaping : is_reshaping v.truth ≡
       single u (inr older) = elim older [ ]
 
 -- Array m of a run, in a reshape, holds what is promised once its next rows are moved, where zeros stand past its end.
-pub ahead_holds : (v : Raid) (m many events : ℕ) (p : Promise) (vals : ℕ → ℕ → Values) (a : Seen) → Stands v v p vals a → p.live m ≡ true → m < v.state.made
+pub ahead_holds : (v : Raid) (m many events : ℕ) (p : Promise) (vals : ℕ → ℕ → Values) (a : RackView) → Stands v v p vals a → p.live m ≡ true → m < v.state.made
     → IsArray (v.arrays m) → is_reshaping (v.arrays m).truth ≡ true → (v.arrays m).young ≡ false
     → ((k : Member) → Among k (shape_of (v.arrays m)).members → k.reach ≤ (v.arrays m).truth.size)
     → ((y : ℕ) → sectors_of (v.arrays m) ≤ y → (vals m y).current ≡ zeros 512)
-    → Holds v.state (shape_of (v.arrays m)) (v.arrays m) (vals m) (spent_at p m (ahead_by (v.arrays m) many events)) a
+    → ArrayInvariant v.state (shape_of (v.arrays m)) (v.arrays m) (vals m) (spent_at p m (ahead_by (v.arrays m) many events)) a
 ahead_holds v m many events p vals a stands live low is_array reshaping young reach zeroed =
     holds_past (v.arrays m) is_array reshaping reach v.state (vals m) (spent_at p m (v.arrays m)) (spent_at p m (ahead_by (v.arrays m) many events)) a
     (λ y alive. of y (unspent_parts p.growing (has_sector (ahead_by (v.arrays m) many events) y) (p.spent m y) alive)) (holds_of v v p vals a stands m live low)

@@ -3,15 +3,15 @@ use Rattle.std.proofs.Common.{◌≡◌, ℕ, ◌<◌, ◌≤◌, true, false, L
 use Rattle.std.proofs.lemmas.Bool.{both_ways}
 use Rattle.std.proofs.lemmas.Nat.{and_assoc}
 use Rattle.rack.specs.Values.{Values}
-use Rattle.rack.specs.Seen.{Image, Seen}
+use Rattle.rack.specs.Seen.{Image, RackView}
 use Rattle.rack.specs.Targets.{put, Target}
 use Rattle.md_super.specs.declared.superblock.Super.{Super}
 use Rattle.array_image.specs.Arrays.{place_with, Shape}
-use Rattle.array_image.specs.Held.{IsSettled}
+use Rattle.array_image.specs.Held.{IsSynced}
 use Rattle.array_image.specs.Left.{Picks}
 use Rattle.array_image.specs.SoundArray.{array_fields, first_unsynced}
 use Rattle.array_image.specs.Supers.{super_in, truth_in}
-use Rattle.array_model.specs.Says.{Says}
+use Rattle.array_model.specs.Says.{ImageShowsArray}
 use Rattle.array_model.specs.View.{shape_of}
 use Rattle.transition_laws.specs.Changes.{changed, failed}
 use Rattle.transition_laws.specs.Holds.{has_sector, is_sector, moved_to, spent_at, IsPromised, Promise, Stands}
@@ -25,11 +25,11 @@ use Rattle.transition_laws.proofs.Shown.{spent_other, stands_shape}
 
 -- What is known of array n before the commit: its members are settled, its superblocks are among the targets, and the run has already the array that
 -- the book will have.
-pub record IsRestated (lost : List ℕ) (events : ℕ → ℕ) (d v : Raid) (n : ℕ) (xs : List Target) (a : Seen) : Type 0 where
+pub record IsRestated (lost : List ℕ) (events : ℕ → ℕ) (d v : Raid) (n : ℕ) (xs : List Target) (a : RackView) : Type 0 where
   pub few : n < 16
   pub number : ((changed (failed lost events) d).arrays n).number ≡ n
   pub restates : Restates (marked lost d.state) (shape_of (v.arrays n)) false (v.arrays n) xs a n
-  pub settled : IsSettled (shape_of (v.arrays n)) n a.held
+  pub settled : IsSynced (shape_of (v.arrays n)) n a.held
   pub unmarked : (v.arrays n).marked ≡ false
   pub shape : shape_of ((changed (failed lost events) d).arrays n) ≡ shape_of (v.arrays n)
   pub fields : array_fields (v.arrays n).truth ≡ array_fields ((changed (failed lost events) d).arrays n).truth
@@ -47,7 +47,7 @@ fields_moved t u same = sym (stripped t) ∙ ap moved_to same ∙ stripped u
     stripped : (t : Super) → moved_to (array_fields t) ≡ moved_to t
     stripped t = ap (λ (k : ℕ). if k == 4 then t.reshape_position else 0) (and_assoc 4 t.feature_map 0xfffffffd)
 
-stage_failed : (lost : List ℕ) (events : ℕ → ℕ) (d v : Raid) (p : Promise) (vals : ℕ → ℕ → Values) (xs : List Target) (a : Seen) (n : ℕ) → NoData xs → IsRestated lost events d v n xs a
+stage_failed : (lost : List ℕ) (events : ℕ → ℕ) (d v : Raid) (p : Promise) (vals : ℕ → ℕ → Values) (xs : List Target) (a : RackView) (n : ℕ) → NoData xs → IsRestated lost events d v n xs a
     → Stands d v p vals a → p.live n ≡ true → n < d.state.made → StagesArray d.state (marked lost d.state) (d.arrays n) ((changed (failed lost events) d).arrays n) v p n (vals n) xs a
 stage_failed lost events d v p vals xs a n none is stands live low =
     let held = stands_shape d v p vals a stands n live low in
@@ -65,7 +65,7 @@ stage_failed lost events d v p vals xs a n none is stands live low =
     record {
       shows = λ c picks before. record {
         shows = record {
-          says = subst (λ (shape : Shape). Says (marked lost d.state) n shape (vals n) (spent_at p n (e.arrays n)) (put a.sectors xs c)) (sym is.shape)
+          says = subst (λ (shape : Shape). ImageShowsArray (marked lost d.state) n shape (vals n) (spent_at p n (e.arrays n)) (put a.sectors xs c)) (sym is.shape)
               (put_says (marked lost d.state) (shape_of (v.arrays n)) false (v.arrays n) (vals n) (spent_at p n (e.arrays n)) xs a n c is.few is.restates none picks is.settled held.open_left (λ y alive. held.current y (spent_other p n (d.arrays n) (e.arrays n) same_sectors y ∙ alive)));
           rows = λ old kept u at. rows old c picks u at;
           lacks = λ old wanted some u at. rows old c picks u at;
@@ -92,7 +92,7 @@ stage_failed lost events d v p vals xs a n none is stands live low =
       };
     }
 
-pub stages_failed : (lost : List ℕ) (events : ℕ → ℕ) (d v w : Raid) (vals : ℕ → ℕ → Values) (xs : List Target) (a b : Seen) → NoData xs
+pub stages_failed : (lost : List ℕ) (events : ℕ → ℕ) (d v w : Raid) (vals : ℕ → ℕ → Values) (xs : List Target) (a b : RackView) → NoData xs
     → (p : Promise) → (IsPromised p w → Stands d v p vals a → (n : ℕ) → p.live n ≡ true → n < d.state.made → IsRestated lost events d v n xs a) → Stages (failed lost events) d v w p vals xs a b
 stages_failed lost events d v w vals xs a b none p are = record {
   old = λ promised stands n live low. stage_failed lost events d v p vals xs a n none (are promised stands n live low) stands live low;

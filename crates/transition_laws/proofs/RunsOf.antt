@@ -2,7 +2,7 @@
 use Rattle.std.proofs.Common.{◌≡◌, ◌⊎◌, ℕ, ◌+◌, ◌<◌, Bool, true, false, ◌&&◌, not, if◌then◌else◌, List, length, get_or, slice_get, Option, Some, None, option_map, unwrap_or, refl, sym, ap, subst, ◌∙◌, inl, inr, arith}
 use Rattle.std.proofs.lemmas.Bool.{both_ways, cases_Bool, cases_lt}
 use Rattle.std.proofs.lemmas.Option.{slice_get-get_or, slice_get_past}
-use Rattle.rack.specs.Seen.{Seen}
+use Rattle.rack.specs.Seen.{RackView}
 use Rattle.pool_state.specs.declared.contents.State.{State}
 use Rattle.array_image.specs.Arrays.{place_with}
 use Rattle.array_image.specs.States.{is_current}
@@ -14,7 +14,7 @@ use Rattle.array_core.specs.Superblocks.{left_offset}
 use Rattle.sync_laws.proofs.Adopted.{same_lists}
 use Rattle.raid_laws.specs.Losing.{only_same, only_then}
 use Rattle.raid_laws.specs.Missing.{marked}
-use Rattle.raid_laws.specs.Moves.{IsSeated, IsSet, LosesOnly}
+use Rattle.raid_laws.specs.Moves.{IsSeated, IsSet, OnlyFailures}
 use Rattle.raid_laws.specs.Raid.{gone_in, Raid}
 use Rattle.raid_laws.proofs.Missing.{current_marked}
 use Rattle.raid_laws.proofs.Noted.{gone_not}
@@ -27,7 +27,7 @@ use Rattle.transition_laws.proofs.SettledMakes.{left_again}
 -- ---- losses that are noted
 
 -- the arrays of a pool are a run of the book that has just them
-pub run_of_itself : (v : Raid) (x : Seen) → IsSet v x → IsRunOf v v
+pub run_of_itself : (v : Raid) (x : RackView) → IsSet v x → IsRunOf v v
 run_of_itself v x set = record {
   same = refl;
   arrays = λ n low.
@@ -42,7 +42,7 @@ run_of_itself v x set = record {
 }
 
 -- so they are after more losses
-pub run_loses : (d v w : Raid) → w.state ≡ v.state → ((n : ℕ) → n < v.state.made → LosesOnly (v.arrays n) (w.arrays n))
+pub run_loses : (d v w : Raid) → w.state ≡ v.state → ((n : ℕ) → n < v.state.made → OnlyFailures (v.arrays n) (w.arrays n))
     → ((n : ℕ) → n < v.state.made → left_offset (w.arrays n) ≡ left_offset (v.arrays n)) → IsRunOf d v → IsRunOf d w
 run_loses d v w state loses left run = record {
   same = state ∙ run.same;
@@ -83,7 +83,7 @@ seat_by false true went (Some seat) q either marks named other past some = elim 
   | inr lost ↦ absurd (both_ways true (let e : Some true ≡ Some false = sym (ap (option_map is_missing_seat) lost) ∙ marks ∙ ap (λ w. Some (not (not w))) (other refl refl) in ap (λ o. unwrap_or o true) e) refl)
 ]
 
-module _ (d v : Raid) (lost : List ℕ) (x : Seen) (set : IsSet v x) (run : IsRunOf d v)
+module _ (d v : Raid) (lost : List ℕ) (x : RackView) (set : IsSet v x) (run : IsRunOf d v)
     (lost_is : (p : ℕ) → names lost p ≡ (is_current v.state p && gone_in v p))
     (noted : (n p : ℕ) → n < v.state.made → names lost p ≡ true → has_gone (v.arrays n) p ≡ true) (n : ℕ) (low : n < v.state.made) where
   seated : IsSeated v.state n (v.arrays n) x
@@ -145,7 +145,7 @@ module _ (d v : Raid) (lost : List ℕ) (x : Seen) (set : IsSet v x) (run : IsRu
       }))
 
   -- and after more losses it is a run of it
-  pub run_array : (events : ℕ) (w : View) → LosesOnly (v.arrays n) w → left_offset w ≡ left_offset (v.arrays n)
+  pub run_array : (events : ℕ) (w : View) → OnlyFailures (v.arrays n) w → left_offset w ≡ left_offset (v.arrays n)
       → IsRunArray (marked lost d.state) (rewritten events (lacking lost (d.arrays n))) w
   run_array events w loses left =
       let one = only_then (d.arrays n) (v.arrays n) w at.only loses in
@@ -190,9 +190,9 @@ module _ (d v : Raid) (lost : List ℕ) (x : Seen) (set : IsSet v x) (run : IsRu
       unmarked true named none is = absurd (both_ways (not named) is (ap not none))
       unmarked false named none is = refl
 
-pub run_marked : (d v w : Raid) (lost : List ℕ) (events : ℕ → ℕ) (x : Seen) → IsSet v x → IsRunOf d v → ((p : ℕ) → names lost p ≡ (is_current v.state p && gone_in v p))
+pub run_marked : (d v w : Raid) (lost : List ℕ) (events : ℕ → ℕ) (x : RackView) → IsSet v x → IsRunOf d v → ((p : ℕ) → names lost p ≡ (is_current v.state p && gone_in v p))
     → ((n p : ℕ) → n < v.state.made → names lost p ≡ true → has_gone (v.arrays n) p ≡ true) → w.state ≡ marked lost v.state
-    → ((n : ℕ) → n < v.state.made → LosesOnly (v.arrays n) (w.arrays n)) → ((n : ℕ) → n < v.state.made → left_offset (w.arrays n) ≡ left_offset (v.arrays n))
+    → ((n : ℕ) → n < v.state.made → OnlyFailures (v.arrays n) (w.arrays n)) → ((n : ℕ) → n < v.state.made → left_offset (w.arrays n) ≡ left_offset (v.arrays n))
     → IsRunOf (changed (failed lost events) d) w
 run_marked d v w lost events x set run lost_is noted state loses left = record {
   same = state ∙ ap (marked lost) run.same;

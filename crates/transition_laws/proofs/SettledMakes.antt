@@ -2,11 +2,11 @@
 use Rattle.std.proofs.Common.{◌≡◌, ℕ, ◌+◌, ◌-◌, ◌*◌, ◌/◌, ◌^◌, ◌<◌, ◌≤◌, Bool, true, false, ◌&&◌, ◌||◌, not, nat_lt, if◌then◌else◌, [], refl, sym, ap, subst, ◌∙◌, inl, inr, le-ltb, arith}
 use Rattle.std.proofs.lemmas.Bool.{both_ways, cases_eq}
 use Rattle.rack.specs.Values.{Values}
-use Rattle.rack.specs.Seen.{Seen}
+use Rattle.rack.specs.Seen.{RackView}
 use Rattle.rack.specs.Joins.{leaves_same, stays_same}
 use Rattle.pool_state.specs.declared.contents.State.{State}
 use Rattle.array_image.specs.Arrays.{Shape}
-use Rattle.array_image.specs.Held.{IsSettled}
+use Rattle.array_image.specs.Held.{IsSynced}
 use Rattle.array_image.specs.Left.{IsInside}
 use Rattle.array_image.specs.Places.{data_sector, member_slice}
 use Rattle.array_image.specs.SoundArray.{array_fields, first_unsynced}
@@ -15,7 +15,7 @@ use Rattle.array_image.specs.Stripes.{sector_in}
 use Rattle.array_image.specs.Supers.{is_unclean}
 use Rattle.raid_map.specs.LeftSymmetric.{row_at}
 use Rattle.log_laws.proofs.Kept.{live_on}
-use Rattle.array_model.specs.ArrayCalls.{Covers, SyncsArray}
+use Rattle.array_model.specs.ArrayCalls.{IncludesSpent, SyncsArray}
 use Rattle.array_model.specs.Members.{IsSameButSeats}
 use Rattle.array_model.specs.View.{IsArray, rows_of, shape_of, View}
 use Rattle.array_model.proofs.Keeping.{settled_kept}
@@ -97,8 +97,8 @@ keeps_settled s u z w is_array later same is =
 
 -- ---- a settling
 
-module _ (v : Raid) (f : ℕ → View) (m : ℕ) (b c : Seen) (set : IsSet v b) (call : ReadsArray v f m b c) (settles : Settles (v.arrays m) (f m) b c)
-    (syncs : (s : State) (durable : Shape) (vals : ℕ → Values) (spent : ℕ → Bool) → Covers (f m) spent → SyncsArray s (v.arrays m) (f m) spent b c durable vals) where
+module _ (v : Raid) (f : ℕ → View) (m : ℕ) (b c : RackView) (set : IsSet v b) (call : ReadsArray v f m b c) (settles : Settles (v.arrays m) (f m) b c)
+    (syncs : (s : State) (durable : Shape) (vals : ℕ → Values) (spent : ℕ → Bool) → IncludesSpent (f m) spent → SyncsArray s (v.arrays m) (f m) spent b c durable vals) where
   pub settle_makes : (d : Raid) (vals : ℕ → ℕ → Values) → v.state ≡ d.state → Makes [] d v (with_arrays v f) vals vals b c
   settle_makes d vals same =
       read_one_makes m d v (with_arrays v f) vals b c
@@ -122,7 +122,7 @@ module _ (v : Raid) (f : ℕ → View) (m : ℕ) (b c : Seen) (set : IsSet v b) 
 pub suits_none : (p : Promise) (d : Raid) → Suits p [] d
 suits_none p d = record { free = λ n kept. refl; owned = tt; growing = inr tt }
 
-pub settles_book_first : (v : Raid) (x : Seen) → x.fit → SettlesBook v v 0 x x
+pub settles_book_first : (v : Raid) (x : RackView) → x.fit → SettlesBook v v 0 x x
 settles_book_first v x fit = record {
   makes = λ d vals same. record {
     due = tt;
@@ -138,8 +138,8 @@ settles_book_first v x fit = record {
 }
 
 -- one array more is settled
-pub settles_book_more : (v w : Raid) (f : ℕ → View) (m : ℕ) (a b c : Seen) → w.state ≡ v.state → SettlesBook v w m a b → IsSet w b → (call : ReadsArray w f m b c) → Settles (w.arrays m) (f m) b c
-    → ((s : State) (durable : Shape) (vals : ℕ → Values) (spent : ℕ → Bool) → Covers (f m) spent → SyncsArray s (w.arrays m) (f m) spent b c durable vals)
+pub settles_book_more : (v w : Raid) (f : ℕ → View) (m : ℕ) (a b c : RackView) → w.state ≡ v.state → SettlesBook v w m a b → IsSet w b → (call : ReadsArray w f m b c) → Settles (w.arrays m) (f m) b c
+    → ((s : State) (durable : Shape) (vals : ℕ → Values) (spent : ℕ → Bool) → IncludesSpent (f m) spent → SyncsArray s (w.arrays m) (f m) spent b c durable vals)
     → SettlesBook v (with_arrays w f) (m + 1) a c
 settles_book_more v w f m a b c state before set call settles syncs = record {
   makes = makes;
@@ -154,14 +154,14 @@ settles_book_more v w f m a b c state before set call settles syncs = record {
         | inl is ↦
             let live_m = subst (λ k. p.live k ≡ true) is live in
             let low_m : m < d.state.made = subst (λ k. k < d.state.made) is low in
-            let covers : Covers (f m) (spent_at p m (d.arrays m)) =
+            let covers : IncludesSpent (f m) (spent_at p m (d.arrays m)) =
             λ y alive. promised.covers m live_m call.views.low y (spent_other p m (f m) (d.arrays m) (last.arrays m live_m low_m).sectors y ∙ alive) in
-            subst (λ k. IsSettled (shape_of (f k)) k c.held) (sym is)
-            (subst (λ k. IsSettled (shape_of (f m)) k c.held) call.views.seated.number
+            subst (λ k. IsSynced (shape_of (f k)) k c.held) (sym is)
+            (subst (λ k. IsSynced (shape_of (f m)) k c.held) call.views.seated.number
             ((syncs d.state (shape_of (d.arrays m)) (vals m) (spent_at p m (d.arrays m)) covers).settled (holds_of d w p vals b stood m live_m low_m)))
         | inr other ↦
             let open_left = (stands_shape d w p vals b stood n live low).open_left in
-            subst (λ (u : View). IsSettled (shape_of u) n c.held) (sym (call.views.others n other))
+            subst (λ (u : View). IsSynced (shape_of u) n c.held) (sym (call.views.others n other))
             (settled_kept b.held c.held (shape_of (w.arrays n)) n
             (λ k sector among counts. call.reads.keeps.held (member_slice k.place n) (data_sector + sector) (live_on set.lasting call.reads.stays (open_left k sector among counts)))
             (before.settled d vals p same mid stands n live low (omega (arith, below, other))))

@@ -1,7 +1,7 @@
 -- Contents that show a book go by their own slices; a run that stands, as calls of an array see it.
 use Rattle.std.proofs.Common.{◌≡◌, ℕ, ◌<◌, Bool, true, Some, sym, subst, ap, ◌∙◌, ◌&&◌, ◌||◌, not}
 use Rattle.rack.specs.Values.{Values}
-use Rattle.rack.specs.Seen.{Image, Seen}
+use Rattle.rack.specs.Seen.{Image, RackView}
 use Rattle.rack.specs.Moments.{Leaves}
 use Rattle.md_super.specs.declared.superblock.Super.{Super}
 use Rattle.pool_state.specs.declared.contents.State.{State}
@@ -13,7 +13,7 @@ use Rattle.array_image.specs.Supers.{truth_in}
 use Rattle.array_image.proofs.Frames.{Agree, supers_same, truth_by_supers}
 use Rattle.log_laws.proofs.HeldCopies.{kept_says}
 use Rattle.log_laws.proofs.Kept.{kept_replayed, stands_of}
-use Rattle.array_model.specs.Says.{HoldsShape, Says}
+use Rattle.array_model.specs.Says.{ShapeInvariant, ImageShowsArray}
 use Rattle.array_model.specs.View.{may_vary, shape_of, View}
 use Rattle.transition_laws.specs.Holds.{has_sector, HoldsBook, HoldsMembers, Promise, RestsArray, ShowsArray, Stands, spent_at}
 use Rattle.raid_laws.specs.Raid.{gone_in, Raid}
@@ -51,13 +51,13 @@ rests_same s u p n vals c e agree number rests =
     }
 
 -- what a stop now leaves has the book's state
-pub stands_state : (d v : Raid) (p : Promise) (vals : ℕ → ℕ → Values) (x : Seen) → Stands d v p vals x → (c : Image) → Picks x c
+pub stands_state : (d v : Raid) (p : Promise) (vals : ℕ → ℕ → Values) (x : RackView) → Stands d v p vals x → (c : Image) → Picks x c
     → state_in (replayed x.sectors c) ≡ Some d.state
 stands_state d v p vals x stands c picks =
     kept_replayed d.state v.number (gone_in v) x c stands.someone.0 stands.log (stands_of c picks) stands.someone.1 stands.someone.2
 
 -- and holds the book
-pub stands_book : (d v : Raid) (p : Promise) (vals : ℕ → ℕ → Values) (x : Seen) → Stands d v p vals x → (c : Image) → Picks x c → HoldsBook d p vals x.sectors c
+pub stands_book : (d v : Raid) (p : Promise) (vals : ℕ → ℕ → Values) (x : RackView) → Stands d v p vals x → (c : Image) → Picks x c → HoldsBook d p vals x.sectors c
 stands_book d v p vals x stands c picks = record {
   log = kept_says d.state v.number (gone_in v) x c stands.someone.0 stands.log stands.copies stands.someone.1 stands.someone.2 (stands_of c picks);
   since = λ q few there. stands.since q (c (log_slice q) 0) few there (picks.picks (log_slice q) 0 (stands.log.logs q 0 few there));
@@ -66,8 +66,8 @@ stands_book d v p vals x stands c picks = record {
 
 -- ---- members with what images say
 
-pub shape_with : (s : State) (n : ℕ) (durable noted : Shape) (resync : ℕ) (vary : Bool) (vals : ℕ → Values) (spent : ℕ → Bool) (x : Seen)
-    → HoldsMembers n durable noted resync vary vals spent x → ((r : Image) → IsLeft x r → Says s n durable vals spent r) → HoldsShape s n durable noted resync vary vals spent x
+pub shape_with : (s : State) (n : ℕ) (durable noted : Shape) (resync : ℕ) (vary : Bool) (vals : ℕ → Values) (spent : ℕ → Bool) (x : RackView)
+    → HoldsMembers n durable noted resync vary vals spent x → ((r : Image) → IsLeft x r → ImageShowsArray s n durable vals spent r) → ShapeInvariant s n durable noted resync vary vals spent x
 shape_with s n durable noted resync vary vals spent x members says = record {
   open_slices = members.open_slices;
   open_left = members.open_left;
@@ -80,8 +80,8 @@ shape_with s n durable noted resync vary vals spent x members says = record {
   settled = members.settled;
 }
 
-pub members_of : (s : State) (n : ℕ) (durable noted : Shape) (resync : ℕ) (vary : Bool) (vals : ℕ → Values) (spent : ℕ → Bool) (x : Seen)
-    → HoldsShape s n durable noted resync vary vals spent x → HoldsMembers n durable noted resync vary vals spent x
+pub members_of : (s : State) (n : ℕ) (durable noted : Shape) (resync : ℕ) (vary : Bool) (vals : ℕ → Values) (spent : ℕ → Bool) (x : RackView)
+    → ShapeInvariant s n durable noted resync vary vals spent x → HoldsMembers n durable noted resync vary vals spent x
 members_of s n durable noted resync vary vals spent x holds = record {
   open_slices = holds.open_slices;
   open_left = holds.open_left;
@@ -94,13 +94,13 @@ members_of s n durable noted resync vary vals spent x holds = record {
 }
 
 -- what images say of the array of a run
-pub stands_says : (d v : Raid) (p : Promise) (vals : ℕ → ℕ → Values) (x : Seen) → Stands d v p vals x → (n : ℕ) → p.live n ≡ true → n < d.state.made → (r : Image) → IsLeft x r
-    → Says d.state n (shape_of (d.arrays n)) (vals n) (spent_at p n (d.arrays n)) r
+pub stands_says : (d v : Raid) (p : Promise) (vals : ℕ → ℕ → Values) (x : RackView) → Stands d v p vals x → (n : ℕ) → p.live n ≡ true → n < d.state.made → (r : Image) → IsLeft x r
+    → ImageShowsArray d.state n (shape_of (d.arrays n)) (vals n) (spent_at p n (d.arrays n)) r
 stands_says d v p vals x stands n live low r left =
     says_same d.state n (shape_of (d.arrays n)) (vals n) (spent_at p n (d.arrays n)) r (replayed x.sectors left.0) (λ place t. left.2 _ t) (stands.images left.0 left.1 n live low).shows.says
 
-pub stands_shape : (d v : Raid) (p : Promise) (vals : ℕ → ℕ → Values) (x : Seen) → Stands d v p vals x → (n : ℕ) → p.live n ≡ true → n < d.state.made
-    → HoldsShape d.state n (shape_of (d.arrays n)) (shape_of (v.arrays n)) (v.arrays n).resync (may_vary (v.arrays n)) (vals n) (spent_at p n (d.arrays n)) x
+pub stands_shape : (d v : Raid) (p : Promise) (vals : ℕ → ℕ → Values) (x : RackView) → Stands d v p vals x → (n : ℕ) → p.live n ≡ true → n < d.state.made
+    → ShapeInvariant d.state n (shape_of (d.arrays n)) (shape_of (v.arrays n)) (v.arrays n).resync (may_vary (v.arrays n)) (vals n) (spent_at p n (d.arrays n)) x
 stands_shape d v p vals x stands n live low =
     shape_with d.state n (shape_of (d.arrays n)) (shape_of (v.arrays n)) (v.arrays n).resync (may_vary (v.arrays n)) (vals n) (spent_at p n (d.arrays n)) x
     (stands.arrays n live low).members (stands_says d v p vals x stands n live low)
@@ -108,7 +108,7 @@ stands_shape d v p vals x stands n live low =
 -- ---- moments
 
 -- what is said of each stop is said together
-pub leaves_both : {a b : Seen} (P Q : Image → Type 0) → Leaves a b P → Leaves a b Q → Leaves a b (λ c. P c × Q c)
+pub leaves_both : {a b : RackView} (P Q : Image → Type 0) → Leaves a b P → Leaves a b Q → Leaves a b (λ c. P c × Q c)
 leaves_both P Q one two = record {
   later = one.later;
   kept = one.kept;

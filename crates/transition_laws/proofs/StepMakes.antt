@@ -2,21 +2,21 @@
 use Rattle.std.proofs.Common.{◌≡◌, ◌⊎◌, ℕ, ◌<◌, ◌≤◌, Bool, true, false, List, [], ◌∷◌, None, Some, unwrap_or, refl, sym, ap, ap₂, subst, ◌∙◌, inl, inr, arith, ◌&&◌, ◌||◌, not}
 use Rattle.std.proofs.lemmas.Bool.{both_ways, cases_Bool, cases_eq}
 use Rattle.rack.specs.Values.{Values}
-use Rattle.rack.specs.Seen.{Image, Seen, Stays}
+use Rattle.rack.specs.Seen.{Image, RackView, SameRack}
 use Rattle.md_super.specs.declared.superblock.Super.{Super}
 use Rattle.pool_state.specs.declared.contents.State.{State}
 use Rattle.array_image.specs.Arrays.{place_with, replayed}
-use Rattle.array_image.specs.Left.{IsClosed, IsLeft}
+use Rattle.array_image.specs.Left.{NothingPending, IsLeft}
 use Rattle.array_image.specs.Places.{member_slice}
 use Rattle.array_image.specs.SoundArray.{first_unsynced}
 use Rattle.array_image.specs.States.{is_current}
 use Rattle.array_image.specs.Supers.{super_in, truth_in}
 use Rattle.array_image.proofs.Frames.{super_of_sector, truth_by_supers}
-use Rattle.log_laws.specs.Kept.{LogKept}
-use Rattle.array_model.specs.ArrayCalls.{Covers, HasFields, KeepsSupers, Moving}
-use Rattle.array_model.specs.Says.{Holds, HoldsShape, IsEarlier, Says}
+use Rattle.log_laws.specs.Kept.{LogInvariant}
+use Rattle.array_model.specs.ArrayCalls.{IncludesSpent, HasFields, KeepsSupers, StepRefines}
+use Rattle.array_model.specs.Says.{ArrayInvariant, ShapeInvariant, IsEarlier, ImageShowsArray}
 use Rattle.array_model.specs.View.{has_gone, may_vary, shape_of, spent_in, View}
-use Rattle.array_model.proofs.Moves.{Moves as CallMoves}
+use Rattle.array_model.proofs.Moves.{CallRefines as CallMoves}
 use Rattle.sync_laws.specs.Steps.{if_done, MayStep, Steps}
 use Rattle.reshape_laws.specs.Reshapes.{MayReshape, Reshapes}
 use Rattle.raid_laws.specs.Frames.{frame_of}
@@ -24,59 +24,59 @@ use Rattle.transition_laws.specs.Changes.{Maintains, steps}
 use Rattle.transition_laws.specs.Holds.{has_sector, IsPromised, IsSameArrayAs, is_sector, moved_to, Promise, RestsArray, ShowsArray, spent_at, Stands, StandsArray}
 use Rattle.transition_laws.specs.Makes.{Makes, Suits}
 use Rattle.raid_laws.specs.Moves.{AreMarked}
-use Rattle.raid_laws.specs.Raid.{gone_in, is_over, IsWritten, Raid}
+use Rattle.raid_laws.specs.Raid.{gone_in, is_failed, IsWritten, Raid}
 use Rattle.raid_laws.proofs.Marking.{earlier_same}
 use Rattle.transition_laws.proofs.Shown.{members_of, shows_same, spent_other, spent_same}
 use Rattle.transition_laws.proofs.Standing.{holds_of}
 use Rattle.transition_laws.proofs.TurnMakes.{turn_makes, Turning}
 
 -- contents say the array as it was, or as the step makes it
-abbrev pub SaysEither : View → View → State → (ℕ → Values) → (ℕ → Bool) → Seen → Image → Type 0
+abbrev pub SaysEither : View → View → State → (ℕ → Values) → (ℕ → Bool) → RackView → Image → Type 0
 SaysEither u next s vals spent a r =
-    (Says s u.number (shape_of u) vals spent r × KeepsSupers u.number a r)
-    ⊎ (Says s u.number (shape_of next) vals spent r × HasFields s u.number next.truth r)
+    (ImageShowsArray s u.number (shape_of u) vals spent r × KeepsSupers u.number a r)
+    ⊎ (ImageShowsArray s u.number (shape_of next) vals spent r × HasFields s u.number next.truth r)
 
 -- A call makes `next` of an array, which was u and of which z is seen after it: its values stay, whichever aren't spent.
-pub record Becomes (s : State) (u next z : View) (number : ℕ) (vals : ℕ → Values) (a b : Seen) : Type 0 where
+pub record Becomes (s : State) (u next z : View) (number : ℕ) (vals : ℕ → Values) (a b : RackView) : Type 0 where
   -- images go by the array before it or after it, and then the array holds what it held
-  pub moving : (spent : ℕ → Bool) → Covers z spent → Moving s u next z spent a b vals (shape_of next) vals
+  pub moving : (spent : ℕ → Bool) → IncludesSpent z spent → StepRefines s u next z spent a b vals (shape_of next) vals
   pub durable :
-      (spent : ℕ → Bool) → Covers z spent → Holds s (shape_of u) u vals spent a → (r : Image) → IsLeft b r → HasFields s u.number next.truth r
+      (spent : ℕ → Bool) → IncludesSpent z spent → ArrayInvariant s (shape_of u) u vals spent a → (r : Image) → IsLeft b r → HasFields s u.number next.truth r
   -- the log is kept for the next commit
-  pub kept : LogKept s number (has_gone z) b
+  pub kept : LogInvariant s number (has_gone z) b
 
 -- so do a step of maintenance that is done, and a step of a reshape
-pub steps_become : (s : State) (u next z : View) (number after : ℕ) (on : List ℕ) (answered : Bool) (vals : ℕ → Values) (a b : Seen) (call : Steps u next z number after on a b answered)
+pub steps_become : (s : State) (u next z : View) (number after : ℕ) (on : List ℕ) (answered : Bool) (vals : ℕ → Values) (a b : RackView) (call : Steps u next z number after on a b answered)
     → call.is_done ≡ true → MayStep s u next z number on a → Becomes s u next z after vals a b
 steps_become s u next z number after on answered vals a b call done may = record {
   moving = λ spent covers.
-      subst (λ d. Moving s u next z spent a b vals (if_done d (shape_of u) (shape_of next)) vals) done (call.moving s vals spent covers may);
+      subst (λ d. StepRefines s u next z spent a b vals (if_done d (shape_of u) (shape_of next)) vals) done (call.moving s vals spent covers may);
   durable = λ spent covers. call.durable done s vals spent covers may;
   kept = call.kept s may;
 }
 
-pub reshapes_become : (s : State) (u next z : View) (number after : ℕ) (on : List ℕ) (answered : Bool) (vals : ℕ → Values) (a b : Seen) (call : Reshapes u next z number after on a b answered)
+pub reshapes_become : (s : State) (u next z : View) (number after : ℕ) (on : List ℕ) (answered : Bool) (vals : ℕ → Values) (a b : RackView) (call : Reshapes u next z number after on a b answered)
     → call.steps.is_done ≡ true → MayReshape s u next z number on a → Becomes s u next z after vals a b
 reshapes_become s u next z number after on answered vals a b call done may = record {
   moving = λ spent covers.
-      subst (λ d. Moving s u next z spent a b vals (if_done d (shape_of u) (shape_of next)) vals) done (call.moving s vals spent covers may);
+      subst (λ d. StepRefines s u next z spent a b vals (if_done d (shape_of u) (shape_of next)) vals) done (call.moving s vals spent covers may);
   durable = λ spent covers. call.durable done s vals spent covers may;
   kept = call.kept s may;
 }
 
-pub record StepsOnce (m : ℕ) (next : View) (v w : Raid) (vals : ℕ → ℕ → Values) (a b : Seen) : Type 0 where
+pub record StepsOnce (m : ℕ) (next : View) (v w : Raid) (vals : ℕ → ℕ → Values) (a b : RackView) : Type 0 where
   pub few : m < 16
   pub low : m < v.state.made
   pub lasting : a.lasting
-  pub stays : Stays a b
+  pub stays : SameRack a b
   pub marked : AreMarked v
   pub others : (n : ℕ) → (n ≡ m → ⊥) → w.arrays n ≡ v.arrays n
   pub same : w.state ≡ v.state
-  pub goes : (n : ℕ) → n < v.state.made → is_over w n ≡ false → is_over v n ≡ false
-  pub someone : (n : ℕ) → is_over w n ≡ false → (place : ℕ) × (is_current v.state place ≡ true) × (gone_in w place ≡ false)
+  pub goes : (n : ℕ) → n < v.state.made → is_failed w n ≡ false → is_failed v n ≡ false
+  pub someone : (n : ℕ) → is_failed w n ≡ false → (place : ℕ) × (is_current v.state place ≡ true) × (gone_in w place ≡ false)
   -- the step
   pub becomes : (p : Promise) → IsPromised p w → Stands v v p vals a → Becomes v.state (v.arrays m) next (w.arrays m) w.number (vals m) a b
-  pub gone : LogKept v.state w.number (has_gone (w.arrays m)) b → LogKept v.state w.number (gone_in w) b
+  pub gone : LogInvariant v.state w.number (has_gone (w.arrays m)) b → LogInvariant v.state w.number (gone_in w) b
   -- the array once it is done
   pub number : (v.arrays m).number ≡ m
   pub next_number : next.number ≡ m
@@ -95,13 +95,13 @@ pub record StepsOnce (m : ℕ) (next : View) (v w : Raid) (vals : ℕ → ℕ �
   pub sectors : (y : ℕ) → has_sector (v.arrays m) y ≡ true → has_sector next y ≡ true
   pub holds :
       (p : Promise) → IsPromised p w → Stands v v p vals a → p.live m ≡ true
-      → Holds v.state (shape_of (v.arrays m)) (v.arrays m) (vals m) (spent_at p m next) a
+      → ArrayInvariant v.state (shape_of (v.arrays m)) (v.arrays m) (vals m) (spent_at p m next) a
 
 -- as it does where it gets none
-pub holds_next : (m : ℕ) (next : View) (v : Raid) (p : Promise) (vals : ℕ → ℕ → Values) (a : Seen) → Stands v v p vals a → p.live m ≡ true → m < v.state.made
-    → ((y : ℕ) → has_sector (v.arrays m) y ≡ has_sector next y) → Holds v.state (shape_of (v.arrays m)) (v.arrays m) (vals m) (spent_at p m next) a
+pub holds_next : (m : ℕ) (next : View) (v : Raid) (p : Promise) (vals : ℕ → ℕ → Values) (a : RackView) → Stands v v p vals a → p.live m ≡ true → m < v.state.made
+    → ((y : ℕ) → has_sector (v.arrays m) y ≡ has_sector next y) → ArrayInvariant v.state (shape_of (v.arrays m)) (v.arrays m) (vals m) (spent_at p m next) a
 holds_next m next v p vals a stands live low same =
-    subst (λ spent. Holds v.state (shape_of (v.arrays m)) (v.arrays m) (vals m) spent a) (spent_same p m (v.arrays m) next same) (holds_of v v p vals a stands m live low)
+    subst (λ spent. ArrayInvariant v.state (shape_of (v.arrays m)) (v.arrays m) (vals m) spent a) (spent_same p m (v.arrays m) next same) (holds_of v v p vals a stands m live low)
 
 -- what is spent by an array with more sectors is spent by one with fewer
 spent_more : (growing spent was now : Bool) → (was ≡ true → now ≡ true) → ((growing && not was) || spent) ≡ false → ((growing && not now) || spent) ≡ false
@@ -116,7 +116,7 @@ unspent_parts true false spent is = absurd (both_ways true is refl)
 unspent_parts false has spent is = inr (refl, is)
 
 -- A promise that can be kept until the run after it can be kept until the one before it.
-module _ (m : ℕ) (next : View) (v w : Raid) (vals : ℕ → ℕ → Values) (a b : Seen) (call : StepsOnce m next v w vals a b)
+module _ (m : ℕ) (next : View) (v w : Raid) (vals : ℕ → ℕ → Values) (a b : RackView) (call : StepsOnce m next v w vals a b)
     (p : Promise) (suits : Suits p (steps m next ∷ []) v) (promised : IsPromised p w) where
   low_in : (n : ℕ) → n < v.state.made → n < w.state.made
   low_in n low = subst (λ (s : State). n < s.made) (sym call.same) low
@@ -124,7 +124,7 @@ module _ (m : ℕ) (next : View) (v w : Raid) (vals : ℕ → ℕ → Values) (a
   had : (y : ℕ) → has_sector (v.arrays m) y ≡ true → has_sector (w.arrays m) y ≡ true
   had y has = (λ i. is_sector (frame_of (call.truth i)) (moved_to (call.truth i)) (call.young i) (first_unsynced (call.truth i)) y) ∙ call.sectors y has
 
-  own_covers : p.live m ≡ true → Covers (v.arrays m) (spent_at p m (v.arrays m))
+  own_covers : p.live m ≡ true → IncludesSpent (v.arrays m) (spent_at p m (v.arrays m))
   own_covers live y alive = elim (unspent_parts p.growing (has_sector (v.arrays m) y) (p.spent m y) alive) [
     | inl at ↦
         call.spares y (inl at.1)
@@ -143,12 +143,12 @@ module _ (m : ℕ) (next : View) (v w : Raid) (vals : ℕ → ℕ → Values) (a
     is_one = promised.is_one;
     goes = λ n live low. call.goes n low (promised.goes n live (low_in n low));
     covers = λ n live low. elim (cases_eq n m) [
-      | inl same ↦ subst (λ k. Covers (v.arrays k) (spent_at p k (v.arrays k))) (sym same) (own_covers (subst (λ k. p.live k ≡ true) same live))
-      | inr apart ↦ subst (λ (u : View). Covers u (spent_at p n u)) (call.others n apart) (promised.covers n live (low_in n low))
+      | inl same ↦ subst (λ k. IncludesSpent (v.arrays k) (spent_at p k (v.arrays k))) (sym same) (own_covers (subst (λ k. p.live k ≡ true) same live))
+      | inr apart ↦ subst (λ (u : View). IncludesSpent u (spent_at p n u)) (call.others n apart) (promised.covers n live (low_in n low))
     ];
   }
 
-module _ (m : ℕ) (next : View) (v w : Raid) (vals : ℕ → ℕ → Values) (a b : Seen) (call : StepsOnce m next v w vals a b)
+module _ (m : ℕ) (next : View) (v w : Raid) (vals : ℕ → ℕ → Values) (a b : RackView) (call : StepsOnce m next v w vals a b)
     (p : Promise) (promised : IsPromised p w) (stands : Stands v v p vals a) where
   low_after : m < w.state.made
   low_after = subst (λ (s : State). m < s.made) (sym call.same) call.low
@@ -156,31 +156,31 @@ module _ (m : ℕ) (next : View) (v w : Raid) (vals : ℕ → ℕ → Values) (a
   becomes : Becomes v.state (v.arrays m) next (w.arrays m) w.number (vals m) a b
   becomes = call.becomes p promised stands
 
-  moves : (spent : ℕ → Bool) → Covers (w.arrays m) spent
-      → CallMoves m a b (Holds v.state (shape_of (v.arrays m)) (v.arrays m) (vals m) spent a) (SaysEither (v.arrays m) next v.state (vals m) spent a)
-      (Holds v.state (shape_of next) (w.arrays m) (vals m) spent b)
+  moves : (spent : ℕ → Bool) → IncludesSpent (w.arrays m) spent
+      → CallMoves m a b (ArrayInvariant v.state (shape_of (v.arrays m)) (v.arrays m) (vals m) spent a) (SaysEither (v.arrays m) next v.state (vals m) spent a)
+      (ArrayInvariant v.state (shape_of next) (w.arrays m) (vals m) spent b)
   moves spent covers =
       let moving = becomes.moving spent covers in
-      let H = Holds v.state (shape_of (v.arrays m)) (v.arrays m) (vals m) spent a in
-      let Q = Holds v.state (shape_of next) (w.arrays m) (vals m) spent b in
+      let H = ArrayInvariant v.state (shape_of (v.arrays m)) (v.arrays m) (vals m) spent a in
+      let Q = ArrayInvariant v.state (shape_of next) (w.arrays m) (vals m) spent b in
       subst (λ k. CallMoves k a b H (SaysEither (v.arrays m) next v.state (vals m) spent a) Q) call.number
       (record { stays = moving.stays; leaves = moving.leaves; holds = moving.holds; apart = moving.apart; calm = moving.calm; bounded = moving.bounded })
 
-  kept : LogKept v.state w.number (gone_in w) b
+  kept : LogInvariant v.state w.number (gone_in w) b
   kept = call.gone becomes.kept
 
   sectors_after : (y : ℕ) → has_sector (w.arrays m) y ≡ has_sector next y
   sectors_after y = λ i. is_sector (frame_of (call.truth i)) (moved_to (call.truth i)) (call.young i) (first_unsynced (call.truth i)) y
 
   module _ (live : p.live m ≡ true) where
-    holds : Holds v.state (shape_of (v.arrays m)) (v.arrays m) (vals m) (spent_at p m next) a
+    holds : ArrayInvariant v.state (shape_of (v.arrays m)) (v.arrays m) (vals m) (spent_at p m next) a
     holds = call.holds p promised stands live
 
-    covers : Covers (w.arrays m) (spent_at p m next)
+    covers : IncludesSpent (w.arrays m) (spent_at p m next)
     covers y alive = promised.covers m live low_after y (spent_other p m (w.arrays m) next sectors_after y ∙ alive)
 
     -- with the superblocks of a stop before it contents show the array as it was
-    shows_old : (r : Image) → Says v.state m (shape_of (v.arrays m)) (vals m) (spent_at p m next) r → KeepsSupers m a r → ShowsArray v.state (v.arrays m) p m (vals m) r
+    shows_old : (r : Image) → ImageShowsArray v.state m (shape_of (v.arrays m)) (vals m) (spent_at p m next) r → KeepsSupers m a r → ShowsArray v.state (v.arrays m) p m (vals m) r
     shows_old r says supers =
         let i = supers.0 in
         let left : IsLeft a i = supers.1 in
@@ -198,7 +198,7 @@ module _ (m : ℕ) (next : View) (v w : Raid) (vals : ℕ → ℕ → Values) (a
         }
 
     -- with these fields they show it once the step is done
-    shows_new : (r : Image) → Says v.state m (shape_of next) (vals m) (spent_at p m next) r → HasFields v.state m next.truth r → ShowsArray v.state next p m (vals m) r
+    shows_new : (r : Image) → ImageShowsArray v.state m (shape_of next) (vals m) (spent_at p m next) r → HasFields v.state m next.truth r → ShowsArray v.state next p m (vals m) r
     shows_new r says fields =
         let rows : (t : Super) → truth_in v.state r m ≡ Some t → next.resync ≤ first_unsynced t = λ t is. let low = call.rows in let at = ap first_unsynced (fields t is) in omega (arith, low, at) in
         record { says = says; rows = λ old is_kept. rows; lacks = λ old wanted some. rows }
@@ -206,19 +206,19 @@ module _ (m : ℕ) (next : View) (v w : Raid) (vals : ℕ → ℕ → Values) (a
     own : (r : Image) → SaysEither (v.arrays m) next v.state (vals m) (spent_at p m next) a r → ShowsArray v.state (v.arrays m) p m (vals m) r ⊎ ShowsArray v.state next p m (vals m) r
     own r either = elim either [
       | inl old ↦
-          inl (shows_old r (subst (λ k. Says v.state k (shape_of (v.arrays m)) (vals m) (spent_at p m next) r) call.number old.0) (subst (λ k. KeepsSupers k a r) call.number old.1))
+          inl (shows_old r (subst (λ k. ImageShowsArray v.state k (shape_of (v.arrays m)) (vals m) (spent_at p m next) r) call.number old.0) (subst (λ k. KeepsSupers k a r) call.number old.1))
       | inr new ↦
-          inr (shows_new r (subst (λ k. Says v.state k (shape_of next) (vals m) (spent_at p m next) r) call.number new.0) (subst (λ k. HasFields v.state k next.truth r) call.number new.1))
+          inr (shows_new r (subst (λ k. ImageShowsArray v.state k (shape_of next) (vals m) (spent_at p m next) r) call.number new.0) (subst (λ k. HasFields v.state k next.truth r) call.number new.1))
     ]
 
-    after : Holds v.state (shape_of next) (w.arrays m) (vals m) (spent_at p m next) b
+    after : ArrayInvariant v.state (shape_of next) (w.arrays m) (vals m) (spent_at p m next) b
     after = (moves (spent_at p m next) covers).holds holds
 
     images : (r : Image) → IsLeft b r → RestsArray v.state next p m (vals m) r
     images r left =
         let fields : HasFields v.state m next.truth r = subst (λ k. HasFields v.state k next.truth r) call.number (becomes.durable (spent_at p m next) covers holds r left) in
-        let says : Says v.state m (shape_of next) (vals m) (spent_at p m next) r =
-        subst (λ k. Says v.state k (shape_of next) (vals m) (spent_at p m next) r) call.number_after (after.shape.says r left) in
+        let says : ImageShowsArray v.state m (shape_of next) (vals m) (spent_at p m next) r =
+        subst (λ k. ImageShowsArray v.state k (shape_of next) (vals m) (spent_at p m next) r) call.number_after (after.shape.says r left) in
         record {
           shows = shows_new r says fields;
           truth = λ t is. earlier_same t next.truth (fields t is);
@@ -238,8 +238,8 @@ module _ (m : ℕ) (next : View) (v w : Raid) (vals : ℕ → ℕ → Values) (a
           few = call.few;
           written = call.written was.written;
           members = members_of v.state m (shape_of next) (shape_of (w.arrays m)) (w.arrays m).resync (may_vary (w.arrays m)) (vals m) (spent_at p m next) b
-              (subst (λ k. HoldsShape v.state k (shape_of next) (shape_of (w.arrays m)) (w.arrays m).resync (may_vary (w.arrays m)) (vals m) (spent_at p m next) b) call.number_after after.shape);
-          closed = λ none. subst (λ k. IsClosed k b) call.number_after (after.closed none);
+              (subst (λ k. ShapeInvariant v.state k (shape_of next) (shape_of (w.arrays m)) (w.arrays m).resync (may_vary (w.arrays m)) (vals m) (spent_at p m next) b) call.number_after after.shape);
+          closed = λ none. subst (λ k. NothingPending k b) call.number_after (after.closed none);
           truth = subst (IsEarlier next.truth) (sym call.truth) (record { fields = refl; events = omega arith });
           mark = λ marked. absurd (both_ways (w.arrays m).marked call.unmarked_after marked);
           roles = ap (λ (t : Super). t.roles.items) call.truth;
@@ -250,8 +250,8 @@ module _ (m : ℕ) (next : View) (v w : Raid) (vals : ℕ → ℕ → Values) (a
   pub step_turning : Turning m next v w p vals a b
   step_turning = elim (cases_Bool (p.live m)) [
     | inl live ↦ record {
-      H = Holds v.state (shape_of (v.arrays m)) (v.arrays m) (vals m) (spent_at p m next) a;
-      Q = Holds v.state (shape_of next) (w.arrays m) (vals m) (spent_at p m next) b;
+      H = ArrayInvariant v.state (shape_of (v.arrays m)) (v.arrays m) (vals m) (spent_at p m next) a;
+      Q = ArrayInvariant v.state (shape_of next) (w.arrays m) (vals m) (spent_at p m next) b;
       P = SaysEither (v.arrays m) next v.state (vals m) (spent_at p m next) a;
       moves = moves (spent_at p m next) (covers live);
       kept = kept;
@@ -261,8 +261,8 @@ module _ (m : ℕ) (next : View) (v w : Raid) (vals : ℕ → ℕ → Values) (a
       alike = λ live marked. call.lost marked;
     }
     | inr none ↦ record {
-      H = Holds v.state (shape_of (v.arrays m)) (v.arrays m) (vals m) (λ y. true) a;
-      Q = Holds v.state (shape_of next) (w.arrays m) (vals m) (λ y. true) b;
+      H = ArrayInvariant v.state (shape_of (v.arrays m)) (v.arrays m) (vals m) (λ y. true) a;
+      Q = ArrayInvariant v.state (shape_of next) (w.arrays m) (vals m) (λ y. true) b;
       P = SaysEither (v.arrays m) next v.state (vals m) (λ y. true) a;
       moves = moves (λ y. true) (λ y alive. absurd (both_ways true alive refl));
       kept = kept;
@@ -273,7 +273,7 @@ module _ (m : ℕ) (next : View) (v w : Raid) (vals : ℕ → ℕ → Values) (a
     }
   ]
 
-pub step_makes : (m : ℕ) (next : View) (v w : Raid) (vals : ℕ → ℕ → Values) (a b : Seen)
+pub step_makes : (m : ℕ) (next : View) (v w : Raid) (vals : ℕ → ℕ → Values) (a b : RackView)
     → StepsOnce m next v w vals a b → Makes (steps m next ∷ []) v v w vals vals a b
 step_makes m next v w vals a b call =
     turn_makes (steps m next) m next v w vals vals a b call.low refl

@@ -2,13 +2,13 @@
 use Rattle.std.proofs.Common.{◌≡◌, ℕ, Bool, true, false, List, [], ◌∷◌, refl, sym, ap, ap₂, subst, ◌∙◌, arith}
 use Rattle.std.proofs.lemmas.Bool.{both_ways}
 use Rattle.rack.specs.Values.{Values}
-use Rattle.rack.specs.Seen.{Seen}
+use Rattle.rack.specs.Seen.{RackView}
 use Rattle.array_image.specs.SoundArray.{first_unsynced}
-use Rattle.log_laws.specs.Kept.{LogKept}
+use Rattle.log_laws.specs.Kept.{LogInvariant}
 use Rattle.log_laws.proofs.KeptAfter.{kept_more}
 use Rattle.array_model.specs.View.{has_gone, shape_of, View}
 use Rattle.array_model.specs.Members.{Notes}
-use Rattle.array_model.specs.Says.{Holds, IsOpen}
+use Rattle.array_model.specs.Says.{ArrayInvariant, IsOpen}
 use Rattle.array_core.specs.Superblocks.{is_settled}
 use Rattle.sync_laws.specs.Steps.{as_it_was, done, if_done, MayStep, Stepped}
 use Rattle.raid_laws.specs.Frames.{frame_of}
@@ -28,7 +28,7 @@ use Rattle.transition_laws.specs.Makes.{Makes}
 use Rattle.transition_laws.proofs.ReadMakes.{keeps_noted, read_one_makes}
 use Rattle.transition_laws.proofs.StepMakes.{holds_next, step_makes, steps_become, StepsOnce}
 
-step_noted : (d : Bool) (u next z : View) (a b : Seen) → Stepped u next z a b d → d ≡ true → Notes next z a b
+step_noted : (d : Bool) (u next z : View) (a b : RackView) → Stepped u next z a b d → d ≡ true → Notes next z a b
 step_noted false u next z a b (as_it_was notes) is = absurd (both_ways false refl is)
 step_noted true u next z a b (done notes) is = notes
 
@@ -40,19 +40,19 @@ framed_sectors u w framed moved old new y =
     ∙ sym (ap (λ young. is_sector (frame_of w.truth) (moved_to w.truth) young (first_unsynced w.truth) y) new)
 
 -- what the step needs of the pool
-step_allowed : (v : Raid) (f : ℕ → View) (next : View) (number m : ℕ) (a b : Seen) (on : List ℕ) (answered : Bool) → IsSet v a → StepCall v f next number m a b on answered
+step_allowed : (v : Raid) (f : ℕ → View) (next : View) (number m : ℕ) (a b : RackView) (on : List ℕ) (answered : Bool) → IsSet v a → StepCall v f next number m a b on answered
     → (vals : ℕ → ℕ → Values) (p : Promise) → IsPromised p (called v f number) → Stands v v p vals a → MayStep v.state (v.arrays m) next (f m) v.number on a
 step_allowed v f next number m a b on answered set call vals p promised stands = record {
   commit = may_commit v f number m p.one a b on set call.heeded (views v f next number m a b on answered set call) call.later call.on_is stands.one
       (promised.goes p.one promised.is_one stands.one) stands.slices
-      (subst (λ g. LogKept v.state v.number g a) (λ i q. heeded_gone v call.heeded q i) stands.log);
+      (subst (λ g. LogInvariant v.state v.number g a) (λ i q. heeded_gone v call.heeded q i) stands.log);
   opened = subst (λ k. IsOpen (shape_of next) k a) (call.is_next.seated.number ∙ sym (set.arrays m call.low).number)
       (opened v.state v.state.made m next a call.is_next.seated stands.slices call.low);
   whole = call.whole;
 }
 
 -- of an array that isn't young, whose superblocks leave just the rows that are left, that isn't marked, and of which a reshape stands where it stood
-module _ (v : Raid) (f : ℕ → View) (next : View) (number m : ℕ) (a b : Seen) (on : List ℕ) (answered : Bool) (set : IsSet v a)
+module _ (v : Raid) (f : ℕ → View) (next : View) (number m : ℕ) (a b : RackView) (on : List ℕ) (answered : Bool) (set : IsSet v a)
     (call : StepCall v f next number m a b on answered) (is : call.steps.is_done ≡ true) (young : next.young ≡ false) (settled : is_settled next ≡ true)
     (unmarked : next.marked ≡ false) (moved : moved_to next.truth ≡ moved_to (v.arrays m).truth) (vals : ℕ → ℕ → Values) where
   noted : Notes next (f m) a b
@@ -106,11 +106,11 @@ module _ (v : Raid) (f : ℕ → View) (next : View) (number m : ℕ) (a b : See
 
 -- ---- where it isn't done
 
-idle_noted : (d : Bool) (u next z : View) (a b : Seen) → Stepped u next z a b d → d ≡ false → Notes u z a b
+idle_noted : (d : Bool) (u next z : View) (a b : RackView) → Stepped u next z a b d → d ≡ false → Notes u z a b
 idle_noted false u next z a b (as_it_was notes) is = notes
 idle_noted true u next z a b (done notes) is = absurd (both_ways true is refl)
 
-module _ (v : Raid) (f : ℕ → View) (next : View) (number m : ℕ) (a b : Seen) (on : List ℕ) (answered : Bool) (set : IsSet v a)
+module _ (v : Raid) (f : ℕ → View) (next : View) (number m : ℕ) (a b : RackView) (on : List ℕ) (answered : Bool) (set : IsSet v a)
     (call : StepCall v f next number m a b on answered) (is : call.steps.is_done ≡ false) (vals : ℕ → ℕ → Values) where
   noted_as_it_was : Notes (v.arrays m) (f m) a b
   noted_as_it_was = idle_noted call.steps.is_done (v.arrays m) next (f m) a b call.steps.view is
@@ -136,7 +136,7 @@ module _ (v : Raid) (f : ℕ → View) (next : View) (number m : ℕ) (a b : See
             (λ q went. gone_from (called v f number) q m (call.few q went) call.low went)
             (call.steps.kept v.state (step_allowed v f next number m a b on answered set call vals p promised stands));
         holds = λ p promised stands spent covers holds.
-            subst (λ (d : Bool). Holds v.state (if_done d (shape_of (v.arrays m)) (shape_of next)) (f m) (vals m) spent b) is
+            subst (λ (d : Bool). ArrayInvariant v.state (if_done d (shape_of (v.arrays m)) (shape_of next)) (f m) (vals m) spent b) is
             ((call.steps.moving v.state (vals m) spent covers (step_allowed v f next number m a b on answered set call vals p promised stands)).holds holds);
         goes = λ n low goes. over_still v (called v f number) (further v f m a b set one number call.later) n low goes;
         someone = λ n goes. someone_left (called v f number) n goes;

@@ -2,26 +2,26 @@
 use Rattle.std.proofs.Common.{◌≡◌, ◌⊎◌, ℕ, ◌<◌, Bool, true, false, ◌==◌, if◌then◌else◌, List, [], ◌∷◌, refl, sym, ap, subst, ◌∙◌, inl, inr, eq-eqb, eqb-true, ne_eqb}
 use Rattle.std.proofs.lemmas.Bool.{both_ways, cases_Bool, cases_eq}
 use Rattle.rack.specs.Values.{Values}
-use Rattle.rack.specs.Seen.{Image, Seen, Stays}
+use Rattle.rack.specs.Seen.{Image, RackView, SameRack}
 use Rattle.rack.specs.Moments.{Leaves}
 use Rattle.rack.specs.Joins.{leaves_weaker}
 use Rattle.pool_state.specs.declared.contents.State.{State}
 use Rattle.array_image.specs.Arrays.{replayed}
-use Rattle.array_image.specs.Left.{IsCalm, IsClosed, IsInside, IsLeft, Picks}
+use Rattle.array_image.specs.Left.{PendingOnlyFor, NothingPending, IsInside, IsLeft, Picks}
 use Rattle.array_image.specs.Places.{member_slice}
 use Rattle.array_image.specs.States.{is_current}
 use Rattle.array_image.proofs.Frames.{Agree}
-use Rattle.log_laws.specs.Kept.{LogKept}
-use Rattle.array_model.specs.ArrayCalls.{Turns}
-use Rattle.array_model.specs.Says.{HoldsShape}
+use Rattle.log_laws.specs.Kept.{LogInvariant}
+use Rattle.array_model.specs.ArrayCalls.{ImageInCall}
+use Rattle.array_model.specs.Says.{ShapeInvariant}
 use Rattle.array_model.specs.View.{may_vary, shape_of, View}
-use Rattle.array_model.proofs.Moves.{Moves as CallMoves}
+use Rattle.array_model.proofs.Moves.{CallRefines as CallMoves}
 use Rattle.array_model.proofs.Others.{apart_left, other_apart, other_holds_all}
 use Rattle.transition_laws.specs.Changes.{Change, changed, is_due, with_view}
 use Rattle.transition_laws.specs.Holds.{HoldsBook, IsFrom, IsPromised, IsSameArrayAs, Promise, RestsArray, ShowsArray, spent_at, Stands, StandsArray}
 use Rattle.transition_laws.specs.Makes.{Grows, Makes, Suits}
 use Rattle.raid_laws.specs.Moves.{AreMarked}
-use Rattle.raid_laws.specs.Raid.{gone_in, is_over, Raid}
+use Rattle.raid_laws.specs.Raid.{gone_in, is_failed, Raid}
 use Rattle.raid_laws.specs.Since.{AreEach, KeepsEach}
 use Rattle.raid_laws.proofs.Logs.{each_call, kept_calm, logs_call, turned}
 use Rattle.raid_laws.proofs.Noted.{live_later}
@@ -29,32 +29,32 @@ use Rattle.transition_laws.proofs.Shown.{leaves_both, members_of, rests_same}
 use Rattle.transition_laws.proofs.Standing.{holds_of}
 
 -- What a call of array m, which makes `next` of it, owes: at each moment its slices show the array before it or after it, and then the run stands so.
-pub record Turning (m : ℕ) (next : View) (v w : Raid) (p : Promise) (now : ℕ → ℕ → Values) (a b : Seen) : Type 1 where
+pub record Turning (m : ℕ) (next : View) (v w : Raid) (p : Promise) (now : ℕ → ℕ → Values) (a b : RackView) : Type 1 where
   pub H : Type 0
   pub Q : Type 0
   pub P : Image → Type 0
   pub moves : CallMoves m a b H P Q
-  pub kept : LogKept v.state w.number (gone_in w) b
+  pub kept : LogInvariant v.state w.number (gone_in w) b
   pub own : p.live m ≡ true → H × ((r : Image) → P r → ShowsArray v.state (v.arrays m) p m (now m) r ⊎ ShowsArray v.state next p m (now m) r)
   pub images : p.live m ≡ true → (r : Image) → IsLeft b r → RestsArray v.state next p m (now m) r
   pub array : p.live m ≡ true → StandsArray next (w.arrays m) m (now m) (spent_at p m next) b
   pub alike : p.live m ≡ true → AreMarked w → IsSameArrayAs next (w.arrays m)
 
-pub record TurnsOne (xs : List Change) (m : ℕ) (next : View) (v w : Raid) (vals now : ℕ → ℕ → Values) (a b : Seen) : Type 1 where
+pub record TurnsOne (xs : List Change) (m : ℕ) (next : View) (v w : Raid) (vals now : ℕ → ℕ → Values) (a b : RackView) : Type 1 where
   pub grows : Grows vals now
   pub values : (n : ℕ) → (n ≡ m → ⊥) → now n ≡ vals n
   pub few : m < 16
   pub low : m < v.state.made
   pub lasting : a.lasting
-  pub stays : Stays a b
+  pub stays : SameRack a b
   pub marked : AreMarked v
   pub others : (n : ℕ) → (n ≡ m → ⊥) → w.arrays n ≡ v.arrays n
   pub same : w.state ≡ v.state
   pub back : (p : Promise) → Suits p xs v → IsPromised p w → IsPromised p v
-  pub someone : (n : ℕ) → is_over w n ≡ false → (place : ℕ) × (is_current v.state place ≡ true) × (gone_in w place ≡ false)
+  pub someone : (n : ℕ) → is_failed w n ≡ false → (place : ℕ) × (is_current v.state place ≡ true) × (gone_in w place ≡ false)
   pub turning : (p : Promise) → Suits p xs v → IsPromised p w → Stands v v p vals a → Turning m next v w p now a b
 
-module _ (xs : List Change) (m : ℕ) (next : View) (v w : Raid) (vals now : ℕ → ℕ → Values) (a b : Seen) (call : TurnsOne xs m next v w vals now a b)
+module _ (xs : List Change) (m : ℕ) (next : View) (v w : Raid) (vals now : ℕ → ℕ → Values) (a b : RackView) (call : TurnsOne xs m next v w vals now a b)
     (p : Promise) (suits : Suits p xs v) (promised : IsPromised p w) (stands : Stands v v p vals a) where
   turn : Turning m next v w p now a b
   turn = call.turning p suits promised stands
@@ -78,7 +78,7 @@ module _ (xs : List Change) (m : ℕ) (next : View) (v w : Raid) (vals now : ℕ
     | inr apart ↦ other n apart live low
   ]
 
-  moment : (c : Image) → Turns m a b (λ r. turn.H → turn.P r) c → AreEach (IsFrom p.origin) a.sectors c
+  moment : (c : Image) → ImageInCall m a b (λ r. turn.H → turn.P r) c → AreEach (IsFrom p.origin) a.sectors c
       → HoldsBook v p now a.sectors c ⊎ HoldsBook (with_view v m next) p now a.sectors c
   moment c turns since =
       let r : Image = replayed a.sectors c in
@@ -110,14 +110,14 @@ module _ (xs : List Change) (m : ℕ) (next : View) (v w : Raid) (vals now : ℕ
 
   pub turn_stops : a.traced → Leaves a b (λ c. IsInside a.sectors c → HoldsBook v p now a.sectors c ⊎ HoldsBook (with_view v m next) p now a.sectors c)
   turn_stops traced =
-      let First : Image → Type 0 = λ c. IsInside a.sectors c → Turns m a b (λ r. turn.H → turn.P r) c in
+      let First : Image → Type 0 = λ c. IsInside a.sectors c → ImageInCall m a b (λ r. turn.H → turn.P r) c in
       let Second : Image → Type 0 = λ c. IsInside a.sectors c → AreEach (IsFrom p.origin) a.sectors c in
       leaves_weaker (λ c. First c × Second c) (λ c. IsInside a.sectors c → HoldsBook v p now a.sectors c ⊎ HoldsBook (with_view v m next) p now a.sectors c)
       (λ c both inside. moment c (both.0 inside) (both.1 inside)) (leaves_both First Second (turn.moves.leaves traced) (since.leaves traced))
 
   -- ---- after it
 
-  calm : IsCalm m a
+  calm : PendingOnlyFor m a
   calm = kept_calm v.state v.number (gone_in v) a m stands.log call.marked
 
   images_after : (c : Image) → Picks b c → (n : ℕ) → p.live n ≡ true → n < v.state.made → RestsArray v.state ((with_view v m next).arrays n) p n (now n) (replayed b.sectors c)
@@ -152,8 +152,8 @@ module _ (xs : List Change) (m : ℕ) (next : View) (v w : Raid) (vals now : ℕ
         few = was.few;
         written = was.written;
         members = members_of v.state n (shape_of (v.arrays n)) (shape_of (v.arrays n)) (v.arrays n).resync (may_vary (v.arrays n)) (vals n) (spent_at p n (v.arrays n)) b
-            (subst (λ k. HoldsShape v.state k (shape_of (v.arrays n)) (shape_of (v.arrays n)) (v.arrays n).resync (may_vary (v.arrays n)) (vals n) (spent_at p n (v.arrays n)) b) was.number holds.shape);
-        closed = λ none. subst (λ k. IsClosed k b) was.number (holds.closed none);
+            (subst (λ k. ShapeInvariant v.state k (shape_of (v.arrays n)) (shape_of (v.arrays n)) (v.arrays n).resync (may_vary (v.arrays n)) (vals n) (spent_at p n (v.arrays n)) b) was.number holds.shape);
+        closed = λ none. subst (λ k. NothingPending k b) was.number (holds.closed none);
         truth = was.truth;
         mark = was.mark;
         roles = was.roles;
@@ -177,7 +177,7 @@ module _ (xs : List Change) (m : ℕ) (next : View) (v w : Raid) (vals now : ℕ
     slices = live_later v.state.made a b call.stays call.lasting stands.slices;
   }
 
-pub turn_makes : (x : Change) (m : ℕ) (next : View) (v w : Raid) (vals now : ℕ → ℕ → Values) (a b : Seen) → is_due x v → changed x v ≡ with_view v m next
+pub turn_makes : (x : Change) (m : ℕ) (next : View) (v w : Raid) (vals now : ℕ → ℕ → Values) (a b : RackView) → is_due x v → changed x v ≡ with_view v m next
     → TurnsOne (x ∷ []) m next v w vals now a b → Makes (x ∷ []) v v w vals now a b
 turn_makes x m next v w vals now a b due book call = record {
   due = (due, tt);
@@ -198,7 +198,7 @@ same_view v m = λ i. record { state = v.state; arrays = λ k. of k (k == m) ref
     of k false is = refl
 
 -- and one that leaves it as it is, whatever it writes, none
-pub act_makes : (m : ℕ) (v w : Raid) (vals now : ℕ → ℕ → Values) (a b : Seen) → TurnsOne [] m (v.arrays m) v w vals now a b → Makes [] v v w vals now a b
+pub act_makes : (m : ℕ) (v w : Raid) (vals now : ℕ → ℕ → Values) (a b : RackView) → TurnsOne [] m (v.arrays m) v w vals now a b → Makes [] v v w vals now a b
 act_makes m v w vals now a b call = record {
   due = tt;
   stays = call.stays;

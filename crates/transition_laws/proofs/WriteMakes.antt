@@ -2,18 +2,18 @@
 use Rattle.std.proofs.Common.{◌≡◌, ℕ, ◌<◌, Bool, true, false, ◌==◌, [], ◌∷◌, None, Some, unwrap_or, refl, sym, ap, subst, ◌∙◌, inl, inr, eq-eqb, arith}
 use Rattle.std.proofs.lemmas.Bool.{both_ways, cases_Bool}
 use Rattle.rack.specs.Values.{Values}
-use Rattle.rack.specs.Seen.{Image, Seen, Stays}
+use Rattle.rack.specs.Seen.{Image, RackView, SameRack}
 use Rattle.md_super.specs.declared.superblock.Super.{Super}
 use Rattle.pool_state.specs.declared.contents.State.{State}
 use Rattle.array_image.specs.Arrays.{place_with}
-use Rattle.array_image.specs.Left.{IsClosed, IsLeft}
+use Rattle.array_image.specs.Left.{NothingPending, IsLeft}
 use Rattle.array_image.specs.States.{is_current}
 use Rattle.array_image.specs.Supers.{super_in, truth_in}
-use Rattle.log_laws.specs.Kept.{LogKept}
-use Rattle.array_model.specs.ArrayCalls.{Acts, Covers}
-use Rattle.array_model.specs.Says.{Holds, HoldsShape, IsEarlier, Says}
+use Rattle.log_laws.specs.Kept.{LogInvariant}
+use Rattle.array_model.specs.ArrayCalls.{ArrayCall, IncludesSpent}
+use Rattle.array_model.specs.Says.{ArrayInvariant, ShapeInvariant, IsEarlier, ImageShowsArray}
 use Rattle.array_model.specs.View.{may_vary, shape_of}
-use Rattle.array_model.proofs.Moves.{Moves as CallMoves}
+use Rattle.array_model.proofs.Moves.{CallRefines as CallMoves}
 use Rattle.array_core.specs.Contents.{lacking_in}
 use Rattle.transition_laws.specs.Changes.{wrote}
 use Rattle.transition_laws.specs.Holds.{has_sector, IsPromised, IsSameArrayAs, is_sector, moved_to, Promise, RestsArray, ShowsArray, spent_at, Stands, StandsArray}
@@ -21,30 +21,30 @@ use Rattle.transition_laws.specs.Makes.{Grows, Makes, Suits}
 use Rattle.array_image.specs.SoundArray.{first_unsynced}
 use Rattle.raid_laws.specs.Frames.{frame_of}
 use Rattle.raid_laws.specs.Moves.{AreMarked}
-use Rattle.raid_laws.specs.Raid.{gone_in, is_over, IsWritten, Raid}
+use Rattle.raid_laws.specs.Raid.{gone_in, is_failed, IsWritten, Raid}
 use Rattle.raid_laws.proofs.Over.{or_parts}
 use Rattle.transition_laws.proofs.Shown.{members_of, spent_other}
 use Rattle.transition_laws.proofs.Standing.{holds_of}
 use Rattle.transition_laws.proofs.TurnMakes.{same_view, turn_makes, Turning}
 
 -- A write of array m, where its superblocks have the run's mark already or need none: its truth stays.
-pub record WritesOnce (m : ℕ) (v w : Raid) (vals now : ℕ → ℕ → Values) (a b : Seen) : Type 0 where
+pub record WritesOnce (m : ℕ) (v w : Raid) (vals now : ℕ → ℕ → Values) (a b : RackView) : Type 0 where
   pub few : m < 16
   pub low : m < v.state.made
   pub lasting : a.lasting
-  pub stays : Stays a b
+  pub stays : SameRack a b
   pub grows : Grows vals now
   pub values : (n : ℕ) → (n ≡ m → ⊥) → now n ≡ vals n
   pub marked : AreMarked v
   pub others : (n : ℕ) → (n ≡ m → ⊥) → w.arrays n ≡ v.arrays n
   pub same : w.state ≡ v.state
   pub back : (p : Promise) → Suits p (wrote m ∷ []) v → IsPromised p w → IsPromised p v
-  pub someone : (n : ℕ) → is_over w n ≡ false → (place : ℕ) × (is_current v.state place ≡ true) × (gone_in w place ≡ false)
+  pub someone : (n : ℕ) → is_failed w n ≡ false → (place : ℕ) × (is_current v.state place ≡ true) × (gone_in w place ≡ false)
   -- the call
   pub acts :
-      (spent : ℕ → Bool) → Covers (w.arrays m) spent
-      → Acts v.state (v.arrays m) (w.arrays m) spent a b (shape_of (v.arrays m)) (vals m) (Says v.state (v.arrays m).number (shape_of (v.arrays m)) (now m) spent) (shape_of (v.arrays m)) (now m)
-  pub kept : LogKept v.state v.number (gone_in v) a → LogKept v.state w.number (gone_in w) b
+      (spent : ℕ → Bool) → IncludesSpent (w.arrays m) spent
+      → ArrayCall v.state (v.arrays m) (w.arrays m) spent a b (shape_of (v.arrays m)) (vals m) (ImageShowsArray v.state (v.arrays m).number (shape_of (v.arrays m)) (now m) spent) (shape_of (v.arrays m)) (now m)
+  pub kept : LogInvariant v.state v.number (gone_in v) a → LogInvariant v.state w.number (gone_in w) b
   pub number : (v.arrays m).number ≡ m
   pub number_after : (w.arrays m).number ≡ m
   pub truth : (w.arrays m).truth ≡ (v.arrays m).truth
@@ -55,40 +55,40 @@ pub record WritesOnce (m : ℕ) (v w : Raid) (vals now : ℕ → ℕ → Values)
   -- it isn't promised of rows of an array that lacks a member: its writes go by the log, and array_core says so of superblocks elsewhere
   pub whole : 0 < lacking_in (shape_of (v.arrays m)) → ⊥
 
-module _ (m : ℕ) (v w : Raid) (vals now : ℕ → ℕ → Values) (a b : Seen) (call : WritesOnce m v w vals now a b)
+module _ (m : ℕ) (v w : Raid) (vals now : ℕ → ℕ → Values) (a b : RackView) (call : WritesOnce m v w vals now a b)
     (p : Promise) (suits : Suits p (wrote m ∷ []) v) (promised : IsPromised p w) (stands : Stands v v p vals a) where
-  moves : (spent : ℕ → Bool) → Covers (w.arrays m) spent
-      → CallMoves m a b (Holds v.state (shape_of (v.arrays m)) (v.arrays m) (vals m) spent a) (Says v.state (v.arrays m).number (shape_of (v.arrays m)) (now m) spent)
-      (Holds v.state (shape_of (v.arrays m)) (w.arrays m) (now m) spent b)
+  moves : (spent : ℕ → Bool) → IncludesSpent (w.arrays m) spent
+      → CallMoves m a b (ArrayInvariant v.state (shape_of (v.arrays m)) (v.arrays m) (vals m) spent a) (ImageShowsArray v.state (v.arrays m).number (shape_of (v.arrays m)) (now m) spent)
+      (ArrayInvariant v.state (shape_of (v.arrays m)) (w.arrays m) (now m) spent b)
   moves spent covers =
       let acts = call.acts spent covers in
-      let H = Holds v.state (shape_of (v.arrays m)) (v.arrays m) (vals m) spent a in
-      let Q = Holds v.state (shape_of (v.arrays m)) (w.arrays m) (now m) spent b in
-      subst (λ k. CallMoves k a b H (Says v.state (v.arrays m).number (shape_of (v.arrays m)) (now m) spent) Q) call.number
+      let H = ArrayInvariant v.state (shape_of (v.arrays m)) (v.arrays m) (vals m) spent a in
+      let Q = ArrayInvariant v.state (shape_of (v.arrays m)) (w.arrays m) (now m) spent b in
+      subst (λ k. CallMoves k a b H (ImageShowsArray v.state (v.arrays m).number (shape_of (v.arrays m)) (now m) spent) Q) call.number
       (record { stays = acts.stays; leaves = acts.leaves; holds = acts.holds; apart = acts.apart; calm = acts.calm; bounded = acts.bounded })
 
   unkept : p.kept m ≡ true → ⊥
   unkept is = both_ways (m == m) (or_parts (m == m) false (suits.free m is)).0 (eq-eqb m m refl)
 
-  shows : (r : Image) → Says v.state m (shape_of (v.arrays m)) (now m) (spent_at p m (v.arrays m)) r → ShowsArray v.state (v.arrays m) p m (now m) r
+  shows : (r : Image) → ImageShowsArray v.state m (shape_of (v.arrays m)) (now m) (spent_at p m (v.arrays m)) r → ShowsArray v.state (v.arrays m) p m (now m) r
   shows r says = record { says = says; rows = λ old is. absurd (unkept is); lacks = λ old wanted some. absurd (call.whole some) }
 
   sectors : (y : ℕ) → has_sector (w.arrays m) y ≡ has_sector (v.arrays m) y
   sectors y = λ i. is_sector (frame_of (call.truth i)) (moved_to (call.truth i)) (call.young i) (first_unsynced (call.truth i)) y
 
   module _ (live : p.live m ≡ true) where
-    covers : Covers (w.arrays m) (spent_at p m (v.arrays m))
+    covers : IncludesSpent (w.arrays m) (spent_at p m (v.arrays m))
     covers y alive =
         promised.covers m live (subst (λ (s : State). m < s.made) (sym call.same) call.low) y (spent_other p m (w.arrays m) (v.arrays m) sectors y ∙ alive)
 
-    after : Holds v.state (shape_of (v.arrays m)) (w.arrays m) (now m) (spent_at p m (v.arrays m)) b
+    after : ArrayInvariant v.state (shape_of (v.arrays m)) (w.arrays m) (now m) (spent_at p m (v.arrays m)) b
     after = (moves (spent_at p m (v.arrays m)) covers).holds (holds_of v v p vals a stands m live call.low)
 
     images : (r : Image) → IsLeft b r → RestsArray v.state (v.arrays m) p m (now m) r
     images r left =
         let own : (t : Super) → truth_in v.state r m ≡ Some t → truth_in v.state r (w.arrays m).number ≡ Some t = λ t is. subst (λ k. truth_in v.state r k ≡ Some t) (sym call.number_after) is in
         record {
-          shows = shows r (subst (λ k. Says v.state k (shape_of (v.arrays m)) (now m) (spent_at p m (v.arrays m)) r) call.number_after (after.shape.says r left));
+          shows = shows r (subst (λ k. ImageShowsArray v.state k (shape_of (v.arrays m)) (now m) (spent_at p m (v.arrays m)) r) call.number_after (after.shape.says r left));
           truth = λ t is. subst (IsEarlier t) call.truth (after.truth r left t (own t is));
           mark = λ marked t is. after.mark (call.mark ∙ marked) r left t (own t is);
           alone = λ place current other.
@@ -106,8 +106,8 @@ module _ (m : ℕ) (v w : Raid) (vals now : ℕ → ℕ → Values) (a b : Seen)
           few = call.few;
           written = call.written was.written;
           members = members_of v.state m (shape_of (v.arrays m)) (shape_of (w.arrays m)) (w.arrays m).resync (may_vary (w.arrays m)) (now m) (spent_at p m (v.arrays m)) b
-              (subst (λ k. HoldsShape v.state k (shape_of (v.arrays m)) (shape_of (w.arrays m)) (w.arrays m).resync (may_vary (w.arrays m)) (now m) (spent_at p m (v.arrays m)) b) call.number_after after.shape);
-          closed = λ none. subst (λ k. IsClosed k b) call.number_after (after.closed none);
+              (subst (λ k. ShapeInvariant v.state k (shape_of (v.arrays m)) (shape_of (w.arrays m)) (w.arrays m).resync (may_vary (w.arrays m)) (now m) (spent_at p m (v.arrays m)) b) call.number_after after.shape);
+          closed = λ none. subst (λ k. NothingPending k b) call.number_after (after.closed none);
           truth = subst (IsEarlier (v.arrays m).truth) (sym call.truth) (record { fields = refl; events = omega arith });
           mark = λ marked. sym call.mark ∙ marked;
           roles = ap (λ (u : Super). u.roles.items) call.truth;
@@ -118,20 +118,20 @@ module _ (m : ℕ) (v w : Raid) (vals now : ℕ → ℕ → Values) (a b : Seen)
   write_turning : Turning m (v.arrays m) v w p now a b
   write_turning = elim (cases_Bool (p.live m)) [
     | inl live ↦ record {
-      H = Holds v.state (shape_of (v.arrays m)) (v.arrays m) (vals m) (spent_at p m (v.arrays m)) a;
-      Q = Holds v.state (shape_of (v.arrays m)) (w.arrays m) (now m) (spent_at p m (v.arrays m)) b;
-      P = Says v.state (v.arrays m).number (shape_of (v.arrays m)) (now m) (spent_at p m (v.arrays m));
+      H = ArrayInvariant v.state (shape_of (v.arrays m)) (v.arrays m) (vals m) (spent_at p m (v.arrays m)) a;
+      Q = ArrayInvariant v.state (shape_of (v.arrays m)) (w.arrays m) (now m) (spent_at p m (v.arrays m)) b;
+      P = ImageShowsArray v.state (v.arrays m).number (shape_of (v.arrays m)) (now m) (spent_at p m (v.arrays m));
       moves = moves (spent_at p m (v.arrays m)) (covers live);
       kept = call.kept stands.log;
-      own = λ is. (holds_of v v p vals a stands m is call.low, λ r says. inl (shows r (subst (λ k. Says v.state k (shape_of (v.arrays m)) (now m) (spent_at p m (v.arrays m)) r) call.number says)));
+      own = λ is. (holds_of v v p vals a stands m is call.low, λ r says. inl (shows r (subst (λ k. ImageShowsArray v.state k (shape_of (v.arrays m)) (now m) (spent_at p m (v.arrays m)) r) call.number says)));
       images = images;
       array = array;
       alike = λ live marked. call.lost marked;
     }
     | inr none ↦ record {
-      H = Holds v.state (shape_of (v.arrays m)) (v.arrays m) (vals m) (λ y. true) a;
-      Q = Holds v.state (shape_of (v.arrays m)) (w.arrays m) (now m) (λ y. true) b;
-      P = Says v.state (v.arrays m).number (shape_of (v.arrays m)) (now m) (λ y. true);
+      H = ArrayInvariant v.state (shape_of (v.arrays m)) (v.arrays m) (vals m) (λ y. true) a;
+      Q = ArrayInvariant v.state (shape_of (v.arrays m)) (w.arrays m) (now m) (λ y. true) b;
+      P = ImageShowsArray v.state (v.arrays m).number (shape_of (v.arrays m)) (now m) (λ y. true);
       moves = moves (λ y. true) (λ y alive. absurd (both_ways true alive refl));
       kept = call.kept stands.log;
       own = λ live. absurd (both_ways (p.live m) none live);
@@ -141,7 +141,7 @@ module _ (m : ℕ) (v w : Raid) (vals now : ℕ → ℕ → Values) (a b : Seen)
     }
   ]
 
-pub write_makes : (m : ℕ) (v w : Raid) (vals now : ℕ → ℕ → Values) (a b : Seen) → WritesOnce m v w vals now a b → Makes (wrote m ∷ []) v v w vals now a b
+pub write_makes : (m : ℕ) (v w : Raid) (vals now : ℕ → ℕ → Values) (a b : RackView) → WritesOnce m v w vals now a b → Makes (wrote m ∷ []) v v w vals now a b
 write_makes m v w vals now a b call =
     turn_makes (wrote m) m (v.arrays m) v w vals now a b tt (same_view v m)
     (record {

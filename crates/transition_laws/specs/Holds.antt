@@ -1,29 +1,29 @@
 -- Contents that hold the book of a pool, and a run that stands by it.
 use Rattle.std.proofs.Common.{◌≡◌, ℕ, ◌+◌, ◌<◌, ◌≤◌, Bool, true, false, List, [], length, Some, ◌&&◌, ◌||◌, not, nat_lt, if◌then◌else◌}
 use Rattle.rack.specs.Values.{Values, MayLeave}
-use Rattle.rack.specs.Seen.{Image, Seen}
+use Rattle.rack.specs.Seen.{Image, RackView}
 use Rattle.md_super.specs.declared.superblock.Super.{Super}
 use Rattle.array_image.specs.Places.{member_slice, data_sector}
 use Rattle.array_image.specs.Arrays.{Member, Shape, replayed, value_by}
 use Rattle.array_image.specs.Even.{AreEven}
-use Rattle.array_image.specs.Held.{Among, current_in, held_by, IsSettled}
-use Rattle.array_image.specs.Left.{IsClosed, Picks}
+use Rattle.array_image.specs.Held.{Among, current_in, held_by, IsSynced}
+use Rattle.array_image.specs.Left.{NothingPending, Picks}
 use Rattle.array_image.specs.SoundArray.{first_unsynced}
 use Rattle.array_image.specs.States.{is_current}
 use Rattle.array_image.specs.Stripes.{capacity, sector_in}
 use Rattle.raid_map.specs.LeftSymmetric.{row_at}
 use Rattle.array_image.specs.Supers.{is_reshaping, truth_in}
-use Rattle.array_model.specs.ArrayCalls.{Covers}
-use Rattle.array_model.specs.Says.{HasNoOthers, IsEarlier, IsOpen, KeepsSource, Says}
+use Rattle.array_model.specs.ArrayCalls.{IncludesSpent}
+use Rattle.array_model.specs.Says.{HasNoOthers, IsEarlier, IsOpen, KeepsSource, ImageShowsArray}
 use Rattle.array_model.specs.View.{may_vary, shape_of, View}
-use Rattle.log_laws.specs.Kept.{LogKept}
-use Rattle.log_laws.specs.Saying.{HoldsCopies, SaysState}
+use Rattle.log_laws.specs.Kept.{LogInvariant}
+use Rattle.log_laws.specs.Saying.{HoldsCopies, RecoversTo}
 use Rattle.pool_state.specs.declared.contents.State.{State}
 use Rattle.raid_laws.specs.Frames.{Frame, frame_of}
 use Rattle.array_core.specs.Contents.{lacking_in}
 use Rattle.raid_laws.specs.Since.{AreEach, HoldsEach, IsSince, IsTakenSince}
 use Rattle.raid_laws.specs.Moves.{AreMarked}
-use Rattle.raid_laws.specs.Raid.{AreLive, gone_in, is_over, IsWritten, Raid}
+use Rattle.raid_laws.specs.Raid.{AreLive, gone_in, is_failed, IsWritten, Raid}
 
 -- Copies came of the state that calls began with, or of one by which places get other drives.
 pub data Origin : Type 0 where
@@ -67,13 +67,13 @@ spent_at p n u y = (p.growing && not (has_sector u y)) || p.spent n y
 -- It can be kept until the run is this.
 pub record IsPromised (p : Promise) (w : Raid) : Type 0 where
   pub is_one : p.live p.one ≡ true
-  pub goes : (n : ℕ) → p.live n ≡ true → n < w.state.made → is_over w n ≡ false
-  pub covers : (n : ℕ) → p.live n ≡ true → n < w.state.made → Covers (w.arrays n) (spent_at p n (w.arrays n))
+  pub goes : (n : ℕ) → p.live n ≡ true → n < w.state.made → is_failed w n ≡ false
+  pub covers : (n : ℕ) → p.live n ≡ true → n < w.state.made → IncludesSpent (w.arrays n) (spent_at p n (w.arrays n))
 
 -- Replayed contents show array n, such as a book of this state has it: its shape, by superblocks that agree, and each sector that isn't spent has one of
 -- its values. Unless it is young, they leave no rows to resync but the book's where it isn't written, and where it lacks a member.
 pub record ShowsArray (s : State) (u : View) (p : Promise) (n : ℕ) (vals : ℕ → Values) (r : Image) : Type 0 where
-  pub says : Says s n (shape_of u) vals (spent_at p n u) r
+  pub says : ImageShowsArray s n (shape_of u) vals (spent_at p n u) r
   pub rows : u.young ≡ false → p.kept n ≡ true → (t : Super) → truth_in s r n ≡ Some t → u.resync ≤ first_unsynced t
   pub lacks : u.young ≡ false → p.lacks n ≡ true → 0 < lacking_in (shape_of u) → (t : Super) → truth_in s r n ≡ Some t → u.resync ≤ first_unsynced t
 
@@ -93,14 +93,14 @@ RestsArrays v p vals r = (n : ℕ) → p.live n ≡ true → n < v.state.made �
 
 -- Contents hold a book: their log slices say its state, and once replayed they show its arrays.
 pub record HoldsBook (v : Raid) (p : Promise) (vals : ℕ → ℕ → Values) (sectors : ℕ → ℕ) (c : Image) : Type 0 where
-  pub log : SaysState v.state sectors c
+  pub log : RecoversTo v.state sectors c
   pub since : AreEach (IsFrom p.origin) sectors c
   pub arrays : ShowsArrays v p vals (replayed sectors c)
 
 -- ---- a run
 
 -- What the members of array n hold, whatever images say of it: these go by `durable`, the run by `noted`.
-pub record HoldsMembers (n : ℕ) (durable noted : Shape) (resync : ℕ) (vary : Bool) (vals : ℕ → Values) (spent : ℕ → Bool) (x : Seen) : Type 0 where
+pub record HoldsMembers (n : ℕ) (durable noted : Shape) (resync : ℕ) (vary : Bool) (vals : ℕ → Values) (spent : ℕ → Bool) (x : RackView) : Type 0 where
   pub open_slices : IsOpen durable n x
   pub open_left : IsOpen noted n x
   pub still :
@@ -112,7 +112,7 @@ pub record HoldsMembers (n : ℕ) (durable noted : Shape) (resync : ℕ) (vary :
       (m : Member) (sector : ℕ) → Among m noted.members → sector < m.reach
       → length (x.held (member_slice m.place n) (data_sector + sector)).current ≡ 512
   pub even : AreEven noted n resync (current_in x.held)
-  pub settled : vary ≡ false → IsSettled noted n x.held
+  pub settled : vary ≡ false → IsSynced noted n x.held
 
 -- an array of the run has what the book has of it, but for events, rows that its truth leaves, and the mark
 pub record IsSameArrayAs (u w : View) : Type 0 where
@@ -126,13 +126,13 @@ abbrev pub AreLeftBy : State → Raid → Type 0
 AreLeftBy s v = (place : ℕ) → is_current s place ≡ true → gone_in v place ≡ false
 
 -- array n of a run, w, whose images go by u
-pub record StandsArray (u w : View) (n : ℕ) (vals : ℕ → Values) (spent : ℕ → Bool) (x : Seen) : Type 0 where
+pub record StandsArray (u w : View) (n : ℕ) (vals : ℕ → Values) (spent : ℕ → Bool) (x : RackView) : Type 0 where
   pub number : w.number ≡ n
   pub book_number : u.number ≡ n
   pub few : n < 16
   pub written : IsWritten w
   pub members : HoldsMembers n (shape_of u) (shape_of w) w.resync (may_vary w) vals spent x
-  pub closed : w.went ≡ [] → IsClosed n x
+  pub closed : w.went ≡ [] → NothingPending n x
   -- the run's own truth is no earlier one
   pub truth : IsEarlier u.truth w.truth
   pub mark : w.marked ≡ true → u.marked ≡ true
@@ -141,10 +141,10 @@ pub record StandsArray (u w : View) (n : ℕ) (vals : ℕ → Values) (spent : �
   pub sectors : (y : ℕ) → has_sector w y ≡ has_sector u y
 
 -- A run v stands over slices whose images hold the book d, but for drives that are gone from it and not marked yet.
-pub record Stands (d v : Raid) (p : Promise) (vals : ℕ → ℕ → Values) (x : Seen) : Type 0 where
+pub record Stands (d v : Raid) (p : Promise) (vals : ℕ → ℕ → Values) (x : RackView) : Type 0 where
   pub few : d.state.joined < 17
   pub one : p.one < d.state.made
-  pub log : LogKept d.state v.number (gone_in v) x
+  pub log : LogInvariant d.state v.number (gone_in v) x
   pub someone : (place : ℕ) × (is_current d.state place ≡ true) × (gone_in v place ≡ false)
   pub copies : HoldsCopies d.state x
   pub since : HoldsEach (IsFrom p.origin) x

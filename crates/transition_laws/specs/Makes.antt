@@ -1,7 +1,7 @@
 -- What calls in a row make of the book of a pool.
 use Rattle.std.proofs.Common.{◌≡◌, ℕ, ◌≤◌, true, false, List, [], ◌∷◌, ◌++◌, Ok, sym, subst, ◌∙◌, ◌⊎◌, inl, inr}
 use Rattle.rack.specs.Values.{Values, MayLeave}
-use Rattle.rack.specs.Seen.{Image, Seen, Stays}
+use Rattle.rack.specs.Seen.{Image, RackView, SameRack}
 use Rattle.rack.specs.Moments.{Leaves}
 use Rattle.rack.specs.Joins.{leaves_then, leaves_weaker, stays_then}
 use Rattle.pool_state.specs.Sector.{decoded}
@@ -47,9 +47,9 @@ HoldsAlong xs d p vals sectors c = Along xs d (λ u. HoldsBook u p vals sectors 
 
 -- Calls make some changes of the book d: a stop inside them leaves one of the books that these lead over, and after them the run
 -- stands by the last one.
-pub record Makes (xs : List Change) (d v w : Raid) (vals now : ℕ → ℕ → Values) (a b : Seen) : Type 0 where
+pub record Makes (xs : List Change) (d v w : Raid) (vals now : ℕ → ℕ → Values) (a b : RackView) : Type 0 where
   pub due : AreDue xs d
-  pub stays : Stays a b
+  pub stays : SameRack a b
   pub back : (p : Promise) → Suits p xs d → IsPromised p w → IsPromised p v
   pub grows : Grows vals now
   pub stops :
@@ -96,7 +96,7 @@ suits_parts p xs ys d suits =
     ]
 
 -- what a stop in two calls in a row leaves, by what one leaves in each
-pub stops_then : (xs ys : List Change) (d : Raid) (p : Promise) (now last : ℕ → ℕ → Values) (a b c : Seen) → Stays a b → Grows now last
+pub stops_then : (xs ys : List Change) (d : Raid) (p : Promise) (now last : ℕ → ℕ → Values) (a b c : RackView) → SameRack a b → Grows now last
     → Leaves a b (λ i. IsInside a.sectors i → HoldsAlong xs d p now a.sectors i) → Leaves b c (λ i. IsInside b.sectors i → HoldsAlong ys (by xs d) p last b.sectors i)
     → Leaves a c (λ i. IsInside a.sectors i → HoldsAlong (xs ++ ys) d p last a.sectors i)
 stops_then xs ys d p now last a b c stays grows one two =
@@ -112,7 +112,7 @@ stops_then xs ys d p now last a b c stays grows one two =
     (subst (λ (sectors : ℕ → ℕ). HoldsAlong ys (by xs d) p last sectors i) (λ k e. stays.sectors e k) (at (λ e t out. inside e t (subst (λ k. k ≤ t) (stays.sectors e) out)))))
     two)
 
-pub makes_then : (xs ys : List Change) (d v w z : Raid) (vals now last : ℕ → ℕ → Values) (a b c : Seen)
+pub makes_then : (xs ys : List Change) (d v w z : Raid) (vals now last : ℕ → ℕ → Values) (a b c : RackView)
     → Makes xs d v w vals now a b → Makes ys (by xs d) w z now last b c → Makes (xs ++ ys) d v z vals last a c
 makes_then xs ys d v w z vals now last a b c one two = record {
   due = due_joined xs ys d one.due two.due;

@@ -1,10 +1,10 @@
 -- What a commit owes that makes one change of the book.
 use Rattle.std.proofs.Common.{◌≡◌, ◌⊎◌, ℕ, ◌-◌, ◌^◌, ◌<◌, ◌≤◌, true, false, List, [], ◌∷◌, Some}
 use Rattle.rack.specs.Values.{Values}
-use Rattle.rack.specs.Seen.{Image, IsLive, Seen}
+use Rattle.rack.specs.Seen.{Image, IsLive, RackView}
 use Rattle.rack.specs.Targets.{Target, look, put}
 use Rattle.array_image.specs.Arrays.{replayed}
-use Rattle.array_image.specs.Held.{IsSettled}
+use Rattle.array_image.specs.Held.{IsSynced}
 use Rattle.array_image.specs.Left.{Picks}
 use Rattle.array_image.specs.Places.{log_slice}
 use Rattle.array_image.specs.States.{is_current}
@@ -21,15 +21,15 @@ use Rattle.transition_laws.specs.Holds.{AreLeftBy, has_sector, IsPromised, IsSam
 use Rattle.transition_laws.specs.Makes.{Suits}
 use Rattle.raid_laws.specs.Marking.{NoData}
 use Rattle.raid_laws.specs.Moves.{AreMarked}
-use Rattle.raid_laws.specs.Raid.{AreLive, gone_in, is_over, Raid}
+use Rattle.raid_laws.specs.Raid.{AreLive, gone_in, is_failed, Raid}
 
 -- The targets of a commit, of contents of one array: with them written, what shows the array u of a book with the state s shows the array next of one
 -- with the state t. `v` is the run before it. Members' data stays: the array has the shape that it had in images, or its members are settled and it
 -- has the run's.
-pub record StagesArray (s t : State) (u next : View) (v : Raid) (p : Promise) (n : ℕ) (vals : ℕ → Values) (xs : List Target) (a : Seen) : Type 0 where
+pub record StagesArray (s t : State) (u next : View) (v : Raid) (p : Promise) (n : ℕ) (vals : ℕ → Values) (xs : List Target) (a : RackView) : Type 0 where
   pub shows : (c : Image) → Picks a c → RestsArray s u p n vals (replayed a.sectors c) → RestsArray t next p n vals (put a.sectors xs c)
   pub number : next.number ≡ n
-  pub shape : (shape_of next ≡ shape_of u) ⊎ ((shape_of next ≡ shape_of (v.arrays n)) × IsSettled (shape_of (v.arrays n)) n a.held)
+  pub shape : (shape_of next ≡ shape_of u) ⊎ ((shape_of next ≡ shape_of (v.arrays n)) × IsSynced (shape_of (v.arrays n)) n a.held)
   -- the run has it already
   pub truth : IsEarlier next.truth (v.arrays n).truth
   pub mark : (v.arrays n).marked ≡ true → next.marked ≡ true
@@ -39,7 +39,7 @@ pub record StagesArray (s t : State) (u next : View) (v : Raid) (p : Promise) (n
   pub sectors : (y : ℕ) → has_sector (v.arrays n) y ≡ has_sector next y
 
 -- An array that comes to be by the change: the targets make it whole.
-pub record StagesNew (x : Change) (d w : Raid) (p : Promise) (n : ℕ) (vals : ℕ → Values) (xs : List Target) (a b : Seen) : Type 0 where
+pub record StagesNew (x : Change) (d w : Raid) (p : Promise) (n : ℕ) (vals : ℕ → Values) (xs : List Target) (a b : RackView) : Type 0 where
   pub few : n < 16
   pub number : ((changed x d).arrays n).number ≡ n
   pub shows : (c : Image) → Picks a c → RestsArray (changed x d).state ((changed x d).arrays n) p n vals (put a.sectors xs c)
@@ -47,7 +47,7 @@ pub record StagesNew (x : Change) (d w : Raid) (p : Promise) (n : ℕ) (vals : �
   pub same : AreMarked w → IsSameArrayAs ((changed x d).arrays n) (w.arrays n)
 
 -- What a commit owes for a promise.
-pub record Stages (x : Change) (d v w : Raid) (p : Promise) (vals : ℕ → ℕ → Values) (xs : List Target) (a b : Seen) : Type 0 where
+pub record Stages (x : Change) (d v w : Raid) (p : Promise) (vals : ℕ → ℕ → Values) (xs : List Target) (a b : RackView) : Type 0 where
   pub old : IsPromised p w → Stands d v p vals a → (n : ℕ) → p.live n ≡ true → n < d.state.made
       → StagesArray d.state (changed x d).state (d.arrays n) ((changed x d).arrays n) v p n (vals n) xs a
   pub new :
@@ -55,7 +55,7 @@ pub record Stages (x : Change) (d v w : Raid) (p : Promise) (vals : ℕ → ℕ 
       → StagesNew x d w p n (vals n) xs a b
 
 -- The commit, where the log brings the changed state, and whoever went in it is noted.
-pub record Commits (x : Change) (d v w : Raid) (l : LogView) (on lost : List ℕ) (a b : Seen) : Type 0 where
+pub record Commits (x : Change) (d v w : Raid) (l : LogView) (on lost : List ℕ) (a b : RackView) : Type 0 where
   pub due : is_due x d
   pub call : CommitCall l on lost a b
   pub lasting : a.lasting
@@ -85,7 +85,7 @@ pub record Commits (x : Change) (d v w : Raid) (l : LogView) (on lost : List ℕ
   pub state : w.state ≡ (changed x d).state
   pub young : (n : ℕ) → n < d.state.made → (w.arrays n).young ≡ (v.arrays n).young
   pub marked : (n : ℕ) → n < d.state.made → AreMarked w → AreLeftBy (changed x d).state v × ((q : ℕ) → names lost q ≡ false)
-  pub room : (n : ℕ) → is_over w n ≡ false → (l.number < 2 ^ 63 - 1) × (d.state.epoch < 2 ^ 63 - 1)
+  pub room : (n : ℕ) → is_failed w n ≡ false → (l.number < 2 ^ 63 - 1) × (d.state.epoch < 2 ^ 63 - 1)
   pub someone :
-      (n : ℕ) → n < d.state.made → is_over w n ≡ false
+      (n : ℕ) → n < d.state.made → is_failed w n ≡ false
       → (q : ℕ) × (is_current d.state q ≡ true) × (gone_in v q ≡ false) × (is_current (changed x d).state q ≡ true) × (names lost q ≡ false)

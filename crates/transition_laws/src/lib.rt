@@ -16,5 +16,5 @@
 //! mending of losses makes one mark at most, of each book that the run has (`proofs/LossesMade.antt`). Where whoever went is marked, the run
 //! stands by the book of just its arrays, so a call may follow (`stands_own`, `proofs/OwnBook.antt`). A reshape brings an array its sectors
 //! with the rows that it moves, as zeros (`proofs/ReshapeSectors.antt`, `proofs/ReshapeHolds.antt`). What `raid_laws` says of calls follows
-//! where changes leave drives and arrays as they are: `KeepsMoments` by `moments_of`, `KeepsRows` by `rows` (`proofs/MomentsOf.antt`).
+//! where changes leave drives and arrays as they are: `CrashInvariant` by `moments_of`, `KeepsRows` by `rows` (`proofs/MomentsOf.antt`).
 #![tactic(auto)]

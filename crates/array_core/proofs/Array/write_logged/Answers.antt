@@ -1,7 +1,7 @@
 use Rattle.std.proofs.Common.{◌∙◌, List, refl, sym, ap, subst, inl, inr}
 use Rattle.rack.specs.Targets.{Target}
 use Rattle.log_laws.specs.View.{LogView, committed}
-use Rattle.log_laws.specs.Kept.{LogKept}
+use Rattle.log_laws.specs.Kept.{LogInvariant}
 use Rattle.array_model.specs.View.{has_gone}
 use Rattle.array_model.proofs.Views.{notes_then}
 use Rattle.array_core.specs.Pool.{MayLog}
@@ -36,7 +36,7 @@ returns-then-not-stage_unspent-clause-logged g c = λ s v vals spent covers base
 
 pub returns-then-not-stage_unspent-clause-kept : goal.returns-then-not-stage_unspent-clause-kept
 returns-then-not-stage_unspent-clause-kept g c = λ s v base may.
-    subst (λ (l : LogView). LogKept s l.number (has_gone c.stage_unspent.new.self) (g.R.Rack.seen c.stage_unspent.new.rack)) (sym c.stage_unspent.ensures.log)
+    subst (λ (l : LogView). LogInvariant s l.number (has_gone c.stage_unspent.new.self) (g.R.Rack.seen c.stage_unspent.new.rack)) (sym c.stage_unspent.ensures.log)
     (refused_kept s c.args.log.now.number c.stage_unspent.new.self (g.R.Rack.seen c.args.rack.now) (g.R.Rack.seen c.stage_unspent.new.rack) c.requires.slices.lasting
     c.stage_unspent.ensures.staged.reads may.log)
 
@@ -62,7 +62,7 @@ returns-clause-logged g c = λ s v vals spent covers base may.
 
 pub returns-clause-kept : goal.returns-clause-kept
 returns-clause-kept g c = λ s v base may.
-    subst (λ (l : LogView). LogKept s l.number (has_gone c.note_all.new.self) (g.R.Rack.seen c.commit-lost.new.rack)) (sym c.commit-lost.ensures.log)
+    subst (λ (l : LogView). LogInvariant s l.number (has_gone c.note_all.new.self) (g.R.Rack.seen c.commit-lost.new.rack)) (sym c.commit-lost.ensures.log)
     (commit_kept s c.args.all v c.args.self.now c.stage_unspent.new.self c.note_all.new.self (g.R.Rack.seen c.args.rack.now) (g.R.Rack.seen c.stage_unspent.new.rack) (g.R.Rack.seen c.commit-lost.new.rack)
     c.stage_unspent.new.log c.args.on.now.items c.commit-lost.result.items c.args.x c.args.from.now c.rules.ensures c.requires.slices.lasting c.requires.sector c.told-from
     (c.stage_unspent.ensures.unspent c.if-not-stage_unspent.false) c.stage_unspent.ensures.staged.reads c.stage_unspent.ensures.staged.notes

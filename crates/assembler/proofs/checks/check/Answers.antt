@@ -1,6 +1,6 @@
 use Rattle.std.proofs.Common.{◌≡◌, ◌+◌, ◌<◌, ◌≤◌, ℕ, Option, Some, None, refl, sym, ap, inl, inr, subst, ◌∙◌, arith}
 use Rattle.std.proofs.lemmas.Option.{none-some}
-use Rattle.rack.specs.Seen.{Seen, Stays}
+use Rattle.rack.specs.Seen.{RackView, SameRack}
 use Rattle.rack.specs.Sequences.{OnlyReads}
 use Rattle.slice_rack.specs.Slices.{Slices, place_of, seat_of}
 use Rattle.array_image.specs.Places.{arrays_first, log_slice, slice_of}
@@ -48,7 +48,7 @@ unseat_lost-requires g c =
 pub lay_members-requires-clause-logs : goal.lay_members-requires-clause-logs
 lay_members-requires-clause-logs g c =
     let rest = c.args.rest in
-    let x : Seen = g.R.Rack.seen (below_of rest.slices) in
+    let x : RackView = g.R.Rack.seen (below_of rest.slices) in
     let now = c.unseat_lost.ensures in
     logs_only x rest.scan.disks.items rest.state (tables rest.slices) rest.on.items c.requires.laid c.requires.fit
     (g.R.Rack.seen c.check_drives.new.rack) c.seats_of-seats.result c.check_drives.new.seats
@@ -59,7 +59,7 @@ lay_members-requires-clause-logs g c =
 pub lay_members-requires-clause-empty : goal.lay_members-requires-clause-empty
 lay_members-requires-clause-empty g c =
     let rest = c.args.rest in
-    let x : Seen = g.R.Rack.seen (below_of rest.slices) in
+    let x : RackView = g.R.Rack.seen (below_of rest.slices) in
     let now = c.unseat_lost.ensures in
     no_members x rest.scan.disks.items rest.state (tables rest.slices) rest.on.items c.requires.laid c.requires.fit
     (g.R.Rack.seen c.check_drives.new.rack) c.seats_of-seats.result c.check_drives.new.seats
@@ -77,7 +77,7 @@ lay_members-requires-clause-slots g c =
 pub returns-clause-members : goal.returns-clause-members
 returns-clause-members g c =
     let rest = c.args.rest in
-    let x : Seen = g.R.Rack.seen (below_of rest.slices) in
+    let x : RackView = g.R.Rack.seen (below_of rest.slices) in
     let now = c.unseat_lost.ensures in
     let end = c.lay_members.ensures.below ∙ now.below in
     subst (λ r. AreMembers rest.state (tables c.lay_members.new.slices) (g.R.Rack.seen r) c.in-Ok.checked c.absent_of-absent.result.items) (sym end)
@@ -87,7 +87,7 @@ returns-clause-members g c =
     (subst (λ r. Loses (g.R.Rack.seen r) (g.R.Rack.seen c.check_drives.new.rack) (seats_by c.seats_of-seats.result) (seats_by c.check_drives.new.seats)) c.inner.ensures.value c.check_drives.ensures.seats)
     (tables c.unseat_lost.new.slices) c.unseat_lost.new.slices.orderly now.seats now.firsts now.sectors
     c.in-Ok.checked c.absent_of-absent.result.items (tables c.lay_members.new.slices) c.lay_members.ensures.kept c.requires.valid c.requires.lasting
-    (subst (λ r. Stays (g.R.Rack.seen r) (g.R.Rack.seen c.check_drives.new.rack)) c.inner.ensures.value c.check_drives.ensures.only.stays)
+    (subst (λ r. SameRack (g.R.Rack.seen r) (g.R.Rack.seen c.check_drives.new.rack)) c.inner.ensures.value c.check_drives.ensures.only.stays)
     (subst (λ r. (slices_of (tables c.lay_members.new.slices) (g.R.Rack.seen r)).fit) end c.lay_members.ensures.fit)
     c.lay_members.ensures.laid c.in-Ok.ensures.pool
     (subst (λ r. AreSlots (g.R.Rack.seen r).sectors (seats_by c.check_drives.new.seats) c.in-Ok.checked.arrays.items c.in-Ok.checked.extents.items) c.inner.ensures.value c.in-Ok.ensures.slots)
@@ -97,7 +97,7 @@ returns-clause-members g c =
 pub returns-clause-taken : goal.returns-clause-taken
 returns-clause-taken g c p =
     let rest = c.args.rest in
-    let x : Seen = g.R.Rack.seen (below_of rest.slices) in
+    let x : RackView = g.R.Rack.seen (below_of rest.slices) in
     let known = rest.scan.disks.items in
     let t : Slices = tables rest.slices in
     let now = c.unseat_lost.ensures in
@@ -110,7 +110,7 @@ returns-clause-taken g c p =
 pub returns-in-Err-clause-refused : goal.returns-in-Err-clause-refused
 returns-in-Err-clause-refused g c =
     let rest = c.args.rest in
-    let x : Seen = g.R.Rack.seen (below_of rest.slices) in
+    let x : RackView = g.R.Rack.seen (below_of rest.slices) in
     let known = rest.scan.disks.items in
     let seats = c.seats_of-seats.result in
     let now = c.check_drives.new.seats in
@@ -125,7 +125,7 @@ returns-in-Err-clause-refused g c =
 pub returns-in-Some-clause-refused : goal.returns-in-Some-clause-refused
 returns-in-Some-clause-refused g c =
     let rest = c.args.rest in
-    let x : Seen = g.R.Rack.seen (below_of rest.slices) in
+    let x : RackView = g.R.Rack.seen (below_of rest.slices) in
     let known = rest.scan.disks.items in
     let seats = c.seats_of-seats.result in
     let now = c.check_drives.new.seats in
@@ -139,7 +139,7 @@ returns-in-Some-clause-refused g c =
 pub returns-clause-seats : goal.returns-clause-seats
 returns-clause-seats g c p d seat =
     let rest = c.args.rest in
-    let x : Seen = g.R.Rack.seen (below_of rest.slices) in
+    let x : RackView = g.R.Rack.seen (below_of rest.slices) in
     let known = rest.scan.disks.items in
     let t : Slices = tables rest.slices in
     let now = c.unseat_lost.ensures in
@@ -156,8 +156,8 @@ returns-clause-seats g c p d seat =
 pub returns-clause-holds : goal.returns-clause-holds
 returns-clause-holds g c f is nobody quiet =
     let rest = c.args.rest in
-    let x : Seen = g.R.Rack.seen (below_of rest.slices) in
-    let y : Seen = g.R.Rack.seen c.check_drives.new.rack in
+    let x : RackView = g.R.Rack.seen (below_of rest.slices) in
+    let y : RackView = g.R.Rack.seen c.check_drives.new.rack in
     let t : Slices = tables rest.slices in
     let u : Slices = tables c.unseat_lost.new.slices in
     let w : Slices = tables c.lay_members.new.slices in
@@ -205,7 +205,7 @@ returns-clause-holds g c f is nobody quiet =
 pub returns-clause-are : goal.returns-clause-are
 returns-clause-are g c o are copied =
     let rest = c.args.rest in
-    let x : Seen = g.R.Rack.seen (below_of rest.slices) in
+    let x : RackView = g.R.Rack.seen (below_of rest.slices) in
     let w : Slices = tables c.lay_members.new.slices in
     let after : ℕ → Option ℕ = seats_by c.check_drives.new.seats in
     let left : seat_of w ≡ after = λ i p. (sym (returns-clause-taken g c p)) i in
@@ -219,7 +219,7 @@ pub returns-clause-loses : goal.returns-clause-loses
 returns-clause-loses g c =
     let seen = g.R.Rack.seen in
     let rest = c.args.rest in
-    let x : Seen = seen (below_of rest.slices) in
+    let x : RackView = seen (below_of rest.slices) in
     let known = rest.scan.disks.items in
     let now = c.check_drives.new.seats in
     let left = seats_left known rest.state rest.gone.items in
@@ -230,7 +230,7 @@ returns-clause-loses g c =
 
 pub returns-clause-compared : goal.returns-clause-compared
 returns-clause-compared g c =
-    let x : Seen = g.R.Rack.seen (below_of c.args.rest.slices) in
+    let x : RackView = g.R.Rack.seen (below_of c.args.rest.slices) in
     subst (λ k. AreCompared x k c.in-Ok.checked.agreed) (λ i p. (returns-clause-taken g c p) i)
     (subst (λ r. AreCompared (g.R.Rack.seen r) (seats_by c.check_drives.new.seats) c.in-Ok.checked.agreed) c.inner.ensures.value c.in-Ok.ensures.agreed)
 

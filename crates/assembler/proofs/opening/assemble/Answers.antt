@@ -9,7 +9,7 @@ use Rattle.std.proofs.Common.{◌≡◌, ◌+◌, ◌<◌, ◌≤◌, ℕ, List,
 use Rattle.std.proofs.lemmas.Bool.{both_ways}
 use Rattle.std.proofs.lemmas.Slice.Eq.{bytes_eq-Decides}
 use Rattle.shr_base.specs.declared.Id.{Id}
-use Rattle.rack.specs.Seen.{Image, Seen, Stays}
+use Rattle.rack.specs.Seen.{Image, RackView, SameRack}
 use Rattle.rack.specs.Joins.{stays_then}
 use Rattle.rack.specs.Sequences.{WritesOnly}
 use Rattle.slice_rack.specs.Runs.{IsSliced}
@@ -24,14 +24,14 @@ use Rattle.pool_rest.proofs.Unwritten.{reads_mean}
 use Rattle.pool_scan.proofs.Valid.{valid_arrays}
 use Rattle.pool_check.proofs.Settled.{settled_told}
 use Rattle.pool_check.proofs.Valid.{valid_fit}
-use Rattle.raid_laws.specs.Book.{IsAfter, after_then}
+use Rattle.raid_laws.specs.Book.{OnlyMarksSince, after_then}
 use Rattle.raid_laws.specs.Laws.{live_parts}
-use Rattle.raid_laws.specs.Raid.{is_over}
+use Rattle.raid_laws.specs.Raid.{is_failed}
 use Rattle.array_model.specs.View.{sectors_of}
 use Rattle.assembler_laws.specs.Marking.{AreMarkedFor}
 use Rattle.assembler_laws.specs.Raising.{most_opening}
 use Rattle.assembler.specs.Refusing.{is_early, meant_by}
-use Rattle.pool_model.specs.Left.{IsPickOff}
+use Rattle.pool_model.specs.Left.{IsPickOutsideSlices}
 use Rattle.pool_model.specs.Pools.{AreSlicesOf}
 use Rattle.assembler.proofs.Agreed.{agree_opened}
 use Rattle.assembler.proofs.Apart.{lands_apart}
@@ -118,7 +118,7 @@ returns-in-Ok-open_volume-clause-meant g c e sound quiet =
       slices = slices_same e pool same_pool (tables (slices_in (rack_in volume)))
           (subst (AreSlicesOf pool) (sym (opens.kept.0.tables ∙ c.make_rack.ensures.tables)) (lie g k before e sound));
       after = after_then e.state (raid_in raid).state (raid_in (rack_in volume)).state
-          (subst (λ (s : State). IsAfter s (raid_in raid).state) same_pool.state held_arrays.after) opens.kept.1.book;
+          (subst (λ (s : State). OnlyMarksSince s (raid_in raid).state) same_pool.state held_arrays.after) opens.kept.1.book;
       plan = opens.kept.2.plan ∙ held_arrays.plan ∙ ap (λ (s : State). s.plan) same_pool.state;
       told = λ n low. opens.kept.1.moments.told n (held_arrays.told n (small n low));
       arrays = λ n z low truth.
@@ -144,10 +144,10 @@ returns-in-Ok-open_volume-clause-meant g c e sound quiet =
       landing = landing g k before e sound;
       elsewhere = λ i off.
           off_slices g k before e sound (seen (below_of (slices_in (rack_in volume)))) (own_texts g c) i
-          (subst (λ (u : Slices). IsPickOff u (seen (below_of (slices_in (rack_in volume)))) i) (opens.kept.0.tables ∙ c.make_rack.ensures.tables) off);
+          (subst (λ (u : Slices). IsPickOutsideSlices u (seen (below_of (slices_in (rack_in volume)))) i) (opens.kept.0.tables ∙ c.make_rack.ensures.tables) off);
       alone = λ alone i off.
           off_alone g k before e sound alone (seen (below_of (slices_in (rack_in volume)))) (own_texts g c) i
-          (subst (λ (u : Slices). IsPickOff u (seen (below_of (slices_in (rack_in volume)))) i) (opens.kept.0.tables ∙ c.make_rack.ensures.tables) off);
+          (subst (λ (u : Slices). IsPickOutsideSlices u (seen (below_of (slices_in (rack_in volume)))) i) (opens.kept.0.tables ∙ c.make_rack.ensures.tables) off);
       says = λ all own calm traced. opened_says g c quiet e sound all own calm traced;
       reopens = opened_reopens g c quiet e sound
           (refusal_entry seen (a g k) c.in-Ok.rest e sound (rested g k before e sound) ∙ passes g k before e sound ∙ ap (option_map bad_volume) held.0.sound);
@@ -177,12 +177,12 @@ returns-in-Err-clause-exact g c e sound quiet some =
 pub returns-in-Err-check-clause-exact : goal.returns-in-Err-check-clause-exact
 returns-in-Err-check-clause-exact g c e sound quiet some =
     let seen = g.R.Rack.seen in
-    let a : Seen = seen c.args.rack in
+    let a : RackView = seen c.args.rack in
     let rest = c.in-Ok.rest in
-    let x : Seen = seen (below_of rest.slices) in
+    let x : RackView = seen (below_of rest.slices) in
     let back = c.in-Err-check.back in
-    let y : Seen = seen back.rack in
-    let ax : Stays a x = c.in-Ok.ensures.only.only.stays in
+    let y : RackView = seen back.rack in
+    let ax : SameRack a x = c.in-Ok.ensures.only.only.stays in
     let to_x : IsUnfaulted a x = quiet_first a x y c.in-Err-check.ensures.kept.stays quiet in
     let rested = rested_so seen a rest e sound ax to_x c.in-Ok.ensures.newest c.in-Ok.ensures.stands c.in-Ok.ensures.settled c.in-Ok.ensures.steady c.in-Ok.ensures.looked c.in-Ok.ensures.single in
     let f = rested.settled.means.now in
@@ -261,7 +261,7 @@ returns-in-Ok-open_volume-clause-caused g c =
       newest = c.in-Ok.ensures.newest;
       one = c.in-Ok.ensures.one;
       after = after_then c.in-Ok.rest.state (raid_in raid).state (raid_in last).state
-          (subst (λ (s : State). IsAfter s (raid_in raid).state) c.in-Ok-check.ensures.state c.make_rack.ensures.book) kept.1.book;
+          (subst (λ (s : State). OnlyMarksSince s (raid_in raid).state) c.in-Ok-check.ensures.state c.make_rack.ensures.book) kept.1.book;
       marks = marked g k (opened g c) (raid_in last).state (stays_then (yz g k) (texts g c).stays)
           (marked_then (y g k) (z g k) (opened g c) (seat_of (t g k)) c.in-Ok-check.members.state (raid_in raid).state (raid_in last).state (yz g k) (texts g c).stays
           c.make_rack.ensures.caused
@@ -303,7 +303,7 @@ returns-in-Ok-open_volume-clause-agreed g c e sound quiet n joined =
     (let kept = ap (λ (s : State). s.joined) (state g k before e sound) in let joined_is = c.make_rack.ensures.joined in omega (arith, less, joined_is, kept)) in
     let some : 0 < sectors_of ((raid_in (rack_in volume)).arrays n) =
     (let room = held.room n less in let is = held.sectors n less in let later = opens.kept.2.sectors n in omega (arith, room, is, later)) in
-    let goes : is_over (raid_in (rack_in volume)) n ≡ false =
+    let goes : is_failed (raid_in (rack_in volume)) n ≡ false =
     (live_parts (raid_in (rack_in volume)) n 0 (live_last g c quiet n 0 (let same = opens.kept.1.book.same.joined in omega (arith, low, same)) some)).0 in
     agree_opened g.R.Rack.seen g.R.Rack.runs raid (rack_in volume) (linear volume) (seqno_of volume) opens c.make_rack.ensures.fit (nobody_failed g c quiet)
     n (omega (arith, low, most)) (held.told n less) goes (held.agree n less (opens.kept.1.moments.still n goes))
@@ -323,7 +323,7 @@ returns-in-Ok-open_volume-clause-truths g c e sound quiet n joined =
     (let kept = ap (λ (s : State). s.joined) (state g k before e sound) in let joined_is = c.make_rack.ensures.joined in omega (arith, less, joined_is, kept)) in
     let some : 0 < sectors_of ((raid_in (rack_in volume)).arrays n) =
     (let room = held.room n less in let is = held.sectors n less in let later = opens.kept.2.sectors n in omega (arith, room, is, later)) in
-    let goes : is_over (raid_in (rack_in volume)) n ≡ false =
+    let goes : is_failed (raid_in (rack_in volume)) n ≡ false =
     (live_parts (raid_in (rack_in volume)) n 0 (live_last g c quiet n 0 (let same = opens.kept.1.book.same.joined in omega (arith, low, same)) some)).0 in
     opens.kept.1.truths n (omega (arith, low, most)) (held.truths n less (opens.kept.1.moments.still n goes))
 
@@ -364,10 +364,10 @@ returns-in-Err-clause-unmoved g c e sound quiet early =
 pub returns-in-Err-check-clause-unmoved : goal.returns-in-Err-check-clause-unmoved
 returns-in-Err-check-clause-unmoved g c e sound quiet early =
     let seen = g.R.Rack.seen in
-    let a : Seen = seen c.args.rack in
+    let a : RackView = seen c.args.rack in
     let rest = c.in-Ok.rest in
-    let x : Seen = seen (below_of rest.slices) in
-    let y : Seen = seen c.in-Err-check.back.rack in
+    let x : RackView = seen (below_of rest.slices) in
+    let y : RackView = seen c.in-Err-check.back.rack in
     let reads = c.in-Err-check.ensures.kept in
     let to_x : IsUnfaulted a x = quiet_first a x y reads.stays quiet in
     let rested = rested_so seen a rest e sound c.in-Ok.ensures.only.only.stays to_x c.in-Ok.ensures.newest c.in-Ok.ensures.stands c.in-Ok.ensures.settled c.in-Ok.ensures.steady c.in-Ok.ensures.looked c.in-Ok.ensures.single in

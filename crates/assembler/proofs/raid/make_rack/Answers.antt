@@ -4,7 +4,7 @@ use Rattle.std.proofs.lemmas.Bool.{cases_Bool}
 use Rattle.std.proofs.lemmas.Option.{get_or_from_slice_get, slice_get_within}
 use Rattle.rack.specs.Sequences.{OnlyReads}
 use Rattle.arrayvec.specs.ArrayVec.{with_items}
-use Rattle.rack.specs.Seen.{Seen, Rose}
+use Rattle.rack.specs.Seen.{RackView, Rose}
 use Rattle.slice_rack.specs.Slices.{Slices, disk_of, seat_of}
 use Rattle.slice_rack.specs.SliceRack.{tables, below_of}
 use Rattle.slice_rack.specs.Sliced.{slices_of}
@@ -18,7 +18,7 @@ use Rattle.log_laws.specs.Opening.{ReplayCall}
 use Rattle.log_laws.specs.View.{names}
 use Rattle.raid_rack.specs.RaidRack.{IsRunning, SliceRuns, arrays_in, no_array, raid_in, slices_in, slices_seen}
 use Rattle.raid_laws.specs.Agreeing.{MakesAgree}
-use Rattle.raid_laws.specs.Book.{IsAfter}
+use Rattle.raid_laws.specs.Book.{OnlyMarksSince}
 use Rattle.raid_laws.specs.Cleaning.{NoneFails}
 use Rattle.raid_laws.specs.Moves.{AreMarked, IsSet, Mends}
 use Rattle.raid_laws.specs.Truths.{KeepsTruths, MakesTruths}
@@ -60,11 +60,11 @@ mark_gone-requires g c =
     let m = c.args.members in
     let seen = g.R.Rack.seen in
     let t : Slices = tables m.slices in
-    let y : Seen = seen (below_of m.slices) in
+    let y : RackView = seen (below_of m.slices) in
     let closed = c.close_gates-gone.new.slices in
     let mended = c.mend_tables-left_out.new.slices in
-    let b : Seen = seen (below_of closed) in
-    let d : Seen = seen (below_of mended) in
+    let b : RackView = seen (below_of closed) in
+    let d : RackView = seen (below_of mended) in
     let went = c.close_gates-gone.result.items in
     let places = c.mend_tables-left_out.result.items in
     let members = c.requires.members in
@@ -99,13 +99,13 @@ returns-clause-only g c =
     let m = c.args.members in
     let seen = g.R.Rack.seen in
     let t : Slices = tables m.slices in
-    let y : Seen = seen (below_of m.slices) in
+    let y : RackView = seen (below_of m.slices) in
     let closed = c.close_gates-gone.new.slices in
     let mended = c.mend_tables-left_out.new.slices in
     let last = slices_in c.mark_gone.new.raid in
-    let b : Seen = seen (below_of closed) in
-    let d : Seen = seen (below_of mended) in
-    let z : Seen = seen (below_of last) in
+    let b : RackView = seen (below_of closed) in
+    let d : RackView = seen (below_of mended) in
+    let z : RackView = seen (below_of last) in
     let went = c.close_gates-gone.result.items in
     let places = c.mend_tables-left_out.result.items in
     let members = c.requires.members in
@@ -129,7 +129,7 @@ returns-clause-small g c =
     let m = c.args.members in
     let seen = g.R.Rack.seen in
     let members = c.requires.members in
-    let x : Seen = seen (below_of m.slices) in
+    let x : RackView = seen (below_of m.slices) in
     let t : Slices = tables m.slices in
     let rules : (n : ℕ) (v : View) → slice_get m.checked.arrays.items n ≡ Some v → IsArray v =
     λ n v is. c.rules.ensures n v (ap (λ xs. slice_get xs n) c.as_slice.ensures.value ∙ is) in
@@ -170,13 +170,13 @@ returns-clause-mended g c quiet p disk seat says =
     let seen = g.R.Rack.seen in
     let runs = g.R.Rack.runs in
     let t : Slices = tables m.slices in
-    let y : Seen = seen (below_of m.slices) in
+    let y : RackView = seen (below_of m.slices) in
     let closed = c.close_gates-gone.new.slices in
     let mended = c.mend_tables-left_out.new.slices in
     let last = slices_in c.mark_gone.new.raid in
-    let b : Seen = seen (below_of closed) in
-    let d : Seen = seen (below_of mended) in
-    let z : Seen = seen (below_of last) in
+    let b : RackView = seen (below_of closed) in
+    let d : RackView = seen (below_of mended) in
+    let z : RackView = seen (below_of last) in
     let went = c.close_gates-gone.result.items in
     let places = c.mend_tables-left_out.result.items in
     let members = c.requires.members in
@@ -191,13 +191,13 @@ returns-clause-keeps g c p disk seat =
     let seen = g.R.Rack.seen in
     let runs = g.R.Rack.runs in
     let t : Slices = tables m.slices in
-    let y : Seen = seen (below_of m.slices) in
+    let y : RackView = seen (below_of m.slices) in
     let closed = c.close_gates-gone.new.slices in
     let mended = c.mend_tables-left_out.new.slices in
     let last = slices_in c.mark_gone.new.raid in
-    let b : Seen = seen (below_of closed) in
-    let d : Seen = seen (below_of mended) in
-    let z : Seen = seen (below_of last) in
+    let b : RackView = seen (below_of closed) in
+    let d : RackView = seen (below_of mended) in
+    let z : RackView = seen (below_of last) in
     let went = c.close_gates-gone.result.items in
     let places = c.mend_tables-left_out.result.items in
     let members = c.requires.members in
@@ -212,13 +212,13 @@ returns-clause-holds g c f holds found quiet =
     let seen = g.R.Rack.seen in
     let runs = g.R.Rack.runs in
     let t : Slices = tables m.slices in
-    let y : Seen = seen (below_of m.slices) in
+    let y : RackView = seen (below_of m.slices) in
     let closed = c.close_gates-gone.new.slices in
     let mended = c.mend_tables-left_out.new.slices in
     let last = slices_in c.mark_gone.new.raid in
-    let b : Seen = seen (below_of closed) in
-    let d : Seen = seen (below_of mended) in
-    let z : Seen = seen (below_of last) in
+    let b : RackView = seen (below_of closed) in
+    let d : RackView = seen (below_of mended) in
+    let z : RackView = seen (below_of last) in
     let went = c.close_gates-gone.result.items in
     let places = c.mend_tables-left_out.result.items in
     let members = c.requires.members in
@@ -241,7 +241,7 @@ returns-clause-holds g c f holds found quiet =
     c.close_gates-gone.ensures.same c.mend_tables-left_out.ensures.mends c.mend_tables-left_out.ensures.tables marking quiet in
     let raid = raid_in c.new-raid.result in
     let w = raid_in c.mark_gone.new.raid in
-    let after : Seen = slices_seen seen c.mark_gone.new.raid in
+    let after : RackView = slices_seen seen c.mark_gone.new.raid in
     let more = absent_still m.state t y m.checked m.absent.items m.slices.orderly members b d went places is.mends in
     let closed_is = closed_members m.state t y b d went places m.checked m.absent.items m.slices.orderly members is in
     let running : IsRunning (arrays_in c.new-raid.result) (slices_of t b) =
@@ -308,13 +308,13 @@ returns-clause-marks g c quiet =
     let seen = g.R.Rack.seen in
     let runs = g.R.Rack.runs in
     let t : Slices = tables m.slices in
-    let y : Seen = seen (below_of m.slices) in
+    let y : RackView = seen (below_of m.slices) in
     let closed = c.close_gates-gone.new.slices in
     let mended = c.mend_tables-left_out.new.slices in
     let last = slices_in c.mark_gone.new.raid in
-    let b : Seen = seen (below_of closed) in
-    let d : Seen = seen (below_of mended) in
-    let z : Seen = seen (below_of last) in
+    let b : RackView = seen (below_of closed) in
+    let d : RackView = seen (below_of mended) in
+    let z : RackView = seen (below_of last) in
     let went = c.close_gates-gone.result.items in
     let places = c.mend_tables-left_out.result.items in
     let members = c.requires.members in
@@ -338,8 +338,8 @@ returns-clause-marks g c quiet =
     let same : places ≡ m.absent.items = making_same m.state t (tables closed) (tables mended) (tables last) y b d z went places m.checked m.absent.items m.slices.orderly members m.log
     (runs (below_of m.slices) (below_of closed)) (runs (below_of mended) (below_of last)) c.close_gates-gone.ensures.runs c.close_gates-gone.ensures.closes
     c.close_gates-gone.ensures.same c.mend_tables-left_out.ensures.mends c.mend_tables-left_out.ensures.tables marking quiet in
-    let before : Seen = slices_of (tables mended) d in
-    let after : Seen = slices_seen seen c.mark_gone.new.raid in
+    let before : RackView = slices_of (tables mended) d in
+    let after : RackView = slices_seen seen c.mark_gone.new.raid in
     let unfaulted : (place : ℕ) → HasFault before after place → ⊥ = λ place fault.
     parts.marking (disk_of (tables mended) fault.0)
     (subst (λ u. Rose (d.faults (disk_of (tables mended) fault.0)) (z.faults (disk_of u fault.0))) marking.tables fault.2) in
@@ -356,7 +356,7 @@ returns-clause-marks g c quiet =
 
 pub returns-clause-book : goal.returns-clause-book
 returns-clause-book g c =
-    subst (λ (s : State). IsAfter s (raid_in c.mark_gone.new.raid).state) c.new-raid.ensures.state c.mark_gone.ensures.mends.moves.book
+    subst (λ (s : State). OnlyMarksSince s (raid_in c.mark_gone.new.raid).state) c.new-raid.ensures.state c.mark_gone.ensures.mends.moves.book
 
 pub returns-clause-arrays : goal.returns-clause-arrays
 returns-clause-arrays g c n u at =
@@ -397,13 +397,13 @@ returns-clause-caused g c =
     let seen = g.R.Rack.seen in
     let runs = g.R.Rack.runs in
     let t : Slices = tables m.slices in
-    let y : Seen = seen (below_of m.slices) in
+    let y : RackView = seen (below_of m.slices) in
     let closed = c.close_gates-gone.new.slices in
     let mended = c.mend_tables-left_out.new.slices in
     let last = slices_in c.mark_gone.new.raid in
-    let b : Seen = seen (below_of closed) in
-    let d : Seen = seen (below_of mended) in
-    let z : Seen = seen (below_of last) in
+    let b : RackView = seen (below_of closed) in
+    let d : RackView = seen (below_of mended) in
+    let z : RackView = seen (below_of last) in
     let went = c.close_gates-gone.result.items in
     let places = c.mend_tables-left_out.result.items in
     let members = c.requires.members in
@@ -429,13 +429,13 @@ returns-clause-moments g c f e holds found rest quiet alive traced =
     let seen = g.R.Rack.seen in
     let runs = g.R.Rack.runs in
     let t : Slices = tables m.slices in
-    let y : Seen = seen (below_of m.slices) in
+    let y : RackView = seen (below_of m.slices) in
     let closed = c.close_gates-gone.new.slices in
     let mended = c.mend_tables-left_out.new.slices in
     let last = slices_in c.mark_gone.new.raid in
-    let b : Seen = seen (below_of closed) in
-    let d : Seen = seen (below_of mended) in
-    let z : Seen = seen (below_of last) in
+    let b : RackView = seen (below_of closed) in
+    let d : RackView = seen (below_of mended) in
+    let z : RackView = seen (below_of last) in
     let went = c.close_gates-gone.result.items in
     let places = c.mend_tables-left_out.result.items in
     let members = c.requires.members in

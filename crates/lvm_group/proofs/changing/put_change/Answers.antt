@@ -1,7 +1,7 @@
 use Rattle.std.proofs.Common.{◌≡◌, ℕ, ◌*◌, ◌<◌, List, [], Ok, Err, true, sym, subst, arith}
 use Rattle.rack.specs.declared.Gone.{Gone}
 use Rattle.rack.specs.Targets.{Target, look}
-use Rattle.rack.specs.Seen.{Seen, Rose}
+use Rattle.rack.specs.Seen.{RackView, Rose}
 use Rattle.rack.specs.Moments.{Leaves}
 use Rattle.rack.specs.Sequences.{IsPayload, OnlyReads}
 use Rattle.rack.proofs.Writing.{only_quiet}
@@ -16,11 +16,11 @@ use Rattle.lvm_group.proofs.TextStarts.{starts_behind, starts_in, starts_inside}
 use Rattle.lvm_group.proofs.changing.put_change.Goals as goal
 
 -- reads write nothing
-reads_none : {a b : Seen} → OnlyReads a b → Puts a b [] {X = Unit {0}} (Ok tt)
+reads_none : {a b : RackView} → OnlyReads a b → Puts a b [] {X = Unit {0}} (Ok tt)
 unfolding look
 reads_none looks = record { only = only_quiet (IsPayload []) looks.stays looks.keeps; gone = tt; spent = λ steady. tt; done = λ d s w live at. cc }
 
-reads_gone : {a b : Seen} (gone : Gone) → OnlyReads a b → (gone.disk < a.disks) × Rose (a.faults gone.disk) (b.faults gone.disk) → (a.steady → b.spent gone.disk 8 ≡ true) → Puts a b [] {X = Unit {0}} (Err gone)
+reads_gone : {a b : RackView} (gone : Gone) → OnlyReads a b → (gone.disk < a.disks) × Rose (a.faults gone.disk) (b.faults gone.disk) → (a.steady → b.spent gone.disk 8 ≡ true) → Puts a b [] {X = Unit {0}} (Err gone)
 reads_gone gone looks cause spent = record { only = only_quiet (IsPayload []) looks.stays looks.keeps; gone = cause; spent = λ steady. (8, spent steady); done = tt }
 
 pub returns-in-Err-clause-changes : goal.returns-in-Err-clause-changes

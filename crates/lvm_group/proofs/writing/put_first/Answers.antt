@@ -1,7 +1,7 @@
 use Rattle.std.proofs.Common.{◌≡◌, ℕ, List, [], ◌∷◌, ◌++◌, Ok, Err, Result, ap, subst, ◌∙◌, arith}
 use Rattle.lvm_label.specs.Label.{label_bytes}
 use Rattle.rack.specs.declared.Gone.{Gone}
-use Rattle.rack.specs.Seen.{Seen}
+use Rattle.rack.specs.Seen.{RackView}
 use Rattle.rack.specs.Targets.{target}
 use Rattle.lvm_group.specs.declared.starts.TextStart.{TextStart}
 use Rattle.lvm_group.specs.Writing.{Puts, blank_targets, label_targets, own_label, start_at, text_targets}
@@ -11,16 +11,16 @@ use Rattle.lvm_group.proofs.Putting.{puts_cut, puts_then}
 use Rattle.lvm_group.proofs.writing.put_first.Goals as goal
 
 -- the label that is written is the array's
-label_put : {a b : Seen} (pool label : List ℕ) (array sectors : ℕ) (result : Result (Unit {0}) Gone) → sectors ≡ a.sectors array → label ≡ label_bytes (own_label pool array sectors) → Puts a b (target array 1 label ∷ []) result
+label_put : {a b : RackView} (pool label : List ℕ) (array sectors : ℕ) (result : Result (Unit {0}) Gone) → sectors ≡ a.sectors array → label ≡ label_bytes (own_label pool array sectors) → Puts a b (target array 1 label ∷ []) result
     → Puts a b (label_targets pool array (a.sectors array)) result
 label_put {a} {b} pool label array sectors result number is puts =
     subst (λ (bytes : List ℕ). Puts a b (target array 1 bytes ∷ []) result) (is ∙ ap (λ n. label_bytes (own_label pool array n)) number) puts
 
-blank_put : {a b : Seen} (array : ℕ) (start : TextStart) (starts : List TextStart) (result : Result (Unit {0}) Gone) → start ≡ start_at starts array → Puts a b (blank_targets array start.blank) result
+blank_put : {a b : RackView} (array : ℕ) (start : TextStart) (starts : List TextStart) (result : Result (Unit {0}) Gone) → start ≡ start_at starts array → Puts a b (blank_targets array start.blank) result
     → Puts a b (blank_targets array (start_at starts array).blank) result
 blank_put {a} {b} array start starts result is puts = subst (λ (start : TextStart). Puts a b (blank_targets array start.blank) result) is puts
 
-text_put : {a b : Seen} (array : ℕ) (text : List ℕ) (start : TextStart) (starts : List TextStart) (result : Result (Unit {0}) Gone) → start ≡ start_at starts array → Puts a b (text_targets array start.sector text) result
+text_put : {a b : RackView} (array : ℕ) (text : List ℕ) (start : TextStart) (starts : List TextStart) (result : Result (Unit {0}) Gone) → start ≡ start_at starts array → Puts a b (text_targets array start.sector text) result
     → Puts a b (text_targets array (start_at starts array).sector text) result
 text_put {a} {b} array text start starts result is puts = subst (λ (start : TextStart). Puts a b (text_targets array start.sector text) result) is puts
 

@@ -1,7 +1,7 @@
 use Rattle.std.proofs.Common.{◌≡◌, ℕ, ◌+◌, ◌*◌, ◌<◌, List, Ok, refl, subst, inl, inr, arith}
 use Rattle.std.proofs.lemmas.Bool.{cases_lt}
 use Rattle.lvm_label.specs.Label.{IsLabel}
-use Rattle.rack.specs.Seen.{Seen}
+use Rattle.rack.specs.Seen.{RackView}
 use Rattle.rack.specs.Targets.{Target}
 use Rattle.lvm_group.specs.declared.starts.TextStart.{TextStart}
 use Rattle.lvm_group.specs.Writing.{Puts, first_targets, own_label, targets_to}
@@ -10,11 +10,11 @@ use Rattle.lvm_group.proofs.Putting.{puts_start, puts_more, puts_refused, puts_a
 use Rattle.lvm_group.proofs.writing.put_firsts.Goals as goal
 
 -- the arrays' sectors stay
-same_targets : {a b : Seen} (pool : List ℕ) (starts : List TextStart) (text : List ℕ) (n array : ℕ) → Puts a b (targets_to (first_targets pool a.sectors starts text) n) {X = Unit {0}} (Ok tt)
+same_targets : {a b : RackView} (pool : List ℕ) (starts : List TextStart) (text : List ℕ) (n array : ℕ) → Puts a b (targets_to (first_targets pool a.sectors starts text) n) {X = Unit {0}} (Ok tt)
     → first_targets pool b.sectors starts text array ≡ first_targets pool a.sectors starts text array
 same_targets {a} {b} pool starts text n array puts = rw (puts.only.stays.sectors array) refl
 
-one_label : {a b : Seen} (pool : List ℕ) (n array : ℕ) (xs : List Target) → Puts a b xs {X = Unit {0}} (Ok tt) → ((k : ℕ) → k < n → IsLabel (own_label pool k (a.sectors k))) → IsLabel (own_label pool n (b.sectors n)) → array < n + 1
+one_label : {a b : RackView} (pool : List ℕ) (n array : ℕ) (xs : List Target) → Puts a b xs {X = Unit {0}} (Ok tt) → ((k : ℕ) → k < n → IsLabel (own_label pool k (a.sectors k))) → IsLabel (own_label pool n (b.sectors n)) → array < n + 1
     → IsLabel (own_label pool array (a.sectors array))
 one_label {a} {b} pool n array xs puts before here below = elim (cases_lt array n) [
   | inl less ↦ before array less

@@ -1,5 +1,5 @@
 use Rattle.std.proofs.Common.{◌≡◌, ◌⊎◌, Some, sym, ap, subst, ◌∙◌, inl, inr, length}
-use Rattle.rack.specs.Seen.{IsPick, Stays, Rose}
+use Rattle.rack.specs.Seen.{IsPick, SameRack, Rose}
 use Rattle.rack.specs.Sequences.{OnlyReads}
 use Rattle.rack.specs.Joins.{leaves_weaker, rose_early, rose_later, stays_then}
 use Rattle.slice_rack.specs.SliceRack.{tables, below_of}
@@ -169,7 +169,7 @@ returns-then-pending_count-eq0-clause-single g c = λ told lasts free.
     single_now (g.R.Rack.seen c.args.rack) (g.R.Rack.seen (below_of c.as_it_stands.result.slices)) c.as_it_stands.result.scan.disks.items c.as_it_stands.result.state
     (returns-then-pending_count-eq0-clause-newest g c told lasts)
     (told_later (g.R.Rack.seen c.args.rack) (g.R.Rack.seen (below_of c.as_it_stands.result.slices))
-    (subst (λ k. Stays (g.R.Rack.seen c.args.rack) (g.R.Rack.seen (below_of k))) (sym c.as_it_stands.ensures.slices) c.in-Ok-stand.ensures.only.stays) told)
+    (subst (λ k. SameRack (g.R.Rack.seen c.args.rack) (g.R.Rack.seen (below_of k))) (sym c.as_it_stands.ensures.slices) c.in-Ok-stand.ensures.only.stays) told)
     free (returns-then-pending_count-eq0-clause-one g c)
 
 pub returns-in-Err-clause-refused : goal.returns-in-Err-clause-refused
@@ -264,7 +264,7 @@ returns-in-Ok-replay_found-clause-looked g c = λ told lasts free.
 
 pub returns-then-pending_count-eq0-clause-steady : goal.returns-then-pending_count-eq0-clause-steady
 returns-then-pending_count-eq0-clause-steady g c = λ told lasts free single sized.
-    let stays = subst (λ k. Stays (g.R.Rack.seen c.args.rack) (g.R.Rack.seen (below_of k))) (sym c.as_it_stands.ensures.slices) c.in-Ok-stand.ensures.only.stays in
+    let stays = subst (λ k. SameRack (g.R.Rack.seen c.args.rack) (g.R.Rack.seen (below_of k))) (sym c.as_it_stands.ensures.slices) c.in-Ok-stand.ensures.only.stays in
     steady_after (g.R.Rack.seen c.args.rack) (g.R.Rack.seen (below_of c.as_it_stands.result.slices)) stays.disks stays.sectors
     (returns-then-pending_count-eq0-clause-rests g c told lasts free) single sized
 

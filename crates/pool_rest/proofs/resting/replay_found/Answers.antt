@@ -5,7 +5,7 @@ use Rattle.pool_scan.specs.Scanning.{AllTold, IsUnfaulted, now_in}
 use Rattle.pool_scan.specs.Choosing.{AreOf, seat_by}
 use Rattle.log_laws.specs.View.{names}
 use Rattle.std.proofs.Common.{◌≡◌, ◌⊎◌, ◌||◌, Some, true, sym, ap, subst, ◌∙◌, inl, inr}
-use Rattle.rack.specs.Seen.{Rose, Stays}
+use Rattle.rack.specs.Seen.{Rose, SameRack}
 use Rattle.rack.specs.Sequences.{WritesOnly}
 use Rattle.slice_rack.specs.SliceRack.{tables, below_of}
 use Rattle.pool_rest.specs.Resting.{IsOfDrive, IsReplayed, AreShut, IsFlagged, HasDisk, StandsNow, seated_state}
@@ -182,7 +182,7 @@ returns-clause-finds g c =
     let a = seen (below_of c.args.found.slices) in
     let d = seen c.replay_on-done.result.rack in
     let b = seen (below_of again.slices) in
-    let first : Stays a d = subst (λ r. Stays (seen r) d) c.into_inner.ensures c.replay_on-done.ensures.only.stays in
+    let first : SameRack a d = subst (λ r. SameRack (seen r) d) c.into_inner.ensures c.replay_on-done.ensures.only.stays in
     subst (λ k. FindsLeft a (seen (below_of k)) now.scan.disks.items now.state (tables k) now.on.items now.log now.pending now.damaged) (sym rest.slices)
     (subst (λ e. FindsLeft a b now.scan.disks.items now.state (tables again.slices) now.on.items now.log now.pending e) (sym rest.damaged)
     (subst (λ p. FindsLeft a b now.scan.disks.items now.state (tables again.slices) now.on.items now.log p again.looked.damaged) (sym rest.pending)

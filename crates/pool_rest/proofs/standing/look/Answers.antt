@@ -1,5 +1,5 @@
 use Rattle.std.proofs.Common.{sym, ap, subst, ◌∙◌}
-use Rattle.rack.specs.Seen.{Stays}
+use Rattle.rack.specs.Seen.{SameRack}
 use Rattle.rack.specs.Sequences.{OnlyReads}
 use Rattle.slice_rack.specs.SliceRack.{tables, below_of}
 use Rattle.pool_scan.proofs.Seated.{scan_later}
@@ -29,7 +29,7 @@ returns-clause-newest g c =
     let same = c.seat_drives-on.ensures.below ∙ c.new-slices.ensures.below in
     let later = (c.pending-looked.ensures.runs.apart c.seat_drives-on.ensures.fit.0 c.seat_drives-on.ensures.fit.1).stays in
     record {
-      scan = scan_later _ _ _ _ c.read.ensures.scanned (subst (λ r. Stays (g.R.Rack.seen r) (g.R.Rack.seen (below_of c.pending-looked.new.rack))) same later);
+      scan = scan_later _ _ _ _ c.read.ensures.scanned (subst (λ r. SameRack (g.R.Rack.seen r) (g.R.Rack.seen (below_of c.pending-looked.new.rack))) same later);
       newest = λ told. sym (c.in-Some.ensures.newest _ _ (c.read.ensures.identities told));
     }
 

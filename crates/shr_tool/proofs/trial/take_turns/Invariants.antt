@@ -1,7 +1,7 @@
 -- The turns before the one in hand are taken.
 use Rattle.std.proofs.Common.{◌≡◌, ◌-◌, ◌*◌, ◌≤◌}
 use Rattle.pool.specs.View.{bay_in, view}
-use Rattle.pool.specs.Calls.{Passes}
+use Rattle.pool.specs.Calls.{CallFrame}
 use Rattle.shr_tool.specs.Trial.{IsSmall, state_at, turns_over}
 use Rattle.shr_tool.proofs.Tried.{HasTried}
 use Rattle.shr_tool.proofs.trial.take_turns.Given as goal
@@ -15,7 +15,7 @@ invariant-loop-tally g l =
       many : l.turns ≡ turns_over l.span;
       state : l.generator.state ≡ state_at l.seed (3 * l.tally.turns);
       runs : g.R.Rack.runs (bay_in l.fn.pool) (bay_in l.pool);
-      passes : Passes (shown l.fn.pool) (shown l.pool);
+      passes : CallFrame (shown l.fn.pool) (shown l.pool);
       tried : HasTried (shown l.fn.pool) (shown l.pool) l.span l.seed l.tally;
     }
 

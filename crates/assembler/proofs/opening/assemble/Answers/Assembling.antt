@@ -6,7 +6,7 @@ use Rattle.array_image.specs.States.{is_current}
 use Rattle.log_laws.specs.View.{names}
 use Rattle.pool_state.specs.declared.contents.State.{State}
 use Rattle.std.proofs.Common.{◌≡◌, ◌+◌, ◌*◌, ◌<◌, ◌≤◌, ◌&&◌, ℕ, is_none, is_some, List, Option, Some, None, option_map, sym, ap, ap₂, subst, ◌∙◌, arith}
-use Rattle.rack.specs.Seen.{Image, Rose, Seen, Stays}
+use Rattle.rack.specs.Seen.{Image, Rose, RackView, SameRack}
 use Rattle.rack.specs.Moments.{Leaves}
 use Rattle.rack.specs.Joins.{stays_then}
 use Rattle.rack.specs.Sequences.{WritesOnly}
@@ -33,7 +33,7 @@ use Rattle.raid_rack.proofs.Live.{runs_unused}
 use Rattle.assembler_laws.specs.Marking.{AreMarkedFor}
 use Rattle.assembler_laws.specs.Holding.{HoldPool, HoldsArrays}
 use Rattle.assembler_laws.specs.Members.{AreMembers}
-use Rattle.pool_model.specs.Left.{AreAlone, AreElsewhere, IsPickOff}
+use Rattle.pool_model.specs.Left.{NoStraySuperblock, AreElsewhere, IsPickOutsideSlices}
 use Rattle.pool_model.specs.Pools.{AreSlicesOf}
 use Rattle.pool_model.specs.Stopped.{HaveTables}
 use Rattle.pool_model.proofs.Found.{found_is, some_made}
@@ -63,7 +63,7 @@ use Rattle.assembler_laws.proofs.Written.{rack_then}
 use Rattle.assembler.proofs.opening.assemble.Given.{Over}
 use Rattle.assembler.proofs.opening.assemble.Goals.{After-make_rack, In-Ok-open_volume}
 
-pub disks_still : (a b : Seen) → Stays a b → disks_of a ≡ disks_of b
+pub disks_still : (a b : RackView) → SameRack a b → disks_of a ≡ disks_of b
 disks_still a b stays = ap₂ (λ count sectors. record { count = count; sectors = sectors }) (sym stays.disks) (λ i d. sym (stays.sectors d) i)
 
 -- ---- once arrays are made
@@ -71,16 +71,16 @@ disks_still a b stays = ap₂ (λ count sectors. record { count = count; sectors
 -- The disks are `a` before the opening, `x` at rest, `y` once they are checked and `z` once arrays are made of them, over slices by the tables `t`. Where
 -- they held a sound pool `e`, it is `f` at rest.
 module _ (g : Over) (c : After-make_rack g) where
-  abbrev pub a : Seen
+  abbrev pub a : RackView
   a = g.R.Rack.seen c.args.rack
 
-  abbrev pub x : Seen
+  abbrev pub x : RackView
   x = g.R.Rack.seen (below_of c.in-Ok.rest.slices)
 
-  abbrev pub y : Seen
+  abbrev pub y : RackView
   y = g.R.Rack.seen (below_of c.in-Ok-check.members.slices)
 
-  abbrev pub z : Seen
+  abbrev pub z : RackView
   z = g.R.Rack.seen (below_of (slices_in c.make_rack.result))
 
   abbrev pub t : Slices
@@ -89,16 +89,16 @@ module _ (g : Over) (c : After-make_rack g) where
   abbrev pub known : List Known
   known = c.in-Ok.rest.scan.disks.items
 
-  pub ax : Stays a x
+  pub ax : SameRack a x
   ax = c.in-Ok.ensures.only.only.stays
 
-  pub xy : Stays x y
+  pub xy : SameRack x y
   xy = c.in-Ok-check.ensures.only.stays
 
-  pub ay : Stays a y
+  pub ay : SameRack a y
   ay = stays_then ax xy
 
-  pub yz : Stays y z
+  pub yz : SameRack y z
   yz = c.make_rack.ensures.only.stays
 
   pub ready : (raid_in c.make_rack.result).state.joined ≤ (raid_in c.make_rack.result).state.made
@@ -114,7 +114,7 @@ module _ (g : Over) (c : After-make_rack g) where
       loses_since a x y known c.in-Ok.rest.state c.in-Ok.rest.gone.items (seat_of t) ax xy c.in-Ok-check.ensures.loses c.in-Ok.ensures.valid c.in-Ok.ensures.gone
 
   -- and is marked only then, or where it had none
-  pub marked : (w : Seen) (s : State) → Stays y w → AreMarkedFor y w (seat_of t) c.in-Ok-check.members.state s
+  pub marked : (w : RackView) (s : State) → SameRack y w → AreMarkedFor y w (seat_of t) c.in-Ok-check.members.state s
       → AreMarkedFor a w (seat_by c.in-Ok.rest.state known) c.in-Ok.rest.state s
   marked w s stays marks =
       marked_since a x y w ax xy stays (seat_by c.in-Ok.rest.state known) (seat_of t) c.in-Ok.rest.state s lost
@@ -128,7 +128,7 @@ module _ (g : Over) (c : After-make_rack g) where
       (true_told x d flag told (c.in-Ok-check.ensures.compared p d seat))
 
   -- where slices alone are written from then on
-  module _ (w : Seen) (texts : WritesOnly z w (IsSliced t)) where
+  module _ (w : RackView) (texts : WritesOnly z w (IsSliced t)) where
     pub drives_only : WritesOnly x w (IsDriveOrTable x w known c.in-Ok.rest.state)
     drives_only =
         members_drives c.in-Ok-check.members.state t y c.in-Ok-check.members.checked c.in-Ok-check.members.absent.items known c.in-Ok.rest.state
@@ -240,7 +240,7 @@ module _ (g : Over) (c : After-make_rack g) where
           ∙ ap₂ (λ (r : State) (o : Option ℕ). is_current r p && is_some o) same.state (same.seats p)
 
       -- outside the slices the disks are as they were, whatever they may be left with
-      pub off_slices : (w : Seen) → WritesOnly z w (IsSliced t) → (i : Image) → IsPickOff t w i → AreElsewhere e i
+      pub off_slices : (w : RackView) → WritesOnly z w (IsSliced t) → (i : Image) → IsPickOutsideSlices t w i → AreElsewhere e i
       off_slices w own i off =
           let m = c.in-Ok-check.members in
           let rest = c.in-Ok.rest in
@@ -252,7 +252,7 @@ module _ (g : Over) (c : After-make_rack g) where
           (λ p. sym (holds.pool.seats p)) (tables_kept w own) i off
 
       -- and no superblock of an array stands there on a drive that is no member of it, where none stood
-      pub off_alone : AreAlone e e.contents → (w : Seen) → WritesOnly z w (IsSliced t) → (i : Image) → IsPickOff t w i → AreAlone e i
+      pub off_alone : NoStraySuperblock e e.contents → (w : RackView) → WritesOnly z w (IsSliced t) → (i : Image) → IsPickOutsideSlices t w i → NoStraySuperblock e i
       off_alone alone w own i off =
           let rest = c.in-Ok.rest in
           let at = rest_sound g.R.Rack.seen a rest e sound rested in
@@ -270,7 +270,7 @@ module _ (g : Over) (c : In-Ok-open_volume g) where
   abbrev pub made : After-make_rack g
   made = c.before.before
 
-  abbrev pub opened : Seen
+  abbrev pub opened : RackView
   opened = g.R.Rack.seen (below_of (slices_in (rack_in c.in-Ok-open_volume.volume)))
 
   -- the numbers rose by a bounded number, over what was read

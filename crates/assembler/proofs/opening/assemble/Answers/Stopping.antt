@@ -24,8 +24,8 @@ use Rattle.pool_image.specs.Volumes.{Arrays}
 use Rattle.pool_image.proofs.Founds.{joined_same}
 use Rattle.pool_scan.specs.Scanning.{IsUnfaulted, now_in}
 use Rattle.pool_model.specs.Grouped.{HaveOwnAreas}
-use Rattle.pool_model.specs.Left.{AreAlone, AreElsewhere, IsPickOff}
-use Rattle.pool_model.specs.Openings.{HadOnePool, HoldOpened, MayReplay}
+use Rattle.pool_model.specs.Left.{NoStraySuperblock, AreElsewhere, IsPickOutsideSlices}
+use Rattle.pool_model.specs.Openings.{HadOnePool, RecoversInOpening, MayReplay}
 use Rattle.pool_model.specs.Pools.{AreSlicesOf}
 use Rattle.pool_model.specs.Reopening.{AreWholeSectors, HoldMeaning}
 use Rattle.pool_model.specs.Stopped.{LieApart}
@@ -59,7 +59,7 @@ use Rattle.assembler.proofs.opening.assemble.Answers.Unopened.{built, calls, liv
 -- ---- until arrays are made
 
 module _ (g : Over) (c : After-make_rack g) (to_z : IsUnfaulted (a g c) (z g c)) (e : Found) (sound : HoldSound (a g c) e) (may : MayReplay (disks_of (a g c)) (now_in (a g c)) e) (lands : TargetsLand e)
-    (all : e.state.joined ≡ e.state.made) (alone : AreAlone e e.contents) (alive : AllLive (raid_in c.make_rack.result)) (traced : (a g c).traced) where
+    (all : e.state.joined ≡ e.state.made) (alone : NoStraySuperblock e e.contents) (alive : AllLive (raid_in c.make_rack.result)) (traced : (a g c).traced) where
   abbrev pool : Found
   pool = f g c to_z e sound
 
@@ -82,16 +82,16 @@ module _ (g : Over) (c : After-make_rack g) (to_z : IsUnfaulted (a g c) (z g c))
       (rest_alone g.R.Rack.seen (a g c) c.in-Ok.rest e sound (rested g c to_z e sound) (pool_alone g.R.Rack.seen (a g c) c.in-Ok.rest e sound (rested g c to_z e sound) alone)) c.in-Ok-check.ensures.only
 
   -- outside the slices the disks are as the pool has them
-  pub own_elsewhere : (i : Image) → IsPickOff (tables (slices_in c.make_rack.result)) (z g c) i → AreElsewhere e i
+  pub own_elsewhere : (i : Image) → IsPickOutsideSlices (tables (slices_in c.make_rack.result)) (z g c) i → AreElsewhere e i
   own_elsewhere i off =
       off_slices g c to_z e sound (z g c) (only_none (z g c) (IsSliced (t g c)) (yz g c).fit) i
-      (subst (λ (u : Slices). IsPickOff u (z g c) i) c.make_rack.ensures.tables off)
+      (subst (λ (u : Slices). IsPickOutsideSlices u (z g c) i) c.make_rack.ensures.tables off)
 
   -- with no superblock of an array on a drive that is no member of it
-  pub own_alone : (i : Image) → IsPickOff (tables (slices_in c.make_rack.result)) (z g c) i → AreAlone e i
+  pub own_alone : (i : Image) → IsPickOutsideSlices (tables (slices_in c.make_rack.result)) (z g c) i → NoStraySuperblock e i
   own_alone i off =
       off_alone g c to_z e sound alone (z g c) (only_none (z g c) (IsSliced (t g c)) (yz g c).fit) i
-      (subst (λ (u : Slices). IsPickOff u (z g c) i) c.make_rack.ensures.tables off)
+      (subst (λ (u : Slices). IsPickOutsideSlices u (z g c) i) c.make_rack.ensures.tables off)
 
   pub own_slices : AreSlicesOf e (tables (slices_in c.make_rack.result))
   own_slices =
@@ -102,7 +102,7 @@ module _ (g : Over) (c : After-make_rack g) (to_z : IsUnfaulted (a g c) (z g c))
   began = ap (λ (k : Disks). found k (now_in (a g c))) (sym (disks_still (a g c) (z g c) (stays_then (ay g c) (yz g c)))) ∙ sound.found_is
 
   -- the replay
-  replaying : Leaves (a g c) (x g c) (HoldOpened e 0)
+  replaying : Leaves (a g c) (x g c) (RecoversInOpening e 0)
   replaying =
       let is = c.in-Ok.ensures in
       let told = sound.steady.told in
@@ -118,30 +118,30 @@ module _ (g : Over) (c : After-make_rack g) (to_z : IsUnfaulted (a g c) (z g c))
       (idle_pool (disks_of (y g c)) (now_in (y g c)) at_rest.0 at_rest.1.sound.found_is at_rest.1.idle at_rest.1.sound.logs) at_rest.1.same
 
   -- gates, tables, marks and superblocks
-  making : Leaves (y g c) (z g c) (HoldOpened e 0)
+  making : Leaves (y g c) (z g c) (RecoversInOpening e 0)
   making =
-      leaves_weaker (HoldOpened at_rest.0 0) (HoldOpened e 0)
+      leaves_weaker (RecoversInOpening at_rest.0 0) (RecoversInOpening e 0)
       (λ i holds_now.
       opened_same e pool 0 i (same g c to_z e sound) (rest_one g.R.Rack.seen (a g c) c.in-Ok.rest e sound (rested g c to_z e sound))
       (opened_same pool at_rest.0 0 i at_rest.1.same checked_one holds_now))
       (c.make_rack.ensures.moments pool at_rest.0 (checked g c to_z e sound).0 (checked g c to_z e sound).1 at_rest.1 (from_y g c to_z) alive ((ay g c).traced traced))
 
-  pub made_leaves : Leaves (a g c) (z g c) (HoldOpened e 0)
+  pub made_leaves : Leaves (a g c) (z g c) (RecoversInOpening e 0)
   made_leaves =
-      leaves_then (HoldOpened e 0)
+      leaves_then (RecoversInOpening e 0)
       (until_read g.R.Rack.seen (a g c) c.in-Ok.rest e sound (rested g c to_z e sound) (y g c) apart alone c.in-Ok-check.ensures.only replaying traced)
       making
 
   -- from a later sector of the arrays on
-  pub made_from : (from : ℕ) → Leaves (a g c) (z g c) (HoldOpened e from)
-  made_from from = leaves_weaker (HoldOpened e 0) (HoldOpened e from) (λ i. opened_from e 0 from i (omega arith)) made_leaves
+  pub made_from : (from : ℕ) → Leaves (a g c) (z g c) (RecoversInOpening e from)
+  made_from from = leaves_weaker (RecoversInOpening e 0) (RecoversInOpening e from) (λ i. opened_from e 0 from i (omega arith)) made_leaves
 
 -- ---- the drives didn't pass
 
 module _ (g : Over) (c : In-Err-check g) (quiet : IsUnfaulted (g.R.Rack.seen c.args.rack) (g.R.Rack.seen c.in-Err-check.back.rack)) (e : Found)
     (sound : HoldSound (g.R.Rack.seen c.args.rack) e) where
-  pub checked_leaves : MayReplay (disks_of (g.R.Rack.seen c.args.rack)) (now_in (g.R.Rack.seen c.args.rack)) e → TargetsLand e → AreAlone e e.contents
-      → (g.R.Rack.seen c.args.rack).traced → Leaves (g.R.Rack.seen c.args.rack) (g.R.Rack.seen c.in-Err-check.back.rack) (HoldOpened e 0)
+  pub checked_leaves : MayReplay (disks_of (g.R.Rack.seen c.args.rack)) (now_in (g.R.Rack.seen c.args.rack)) e → TargetsLand e → NoStraySuperblock e e.contents
+      → (g.R.Rack.seen c.args.rack).traced → Leaves (g.R.Rack.seen c.args.rack) (g.R.Rack.seen c.in-Err-check.back.rack) (RecoversInOpening e 0)
   checked_leaves may lands alone traced =
       let seen = g.R.Rack.seen in
       let apart = lands_apart (disks_of (seen c.args.rack)) (now_in (seen c.args.rack)) e sound.found_is lands in
@@ -170,7 +170,7 @@ module _ (g : Over) (c : In-Ok-open_volume g) (quiet : IsUnfaulted (a g (made g 
       ∙ marks_made g (made g c) (first_quiet g c quiet) e sound p
 
   -- texts are brought up to date
-  opened_brings : MayReplay (disks_of (a g (made g c))) (now_in (a g (made g c))) e → TargetsLand e → e.state.joined ≡ e.state.made → AreAlone e e.contents → (a g (made g c)).traced
+  opened_brings : MayReplay (disks_of (a g (made g c))) (now_in (a g (made g c))) e → TargetsLand e → e.state.joined ≡ e.state.made → NoStraySuperblock e e.contents → (a g (made g c)).traced
       → Leaves (z g (made g c)) (opened g c) (GivesOpened e (tables (slices_in c.make_rack.result)) data_start)
   opened_brings may lands all alone traced =
       let k = made g c in
@@ -190,11 +190,11 @@ module _ (g : Over) (c : In-Ok-open_volume g) (quiet : IsUnfaulted (a g (made g 
       (slices_in raid).orderly c.make_rack.ensures.fit.running.set.fit.1
       (whole.lasting sound.steady.lasts.lasting) (texts g c) (whole.traced traced)
 
-  pub opened_leaves : MayReplay (disks_of (a g (made g c))) (now_in (a g (made g c))) e → TargetsLand e → e.state.joined ≡ e.state.made → AreAlone e e.contents → (a g (made g c)).traced
-      → Leaves (a g (made g c)) (opened g c) (HoldOpened e data_start)
+  pub opened_leaves : MayReplay (disks_of (a g (made g c))) (now_in (a g (made g c))) e → TargetsLand e → e.state.joined ≡ e.state.made → NoStraySuperblock e e.contents → (a g (made g c)).traced
+      → Leaves (a g (made g c)) (opened g c) (RecoversInOpening e data_start)
   opened_leaves may lands all alone traced =
-      leaves_then (HoldOpened e data_start) (made_from g (made g c) (first_quiet g c quiet) e sound may lands all alone (live_first g c quiet) traced data_start)
-      (leaves_weaker (GivesOpened e (tables (slices_in c.make_rack.result)) data_start) (HoldOpened e data_start) (λ i gives. gives.opened) (opened_brings may lands all alone traced))
+      leaves_then (RecoversInOpening e data_start) (made_from g (made g c) (first_quiet g c quiet) e sound may lands all alone (live_first g c quiet) traced data_start)
+      (leaves_weaker (GivesOpened e (tables (slices_in c.make_rack.result)) data_start) (RecoversInOpening e data_start) (λ i gives. gives.opened) (opened_brings may lands all alone traced))
 
   -- and the arrays say the volume
   pub opened_says : e.state.joined ≡ e.state.made → HaveOwnAreas e → MayStop (a g (made g c)) e → (a g (made g c)).traced
@@ -279,7 +279,7 @@ module _ (g : Over) (c : In-Ok-open_volume g) (quiet : IsUnfaulted (a g (made g 
       (own_rested seen runs e pool is (slices_of (t g k) (y g k)) raid last held c.make_rack.ensures.fresh (linear volume) (seqno_of volume) opens alive few both all own none had) (whole.traced traced))
       (texts g c) (whole.traced traced) in
       leaves_then P
-      (leaves_weaker (HoldOpened e 0) P
+      (leaves_weaker (RecoversInOpening e 0) P
       (λ i still wholes. still_meaning seen runs e pool is (slices_of (t g k) (y g k)) raid last held c.make_rack.ensures.fresh (linear volume) (seqno_of volume) opens alive few both all own none had i still)
       (made_leaves g k before e sound may lands all alone (live_first g c quiet) traced))
       (record {
@@ -299,8 +299,8 @@ module _ (g : Over) (c : In-Err-open_volume g) (quiet : IsUnfaulted (a g (built 
   nothing : WritesOnly (raid_seen g.R.Rack.seen c.make_rack.result) (raid_seen g.R.Rack.seen c.in-Err-open_volume.ensures.refused.last) (λ n s v. ⊥)
   nothing = only_quiet (λ n s v. ⊥) still.reads.stays still.reads.keeps
 
-  pub refused_leaves : MayReplay (disks_of (a g (built g c))) (now_in (a g (built g c))) e → TargetsLand e → e.state.joined ≡ e.state.made → AreAlone e e.contents → (a g (built g c)).traced
-      → Leaves (a g (built g c)) (g.R.Rack.seen c.in-Err-open_volume.back.rack) (HoldOpened e 0)
+  pub refused_leaves : MayReplay (disks_of (a g (built g c))) (now_in (a g (built g c))) e → TargetsLand e → e.state.joined ≡ e.state.made → NoStraySuperblock e e.contents → (a g (built g c)).traced
+      → Leaves (a g (built g c)) (g.R.Rack.seen c.in-Err-open_volume.back.rack) (RecoversInOpening e 0)
   refused_leaves may lands all alone traced =
       let k = built g c in
       let alive = live_before g.R.Rack.seen g.R.Rack.runs c.make_rack.result c.in-Err-open_volume.ensures.refused.last c.in-Err-open_volume.ensures.refused.kept (live_still g c quiet e sound still) in
@@ -309,8 +309,8 @@ module _ (g : Over) (c : In-Err-open_volume g) (quiet : IsUnfaulted (a g (built 
       let raid = c.make_rack.result in
       let refused = c.in-Err-open_volume.ensures.refused in
       let whole = stays_then (ay g k) (yz g k) in
-      subst (λ r. Leaves (a g k) (seen r) (HoldOpened e 0)) refused.back
-      (leaves_then (HoldOpened e 0) (made_leaves g k before e sound may lands all alone alive traced)
+      subst (λ r. Leaves (a g k) (seen r) (RecoversInOpening e 0)) refused.back
+      (leaves_then (RecoversInOpening e 0) (made_leaves g k before e sound may lands all alone alive traced)
       (bringing_leaves seen g.R.Rack.runs e (f g k before e sound) (same g k before e sound) (slices_of (t g k) (y g k)) raid refused.last (arrays g k before e sound)
       (live_still g c quiet e sound still) refused.kept 0 _ nothing (λ n s v none. absurd none)
       (ready g k) all (now_in (a g k)) (began g k before e sound may lands all alone alive traced) sound.sound

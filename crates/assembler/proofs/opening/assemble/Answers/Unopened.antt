@@ -5,7 +5,7 @@ use Rattle.raid_rack.specs.RaidRack.{raid_in, slices_in, slices_seen, written_in
 use Rattle.array_image.specs.States.{is_current}
 use Rattle.pool_state.specs.declared.contents.State.{State}
 use Rattle.std.proofs.Common.{◌≡◌, ◌⊎◌, ◌<◌, ◌&&◌, ℕ, true, is_some, Some, option_map, inl, inr, refl, sym, ap, subst, ◌∙◌, arith}
-use Rattle.rack.specs.Seen.{Image, IsPick, Rose, Seen, Stays}
+use Rattle.rack.specs.Seen.{Image, IsPick, Rose, RackView, SameRack}
 use Rattle.rack.specs.Joins.{stays_then}
 use Rattle.rack.specs.Sequences.{WritesOnly}
 use Rattle.slice_rack.specs.Runs.{IsSliced, inside_still}
@@ -19,14 +19,14 @@ use Rattle.pool_image.proofs.Founds.{joined_same, refused_same}
 use Rattle.array_model.specs.View.{HasFault}
 use Rattle.pool_scan.specs.Scanning.{IsUnfaulted, now_in}
 use Rattle.pool_scan.proofs.Valid.{valid_arrays}
-use Rattle.raid_laws.specs.Book.{IsAfter}
+use Rattle.raid_laws.specs.Book.{OnlyMarksSince}
 use Rattle.raid_laws.specs.Raid.{Raid, is_used_up}
 use Rattle.raid_rack.proofs.Live.{runs_unused}
 use Rattle.assembler.specs.declared.refusal.Refusal.{Refusal}
 use Rattle.assembler.specs.declared.refusal.Refusal.TheVariants.{BadVolume, Memory}
 use Rattle.assembler.specs.Causes.{HasChecked, IsBadOn, IsShortOn, RefusesArrays, RefusesPool, arrays_on}
 use Rattle.assembler_laws.specs.Members.{AreMembers}
-use Rattle.pool_model.specs.Left.{AreAlone, HoldSame, IsServed}
+use Rattle.pool_model.specs.Left.{NoStraySuperblock, RecoversSameVolume, IsServed}
 use Rattle.pool_model.specs.Pools.{AreSlicesOf}
 use Rattle.pool_model.proofs.Again.{left_known}
 use Rattle.pool_model.proofs.Amid.{tables_lie}
@@ -53,7 +53,7 @@ module _ (g : Over) (c : In-Err-open_volume g) where
   abbrev pub built : After-make_rack g
   built = c.before.before
 
-  abbrev pub ended : Seen
+  abbrev pub ended : RackView
   ended = g.R.Rack.seen (below_of (slices_in c.in-Err-open_volume.ensures.refused.last))
 
   pub calls : WritesOnly (z g built) ended (IsSliced (tables (slices_in c.make_rack.result)))
@@ -87,7 +87,7 @@ module _ (g : Over) (c : In-Err-open_volume g) where
               few = check.few;
               are = check.are;
             });
-        book = subst (λ (s : State). IsAfter s (raid_in raid).state) check.state c.make_rack.ensures.book;
+        book = subst (λ (s : State). OnlyMarksSince s (raid_in raid).state) check.state c.make_rack.ensures.book;
         marks = marked g built (z g built) (raid_in raid).state (yz g built) c.make_rack.ensures.caused;
         arrays = c.make_rack.ensures.arrays;
         fit = c.make_rack.ensures.fit;
@@ -157,7 +157,7 @@ module _ (g : Over) (c : In-Err-open_volume g) where
       abbrev v : Raid
       v = raid_in c.in-Err-open_volume.ensures.refused.last
 
-      abbrev shown : Seen
+      abbrev shown : RackView
       shown = slices_of (t g built) ended
 
       own_slices : AreSlicesOf e (t g built)
@@ -166,7 +166,7 @@ module _ (g : Over) (c : In-Err-open_volume g) where
       same_tables : tables (slices_in c.in-Err-open_volume.ensures.refused.last) ≡ t g built
       same_tables = c.in-Err-open_volume.ensures.refused.kept.0.tables ∙ c.make_rack.ensures.tables
 
-      whole : Stays (a g built) ended
+      whole : SameRack (a g built) ended
       whole = stays_then (ay g built) (stays_then (yz g built) calls.stays)
 
       module _ (all : e.state.joined ≡ e.state.made) where
@@ -210,7 +210,7 @@ module _ (g : Over) (c : In-Err-open_volume g) where
             (checked g built made_quiet e sound).1.opened n z (omega (arith, low, least, book, made)) truth)
             truths)
 
-        module _ (alone : AreAlone e e.contents) (i : Image) (pick : IsPick ended ended ended.held i) where
+        module _ (alone : NoStraySuperblock e e.contents) (i : Image) (pick : IsPick ended ended ended.held i) where
           known_left : IsKnown e (t g built) v shown i
           known_left =
               left_known e (t g built) ended v serves (inside_still (stays_then (yz g built) calls.stays) (members g built made_quiet e sound).fit.1) (disks_of (a g built))
@@ -219,7 +219,7 @@ module _ (g : Over) (c : In-Err-open_volume g) where
               (off_alone g built made_quiet e sound alone ended own_calls i (λ d u live never. pick d u live)) pick
 
           -- whatever the disks may be left with holds the pool again
-          pub pool_again : HoldSame e (t g built) v.state i
+          pub pool_again : RecoversSameVolume e (t g built) v.state i
           pool_again = same_again e (t g built) v shown i known_left values
 
           -- where its slices lie apart by the drives' tables

@@ -1,7 +1,7 @@
 -- The sectors before the one in hand are filled.
 use Rattle.std.proofs.Common.{ℕ, ◌-◌, ◌≤◌, List}
 use Rattle.flat_array.specs.Array.{FlatArray, filled}
-use Rattle.flat_array.specs.Disk.{Holds}
+use Rattle.flat_array.specs.Disk.{DiskIs}
 use Rattle.flat_array.proofs.disk.FlatDisk.unfill.Given as goal
 
 abbrev pub invariant-loop-at : goal.invariant-loop-at
@@ -10,8 +10,8 @@ invariant-loop-at l =
       from : l.sector ≤ l.at;
       filled :
           (a : FlatArray) (v : List ℕ)
-          → Holds l.fn.self (filled a l.sector (l.end - l.sector) v)
-          → Holds l.self (filled a l.sector (l.at - l.sector) v);
+          → DiskIs l.fn.self (filled a l.sector (l.end - l.sector) v)
+          → DiskIs l.self (filled a l.sector (l.at - l.sector) v);
     }
 
 abbrev pub decreases-loop-at : goal.decreases-loop-at

@@ -1,6 +1,6 @@
 use Rattle.std.proofs.Common.{◌≡◌, ◌⊎◌}
 use Rattle.raid_laws.specs.Agreeing.{MakesAgree}
-use Rattle.raid_laws.specs.Moves.{AreMarked, Moves, RaisesBy}
+use Rattle.raid_laws.specs.Moves.{AreMarked, ChangesNoData, RaisesBy}
 use Rattle.raid_rack.specs.RaidRack.{IsRunning, raid_by}
 use Rattle.raid_laws.specs.Unlost.{KeepsUnlost}
 use Rattle.raid_laws.specs.Raid.{Raid}
@@ -11,7 +11,7 @@ use Rattle.raid_rack.proofs.arrays.Arrays.mark_all.Given as goal
 
 abbrev pub invariant-loop-turn : goal.invariant-loop-turn
 invariant-loop-turn g l = record {
-  moves : Moves (raid_by l.fn.self) (raid_by l.self) (g.S.Rack.seen l.fn.rack) (g.S.Rack.seen l.rack);
+  moves : ChangesNoData (raid_by l.fn.self) (raid_by l.self) (g.S.Rack.seen l.fn.rack) (g.S.Rack.seen l.rack);
   running : IsRunning l.self (g.S.Rack.seen l.rack);
   turns : HasTurns (raid_by l.self) l._turn;
   raises : RaisesBy l._turn (raid_by l.fn.self) (raid_by l.self);

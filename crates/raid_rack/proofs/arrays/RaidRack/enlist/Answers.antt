@@ -8,7 +8,7 @@ use Rattle.array_model.specs.View.{View}
 use Rattle.raid_laws.specs.Truths.{JoinsTruths, KeepsTruths}
 use Rattle.raid_laws.specs.Unlost.{KeepsUnlost}
 use Rattle.raid_rack.proofs.Seating.{all_small, new_slices, seats_set}
-use Rattle.rack.specs.Seen.{Rose, Stays}
+use Rattle.rack.specs.Seen.{Rose, SameRack}
 use Rattle.rack.specs.Sequences.{WritesOnly}
 use Rattle.gpt_table.specs.declared.Table.{Table}
 use Rattle.gpt_table.specs.Format.{IsWritable}
@@ -54,7 +54,7 @@ lay_drive-requires-clause-writable g c =
 
 pub returns-in-Err-clause-fit : goal.returns-in-Err-clause-fit
 returns-in-Err-clause-fit g c =
-    let stays = subst (λ r. Stays (g.R.Rack.seen r) (g.R.Rack.seen c.lay_drive.new.rack)) c.inner.ensures.value c.lay_drive.ensures.lays.only.stays in
+    let stays = subst (λ r. SameRack (g.R.Rack.seen r) (g.R.Rack.seen c.lay_drive.new.rack)) c.inner.ensures.value c.lay_drive.ensures.lays.only.stays in
     fit_still _ _ _ (stays_sliced c.requires.fit.running.set.fit.1 stays) c.requires.fit
 
 pub returns-in-Err-clause-gone : goal.returns-in-Err-clause-gone
@@ -73,7 +73,7 @@ returns-in-Err-clause-gone g c is =
 
 pub settle_whole-requires-clause-running : goal.settle_whole-requires-clause-running
 settle_whole-requires-clause-running g c =
-    let stays = subst (λ r. Stays (g.R.Rack.seen r) (g.R.Rack.seen c.lay_drive.new.rack)) c.inner.ensures.value c.lay_drive.ensures.lays.only.stays in
+    let stays = subst (λ r. SameRack (g.R.Rack.seen r) (g.R.Rack.seen c.lay_drive.new.rack)) c.inner.ensures.value c.lay_drive.ensures.lays.only.stays in
     running_still _ _ _ (stays_sliced c.requires.fit.running.set.fit.1 stays) c.requires.fit.running
 
 pub returns-then-not-settle_whole-clause-fit : goal.returns-then-not-settle_whole-clause-fit
@@ -159,7 +159,7 @@ drives_same g c =
 reaches_settled : (g : Over) (c : After-retire g) → ReachesAll c.settle_whole.new.self.all.items c.args.place c.sectors-sectors.result
 reaches_settled g c =
     let whole = c.settle_whole.ensures.whole c.if-not-settle_whole.false in
-    let stays = subst (λ r. Stays (g.R.Rack.seen r) (g.R.Rack.seen c.lay_drive.new.rack)) c.inner.ensures.value c.lay_drive.ensures.lays.only.stays in
+    let stays = subst (λ r. SameRack (g.R.Rack.seen r) (g.R.Rack.seen c.lay_drive.new.rack)) c.inner.ensures.value c.lay_drive.ensures.lays.only.stays in
     let running = running_still _ _ _ (stays_sliced c.requires.fit.running.set.fit.1 stays) c.requires.fit.running in
     let size : c.sectors-sectors.result ≡ (g.R.Rack.seen (below_of (slices_in c.args.self.now))).sectors c.args.disk =
     c.sectors-sectors.ensures.number ∙ ap (λ r. (g.R.Rack.seen r).sectors c.args.disk) c.below.ensures in
@@ -241,13 +241,13 @@ join-requires-clause-slices g c =
 
 pub seat_drive-requires-clause-disk : goal.seat_drive-requires-clause-disk
 seat_drive-requires-clause-disk g c =
-    let one = subst (λ r. Stays (g.R.Rack.seen r) (g.R.Rack.seen c.lay_drive.new.rack)) c.inner.ensures.value c.lay_drive.ensures.lays.only.stays in
+    let one = subst (λ r. SameRack (g.R.Rack.seen r) (g.R.Rack.seen c.lay_drive.new.rack)) c.inner.ensures.value c.lay_drive.ensures.lays.only.stays in
     let two = (c.settle_whole.ensures.runs.apart one.fit (inside_still one c.requires.fit.running.set.fit.1)).stays in
     subst (λ n. c.args.disk < n) (sym (two.disks ∙ one.disks)) c.requires.disk
 
 pub seat_drive-requires-clause-size : goal.seat_drive-requires-clause-size
 seat_drive-requires-clause-size g c =
-    let one = subst (λ r. Stays (g.R.Rack.seen r) (g.R.Rack.seen c.lay_drive.new.rack)) c.inner.ensures.value c.lay_drive.ensures.lays.only.stays in
+    let one = subst (λ r. SameRack (g.R.Rack.seen r) (g.R.Rack.seen c.lay_drive.new.rack)) c.inner.ensures.value c.lay_drive.ensures.lays.only.stays in
     let two = (c.settle_whole.ensures.runs.apart one.fit (inside_still one c.requires.fit.running.set.fit.1)).stays in
     c.sectors-sectors.ensures.number ∙ ap (λ r. (g.R.Rack.seen r).sectors c.args.disk) c.below.ensures ∙ sym (two.sectors c.args.disk ∙ one.sectors c.args.disk)
 

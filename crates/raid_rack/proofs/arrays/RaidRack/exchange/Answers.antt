@@ -1,6 +1,6 @@
 use Rattle.std.proofs.Common.{◌≡◌, ℕ, Bool, ◌-◌, ◌≤◌, ◌<◌, ◌^◌, ◌&&◌, ◌||◌, not, All, List, [], ◌∷◌, true, false, length, ap, subst, sym, ◌∙◌, arith}
 use Rattle.std.proofs.lemmas.Bool.{ne_eqb}
-use Rattle.rack.specs.Seen.{Stays}
+use Rattle.rack.specs.Seen.{SameRack}
 use Rattle.rack.specs.Sequences.{WritesOnly}
 use Rattle.rack.proofs.Writing.{only_then}
 use Rattle.slice_rack.specs.SliceRack.{below_of, tables}
@@ -102,7 +102,7 @@ reaches_settled : (g : Over) (c : After-retire g) → ReachesAll c.settle_whole.
 reaches_settled g c =
     reaches_same c.args.self.now.arrays.all.items c.settle_whole.new.self.all.items (settled_members g c) c.args.place c.args.sectors c.requires.reaches
 
-settle_stays : (g : Over) (c : After-retire g) → Stays (g.R.Rack.seen (below_of (slices_in c.args.self.now))) (g.R.Rack.seen (below_of c.settle_whole.new.rack))
+settle_stays : (g : Over) (c : After-retire g) → SameRack (g.R.Rack.seen (below_of (slices_in c.args.self.now))) (g.R.Rack.seen (below_of c.settle_whole.new.rack))
 settle_stays g c = let fit = c.requires.fit.running.set.fit in (c.settle_whole.ensures.runs.apart fit.0 fit.1).stays
 
 -- ---- its slices
