@@ -7,7 +7,6 @@ use Rattle.rack.specs.Sequences.{IsMix, WritesOnly}
 use Rattle.array_core.proofs.LogWrites.{goes_then}
 use Rattle.array_core.specs.Pool.{Goes}
 use Rattle.rack.specs.Seen.{Rose, RackView}
-use Rattle.rack.specs.Several.{Several}
 use Rattle.rack.specs.Shelf.{KeepsShelf, Shelf, keeps_shelf_same, keeps_shelf_then}
 use Rattle.slice_rack.specs.Slices.{disk_of, place_of, seat_of}
 use Rattle.slice_rack.specs.SliceRack.{below_of, tables}
@@ -20,9 +19,7 @@ use Rattle.growth_laws.specs.Growing.{GetsLonger, Grows, GrowsBy, Lacks, Turns, 
 use Rattle.growth_laws.proofs.Losing.{as_long, longer_then, loses_nothing}
 use Rattle.log_laws.proofs.Kept.{place_of_log}
 use Rattle.lvm_group.specs.Runs.{Linear, extents_of, place_of as place_of_extent}
-use Rattle.lvm_group.specs.Volume.{linear, most_extended}
-use Rattle.growth_plan.specs.Target.{targets}
-use Rattle.growth_plan.specs.declared.Progress.{Progress}
+use Rattle.lvm_group.specs.Volume.{linear}
 use Rattle.pool_state.specs.declared.contents.State.{State}
 use Rattle.pool_state.specs.declared.contents.Work.{Work}
 use Rattle.pool_state.specs.declared.contents.Work.TheVariants.{Resync, Rebuild, TakeOver, Begin, Reshape, Finish, Make, Zero, Ready, Extend, Close}
@@ -33,16 +30,15 @@ use Rattle.raid_laws.specs.Raid.{Raid, is_left}
 use Rattle.raid_laws.specs.Runs.{RaidRuns}
 use Rattle.raid_laws.specs.Works.{Does, StepsOne, array_of, is_due}
 use Rattle.sync_laws.specs.Steps.{rebuilt, resynced}
-use Rattle.raid_rack.specs.AllRuns.{AreRuns, IsOneCall}
 use Rattle.raid_rack.specs.RaidRack.{IsFit, KeepsRack, SliceRuns, arrays_in, one_done, raid_in, raid_seen, slices_in, slices_seen, written_in}
 use Rattle.raid_rack.specs.declared.arrays.RaidRack.{RaidRack}
 use Rattle.raid_rack.specs.declared.works.Stuck.{Stuck}
-use Rattle.raid_rack.proofs.Raises.{raises_more, raises_none, several_raise}
+use Rattle.raid_rack.proofs.Raises.{raises_more, raises_none}
 use Rattle.pool.specs.declared.Pool.{Pool}
 use Rattle.pool.specs.Calls.{DriveWent}
-use Rattle.pool.specs.Growing.{DoesMany, DoesWorks, HasNone, IsDone, IsRefused, IsRefusedGrowth, IsRefusedRow, KeepsGrowing, LacksIn, StopsGrowing, TriesFirst, TriesWork, can_extend, change_in, linear_after, more, most_grown, none, target_of}
+use Rattle.pool.specs.Growing.{DoesMany, DoesWorks, HasNone, IsDone, IsRefused, IsRefusedGrowth, IsRefusedRow, KeepsGrowing, LacksIn, StopsGrowing, TriesFirst, TriesWork, change_in, linear_after, more, most_grown, none}
 use Rattle.pool.specs.View.{View, arrays_of, bay_in, book, slices_shown, view, volume}
-use Rattle.pool.specs.Works.{progress_by, works_by, works_of}
+use Rattle.pool.specs.Works.{works_by, works_of}
 use Rattle.pool.proofs.Extends.{inside_longer}
 use Rattle.pool.proofs.Keeping.{not_left}
 use Rattle.pool.proofs.Reached.{reached_stays, with_arrays}
@@ -477,29 +473,3 @@ ready_grows n v w a b false heeded stuck grows =
       heeded = heeded;
       longer = same_long v;
     })
-
--- ---- the volume
-
--- what the arrays say of calls that they serve
-pub loses_by : {R : Type 0} (seen : R → RackView) (runs : R → R → Type 0) (old new : RaidRack R) → AreRuns seen runs old new → LosesBook (raid_in old) (raid_in new)
-loses_by seen runs old new ran = record { marks = ran.1.book; plan = ran.2.plan; arrays = ran.2.arrays; number = ran.1.number; events = ran.1.events }
-
-pub volume_grows : {R : Type 0} (seen : R → RackView) (shelf : R → Shelf) (runs : R → R → Type 0) (names : KeepNames shelf runs) (p q : Pool R) (n : ℕ) → (volume (view seen shelf p)).fit
-    → (volume (view seen shelf q)).fit → AreRuns seen runs (arrays_of p) (arrays_of q) → n ≤ 16
-    → Several (λ a b. IsOneCall (raid_in a) (raid_in b)) (most_extended n) (arrays_of p) (arrays_of q) → KeepsGrowing 1 (view seen shelf p) (view seen shelf q)
-volume_grows seen shelf runs names p q n fit after ran few several =
-    let x = view seen shelf p in
-    let y = view seen shelf q in
-    keeps_by x y fit after (as_long (book x) (book y) ran.1.book.same.made (λ k low. ran.2.sectors k)) (λ place. ap (λ t. seat_of t place) ran.0.tables)
-    (goes_of (ran.0.apart fit.0.running.set.fit.0 fit.0.running.set.fit.1)) (names (bay_in p) (bay_in q) ran.0.below) ran.1.caused (2 ^ 20) (omega arith)
-    (several_raise (most_extended n) (2 ^ 20) (arrays_of p) (arrays_of q) (omega (arith, few)) several)
-
--- what the arrays offer is what is asked for
-pub numbers_are : (l : Linear) (v : Raid) (s : State) (p : Progress) (numbers : List ℕ) → s ≡ v.state → p ≡ progress_by l v → numbers ≡ targets s p.arrays.items → numbers ≡ target_of v
-numbers_are l v s p numbers state progress is =
-    is ∙ ap (λ (k : State). targets k p.arrays.items) state ∙ ap (λ (k : Progress). targets v.state k.arrays.items) progress
-
--- it can't be extended, and nothing is called
-pub extend_refused : (x : View) (runs : x.bays.one → x.bays.one → Type 0) (bay : x.bays.one) → (volume x).fit → can_extend x.linear (book x) (target_of (book x)) ≡ false
-    → TriesWork Extend x x runs bay (Err (record { array = 0 }))
-extend_refused x runs bay fit is = record { keeps = keeps_more 0 1 x x (omega arith) (keeps_none x fit); done = tt; stuck = (refl, inl (is, refl, refl)) }

@@ -7,6 +7,7 @@ mod Rebuilding
 mod Reached
 mod Losing
 mod MovedRows
+mod ExtensionTried
 mod Planning
 pub mod Admitted
 mod Shown

@@ -1,14 +1,13 @@
 -- Rows of a reshape that one commit has moved, as works in a row: losses that were met before the commit come before the last of them.
-use Rattle.std.specs.Prelude.{Result, IfErr, is_ok}
 use Rattle.std.specs.Option.{option_map_or}
-use Rattle.std.proofs.Common.{◌≡◌, ℕ, zero, suc, ◌+◌, ◌-◌, ◌*◌, ◌/◌, ◌<◌, ◌≤◌, ◌==◌, nat_lt, Bool, true, false, if◌then◌else◌, List, length, slice_get, Option, Some, refl, sym, ap, ap₂, subst, ◌∙◌, inl, arith}
+use Rattle.std.proofs.Common.{◌≡◌, ℕ, zero, suc, ◌+◌, ◌-◌, ◌*◌, ◌/◌, ◌<◌, ◌≤◌, ◌==◌, Bool, true, false, if◌then◌else◌, List, length, slice_get, Option, Some, refl, sym, ap, ap₂, subst, ◌∙◌, inl, arith}
 use Rattle.std.proofs.lemmas.Nat.{div-mul-add}
 use Rattle.array_image.specs.Supers.{is_reshaping, new_row}
 use Rattle.array_model.specs.View.{View as ArrayView, IsArray, rows_of}
 use Rattle.array_core.specs.Superblocks.{raised}
 use Rattle.reshape_laws.specs.Ahead.{ahead_by, next_row, row_sectors}
 use Rattle.reshape_laws.proofs.Addresses.{next_position, position_rows}
-use Rattle.growth_laws.specs.Growing.{Lacks, Turns, lacks, moves}
+use Rattle.growth_laws.specs.Growing.{Lacks, Turns, moves}
 use Rattle.growth_laws.specs.Losses.{LosesBook}
 use Rattle.growth_laws.proofs.Losing.{loses_nothing}
 use Rattle.growth_laws.proofs.Steps.{stepped_own}
@@ -24,7 +23,7 @@ use Rattle.raid_laws.specs.Moves.{OnlyFailures}
 use Rattle.raid_laws.specs.Raid.{Raid}
 use Rattle.transition_laws.specs.Changes.{changed, with_view}
 use Rattle.pool.specs.Growing.{DoesWorks, IsDone, change_in, more, none}
-use Rattle.pool.specs.Works.{array_now, arrays_now, progress_by, rows_to_reshape, works_by}
+use Rattle.pool.specs.Works.{array_now, progress_by, rows_to_reshape, works_by}
 use Rattle.pool.proofs.Counted.{first_by, now_at_number}
 use Rattle.pool.proofs.InRow.{works_after}
 

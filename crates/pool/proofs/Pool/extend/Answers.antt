@@ -6,7 +6,8 @@ use Rattle.pool.specs.declared.Pool.{Pool}
 use Rattle.pool.specs.Growing.{can_extend, target_of}
 use Rattle.pool.specs.View.{arrays_of, book, view}
 use Rattle.pool.proofs.Extends.{may_extend}
-use Rattle.pool.proofs.Grows.{extend_done, loses_by, numbers_are, volume_grows}
+use Rattle.pool.proofs.ExtensionTried.{loses_by, numbers_are, volume_grows}
+use Rattle.pool.proofs.Grows.{extend_done}
 use Rattle.pool.proofs.Pool.extend.Goals as goal
 
 pub extend-requires-clause-below : goal.extend-requires-clause-below
