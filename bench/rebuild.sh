@@ -3,18 +3,8 @@
 # commits on files like them: for each 31 rows of 64 KiB the reads of the other two members, the record of 99 sectors and the rows on the three
 # logs, a sync, the gates, a sync, the rows with three superblocks, a sync, and the gates with a sync. No call of it reads or writes more than a
 # sector.
-. "$(dirname "$(readlink -f "${BASH_SOURCE[0]}")")/program.sh"
-mebibytes=${1:-64}
-
-# Of each image 77824 sectors are no extents.
-size=$((77824 * 512 + mebibytes * 1048576))
-truncate -s "$size" first second third
-"$program" create 128 first second third </dev/null >made
-head -c $((512 * $(cut -d ' ' -f 2 made))) /dev/urandom | "$program" import first second third >/dev/null
-rm second
-truncate -s "$size" new
-rows=$(printf 'replace 1 new\nstep 0\n' | "$program" serve first third | sed -n 's/^left //p')
-rows=$((rows - 1))
+. "$(dirname "$(readlink -f "${BASH_SOURCE[0]}")")/replaced.sh"
+replaced "${1:-64}"
 
 cat >same.c <<'C'
 #include <fcntl.h>

@@ -2,18 +2,8 @@
 # The system calls that the rebuilding of a member of a RAID-5 over three images makes for each row of 64 KiB, by strace: what it reads and writes
 # of the images, and how often it syncs. The works are asked for in steps of 1, of 8 and of all, so that the numbers of rows by one commit differ.
 # usage: bench/rows.sh [MEBIBYTES]
-. "$(dirname "$(readlink -f "${BASH_SOURCE[0]}")")/program.sh"
-mebibytes=${1:-16}
-
-# Of each image 77824 sectors are no extents.
-size=$((77824 * 512 + mebibytes * 1048576))
-truncate -s "$size" first second third
-"$program" create 128 first second third </dev/null >made
-head -c $((512 * $(cut -d ' ' -f 2 made))) /dev/urandom | "$program" import first second third >/dev/null
-rm second
-truncate -s "$size" new
-left=$(printf 'replace 1 new\nstep 0\n' | "$program" serve first third | sed -n 's/^left //p')
-rows=$((left - 1))
+. "$(dirname "$(readlink -f "${BASH_SOURCE[0]}")")/replaced.sh"
+replaced "${1:-16}"
 mkdir before
 cp first new third before/
 
