@@ -2,7 +2,7 @@
 //!
 //! **Its model.** `IsSoundPool f` says that the parts of a pool's drives agree, and `AreSlicesOf f t` that tables of slices are those of its
 //! drives (`specs/Pools.antt`). `IsServed f t v y` says of a pool `f` that its arrays stand by a book `v` on slices `y`, which lie as `t` has
-//! them, and `HoldRest f t x` of disks `x` that outside the slices they are as the pool has them. `HoldAgain f t s i` says of contents `i` of the
+//! them, and `HoldRest f t x` of disks `x` that outside the slices they are as the pool has them. `RecoversIdle f t s i` says of contents `i` of the
 //! disks that they hold a sound pool again, by the state `s` (`specs/Left.antt`).
 //!
 //! **For the layers above.** `proofs/Again.antt`: all that the disks of such a pool may be left with holds a sound pool again, by the book's
@@ -35,7 +35,7 @@
 //! **Where targets land** (`LieApart`, `specs/Stopped.antt`; `proofs/Landing.antt`): the slices of a pool's drives lie apart by the rules on the list of drives and on the plan
 //! (`ruled_apart`), and where the drives' tables have them (`tables_apart`, `again_apart`, `landing_again`); where each drive has its table a replay then finds them (`apart_tables`).
 //!
-//! **Inside an opening** (`specs/Openings.antt`): `HoldOpened f from i` says of contents `i` that a stop inside it leaves that they hold the pool still, with its
+//! **Inside an opening** (`specs/Openings.antt`): `RecoversInOpening f from i` says of contents `i` that a stop inside it leaves that they hold the pool still, with its
 //! plan and members that count as far as they did, that targets land in it, that no superblock of an array stands on a drive that is no member of it (`NoStraySuperblock`), and that it may be replayed where a record is pending.
 //! So it is while disks are read (`proofs/Rereading.antt`), while gates are closed (`idle_holds`, `proofs/GatesSame.antt`), while the copies of tables are made to
 //! agree (`settled_holds`, `proofs/Settled.antt`), and while places without a disk are marked (`marking_amid`, `proofs/Marking.antt`; `amid_opened`,
