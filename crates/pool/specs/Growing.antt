@@ -16,11 +16,11 @@ use Rattle.lvm_group.specs.Extending.{extended}
 use Rattle.lvm_group.specs.Growth.{fits}
 use Rattle.lvm_group.specs.Runs.{Linear, data_start, extents_of}
 use Rattle.pool_state.specs.declared.contents.Work.{Work}
-use Rattle.pool_state.specs.declared.contents.Work.TheVariants.{Resync, Rebuild, TakeOver, Begin, Reshape, Finish, Make, Zero, Ready, Extend, Close}
+use Rattle.pool_state.specs.declared.contents.Work.TheVariants.{Resync, Rebuild, Begin, Make, Extend, Close}
 use Rattle.raid_laws.specs.Book.{IsSameBook}
 use Rattle.raid_laws.specs.Moves.{RaisesBy}
 use Rattle.raid_laws.specs.Raid.{Raid, spent_of}
-use Rattle.raid_laws.specs.Works.{is_due}
+use Rattle.raid_laws.specs.Works.{array_of, is_due}
 use Rattle.raid_rack.specs.Growing.{CannotLay, CannotMake}
 use Rattle.raid_rack.specs.declared.works.Stuck.{Stuck}
 use Rattle.pool.specs.Calls.{Marks}
@@ -59,17 +59,8 @@ CannotExtend l v w array =
 
 -- what it changes, by the time that superblocks of a new array have
 abbrev pub change_in : ℕ → Work → Raid → Change
-change_in seconds (Resync n) v = change_of (Resync n) v
-change_in seconds (Rebuild n place) v = change_of (Rebuild n place) v
-change_in seconds (TakeOver n) v = change_of (TakeOver n) v
-change_in seconds (Begin n place) v = change_of (Begin n place) v
-change_in seconds (Reshape n) v = change_of (Reshape n) v
-change_in seconds (Finish n) v = change_of (Finish n) v
 change_in seconds (Make n height) v = makes (new_view seconds v height)
-change_in seconds (Zero n) v = change_of (Zero n) v
-change_in seconds (Ready n) v = change_of (Ready n) v
-change_in seconds Extend v = change_of Extend v
-change_in seconds Close v = change_of Close v
+change_in seconds work v = change_of work v
 
 -- The book is changed by the work, between losses that were met before it and after it.
 pub record IsDone (work : Work) (v w : Raid) : Type 0 where
@@ -82,17 +73,8 @@ pub record IsDone (work : Work) (v w : Raid) : Type 0 where
 
 -- where the volume lies then
 abbrev pub linear_after : Work → Linear → Raid → Linear
-linear_after (Resync n) l v = l
-linear_after (Rebuild n place) l v = l
-linear_after (TakeOver n) l v = l
-linear_after (Begin n place) l v = l
-linear_after (Reshape n) l v = l
-linear_after (Finish n) l v = l
-linear_after (Make n height) l v = l
-linear_after (Zero n) l v = l
-linear_after (Ready n) l v = l
 linear_after Extend l v = extended l (target_of v)
-linear_after Close l v = l
+linear_after work l v = l
 
 -- the first of the works that the book v has left is done: l and m are where the volume lay before it and where it lies then
 pub record DoesWork (l m : Linear) (v w : Raid) : Type 0 where
@@ -113,15 +95,7 @@ pub data DoesWorks : ℕ → Linear → Raid → Linear → Raid → Type 0 wher
 abbrev pub LacksIn : {R : Type 0} → (R → RackView) → (R → R → Type 0) → Slices → R → Work → Raid → Raid → Type 0
 LacksIn seen runs t r (Begin n place) mid w = Lacks (Begin n place) mid w ⊎ CannotLay t (seen r) mid place n
 LacksIn seen runs t r (Make n height) mid w = Lacks (Make n height) mid w ⊎ CannotMake seen runs t r mid height
-LacksIn seen runs t r (Resync n) mid w = Lacks (Resync n) mid w
-LacksIn seen runs t r (Rebuild n place) mid w = Lacks (Rebuild n place) mid w
-LacksIn seen runs t r (TakeOver n) mid w = Lacks (TakeOver n) mid w
-LacksIn seen runs t r (Reshape n) mid w = Lacks (Reshape n) mid w
-LacksIn seen runs t r (Finish n) mid w = Lacks (Finish n) mid w
-LacksIn seen runs t r (Zero n) mid w = Lacks (Zero n) mid w
-LacksIn seen runs t r (Ready n) mid w = Lacks (Ready n) mid w
-LacksIn seen runs t r Extend mid w = Lacks Extend mid w
-LacksIn seen runs t r Close mid w = Lacks Close mid w
+LacksIn seen runs t r work mid w = Lacks work mid w
 
 -- a row, or the end of a plan: it isn't due, and nothing was called; or the row can't be had
 abbrev pub IsRefusedRow : Work → (v w : Raid) → Type 0
@@ -136,15 +110,9 @@ IsRefusedGrowth seen runs t r work v w =
 abbrev pub IsRefused : {R : Type 0} → (R → RackView) → (R → R → Type 0) → Slices → R → Linear → Work → (v w : Raid) → (array : ℕ) → Type 0
 IsRefused seen runs t r l (Resync n) v w array = (array ≡ n) × IsRefusedRow (Resync n) v w
 IsRefused seen runs t r l (Rebuild n place) v w array = (array ≡ n) × IsRefusedRow (Rebuild n place) v w
-IsRefused seen runs t r l (TakeOver n) v w array = (array ≡ n) × IsRefusedGrowth seen runs t r (TakeOver n) v w
-IsRefused seen runs t r l (Begin n place) v w array = (array ≡ n) × IsRefusedGrowth seen runs t r (Begin n place) v w
-IsRefused seen runs t r l (Reshape n) v w array = (array ≡ n) × IsRefusedGrowth seen runs t r (Reshape n) v w
-IsRefused seen runs t r l (Finish n) v w array = (array ≡ n) × IsRefusedGrowth seen runs t r (Finish n) v w
-IsRefused seen runs t r l (Make n height) v w array = (array ≡ n) × IsRefusedGrowth seen runs t r (Make n height) v w
-IsRefused seen runs t r l (Zero n) v w array = (array ≡ n) × IsRefusedGrowth seen runs t r (Zero n) v w
-IsRefused seen runs t r l (Ready n) v w array = (array ≡ n) × IsRefusedGrowth seen runs t r (Ready n) v w
-IsRefused seen runs t r l Extend v w array = CannotExtend l v w array
 IsRefused seen runs t r l Close v w array = (array ≡ 0) × IsRefusedRow Close v w
+IsRefused seen runs t r l Extend v w array = CannotExtend l v w array
+IsRefused seen runs t r l work v w array = (array ≡ array_of work) × IsRefusedGrowth seen runs t r work v w
 
 -- ---- calls
 
@@ -177,15 +145,7 @@ HasNone x y = (works_of x ≡ []) × (y.linear ≡ x.linear) × (book y ≡ book
 abbrev pub is_row : Work → Bool
 is_row (Resync n) = true
 is_row (Rebuild n place) = true
-is_row (TakeOver n) = false
-is_row (Begin n place) = false
-is_row (Reshape n) = false
-is_row (Finish n) = false
-is_row (Make n height) = false
-is_row (Zero n) = false
-is_row (Ready n) = false
-is_row Extend = false
-is_row Close = false
+is_row work = false
 
 -- So many works are done, or fewer where none is left then.
 abbrev pub DoesMany : ℕ → View → View → Type 0

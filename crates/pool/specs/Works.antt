@@ -11,7 +11,7 @@ use Rattle.sync_laws.specs.Rows.{others_give}
 use Rattle.sync_laws.specs.Steps.{reach_on}
 use Rattle.pool_state.specs.declared.contents.Plan.TheVariants.{Nothing}
 use Rattle.pool_state.specs.declared.contents.Work.{Work}
-use Rattle.pool_state.specs.declared.contents.Work.TheVariants.{Resync, Rebuild, TakeOver, Begin, Reshape, Finish, Make, Zero, Ready, Extend, Close}
+use Rattle.pool_state.specs.declared.contents.Work.TheVariants.{Resync, Rebuild, Close}
 use Rattle.growth_plan.specs.declared.ArrayNow.{ArrayNow}
 use Rattle.growth_plan.specs.declared.Progress.{Progress}
 use Rattle.growth_plan.specs.Works.{works_left}
@@ -137,15 +137,7 @@ KeepsPlan l v w = (w.state.plan ≡ v.state.plan) ⊎ EndsPlan l v w
 abbrev pub LacksRow : (v w : Raid) → Work → Type 0
 LacksRow v w (Resync n) = is_stuck w n (v.arrays n).resync ≡ true
 LacksRow v w (Rebuild n place) = (is_failed w n || not (others_give (w.arrays n) place (next_row (v.arrays n) place))) ≡ true
-LacksRow v w (TakeOver n) = ⊥
-LacksRow v w (Begin n place) = ⊥
-LacksRow v w (Reshape n) = ⊥
-LacksRow v w (Finish n) = ⊥
-LacksRow v w (Make n height) = ⊥
-LacksRow v w (Zero n) = ⊥
-LacksRow v w (Ready n) = ⊥
-LacksRow v w Extend = ⊥
-LacksRow v w Close = ⊥
+LacksRow v w work = ⊥
 
 -- The first of the works that the book v has left can't be done, which is one of this array: it isn't due, and nothing was called; or its next row can't be had by the
 -- book w, which has the losses that were met in the try. Of the other arrays nothing has changed but whom they lost, and a plan goes on.
