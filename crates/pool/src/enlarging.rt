@@ -39,7 +39,7 @@ impl<R: Bay> Pool<R> {
 
     /// Takes a disk in at a place, whose drive is missing or gives way to it, by a plan to grow. A drive that isn't missing is the place's until the
     /// commit that takes the new one in.
-    fn take_grown(&mut self, place: u32, disk: u32) -> Result<(), GrowFault>
+    fn take_larger(&mut self, place: u32, disk: u32) -> Result<(), GrowFault>
         requires fit { (volume (view R.seen R.shelf self.old)).fit }
         requires listed { place < length (book (view R.seen R.shelf self.old)).state.drives.items }
         requires disk { disk < (R.seen (bay_in self.old)).disks }
@@ -89,13 +89,13 @@ impl<R: Bay> Pool<R> {
         ensures runs { R.runs (bay_in self.old) (bay_in self.new) }
     {
         if !self.has_drive(place) {
-            return self.take_grown(place, disk);
+            return self.take_larger(place, disk);
         }
-        match self.take_grown(place, disk) {
+        match self.take_larger(place, disk) {
             Ok(()) => Ok(()),
             Err(fault) => {
                 if self.lacks_alone(place) {
-                    self.take_grown(place, disk)
+                    self.take_larger(place, disk)
                 } else {
                     Err(fault)
                 }

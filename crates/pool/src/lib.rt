@@ -17,6 +17,14 @@
 //! (specs/Replacing.antt); what a stop inside leaves is read as before it, or with the new drive and its table. A drive that gives way
 //! is cleaned first, with all arrays, and is the place's until the new one is (specs/Entering.antt). Runs of calls that attach disks too are joined by
 //! proofs/Continuing.antt (`Continues`, `KeepsOutside`).
+//!
+//! **A growth.** [`Pool::add`] takes a drive in at the next place (`AddsDrive` of specs/Adding.antt), and [`Pool::replace`] a larger one in
+//! the place of another (`EnlargesDrive` of specs/Enlarging.antt): each by one commit, which has the drive and the plan to grow by it.
+//! [`Pool::grow`] then does the works that are left of the plan, in their order. A mirror becomes RAID-5, an array gets a member more and its
+//! rows are moved over all of them, a new array is made over what the arrays leave and is zeroed, the volume is extended, and the plan ends.
+//!
+//! Of a growth it is promised what each call does to the book: its own change and losses, each with its cause, or why it is refused
+//! (`GrowsBy` of specs/Growing.antt). That the volume keeps its values meanwhile, and what stops leave, is tested only.
 #![tactic(auto)]
 
 mod adding;

@@ -11,7 +11,7 @@ use Rattle.slice_rack.specs.SliceRack.{below_of}
 use Rattle.pool.specs.declared.Pool.{Pool}
 use Rattle.pool.specs.View.{bay_in, book, view}
 use Rattle.pool.proofs.GrownPools.{keeps_gone, keeps_lost, keeps_tables, may_begin, reached, says_gone, says_lost, says_taken, unseated}
-use Rattle.pool.proofs.Pool.take_grown.Goals as goal
+use Rattle.pool.proofs.Pool.take_larger.Goals as goal
 
 pub add_drive-requires-clause-fit : goal.add_drive-requires-clause-fit
 add_drive-requires-clause-fit g c = subst (λ r. IsFit (arrays_in r) (slices_seen g.R.Rack.seen r)) (sym c.inner.ensures.value) c.give_up.ensures.fit
