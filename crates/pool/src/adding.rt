@@ -1,6 +1,6 @@
 //! A drive is added to the pool: the disk of a name, on the next place.
 
-ghost use Rattle.std.specs.Prelude.{◌≡◌, ◌<◌, ◌^◌, Some, None, length};
+ghost use Rattle.std.specs.Prelude.{◌≡◌, ◌<◌, ◌^◌, None, length};
 ghost use Rattle.std.specs.Result.{result_err};
 ghost use Rattle.growth_plan.specs.Book.{IsBook};
 ghost use Rattle.pool.specs.Adding as spec;

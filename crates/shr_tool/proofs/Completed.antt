@@ -16,7 +16,7 @@ use Rattle.layer_plan.specs.declared.PlanError.TheVariants.{TooFew as FewDrives,
 use Rattle.lvm_group.specs.Runs.{Linear, sectors_in}
 use Rattle.pool_image.specs.Disks.{Disks, disks_of}
 use Rattle.pool_image.specs.Drives.{Found, found}
-use Rattle.pool_image.specs.Meaning.{Volume, arrays_held, group_of, joined_arrays, meaning, refusal_of, volume_by, volumes_of}
+use Rattle.pool_image.specs.Meaning.{Volume, arrays_held, joined_arrays, meaning, refusal_of, volume_by, volumes_of}
 use Rattle.pool_image.specs.Meaning as meaning
 use Rattle.pool_image.specs.Volumes.{linear_of}
 use Rattle.pool_model.specs.Grouped.{IsVolumeOf}

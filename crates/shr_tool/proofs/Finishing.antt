@@ -22,7 +22,7 @@ use Rattle.shr_tool.specs.declared.serve.Stop.{Stop}
 use Rattle.shr_tool.specs.declared.serve.Stop.TheVariants.{Quit as AtQuit, Input, SourceFault, Limit as AtLimit, SinkFault}
 use Rattle.shr_tool.specs.declared.status.Status.{Status}
 use Rattle.shr_tool.specs.declared.status.Status.TheVariants.{Limit}
-use Rattle.shr_tool.specs.Events.{AnyTakes, Event, any_takes, array_by, texts}
+use Rattle.shr_tool.specs.Events.{AnyTakes, Event, any_takes, array_by}
 use Rattle.pool.specs.Moment.{moment_of}
 use Rattle.pool.specs.Proceeding.{Proceeds}
 use Rattle.shr_script.specs.Line.{Line}

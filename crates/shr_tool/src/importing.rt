@@ -1,11 +1,10 @@
 //! `import NAME..`: writes the input's bytes to the volume from its first sector on, a sector a piece.
 
-ghost use Rattle.std.specs.Prelude.{◌≡◌, ◌≢◌, ◌≤◌, ◌<◌, ◌+◌, ◌↔◌, ◌++◌, codes, decimal, take, replicate, length, IfOk, OnErr, [], ℕ};
+ghost use Rattle.std.specs.Prelude.{◌≡◌, ◌≢◌, ◌≤◌, ◌<◌, ◌+◌, ◌↔◌, ◌++◌, take, IfOk, OnErr, [], ℕ};
 ghost use Rattle.rack.specs.Seen.{Rose};
 ghost use Rattle.flat_array.specs.Array.{FlatArray};
 ghost use Rattle.pool.specs.Calls.{CallFrame};
 ghost use Rattle.pool.specs.View.{bay_in, view, volume};
-ghost use Rattle.pool.specs.Volume.{size_of};
 ghost use Rattle.shr_tool.specs.Serving.{IsServing};
 ghost use Rattle.shr_tool.specs.Importing.{HasImportCause, ImportOutcome, Imports, SaysWritten, TakesSector, filled_up};
 ghost use Rattle.shr_tool.specs.Outcome.{HasStatusCause};

@@ -1,6 +1,6 @@
 //! A line of a script, answered on a pool.
 
-ghost use Rattle.std.specs.Prelude.{◌≡◌, ◌+◌, ◌≤◌, ◌<◌, replicate, true, false, Ok, OnOk, IfErr, Result};
+ghost use Rattle.std.specs.Prelude.{◌≡◌, ◌+◌, ◌≤◌, ◌<◌, true, false, Ok, Result};
 ghost use Rattle.shr_script.specs.declared.Command.TheVariants.{Read, Write, Fill, Flush, Lose, Replace, Add, Step};
 ghost use Rattle.flat_array.specs.Reply.{fault_word, spent_line};
 ghost use Rattle.pool.specs.Proceeding.{has_growth};

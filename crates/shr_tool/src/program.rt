@@ -1,6 +1,6 @@
 //! All that the program does, over any bay, source and sink.
 
-ghost use Rattle.std.specs.Prelude.{◌≡◌, ◌≢◌, ◌⊎◌, ◌<◌, ◌≤◌, ◌^◌, ℕ, List, true, false, length, drop, map, codes, string_bytes, Some, None};
+ghost use Rattle.std.specs.Prelude.{◌≡◌, ◌⊎◌, ◌<◌, ◌≤◌, ◌^◌, ℕ, true, false, length, drop, map, codes, string_bytes, Some, None};
 ghost use Rattle.rack.specs.Seen.{Rose};
 ghost use Rattle.shr_tool.specs.declared.status.Status.TheVariants.{Words, Memory};
 ghost use Rattle.shr_words.specs.declared.forms.Form.TheVariants.{Layout, Create, Serve, Import, Export, Status as StatusOf, Examine, Trial};

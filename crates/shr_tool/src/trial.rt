@@ -7,7 +7,6 @@ ghost use Rattle.pool.specs.Moment.{moment_of};
 ghost use Rattle.pool.specs.View.{bay_in, view, volume};
 ghost use Rattle.pool.specs.Volume.{size_of};
 ghost use Rattle.shr_tool.specs.Outcome.{HasStatusCause};
-ghost use Rattle.shr_tool.specs.Saying.{Says};
 ghost use Rattle.shr_tool.specs.Serving.{IsServing};
 ghost use Rattle.shr_tool.specs.Trial.{IsSmall, IsWithin, SaysTried, Takes, TrialOutcome, TriesOn, counted, drawn, next, tally_line, tally_of, turn_from};
 

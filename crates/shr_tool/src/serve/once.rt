@@ -1,6 +1,6 @@
 //! Says how a pool stands: answers the script `status` and ends the pool.
 
-ghost use Rattle.std.specs.Prelude.{◌≡◌, ◌≢◌, ◌≤◌, [], codes};
+ghost use Rattle.std.specs.Prelude.{◌≢◌, ◌≤◌, [], codes};
 ghost use Rattle.flat_array.specs.Array.{FlatArray};
 ghost use Rattle.pool.specs.Proceeding.{Proceeds};
 ghost use Rattle.pool.specs.View.{bay_in, view, volume};

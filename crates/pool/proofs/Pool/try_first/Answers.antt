@@ -7,7 +7,7 @@ use Rattle.pool_state.specs.declared.contents.Work.{Work}
 use Rattle.raid_laws.specs.Moves.{RaisesBy}
 use Rattle.raid_laws.specs.Runs.{RaidRuns}
 use Rattle.pool.specs.Growing.{TriesFirst}
-use Rattle.pool.specs.View.{arrays_of, bay_in, book, view}
+use Rattle.pool.specs.View.{arrays_of, book, view}
 use Rattle.pool.proofs.Grows.{first_tried, none_tried}
 use Rattle.pool.proofs.RowsTried.{MovesSays, moves_tried, rows_tried}
 use Rattle.pool.proofs.Stepping.{SaysOf, some_drive}
