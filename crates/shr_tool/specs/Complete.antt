@@ -1,5 +1,5 @@
 -- How a run comes out where nothing is against it: what the words ask for is done, unless memory was wanting or a sector or a work of the pool is spent.
-use Rattle.std.specs.Prelude.{◌≡◌, ◌⊎◌, ℕ, ◌*◌, ◌<◌, ◌≤◌, ◌^◌, Bool, true, false, List, [], ◌∷◌, length, slice_get, Option, Some, Ok, Err}
+use Rattle.std.specs.Prelude.{◌≡◌, ◌⊎◌, ℕ, ◌*◌, ◌<◌, ◌≤◌, ◌^◌, Bool, true, false, List, [], ◌∷◌, length, slice_get, Option, Some, Ok}
 use Rattle.std.specs.List.{list_any}
 use Rattle.std.proofs.Common.{inl, inr}
 use Rattle.rack.specs.Seen.{Image, RackView, Rose}
@@ -11,7 +11,7 @@ use Rattle.pool_image.specs.Drives.{Found, found}
 use Rattle.pool_image.specs.Meaning.{Volume, meaning}
 use Rattle.pool_model.specs.Pools.{IsSoundPool}
 use Rattle.pool_rest.specs.SoundLogs.{HasSoundLogs}
-use Rattle.shr_script.specs.declared.Command.TheVariants.{Read, Write, Fill, Flush, Size, Lose, Replace, Add, Step, Status as ShowLine, Quit}
+use Rattle.shr_script.specs.declared.Command.TheVariants.{Replace, Add}
 use Rattle.shr_script.specs.Line.{Line}
 use Rattle.shr_script.specs.Script.{script_of}
 use Rattle.shr_words.specs.declared.forms.Form.{Form}
@@ -99,18 +99,9 @@ IsTakenWhole (tasks.Trial seed) text size = Unit {0}
 
 -- a line names an image, to add it or to replace a drive by it
 abbrev pub names_image : Line → Bool
-names_image (Ok (Read sector)) = false
-names_image (Ok (Write sector bytes)) = false
-names_image (Ok (Fill sector count byte)) = false
-names_image (Ok Flush) = false
-names_image (Ok Size) = false
-names_image (Ok (Lose place)) = false
 names_image (Ok (Replace place name)) = true
 names_image (Ok (Add name)) = true
-names_image (Ok (Step count)) = false
-names_image (Ok ShowLine) = false
-names_image (Ok Quit) = false
-names_image (Err fault) = false
+names_image line = false
 
 -- the task is a script with such a line
 abbrev pub NamesImage : Task → List ℕ → Type 0

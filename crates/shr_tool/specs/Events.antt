@@ -1,6 +1,6 @@
 -- What a line of a script does on a pool: as a flat array of sectors has it, or what lost drives make of it.
 use Rattle.std.specs.Prelude.{◌≡◌, ◌⊎◌, ℕ, ◌+◌, ◌<◌, ◌≤◌, ◌||◌, not, Bool, true, false, slice_get, Some, List, [], ◌∷◌, ◌++◌, codes, decimal, Ok, Err}
-use Rattle.shr_script.specs.declared.Command.TheVariants.{Read, Write, Fill, Flush, Size, Lose, Replace, Add, Step, Status, Quit}
+use Rattle.shr_script.specs.declared.Command.TheVariants.{Read, Write, Fill, Size, Lose, Replace, Add, Step, Status, Quit}
 use Rattle.shr_script.specs.Line.{Line}
 use Rattle.shr_script.specs.Reply.{as_line, left_line, refused_line}
 use Rattle.flat_array.specs.Array.{FlatArray}
@@ -44,18 +44,9 @@ line_of (shown text) = Ok Status
 
 -- how many calls of a pool a line has: one for each sector of a fill and each work of a step
 abbrev pub calls_in : Line → ℕ
-calls_in (Ok (Read sector)) = 1
-calls_in (Ok (Write sector bytes)) = 1
 calls_in (Ok (Fill sector count byte)) = count
-calls_in (Ok Flush) = 1
-calls_in (Ok Size) = 1
-calls_in (Ok (Lose place)) = 1
-calls_in (Ok (Replace place name)) = 1
-calls_in (Ok (Add name)) = 1
 calls_in (Ok (Step count)) = count
-calls_in (Ok Status) = 1
-calls_in (Ok Quit) = 1
-calls_in (Err fault) = 1
+calls_in line = 1
 
 -- the reply where an array can't do a work
 abbrev pub stuck_line : ℕ → List ℕ
@@ -219,68 +210,31 @@ AnyTakes names (event ∷ events) d = Takes names event d ⊎ AnyTakes names eve
 
 -- no disk is asked for the answer: to a wrong line, of the size, how the pool stands, a place that isn't in the list
 abbrev pub calls_none : Event → Bool
-calls_none (answered (Ok (Read sector))) = false
-calls_none (answered (Ok (Write sector bytes))) = false
-calls_none (answered (Ok (Fill sector count byte))) = false
-calls_none (answered (Ok Flush)) = false
 calls_none (answered (Ok Size)) = true
-calls_none (answered (Ok (Lose place))) = false
-calls_none (answered (Ok (Replace place name))) = false
-calls_none (answered (Ok (Add name))) = false
-calls_none (answered (Ok (Step count))) = false
-calls_none (answered (Ok Status)) = false
 calls_none (answered (Ok Quit)) = true
 calls_none (answered (Err fault)) = true
-calls_none (spent line sector) = false
-calls_none (lost place) = false
-calls_none (last place) = false
-calls_none (replaced place name) = false
 calls_none (declined place name fault) = not (looks_at fault)
-calls_none (stepped count left) = false
-calls_none (stuck count array) = false
 calls_none (shown text) = true
+calls_none event = false
 
 -- a line that is answered as a flat array answers it, and not by the drives, the works that are left or how the pool stands
 abbrev pub IsOfArray : Line → Type 0
-IsOfArray (Ok (Read sector)) = Unit {0}
-IsOfArray (Ok (Write sector bytes)) = Unit {0}
-IsOfArray (Ok (Fill sector count byte)) = Unit {0}
-IsOfArray (Ok Flush) = Unit {0}
-IsOfArray (Ok Size) = Unit {0}
-IsOfArray (Ok (Lose place)) = Unit {0}
 IsOfArray (Ok (Replace place name)) = ⊥
 IsOfArray (Ok (Add name)) = ⊥
 IsOfArray (Ok (Step count)) = ⊥
 IsOfArray (Ok Status) = ⊥
-IsOfArray (Ok Quit) = Unit {0}
-IsOfArray (Err fault) = Unit {0}
+IsOfArray line = Unit {0}
 
 -- a sector that a line reads or writes, of a volume of so many sectors
 abbrev pub Touches : ℕ → Line → ℕ → Type 0
 Touches size (Ok (Read sector)) s = (s ≡ sector) × (sector < size)
 Touches size (Ok (Write sector bytes)) s = (s ≡ sector) × (sector < size)
 Touches size (Ok (Fill sector count byte)) s = (sector ≤ s) × (s < sector + count) × (sector + count ≤ size)
-Touches size (Ok Flush) s = ⊥
-Touches size (Ok Size) s = ⊥
-Touches size (Ok (Lose place)) s = ⊥
-Touches size (Ok (Replace place name)) s = ⊥
-Touches size (Ok (Add name)) s = ⊥
-Touches size (Ok (Step count)) s = ⊥
-Touches size (Ok Status) s = ⊥
-Touches size (Ok Quit) s = ⊥
-Touches size (Err fault) s = ⊥
+Touches size line s = ⊥
 
 -- the last one of them
 abbrev pub TouchesLast : ℕ → Line → ℕ → Type 0
 TouchesLast size (Ok (Read sector)) s = (s ≡ sector) × (sector < size)
 TouchesLast size (Ok (Write sector bytes)) s = (s ≡ sector) × (sector < size)
 TouchesLast size (Ok (Fill sector count byte)) s = (s + 1 ≡ sector + count) × (sector ≤ s) × (sector + count ≤ size)
-TouchesLast size (Ok Flush) s = ⊥
-TouchesLast size (Ok Size) s = ⊥
-TouchesLast size (Ok (Lose place)) s = ⊥
-TouchesLast size (Ok (Replace place name)) s = ⊥
-TouchesLast size (Ok (Add name)) s = ⊥
-TouchesLast size (Ok (Step count)) s = ⊥
-TouchesLast size (Ok Status) s = ⊥
-TouchesLast size (Ok Quit) s = ⊥
-TouchesLast size (Err fault) s = ⊥
+TouchesLast size line s = ⊥

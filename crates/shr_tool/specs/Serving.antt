@@ -3,7 +3,7 @@ use Rattle.std.specs.Prelude.{◌≡◌, ◌≢◌, ◌⊎◌, true, false, ℕ,
 use Rattle.rack.specs.Seen.{Image, Rose}
 use Rattle.io_ends.specs.Sink.{AddsPrefix}
 use Rattle.shr_script.specs.Line.{Line}
-use Rattle.shr_script.specs.declared.Command.TheVariants.{Read, Write, Fill, Flush, Size, Lose, Replace, Add, Step, Status, Quit}
+use Rattle.shr_script.specs.declared.Command.TheVariants.{Quit}
 use Rattle.flat_array.specs.Array.{FlatArray}
 use Rattle.shr_script.specs.Script.{script_of, cut_script_of}
 use Rattle.pool.specs.Calls.{CallFrame}
@@ -33,18 +33,8 @@ IsServing x a = VolumeIs x a × (volume x).told 0
 
 -- a line that isn't `quit`
 abbrev pub IsReplied : Line → Type 0
-IsReplied (Ok (Read sector)) = Unit {0}
-IsReplied (Ok (Write sector bytes)) = Unit {0}
-IsReplied (Ok (Fill sector count byte)) = Unit {0}
-IsReplied (Ok Flush) = Unit {0}
-IsReplied (Ok Size) = Unit {0}
-IsReplied (Ok (Lose place)) = Unit {0}
-IsReplied (Ok (Replace place name)) = Unit {0}
-IsReplied (Ok (Add name)) = Unit {0}
-IsReplied (Ok (Step count)) = Unit {0}
-IsReplied (Ok Status) = Unit {0}
 IsReplied (Ok Quit) = ⊥
-IsReplied (Err fault) = Unit {0}
+IsReplied line = Unit {0}
 
 -- A line was done on the pool, with this reply.
 pub record Answers (x y : View) (line : Line) (answer : Answer) (text : List ℕ) : Type 0 where
