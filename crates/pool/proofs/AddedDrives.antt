@@ -51,22 +51,24 @@ module _ (x : View) (bay : x.bays.one) (name : List ℕ) (fit : (volume x).fit) 
   added_unattached e at = record {
     continues = at.continues;
     raises = raises_still 1 x;
-    names = at.names;
-    cause = record {
-      attach = λ same. at.attach (ap Err (same_fault e Attach same));
-      none = λ why. at.none (elim why [ inl same ↦ inl (ap Err (same_fault e Attach same)) | inr same ↦ inr (ap Err (same_fault e Memory same)) ]);
-      used = λ d named. (
-        λ same. (at.used d named).0 (ap Err (same_fault e Attach same)),
-        λ same. (at.used d named).1 (ap Err (same_fault e Memory same)),
-      );
-      twice = (λ same. at.twice.0 (ap Err (same_fault e Twice same)), λ of. ap Err (same_of e Twice (at.twice.1 of)));
-      named = λ look. absurd (looked look at.err);
-      answer = λ look. absurd (looked look at.err);
-      gone = λ same. absurd (not_gone (same_fault e Gone same) at.err);
-    };
     marks = λ k was now. absurd (both_ways (is_current (book x).state k) now was);
-    declined = (refl, refl);
-    added = tt;
+    adds = record {
+      names = at.names;
+      cause = record {
+        attach = λ same. at.attach (ap Err (same_fault e Attach same));
+        none = λ why. at.none (elim why [ inl same ↦ inl (ap Err (same_fault e Attach same)) | inr same ↦ inr (ap Err (same_fault e Memory same)) ]);
+        used = λ d named. (
+          λ same. (at.used d named).0 (ap Err (same_fault e Attach same)),
+          λ same. (at.used d named).1 (ap Err (same_fault e Memory same)),
+        );
+        twice = (λ same. at.twice.0 (ap Err (same_fault e Twice same)), λ of. ap Err (same_of e Twice (at.twice.1 of)));
+        named = λ look. absurd (looked look at.err);
+        answer = λ look. absurd (looked look at.err);
+        gone = λ same. absurd (not_gone (same_fault e Gone same) at.err);
+      };
+      declined = (refl, refl);
+      added = tt;
+    };
   }
     where
       Early : Type 0
@@ -111,29 +113,31 @@ module _ (x : View) (bay : x.bays.one) (name : List ℕ) (fit : (volume x).fit) 
         record {
           continues = continues_then x m y at.continues by.continues;
           raises = raises_more 36 (most_raised * 1) (book x) (book y) (omega arith) by.raises;
-          names = record {
-            there = λ d named. let old = at.names.there d (named_before d named) in let more = by.continues.disks in omega (arith, old, more);
-            one = λ d e first second. at.names.one d e (named_before d first) (named_before e second);
-            came = λ d past inside. let equal = by.disks in ap (λ names. slice_get names d) by.names ∙ at.names.came d past (omega (arith, inside, equal));
-            old = λ d low named. at.names.old d low (named_before d named);
-            others = λ d n is. at.names.others d n (ap (λ names. slice_get names d) (sym by.names) ∙ is);
-          };
-          cause = record {
-            attach = λ same. absurd ((late Attach same).attached refl);
-            none = λ why. elim why [ inl same ↦ absurd ((late Attach same).attached refl) | inr same ↦ absurd ((late Memory same).had refl) ];
-            used = λ d named. (λ same. (late Attach same).attached refl, λ same. (late Memory same).had refl);
-            twice = (λ same. absurd ((late Twice same).other refl), λ of. absurd (not_drive of));
-            named = λ look. (disk, here);
-            answer = λ look d named.
-                subst (λ e. IsAddAnswer (refusal_of_add x.linear (book x) (y.bay.sectors e)) r) (sym (only d named))
-                (subst (λ n. IsAddAnswer (refusal_of_add x.linear (book x) n) r) (sym size) by.answer);
-            gone = λ same d named.
-                subst (λ e. Rose (faults_before (moment_of x) e) (y.bay.faults e)) (sym (only d named))
-                (subst (λ n. Rose n (y.bay.faults disk)) (at.faults disk at.ok.1) (by.gone same));
-          };
           marks = λ k was now. elim (by.marks k was now) [ inl rose ↦ inl (rose_from y k was rose) | inr never ↦ absurd never ];
-          declined = by.declined;
-          added = all r by.added;
+          adds = record {
+            names = record {
+              there = λ d named. let old = at.names.there d (named_before d named) in let more = by.continues.disks in omega (arith, old, more);
+              one = λ d e first second. at.names.one d e (named_before d first) (named_before e second);
+              came = λ d past inside. let equal = by.disks in ap (λ names. slice_get names d) by.names ∙ at.names.came d past (omega (arith, inside, equal));
+              old = λ d low named. at.names.old d low (named_before d named);
+              others = λ d n is. at.names.others d n (ap (λ names. slice_get names d) (sym by.names) ∙ is);
+            };
+            cause = record {
+              attach = λ same. absurd ((late Attach same).attached refl);
+              none = λ why. elim why [ inl same ↦ absurd ((late Attach same).attached refl) | inr same ↦ absurd ((late Memory same).had refl) ];
+              used = λ d named. (λ same. (late Attach same).attached refl, λ same. (late Memory same).had refl);
+              twice = (λ same. absurd ((late Twice same).other refl), λ of. absurd (not_drive of));
+              named = λ look. (disk, here);
+              answer = λ look d named.
+                  subst (λ e. IsAddAnswer (refusal_of_add x.linear (book x) (y.bay.sectors e)) r) (sym (only d named))
+                  (subst (λ n. IsAddAnswer (refusal_of_add x.linear (book x) n) r) (sym size) by.answer);
+              gone = λ same d named.
+                  subst (λ e. Rose (faults_before (moment_of x) e) (y.bay.faults e)) (sym (only d named))
+                  (subst (λ n. Rose n (y.bay.faults disk)) (at.faults disk at.ok.1) (by.gone same));
+            };
+            declined = by.declined;
+            added = all r by.added;
+          };
         }
       where
         named_before : (d : ℕ) → IsNamed (moment_of y) name d → IsNamed (moment_of m) name d

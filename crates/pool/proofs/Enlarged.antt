@@ -59,11 +59,13 @@ module _ (x : View) (b : RackView) (s : Shelf) (place disk : ℕ) (t : Slices) (
   pub grown_gone : IsFit x.arrays (slices_of t b) → Rose (x.bay.faults disk) (b.faults disk) → EnlargesBy x (later x b s t x.arrays) place disk (Err Gone)
   grown_gone after rose = record {
     continues = goes_on x b s t x.arrays disk may fit only names orderly after (as_long (book x) (book x) refl (λ n inside. refl));
-    answer = inr (inl refl);
-    gone = λ same. subst (λ n. Rose n (b.faults disk)) (sym (ap (λ c. if c then x.bay.faults disk else 0) (lt-ltb disk x.bay.disks low))) rose;
     marks = λ k was gone. absurd (both_ways (is_current (book x).state k) gone was);
-    declined = declined_gone x b s place disk t linear fit kind empty now names ordered orderly;
-    taken = tt;
+    takes = record {
+      answer = inr (inl refl);
+      gone = λ same. subst (λ n. Rose n (b.faults disk)) (sym (ap (λ c. if c then x.bay.faults disk else 0) (lt-ltb disk x.bay.disks low))) rose;
+      declined = declined_gone x b s place disk t linear fit kind empty now names ordered orderly;
+      taken = tt;
+    };
   }
 
   -- another drive was found gone, it may be the place's own
@@ -73,11 +75,13 @@ module _ (x : View) (b : RackView) (s : Shelf) (place disk : ℕ) (t : Slices) (
       let declined = declined_lost x b s place disk t linear fit kind empty now names ordered orderly z loses.marks loses.plan loses.arrays lost.caused.cause (lost.lost.0, lost.lost.1, lost.lost.2) in
       record {
         continues = goes_on x b s t z disk may fit only names orderly after (loses_as_long (book x) (raid_by z) loses);
-        answer = inr (inr refl);
-        gone = λ same. absurd (let e : NotWhole ≡ Gone = same_fault NotWhole Gone same in cc e);
         marks = λ k was gone. inl (declined.cause k was gone);
-        declined = declined;
-        taken = tt;
+        takes = record {
+          answer = inr (inr refl);
+          gone = λ same. absurd (let e : NotWhole ≡ Gone = same_fault NotWhole Gone same in cc e);
+          declined = declined;
+          taken = tt;
+        };
       }
 
   -- it is taken in
@@ -92,15 +96,17 @@ module _ (x : View) (b : RackView) (s : Shelf) (place disk : ℕ) (t : Slices) (
       ∙ current_enlisted place units (Replace place) (book x).state k listed in
       record {
         continues = goes_on x b s u z disk may fit only names ordered_now after (longer x b s u z disk may fit only names ordered_now after units units_is place (Replace place) there takes all);
-        answer = inl refl;
-        gone = λ same. absurd (never_fault Gone same);
         marks = λ k was gone.
             elim (cases_eq k place) [
               | inl same ↦ inr (refl, same)
               | inr other ↦ inl (went_other x b s u z disk may fit only names ordered_now after units units_is place (Replace place) there takes all k was other gone)
             ];
-        declined = tt;
-        taken = taken x b s u z disk may fit only names ordered_now after units units_is place (Replace place) there takes all low;
+        takes = record {
+          answer = inl refl;
+          gone = λ same. absurd (never_fault Gone same);
+          declined = tt;
+          taken = taken x b s u z disk may fit only names ordered_now after units units_is place (Replace place) there takes all low;
+        };
       }
 
 -- ---- the place's own drive was found gone, and another try follows
@@ -193,15 +199,17 @@ module _ (x m y : View) (place disk : ℕ) (fit : (volume x).fit) (ordered : IsO
   pub grown_then : EnlargesBy x y place disk r
   grown_then = record {
     continues = continues_then x m y first.continues by.continues;
-    answer = by.answer;
-    gone = λ is. rose_since faults_more (by.gone is);
     marks = λ k current gone.
         elim (cases_Bool (is_current (book m).state k)) [
           | inl still ↦ elim (by.marks k still gone) [ inl rose ↦ inl (went_since k current rose) | inr own ↦ inr own ]
           | inr early ↦ inl (went_early k current early)
         ];
-    declined = declined_at r by.declined;
-    taken = taken_at r by.taken;
+    takes = record {
+      answer = by.takes.answer;
+      gone = λ is. rose_since faults_more (by.takes.gone is);
+      declined = declined_at r by.takes.declined;
+      taken = taken_at r by.takes.taken;
+    };
   }
     where
       declined_at : (r : Answer) → IfErr r (IsDeclined (moment_of m) (moment_of y) place) → IfErr r (IsDeclined (moment_of x) (moment_of y) place)

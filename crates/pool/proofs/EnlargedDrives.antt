@@ -10,9 +10,9 @@ use Rattle.raid_laws.specs.Book.{OnlyMarksSince}
 use Rattle.raid_laws.specs.Moves.{RaisesBy}
 use Rattle.raid_rack.proofs.Raises.{raises_more}
 use Rattle.pool.specs.Adding.{IsTakenIn}
-use Rattle.pool.specs.Enlarging.{Enlarges, EnlargesBy, EnlargesDrive}
+use Rattle.pool.specs.Enlarging.{Enlarges, EnlargesBy, EnlargesDrive, TakesLarger}
 use Rattle.pool.specs.Keeping.{most_raised}
-use Rattle.pool.specs.Moment.{moment_of}
+use Rattle.pool.specs.Moment.{IsNamed, moment_of}
 use Rattle.pool.specs.Replaced.{HasMarked, HasMarkedOther, IsAnswer}
 use Rattle.pool.specs.Replacing.{has_other_missing, has_same, refusal_of}
 use Rattle.pool.specs.Taking.{AttachesDisk}
@@ -33,8 +33,7 @@ pub enlarged : (x y : View) (place disk : ℕ) (r : Answer) → disk < x.bay.dis
 enlarged x y place disk r low admits other k few raises lost by =
     let size : y.bay.sectors disk ≡ x.bay.sectors disk = by.continues.sectors disk low in
     record {
-      admitted = ap (refusal_of x.linear (book x) place) size ∙ admits;
-      other = ap (has_same (book x) place) size ∙ other;
+      larger = (ap (refusal_of x.linear (book x) place) size ∙ admits, ap (has_same (book x) place) size ∙ other);
       raises = raises_more k (most_raised * 1) (book x) (book y) (omega (arith, few)) raises;
       not_whole = lost;
       by = by;
@@ -98,19 +97,34 @@ module _ (x : View) (bay : x.bays.one) (place : ℕ) (name : List ℕ) (listed :
   by_since : EnlargesBy m y place disk r → EnlargesBy x y place disk r
   by_since by = record {
     continues = continues_then x m y at.continues by.continues;
-    answer = by.answer;
-    gone = λ is. subst (λ n. Rose n (y.bay.faults disk)) (before_same x bay place name listed fit ordered disk at disk) (by.gone is);
     marks = λ k was now. elim (by.marks k was now) [ inl rose ↦ inl (rose_from x bay place name listed fit ordered disk at y k was rose) | inr own ↦ inr own ];
-    declined = declined_since x bay place name listed fit ordered disk at y r by.declined;
-    taken = taken_since r by.taken;
+    takes = record {
+      answer = by.takes.answer;
+      gone = λ is. subst (λ n. Rose n (y.bay.faults disk)) (before_same x bay place name listed fit ordered disk at disk) (by.takes.gone is);
+      declined = declined_since x bay place name listed fit ordered disk at y r by.takes.declined;
+      taken = taken_since r by.takes.taken;
+    };
   }
 
   pub enlarged_by : y.shelf.names ≡ (x.bays.shelf bay).names → y.bay.disks ≡ (x.bays.seen bay).disks → Enlarges m y place disk r → EnlargesDrive x y place name r
-  enlarged_by names disks is = record {
-    listed = listed;
-    other = not_drive x bay place name listed fit ordered disk at;
-    names = names_since x bay place name listed fit ordered disk at y names disks is.by.continues;
-    disk = disk;
-    named = ap (λ ns. slice_get ns disk) names ∙ at.ok.0;
-    enlarges = record { admitted = is.admitted; other = is.other; raises = is.raises; not_whole = is.not_whole; by = by_since is.by };
-  }
+  enlarged_by names disks is =
+      let by = by_since is.by in
+      let here : IsNamed (moment_of y) name disk = ap (λ ns. slice_get ns disk) names ∙ at.ok.0 in
+      let named = names_since x bay place name listed fit ordered disk at y names disks is.by.continues in
+      record {
+        continues = by.continues;
+        raises = is.raises;
+        marks = by.marks;
+        enlarging = record {
+          listed = listed;
+          other = not_drive x bay place name listed fit ordered disk at;
+          disk = disk;
+          named = here;
+          larger = is.larger;
+        };
+        enlarges = record {
+          names = named;
+          not_whole = is.not_whole;
+          takes = λ d is_d. subst (λ e. TakesLarger (moment_of x) (moment_of y) place e r) (named.one disk d here is_d) by.takes;
+        };
+      }

@@ -37,6 +37,7 @@ use Rattle.raid_rack.proofs.Raises.{raises_more, raises_none}
 use Rattle.pool.specs.declared.Pool.{Pool}
 use Rattle.pool.specs.Calls.{DriveWent}
 use Rattle.pool.specs.Growing.{DoesMany, DoesWorks, HasNone, IsDone, IsRefused, IsRefusedGrowth, IsRefusedRow, KeepsGrowing, LacksIn, StopsGrowing, TriesFirst, TriesWork, change_in, linear_after, more, most_grown, none}
+use Rattle.pool.specs.Moment.{moment_of}
 use Rattle.pool.specs.View.{View, arrays_of, bay_in, book, slices_shown, view, volume}
 use Rattle.pool.specs.Works.{works_by, works_of}
 use Rattle.pool.proofs.Extends.{inside_longer}
@@ -134,7 +135,7 @@ keeps_then n x y z one two = record {
 none_first : (works : List Work) (work : Work) → works ≡ [] → slice_get works 0 ≡ Some work → ⊥
 none_first works work empty first = let bad : None ≡ Some work = sym (ap (λ (ws : List Work). slice_get ws 0) empty) ∙ first in cc bad
 
-pub many_none : (x : View) → DoesMany 0 x x
+pub many_none : (x : View) → DoesMany 0 (moment_of x) (moment_of x)
 many_none x = inl none
 
 -- nothing is done after them
@@ -152,7 +153,8 @@ first_in zero l m v w any none = absurd (omega (arith, any))
 first_in (suc zero) l m v w any (more none last) = (last.work, last.first)
 first_in (suc (suc n)) l m v w any (more rest last) = first_in (suc n) l _ v _ (omega arith) rest
 
-pub many_then : (n k : ℕ) (x y z : View) → 0 < k → DoesMany n x y → HasNone y z ⊎ DoesWorks k y.linear (book y) z.linear (book z) → DoesMany (n + k) x z
+pub many_then : (n k : ℕ) (x y z : View) → 0 < k → DoesMany n (moment_of x) (moment_of y) → HasNone y z ⊎ DoesWorks k y.linear (book y) z.linear (book z)
+    → DoesMany (n + k) (moment_of x) (moment_of z)
 many_then n k x y z any (inl done) (inr works) =
     inl (subst (λ j. DoesWorks j x.linear (book x) z.linear (book z)) (omega arith) (works_then n k x.linear y.linear z.linear (book x) (book y) (book z) done works))
 many_then n k x y z any (inl done) (inl left) = inr (n, omega arith, still_done x y z n left done, still_none y z left)
@@ -180,8 +182,7 @@ stops_behind seen shelf runs most k p r mid work array few fit keeps still done 
       slices = x.slices;
       seats = λ place. refl;
       bay = bay_in p;
-      goes = (keeps_none x fit).goes;
-      goes_on = keeps.goes;
+      between = ((keeps_none x fit).goes, keeps.goes);
       stuck = subst (λ (l : Linear). IsRefused seen runs x.slices (bay_in p) l work mid (book z) array) (sym still) refused;
     }
 
@@ -231,7 +232,7 @@ none_behind (suc n) l m v w work done empty first =
 
 -- it can't be done, or one of those behind it
 pub stops_growing : {R : Type 0} (seen : R → RackView) (shelf : R → Shelf) (runs : R → R → Type 0) (n most count : ℕ) (p q r : Pool R) (array : ℕ) → n + most ≤ count
-    → KeepsGrowing n (view seen shelf p) (view seen shelf q) → DoesMany n (view seen shelf p) (view seen shelf q)
+    → KeepsGrowing n (view seen shelf p) (view seen shelf q) → DoesMany n (moment_of (view seen shelf p)) (moment_of (view seen shelf q))
     → StopsGrowing most (view seen shelf q) (view seen shelf r) runs array → StopsGrowing count (view seen shelf p) (view seen shelf r) runs array
 stops_growing seen shelf runs n most count p q r array few before (inr over) stops =
     let y = view seen shelf q in
@@ -251,8 +252,7 @@ stops_growing seen shelf runs n most count p q r array few before (inl done) sto
       slices = stops.slices;
       seats = λ place. stops.seats place ∙ before.seats place;
       bay = stops.bay;
-      goes = goes_then x.bay y.bay (seen stops.bay) before.goes stops.goes;
-      goes_on = stops.goes_on;
+      between = (goes_then x.bay y.bay (seen stops.bay) before.goes stops.between.0, stops.between.1);
       stuck = stops.stuck;
     }
 

@@ -82,8 +82,8 @@ pub record HasAddCause (l : Linear) (p q : Moment) (name : List ℕ) (result : R
 -- ---- the call
 
 -- It isn't taken in: the book is as it was, and slices lie where they lay.
-abbrev pub IsUnchanged : View → View → Type 0
-IsUnchanged x y = (book y ≡ book x) × (y.slices ≡ x.slices)
+abbrev pub IsUnchanged : Moment → Moment → Type 0
+IsUnchanged p q = (q.book ≡ p.book) × (q.slices ≡ p.slices)
 
 -- The units of a disk, as a drive of the pool.
 abbrev pub units_on : Moment → Moment → ℕ → ℕ
@@ -113,15 +113,19 @@ pub record AddsBy (x y : View) (disk : ℕ) (result : Result (Unit {0}) GrowFaul
   pub answer : IsAddAnswer (refusal_of_add x.linear (book x) (x.bay.sectors disk)) result
   pub gone : result ≡ Err Gone → Rose (x.bay.faults disk) (y.bay.faults disk)
   pub marks : Marks x y
-  pub declined : IfErr result (λ e. IsUnchanged x y)
+  pub declined : IfErr result (λ e. IsUnchanged (moment_of x) (moment_of y))
   pub added : OnOk result (IsAdded (moment_of x) (moment_of y) disk)
 
--- The disk of a name, which is attached where it isn't yet, is added as a drive of the pool. Of contents nothing is said.
+-- The disk of a name becomes the drive of the next place. Or it doesn't, for the first reason that there is.
+pub record AddsNamed (p q : Moment) (name : List ℕ) (result : Result (Unit {0}) GrowFault) : Type 0 where
+  pub names : NamesDisk p q name
+  pub cause : HasAddCause p.linear p q name result
+  pub declined : IfErr result (λ e. IsUnchanged p q)
+  pub added : OnOk result ((d : ℕ) → IsNamed q name d → IsAdded p q d)
+
+-- So a call does, which attaches the disk where it isn't yet. Of contents nothing is said.
 pub record AddsDrive (x y : View) (name : List ℕ) (result : Result (Unit {0}) GrowFault) : Type 0 where
   pub continues : Continues x y
   pub raises : Raises 1 x y
-  pub names : NamesDisk (moment_of x) (moment_of y) name
-  pub cause : HasAddCause x.linear (moment_of x) (moment_of y) name result
   pub marks : Marks x y
-  pub declined : IfErr result (λ e. IsUnchanged x y)
-  pub added : OnOk result ((d : ℕ) → IsNamed (moment_of y) name d → IsAdded (moment_of x) (moment_of y) d)
+  pub adds : AddsNamed (moment_of x) (moment_of y) name result

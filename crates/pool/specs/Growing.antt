@@ -25,6 +25,7 @@ use Rattle.raid_rack.specs.Growing.{CannotLay, CannotMake}
 use Rattle.raid_rack.specs.declared.works.Stuck.{Stuck}
 use Rattle.pool.specs.Calls.{Marks}
 use Rattle.pool.specs.Keeping.{KeepsWorks}
+use Rattle.pool.specs.Moment.{Moment, moment_of}
 use Rattle.pool.specs.View.{View, book, volume}
 use Rattle.pool.specs.Works.{LacksRow, arrays_now, left_of, works_by, works_of}
 
@@ -147,34 +148,38 @@ is_row (Resync n) = true
 is_row (Rebuild n place) = true
 is_row work = false
 
--- So many works are done, or fewer where none is left then.
-abbrev pub DoesMany : ℕ → View → View → Type 0
-DoesMany count x y =
-    DoesWorks count x.linear (book x) y.linear (book y)
-    ⊎ ((n : ℕ) × (n ≤ count) × DoesWorks n x.linear (book x) y.linear (book y) × (works_of y ≡ []))
+-- So many works are done from one moment to another, each the first that was left after the one before it; or fewer where none is left then.
+abbrev pub DoesMany : ℕ → Moment → Moment → Type 0
+DoesMany count p q =
+    DoesWorks count p.linear p.book q.linear q.book
+    ⊎ ((n : ℕ) × (n ≤ count) × DoesWorks n p.linear p.book q.linear q.book × (works_by q.linear q.book ≡ []))
 
--- A work can't be done, by a book between two: fewer works than were asked for were done before it.
-pub record StopsGrowing (count : ℕ) (x y : View) (runs : x.bays.one → x.bays.one → Type 0) (array : ℕ) : Type 0 where
+-- Fewer works than so many are done, and then the first that is left can't be, which is one of this array. It says why by the book, the slices and the bay of a moment between
+-- the two. `seen` is what a bay shows, `runs` are calls on it in a row, and `Between` holds of the bays that may have been there.
+pub record StopsBetween {R : Type 0} (seen : R → RackView) (runs : R → R → Type 0) (Between : R → Type 0) (count : ℕ) (p q : Moment) (array : ℕ) : Type 0 where
   pub works : ℕ
   pub few : works < count
   pub mid : Raid
-  pub done : DoesWorks works x.linear (book x) y.linear mid
+  pub done : DoesWorks works p.linear p.book q.linear mid
   pub work : Work
-  pub first : slice_get (works_by y.linear mid) 0 ≡ Some work
-  -- the slices and the bay then
+  pub first : slice_get (works_by q.linear mid) 0 ≡ Some work
   pub slices : Slices
-  pub seats : (place : ℕ) → seat_of slices place ≡ seat_of x.slices place
-  pub bay : x.bays.one
-  pub goes : Goes x.bay (x.bays.seen bay)
-  pub goes_on : Goes (x.bays.seen bay) y.bay
-  pub stuck : IsRefused x.bays.seen runs slices bay y.linear work mid (book y) array
+  pub seats : (place : ℕ) → seat_of slices place ≡ seat_of p.slices place
+  pub bay : R
+  pub between : Between bay
+  pub stuck : IsRefused seen runs slices bay q.linear work mid q.book array
+
+-- so it is in calls of a pool, where the bay's calls lead there and on from there
+abbrev pub StopsGrowing : ℕ → (x y : View) → (x.bays.one → x.bays.one → Type 0) → (array : ℕ) → Type 0
+StopsGrowing count x y runs array =
+    StopsBetween x.bays.seen runs (λ bay. Goes x.bay (x.bays.seen bay) × Goes (x.bays.seen bay) y.bay) count (moment_of x) (moment_of y) array
 
 -- Works are done in their order, so many or all that are left, and what is answered is left. Else the first that is left then can't be done. Of contents nothing is said.
 -- `runs` are calls on the bay in a row.
 pub record GrowsBy (count : ℕ) (x y : View) (runs : x.bays.one → x.bays.one → Type 0) (result : Result ℕ Stuck) : Type 0 where
   pub keeps : KeepsGrowing count x y
   pub left : IfOk result (λ left. left ≡ left_of y)
-  pub done : OnOk result (DoesMany (min count (left_of x)) x y)
+  pub done : OnOk result (DoesMany (min count (left_of x)) (moment_of x) (moment_of y))
   pub stuck : IfErr result (λ e. StopsGrowing count x y runs e.array)
 
 -- The first of the works that are left is tried, where one is, with those after it, at most so many: as many are done as are answered, or none is left. Else one of them

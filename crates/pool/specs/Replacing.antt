@@ -111,6 +111,10 @@ refusal_of l v place sectors =
 abbrev pub IsAdmissible : Linear → Raid → (place sectors : ℕ) → Type 0
 IsAdmissible l v place sectors = (refusal_of l v place sectors ≡ None) × (has_same v place sectors ≡ true)
 
+-- Nothing is against it, and the disk has other units: the pool is to grow by it.
+abbrev pub IsLarger : Linear → Raid → (place sectors : ℕ) → Type 0
+IsLarger l v place sectors = (refusal_of l v place sectors ≡ None) × (has_same v place sectors ≡ false)
+
 -- What taking a disk of the same units in at a place relies on, by a pool's book: no other drive is missing, the disk has the units of the place's drive and reaches
 -- the arrays of the place, and a serial number is left. So it is where there is no refusal, and a cleaning that finds no other drive gone leaves it so.
 pub record IsAdmitted (v : Raid) (place sectors : ℕ) : Type 0 where

@@ -3,7 +3,7 @@ use Rattle.std.proofs.Common.{◌≡◌, ℕ, true, List, slice_get, Result, Ok,
 use Rattle.rack.specs.Seen.{RackView}
 use Rattle.lvm_group.specs.Runs.{Linear}
 use Rattle.pool_state.specs.declared.contents.Work.{Work}
-use Rattle.pool_state.specs.declared.contents.Work.TheVariants.{Resync, Rebuild, TakeOver, Begin, Reshape, Finish, Make, Zero, Ready, Extend, Close}
+use Rattle.pool_state.specs.declared.contents.Work.TheVariants.{Make}
 use Rattle.raid_laws.specs.Raid.{Raid}
 use Rattle.raid_rack.specs.declared.works.Stuck.{Stuck}
 use Rattle.raid_rack.specs.Growing.{CannotEnter, CannotMake}
@@ -20,7 +20,7 @@ use Rattle.pool.specs.View.{View, book}
 use Rattle.shr_tool.specs.declared.perform.Answer.{Answer}
 use Rattle.shr_tool.specs.declared.perform.Answer.TheVariants.{Given, Spent}
 use Rattle.shr_tool.specs.Events.{answer_by, grow_word, stuck_line}
-use Rattle.shr_tool.specs.Growing.{GrowsOn, IsAgainst, IsGrownBy, KeepsSeats, MarksWent, Stops, bay_at, taking_answer, taking_text}
+use Rattle.shr_tool.specs.Growing.{GrowsOn, IsAgainst, IsGrownBy, KeepsBay, MarksWent, Stops, bay_at, taking_answer, taking_text}
 use Rattle.shr_tool.proofs.Growing.{proceeds_of}
 
 -- ---- `add NAME`
@@ -40,7 +40,7 @@ add_by x y name text answer r answer_is text_is adds = record {
   proceeds = proceeds_of x y adds.continues;
   marks = marks_went x y (Ok (Add name)) adds.marks;
   raises = adds.raises;
-  answered = inr (tt, (r, answer_is, text_is, ((adds.names, adds.continues.linear, adds.added), adds.cause, adds.declined)));
+  answered = inr (tt, (r, answer_is, text_is, adds.continues.linear, adds.adds));
 }
 
 pub add_done :
@@ -83,9 +83,8 @@ proceeds_grown count x y keeps =
       past = λ told traced k i until stopped. (keeps.goes.leaves traced).past k i until stopped;
     }
 
--- and each place its disk
-seats_kept : (count : ℕ) (x y : View) → KeepsGrowing count x y → KeepsSeats (moment_of x) (moment_of y)
-seats_kept count x y keeps = (keeps.goes.stays.disks, keeps.goes.stays.sectors, keeps.shelf.names, keeps.shelf.ready, keeps.seats)
+bay_kept : (count : ℕ) (x y : View) → KeepsGrowing count x y → KeepsBay (moment_of x) (moment_of y)
+bay_kept count x y keeps = (keeps.goes.stays.disks, keeps.goes.stays.sectors, keeps.shelf.names, keeps.shelf.ready)
 
 growth_by :
     (x y : View) (count : ℕ) (answer : Answer) (text : List ℕ)
@@ -110,7 +109,7 @@ pub growth_done :
 growth_done x y runs count left text r some is_ok is grows_r =
     let grows : GrowsBy count x y runs (Ok left) = subst (GrowsBy count x y runs) is_ok grows_r in
     growth_by x y count Given text some grows.keeps
-    (seats_kept count x y grows.keeps, grows.keeps.longer, inl (refl, is ∙ ap left_line grows.left, grows.done))
+    (bay_kept count x y grows.keeps, grows.keeps.seats, grows.keeps.longer, inl (refl, is ∙ ap left_line grows.left, grows.done))
 
 -- ---- `step N`, where a work can't be done
 
@@ -118,33 +117,18 @@ module _ (x y : View) (runs : x.bays.one → x.bays.one → Type 0) (count array
   abbrev seen : RackView
   seen = x.bays.seen stops.bay
 
-  -- how the pool stood then
+  -- how the bay stood then
   abbrev at : Moment
-  at = record {
-    clock = seen.clock;
-    disks = seen.disks;
-    sectors = seen.sectors;
-    held = seen.held;
-    faults = seen.faults;
-    names = x.shelf.names;
-    ready = x.shelf.ready;
-    unattached = x.shelf.faults;
-    book = stops.mid;
-    slices = stops.slices;
-    linear = y.linear;
-  }
-
-  still : KeepsSeats at at
-  still = (refl, λ d. refl, refl, λ name. refl, λ place. refl)
+  at = record (moment_of x) { clock = seen.clock; disks = seen.disks; sectors = seen.sectors; held = seen.held; faults = seen.faults }
 
   -- a slice of a new array's member can't be entered
-  entered : (place first sectors : ℕ) → CannotEnter x.bays.seen runs stops.slices stops.bay place first sectors → CannotEnter bay_at KeepsSeats stops.slices at place first sectors
+  entered : (place first sectors : ℕ) → CannotEnter x.bays.seen runs stops.slices stops.bay place first sectors → CannotEnter bay_at KeepsBay stops.slices at place first sectors
   entered place first sectors (inl none) = inl none
-  entered place first sectors (inr (inl unread)) = inr (inl (unread.0, unread.1, (at, still, λ never. absurd never)))
+  entered place first sectors (inr (inl unread)) = inr (inl (unread.0, unread.1, (at, (refl, λ d. refl, refl, λ name. refl), λ never. absurd never)))
   entered place first sectors (inr (inr past)) = inr (inr past)
 
   -- one can't be made
-  made : (v : Raid) (height : ℕ) → CannotMake x.bays.seen runs stops.slices stops.bay v height → CannotMake bay_at KeepsSeats stops.slices at v height
+  made : (v : Raid) (height : ℕ) → CannotMake x.bays.seen runs stops.slices stops.bay v height → CannotMake bay_at KeepsBay stops.slices at v height
   made v height cannot = record {
     place = cannot.place;
     among = cannot.among;
@@ -154,7 +138,7 @@ module _ (x y : View) (runs : x.bays.one → x.bays.one → Type 0) (count array
 
   make_refused : (n height : ℕ) (v w : Raid)
       → IsRefusedGrowth x.bays.seen runs stops.slices stops.bay (Make n height) v w
-      → IsRefusedGrowth bay_at KeepsSeats stops.slices at (Make n height) v w
+      → IsRefusedGrowth bay_at KeepsBay stops.slices at (Make n height) v w
   make_refused n height v w (inl idle) = inl idle
   make_refused n height v w (inr tried) =
       let turns = tried.1 in
@@ -172,31 +156,24 @@ module _ (x y : View) (runs : x.bays.one → x.bays.one → Type 0) (count array
 
   -- the reason needs the sectors of the bay's disks alone
   refused_by : (l : Linear) (work : Work) (v w : Raid) (n : ℕ)
-      → IsRefused x.bays.seen runs stops.slices stops.bay l work v w n → IsRefused bay_at KeepsSeats stops.slices at l work v w n
-  refused_by l (Resync n) v w k refused = refused
-  refused_by l (Rebuild n place) v w k refused = refused
-  refused_by l (TakeOver n) v w k refused = refused
-  refused_by l (Begin n place) v w k refused = refused
-  refused_by l (Reshape n) v w k refused = refused
-  refused_by l (Finish n) v w k refused = refused
+      → IsRefused x.bays.seen runs stops.slices stops.bay l work v w n → IsRefused bay_at KeepsBay stops.slices at l work v w n
   refused_by l (Make n height) v w k refused = (refused.0, make_refused n height v w refused.1)
-  refused_by l (Zero n) v w k refused = refused
-  refused_by l (Ready n) v w k refused = refused
-  refused_by l Extend v w k refused = refused
-  refused_by l Close v w k refused = refused
+  refused_by l work v w k refused = refused
 
   stops_of : Stops count (moment_of x) (moment_of y) array
-  stops_of = (
-    stops.works,
-    at,
-    stops.work,
-    stops.few,
-    stops.done,
-    (stops.goes.stays.disks, stops.goes.stays.sectors, refl, λ name. refl, stops.seats),
-    stops.first,
-    refl,
-    refused_by y.linear stops.work stops.mid (book y) array stops.stuck,
-  )
+  stops_of = record {
+    works = stops.works;
+    few = stops.few;
+    mid = stops.mid;
+    done = stops.done;
+    work = stops.work;
+    first = stops.first;
+    slices = stops.slices;
+    seats = stops.seats;
+    bay = at;
+    between = (stops.between.0.stays.disks, stops.between.0.stays.sectors, refl, λ name. refl);
+    stuck = refused_by y.linear stops.work stops.mid (book y) array stops.stuck;
+  }
 
 pub growth_stuck :
     (x y : View) (runs : x.bays.one → x.bays.one → Type 0) (count : ℕ) (at : Stuck) (text : List ℕ) (answer : Answer) (r : Result ℕ Stuck)
@@ -209,4 +186,4 @@ pub growth_stuck :
 growth_stuck x y runs count at text answer r some refused spent is grows_r =
     let grows : GrowsBy count x y runs (Err at) = subst (GrowsBy count x y runs) refused grows_r in
     growth_by x y count answer text some grows.keeps
-    (seats_kept count x y grows.keeps, grows.keeps.longer, inr (at.array, spent, is, stops_of x y runs count at.array grows.stuck))
+    (bay_kept count x y grows.keeps, grows.keeps.seats, grows.keeps.longer, inr (at.array, spent, is, stops_of x y runs count at.array grows.stuck))

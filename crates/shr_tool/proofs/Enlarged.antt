@@ -1,17 +1,13 @@
 -- A line that replaces a drive: by a disk of its units it is an event, and by one of others it grows the pool.
-use Rattle.std.proofs.Common.{◌≡◌, ◌⊎◌, ℕ, List, Result, Ok, Err, OnOk, codes, refl, sym, ap, subst, inl, inr}
-use Rattle.pool_state.specs.declared.contents.Plan.TheVariants.{Replace as Replacing}
+use Rattle.std.proofs.Common.{◌≡◌, ◌⊎◌, ℕ, List, Result, Ok, Err, codes, refl, sym, ap, subst, inl, inr}
 use Rattle.rack.specs.Moments.{IsSound}
-use Rattle.rack.specs.Seen.{Rose}
 use Rattle.shr_script.specs.declared.Command.TheVariants.{Replace}
 use Rattle.shr_script.specs.Reply.{as_line, refused_line}
 use Rattle.pool.specs.declared.replacing.GrowFault.{GrowFault}
 use Rattle.pool.specs.declared.replacing.GrowFault.TheVariants.{NoSuchDrive}
-use Rattle.pool.specs.Adding.{IsTakenIn}
 use Rattle.pool.specs.Enlarging.{EnlargesDrive}
-use Rattle.pool.specs.Moment.{IsNamed, moment_of}
+use Rattle.pool.specs.Moment.{moment_of}
 use Rattle.pool.specs.Naming.{ReplacesDrive}
-use Rattle.pool.specs.Replaced.{faults_before}
 use Rattle.pool.specs.View.{View, volume}
 use Rattle.shr_tool.specs.declared.perform.Answer.{Answer}
 use Rattle.shr_tool.specs.declared.perform.Answer.TheVariants.{Given}
@@ -23,15 +19,6 @@ use Rattle.shr_tool.proofs.Growing.{proceeds_of}
 use Rattle.shr_tool.proofs.LostDrive.{IsCut}
 use Rattle.shr_tool.proofs.Replacing.{cut_listed, decline_done, replace_done}
 
--- a drive that is taken in is that of the name
-taken_by : (x y : View) (place disk : ℕ) (name : List ℕ) (r : Result (Unit {0}) GrowFault)
-    → ((d : ℕ) → IsNamed (moment_of y) name d → d ≡ disk)
-    → OnOk r (IsTakenIn (moment_of x) (moment_of y) place (Replacing place) disk)
-    → OnOk r ((d : ℕ) → IsNamed (moment_of y) name d → IsTakenIn (moment_of x) (moment_of y) place (Replacing place) d)
-taken_by x y place disk name (Err fault) one taken = tt
-taken_by x y place disk name (Ok done) one taken =
-    λ d named. subst (IsTakenIn (moment_of x) (moment_of y) place (Replacing place)) (sym (one d named)) taken
-
 -- a disk of other units
 enlarged_by :
     (x y : View) (at place : ℕ) (name text : List ℕ) (answer : Answer) (r : Result (Unit {0}) GrowFault)
@@ -42,34 +29,16 @@ enlarged_by :
     → EnlargesDrive x y at name r
     → IsGrowing (moment_of x) (moment_of y) (Ok (Replace place name)) × GrowsOn x y (Ok (Replace place name)) answer text
 enlarged_by x y at place name text answer r fit cut answer_is text_is enlarges_at =
-    let all : EnlargesDrive x y place name r = subst (λ p. EnlargesDrive x y p name r) (cut_listed x at place fit cut enlarges_at.listed) enlarges_at in
-    let by = all.enlarges.by in
-    let one : (d : ℕ) → IsNamed (moment_of y) name d → d ≡ all.disk = λ d named. all.names.one d all.disk named all.named in
-    let growing : IsGrowing (moment_of x) (moment_of y) (Ok (Replace place name)) =
-    (all.listed, all.other, (all.disk, all.named, all.enlarges.admitted, all.enlarges.other)) in (
-      growing,
+    let all : EnlargesDrive x y place name r = subst (λ p. EnlargesDrive x y p name r) (cut_listed x at place fit cut enlarges_at.enlarging.listed) enlarges_at in (
+      all.enlarging,
       record {
-        proceeds = proceeds_of x y by.continues;
-        marks = λ k was now. elim (by.marks k was now) [
+        proceeds = proceeds_of x y all.continues;
+        marks = λ k was now. elim (all.marks k was now) [
           | inl rose ↦ inl rose
           | inr gave ↦ inr (inr (inr (name, ap (λ p. Ok (Replace p name)) (sym gave.1))))
         ];
-        raises = all.enlarges.raises;
-        answered = inr (
-          growing,
-          (
-            r,
-            answer_is,
-            text_is,
-            (
-              (all.names, by.continues.linear, taken_by x y place all.disk name r one by.taken),
-              by.answer,
-              λ gone d named. subst (λ e. Rose (faults_before (moment_of x) e) (y.bay.faults e)) (sym (one d named)) (by.gone gone),
-              all.enlarges.not_whole,
-              by.declined,
-            ),
-          ),
-        );
+        raises = all.raises;
+        answered = inr (all.enlarging, (r, answer_is, text_is, all.continues.linear, all.enlarges));
       },
     )
 

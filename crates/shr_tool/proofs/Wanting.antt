@@ -4,7 +4,7 @@ use Rattle.std.specs.List.{list_any}
 use Rattle.std.proofs.lemmas.List.Folds.{list_any-append}
 use Rattle.rack.specs.Seen.{RackView}
 use Rattle.flat_array.specs.Array.{FlatArray}
-use Rattle.shr_script.specs.declared.Command.TheVariants.{Read, Write, Fill, Flush, Size, Lose, Replace, Add, Step, Status as ShowLine, Quit}
+use Rattle.shr_script.specs.declared.Command.TheVariants.{Replace, Add, Step, Status as ShowLine, Quit}
 use Rattle.shr_script.specs.Line.{Line}
 use Rattle.shr_script.specs.Script.{script_of}
 use Rattle.pool.specs.Moment.{Moment}
@@ -76,18 +76,10 @@ events_name (event ∷ events) is = elim (worse_memory (answer_of event) (worst_
 -- ---- lines that grow the pool
 
 grown_names : (p q : Moment) (line : Line) (text : List ℕ) → IsGrownBy p q line Memory text → names_image line ≡ true
-grown_names p q (Ok (Read sector)) text grows = absurd grows
-grown_names p q (Ok (Write sector bytes)) text grows = absurd grows
-grown_names p q (Ok (Fill sector count byte)) text grows = absurd grows
-grown_names p q (Ok Flush) text grows = absurd grows
-grown_names p q (Ok Size) text grows = absurd grows
-grown_names p q (Ok (Lose place)) text grows = absurd grows
 grown_names p q (Ok (Replace place name)) text grows = refl
 grown_names p q (Ok (Add name)) text grows = refl
-grown_names p q (Ok (Step count)) text grows = elim grows.2 [ inl done ↦ cc done.0 | inr stops ↦ cc stops.1 ]
-grown_names p q (Ok ShowLine) text grows = absurd grows
-grown_names p q (Ok Quit) text grows = absurd grows
-grown_names p q (Err fault) text grows = absurd grows
+grown_names p q (Ok (Step count)) text grows = elim grows.3 [ inl done ↦ cc done.0 | inr stops ↦ cc stops.1 ]
+grown_names p q line text grows = absurd grows
 
 answered_names : (p q : Moment) (line : Line) (text : List ℕ) → IsAnswered p q line Memory text → names_image line ≡ true
 answered_names p q line text answers = elim answers [

@@ -1,29 +1,25 @@
 -- Lines of a script from the first one on that grows the pool. Of what the volume holds nothing is said after it: only how the pool stands before each line and after it.
-use Rattle.std.specs.Prelude.{◌≡◌, ◌⊎◌, ℕ, ◌*◌, ◌<◌, ◌≤◌, min, true, false, List, [], ◌∷◌, ◌++◌, codes, length, slice_get, Some, None, Result, Ok, Err, IfErr, OnOk}
+use Rattle.std.specs.Prelude.{◌≡◌, ◌⊎◌, ℕ, ◌*◌, ◌≤◌, min, true, false, List, [], ◌∷◌, ◌++◌, codes, Result, Ok, Err}
 use Rattle.array_image.specs.States.{is_current}
 use Rattle.flat_array.specs.Array.{FlatArray}
 use Rattle.growth_laws.specs.Growing.{GetsLonger}
 use Rattle.lvm_group.specs.Runs.{sectors_in}
-use Rattle.pool_state.specs.declared.contents.Plan.{Plan}
-use Rattle.pool_state.specs.declared.contents.Plan.TheVariants.{Add as Adding, Replace as Replacing}
-use Rattle.pool_state.specs.declared.contents.Work.{Work}
-use Rattle.rack.specs.Seen.{Rose, RackView}
+use Rattle.rack.specs.Seen.{RackView}
 use Rattle.raid_laws.specs.Moves.{RaisesBy}
 use Rattle.slice_rack.specs.Slices.{seat_of}
-use Rattle.shr_script.specs.declared.Command.TheVariants.{Read, Write, Fill, Flush, Size, Lose, Replace, Add, Step, Status, Quit}
+use Rattle.shr_script.specs.declared.Command.TheVariants.{Lose, Replace, Add, Step}
 use Rattle.shr_script.specs.Line.{Line}
 use Rattle.shr_script.specs.Reply.{as_line, left_line, refused_line}
 use Rattle.pool.specs.declared.replacing.GrowFault.{GrowFault}
-use Rattle.pool.specs.declared.replacing.GrowFault.TheVariants.{Gone, NotWhole}
-use Rattle.pool.specs.Adding.{HasAddCause, IsTakenIn}
-use Rattle.pool.specs.Growing.{DoesWorks, IsRefused}
+use Rattle.pool.specs.Adding.{AddsNamed}
+use Rattle.pool.specs.Enlarging.{EnlargesNamed, IsEnlarging}
+use Rattle.pool.specs.Growing.{DoesMany, StopsBetween}
 use Rattle.pool.specs.Keeping.{Raises, most_raised}
-use Rattle.pool.specs.Moment.{IsNamed, Moment, moment_of}
+use Rattle.pool.specs.Moment.{Moment, moment_of}
 use Rattle.pool.specs.Proceeding.{Proceeds, has_growth}
-use Rattle.pool.specs.Replaced.{DriveWentFrom, DriveWentSince, HasMarkedOther, IsAnswer, IsDeclined, IsOfDrive, NamesDisk, faults_before}
-use Rattle.pool.specs.Replacing.{has_same, refusal_of}
+use Rattle.pool.specs.Replaced.{DriveWentFrom, DriveWentSince}
 use Rattle.pool.specs.View.{View}
-use Rattle.pool.specs.Works.{left_by, works_by}
+use Rattle.pool.specs.Works.{left_by}
 use Rattle.shr_tool.specs.declared.perform.Answer.{Answer}
 use Rattle.shr_tool.specs.declared.perform.Answer.TheVariants.{Given, Spent}
 use Rattle.shr_tool.specs.Events.{Event, answer_by, answer_of, calls_in, grow_word, line_of, stuck_line, text_of, worse}
@@ -32,21 +28,10 @@ use Rattle.shr_tool.specs.Timeline.{EventContract, KeepsDisks}
 -- A line grows the pool as it stands: it adds a drive; it replaces one by a disk of other units, where nothing is against it; or it asks for works while one of a growth is
 -- left. `q` is the pool after the line, by which the disk of a name is known.
 abbrev pub IsGrowing : (p q : Moment) → Line → Type 0
-IsGrowing p q (Ok (Read sector)) = ⊥
-IsGrowing p q (Ok (Write sector bytes)) = ⊥
-IsGrowing p q (Ok (Fill sector count byte)) = ⊥
-IsGrowing p q (Ok Flush) = ⊥
-IsGrowing p q (Ok Size) = ⊥
-IsGrowing p q (Ok (Lose place)) = ⊥
-IsGrowing p q (Ok (Replace place name)) =
-    (place < length p.book.state.drives.items)
-    × (IsOfDrive p name → ⊥)
-    × ((d : ℕ) × IsNamed q name d × (refusal_of p.linear p.book place (q.sectors d) ≡ None) × (has_same p.book place (q.sectors d) ≡ false))
+IsGrowing p q (Ok (Replace place name)) = IsEnlarging p q place name
 IsGrowing p q (Ok (Add name)) = Unit {0}
 IsGrowing p q (Ok (Step count)) = has_growth p.linear p.book ≡ true
-IsGrowing p q (Ok Status) = ⊥
-IsGrowing p q (Ok Quit) = ⊥
-IsGrowing p q (Err fault) = ⊥
+IsGrowing p q line = ⊥
 
 -- ---- a line that takes a drive in
 
@@ -60,44 +45,16 @@ abbrev pub taking_answer : Result (Unit {0}) GrowFault → Answer
 taking_answer (Ok done) = Given
 taking_answer (Err fault) = answer_by fault
 
--- The disk of a name becomes the drive of a place by a plan, or it doesn't. No other disk comes, and the volume lies where it lay.
-abbrev pub TakesIn : (p q : Moment) → List ℕ → (place : ℕ) → Plan → Result (Unit {0}) GrowFault → Type 0
-TakesIn p q name place plan result =
-    NamesDisk p q name × (q.linear ≡ p.linear) × OnOk result ((d : ℕ) → IsNamed q name d → IsTakenIn p q place plan d)
-
--- It becomes that of the next place. Or it doesn't, for the first reason that there is, and the book is as it was.
-abbrev pub Adds : (p q : Moment) → List ℕ → Result (Unit {0}) GrowFault → Type 0
-Adds p q name result =
-    let next = length p.book.state.drives.items in
-    TakesIn p q name next (Adding next) result
-    × HasAddCause p.linear p q name result
-    × IfErr result (λ fault. (q.book ≡ p.book) × (q.slices ≡ p.slices))
-
--- It replaces the drive of a place, where nothing was against it. Or it doesn't: it refused a call, or another drive was found gone and is marked.
-abbrev pub Enlarges : (p q : Moment) → (place : ℕ) → List ℕ → Result (Unit {0}) GrowFault → Type 0
-Enlarges p q place name result =
-    TakesIn p q name place (Replacing place) result
-    × IsAnswer None result
-    × (result ≡ Err Gone → (d : ℕ) → IsNamed q name d → Rose (faults_before p d) (q.faults d))
-    × (result ≡ Err NotWhole → HasMarkedOther p q place)
-    × IfErr result (IsDeclined p q place)
+-- The drive is taken in, or it isn't, as this says of its result. The volume lies where it lay.
+abbrev pub TakesIn : (p q : Moment) → Answer → List ℕ → (Result (Unit {0}) GrowFault → Type 0) → Type 0
+TakesIn p q answer text Takes =
+    (result : Result (Unit {0}) GrowFault) × (answer ≡ taking_answer result) × (text ≡ taking_text result) × (q.linear ≡ p.linear) × Takes result
 
 -- ---- works
 
--- no disk comes, and each place has its disk
-abbrev pub KeepsSeats : (p q : Moment) → Type 0
-KeepsSeats p q =
-    (q.disks ≡ p.disks)
-    × ((d : ℕ) → q.sectors d ≡ p.sectors d)
-    × (q.names ≡ p.names)
-    × ((name : List ℕ) → q.ready name ≡ p.ready name)
-    × ((place : ℕ) → seat_of q.slices place ≡ seat_of p.slices place)
-
--- So many works were done, each the first that was left by the book after the one before it; or fewer where none was left then.
-abbrev pub DoesMany : ℕ → (p q : Moment) → Type 0
-DoesMany count p q =
-    DoesWorks count p.linear p.book q.linear q.book
-    ⊎ ((works : ℕ) × (works ≤ count) × DoesWorks works p.linear p.book q.linear q.book × (works_by q.linear q.book ≡ []))
+-- The bay has the disks that it had, with their names, and what waits to be attached.
+abbrev pub KeepsBay : (p q : Moment) → Type 0
+KeepsBay p q = (q.disks ≡ p.disks) × ((d : ℕ) → q.sectors d ≡ p.sectors d) × (q.names ≡ p.names) × ((name : List ℕ) → q.ready name ≡ p.ready name)
 
 -- The bay at a moment. Of what its disks hold and of stops nothing is told.
 abbrev pub bay_at : Moment → RackView
@@ -116,39 +73,23 @@ bay_at p = record {
   traced = ⊥;
 }
 
--- Fewer works were done, and then the first that was left couldn't be, which is one of this array. It says why by how the pool stood at the moment `at` of that.
+-- Fewer works were done, and then the first that was left couldn't be, which is one of this array.
 abbrev pub Stops : ℕ → (p q : Moment) → (array : ℕ) → Type 0
-Stops count p q array =
-    (works : ℕ) × (at : Moment) × (work : Work)
-    × (works < count)
-    × DoesWorks works p.linear p.book at.linear at.book
-    × KeepsSeats p at
-    × (slice_get (works_by at.linear at.book) 0 ≡ Some work)
-    × (q.linear ≡ at.linear)
-    × IsRefused bay_at KeepsSeats at.slices at at.linear work at.book q.book array
+Stops count p q array = StopsBetween bay_at KeepsBay (KeepsBay p) count p q array
 
 -- ---- what lines do
 
 -- what a line that grows the pool does, by what the status has to say of it and by its reply
 abbrev pub IsGrownBy : (p q : Moment) → Line → Answer → List ℕ → Type 0
-IsGrownBy p q (Ok (Read sector)) answer text = ⊥
-IsGrownBy p q (Ok (Write sector bytes)) answer text = ⊥
-IsGrownBy p q (Ok (Fill sector count byte)) answer text = ⊥
-IsGrownBy p q (Ok Flush) answer text = ⊥
-IsGrownBy p q (Ok Size) answer text = ⊥
-IsGrownBy p q (Ok (Lose place)) answer text = ⊥
-IsGrownBy p q (Ok (Replace place name)) answer text =
-    (result : Result (Unit {0}) GrowFault) × (answer ≡ taking_answer result) × (text ≡ taking_text result) × Enlarges p q place name result
-IsGrownBy p q (Ok (Add name)) answer text =
-    (result : Result (Unit {0}) GrowFault) × (answer ≡ taking_answer result) × (text ≡ taking_text result) × Adds p q name result
+IsGrownBy p q (Ok (Replace place name)) answer text = TakesIn p q answer text (EnlargesNamed p q place name)
+IsGrownBy p q (Ok (Add name)) answer text = TakesIn p q answer text (AddsNamed p q name)
 IsGrownBy p q (Ok (Step count)) answer text =
-    KeepsSeats p q
+    KeepsBay p q
+    × ((place : ℕ) → seat_of q.slices place ≡ seat_of p.slices place)
     × GetsLonger p.book q.book
     × (((answer ≡ Given) × (text ≡ left_line (left_by q.linear q.book)) × DoesMany (min count (left_by p.linear p.book)) p q)
     ⊎ ((array : ℕ) × (answer ≡ Spent) × (text ≡ stuck_line array) × Stops count p q array))
-IsGrownBy p q (Ok Status) answer text = ⊥
-IsGrownBy p q (Ok Quit) answer text = ⊥
-IsGrownBy p q (Err fault) answer text = ⊥
+IsGrownBy p q line answer text = ⊥
 
 -- A line was answered as an event of a run, by how the pool stood before it and after it. Of stops nothing is told, and of what the volume holds only that some array of so many
 -- sectors is answered so.

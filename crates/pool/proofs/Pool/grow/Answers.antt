@@ -2,6 +2,7 @@ use Rattle.std.proofs.Common.{◌+◌, ◌-◌, ◌<◌, ◌≤◌, sym, subst, 
 use Rattle.std.proofs.lemmas.Result.{err_from_is_err_and}
 use Rattle.raid_rack.specs.declared.works.Stuck.{Stuck}
 use Rattle.pool.specs.Growing.{DoesMany, StopsGrowing}
+use Rattle.pool.specs.Moment.{moment_of}
 use Rattle.pool.specs.View.{bay_in, view}
 use Rattle.pool.proofs.Grows.{keeps_more, keeps_none, keeps_then, many_none, many_then, stops_growing}
 use Rattle.pool.proofs.Pool.grow.Goals as goal
@@ -81,7 +82,7 @@ returns g c =
       grows = record {
         keeps = keeps_more done c.args.count (view seen shelf p) (view seen shelf q) (omega (arith, most, inside)) all.keeps;
         left = c.left-2.ensures;
-        done = subst (λ k. DoesMany k (view seen shelf p) (view seen shelf q)) (omega (arith, left, most, test, inside)) all.works;
+        done = subst (λ k. DoesMany k (moment_of (view seen shelf p)) (moment_of (view seen shelf q))) (omega (arith, left, most, test, inside)) all.works;
         stuck = tt;
       };
       runs = all.runs;

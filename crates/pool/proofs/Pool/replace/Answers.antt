@@ -71,5 +71,5 @@ returns-in-Ok-clause-unlisted g c is =
     let state = ap (λ s. length s.drives.items) c.state.ensures in
     elim (returns-in-Ok-clause-replaced g c) [
       | inl by ↦ let past = by.cause.missing.0 is in absurd (omega (arith, low, many, state, past))
-      | inr by ↦ absurd (listed_then c.replace_by.result by.enlarges.by.answer is)
+      | inr by ↦ absurd (listed_then c.replace_by.result (by.enlarges.takes by.enlarging.disk by.enlarging.named).answer is)
     ]
