@@ -37,7 +37,7 @@ use Rattle.slice_rack.specs.SliceRack.{below_of}
 use Rattle.raid_rack.proofs.Raises.{raises_more, raises_none}
 use Rattle.shr_base.specs.Units.{units_of}
 use Rattle.transition_laws.specs.Changes.{changed, enlisted, enlists}
-use Rattle.pool.specs.Adding.{AddsBy, IsAddAnswer, IsTakenIn, adding, adding_refusals, lacks_drive, refusal_of_add}
+use Rattle.pool.specs.Adding.{AddsBy, IsTakenIn, adding, adding_refusals, lacks_drive, refusal_of_add}
 use Rattle.pool.specs.Replacing.{fault_of, first_cause, has_resync, is_planned, lacks_room}
 use Rattle.pool.specs.Works.{arrays_now}
 use Rattle.growth_plan.specs.Admission.{add_refusals, first_refusal}
@@ -45,7 +45,7 @@ use Rattle.lvm_group.specs.Runs.{Linear}
 use Rattle.pool.specs.Calls.{DriveWent}
 use Rattle.pool.specs.Continuing.{Continues}
 use Rattle.pool.specs.Moment.{moment_of, views_of}
-use Rattle.pool.specs.Replaced.{is_vacant}
+use Rattle.pool.specs.Replaced.{IsAnswer, is_vacant}
 use Rattle.pool.specs.Taking.{IsOfPlace}
 use Rattle.pool.specs.View.{View, book, slices_shown, volume}
 use Rattle.pool.specs.declared.replacing.GrowFault.{GrowFault}
@@ -55,7 +55,7 @@ use Rattle.pool.proofs.Adds.{listed}
 use Rattle.pool.proofs.Continuing.{continues_same}
 use Rattle.pool.proofs.Extends.{inside_longer}
 use Rattle.pool.proofs.Keeping.{marks_same, not_left}
-use Rattle.pool.proofs.Late.{AreLate, late_cause, late_if, late_map, late_none, late_or, late_planned, late_resynced, late_whole, same_fault}
+use Rattle.pool.proofs.Late.{AreLate, late_cause, late_if, late_map, late_none, late_or, late_planned, late_resynced, late_whole, never_fault, same_fault}
 use Rattle.pool.proofs.Later.{later}
 use Rattle.pool.proofs.Vacating.{bay_continues}
 
@@ -192,7 +192,8 @@ module _ (x : View) (b : RackView) (s : Shelf) (u : Slices) (z : Arrays) (disk :
       raises = raises;
       names = names.names;
       disks = only.stays.disks;
-      answer = subst (λ o. IsAddAnswer o (Ok tt)) (sym none) (inl refl);
+      answer = subst (λ o. IsAnswer o (Ok tt)) (sym none) (inl refl);
+      not_whole = λ same. absurd (never_fault NotWhole same);
       gone = λ same. absurd (let bad : ◌≡◌ {A = Result (Unit {0}) GrowFault} (Ok tt) (Err Gone) = same in cc bad);
       marks = λ k was now.
           inl
@@ -212,7 +213,8 @@ module _ (x : View) (b : RackView) (s : Shelf) (u : Slices) (z : Arrays) (disk :
     raises = raises;
     names = names.names;
     disks = only.stays.disks;
-    answer = subst (λ o. IsAddAnswer o (Err Gone)) (sym none) (inr refl);
+    answer = subst (λ o. IsAnswer o (Err Gone)) (sym none) (inr (inl refl));
+    not_whole = λ same. absurd (let bad : Gone ≡ NotWhole = same_fault Gone NotWhole same in cc bad);
     gone = λ is. rose;
     marks = λ k was now. absurd (both_ways (is_current (book x).state k) (subst (λ (a : Arrays). is_current a.state k ≡ false) same now) was);
     declined = (ap raid_by same, tables);
@@ -227,7 +229,8 @@ adds_none x disk e fit other is = record {
   raises = raises_more 0 36 (book x) (book x) (omega arith) (raises_none (book x));
   names = refl;
   disks = refl;
-  answer = subst (λ o. IsAddAnswer o (Err e)) (sym is) refl;
+  answer = subst (λ o. IsAnswer o (Err e)) (sym is) refl;
+  not_whole = λ same. is ∙ ap Some (same_fault e NotWhole same);
   gone = λ same. absurd (other (same_fault e Gone same));
   marks = marks_same x (λ k. ⊥);
   declined = (refl, refl);

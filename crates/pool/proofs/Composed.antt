@@ -1,7 +1,7 @@
 -- A replacing, by what its parts say.
 use Rattle.std.specs.Prelude.{Ok, Err, IfErr, OnOk}
-use Rattle.std.proofs.Common.{◌≡◌, ◌⊎◌, ℕ, ◌<◌, ◌≤◌, if◌then◌else◌, true, false, List, length, slice_get, Some, refl, sym, ap, subst, ◌∙◌, inl, inr, arith, lt-ltb, le-ltb}
-use Rattle.std.proofs.lemmas.Bool.{both_ways, cases_Bool, cases_lt}
+use Rattle.std.proofs.Common.{◌≡◌, ◌⊎◌, ℕ, ◌<◌, ◌≤◌, true, false, List, length, slice_get, Some, refl, sym, ap, subst, ◌∙◌, inl, inr, arith}
+use Rattle.std.proofs.lemmas.Bool.{both_ways, cases_Bool}
 use Rattle.rack.specs.Joins.{keeps_same}
 use Rattle.rack.specs.Values.{Keeps, MayLeave, Values}
 use Rattle.rack.specs.Moments.{IsSound}
@@ -18,26 +18,25 @@ use Rattle.raid_laws.specs.Raid.{Raid}
 use Rattle.pool.specs.declared.replacing.GrowFault.{GrowFault}
 use Rattle.pool.specs.declared.replacing.GrowFault.TheVariants.{NoSuchDrive, Attach, Twice, Memory, Gone, NotWhole}
 use Rattle.rack.specs.Untouched.{KeepsDisk}
-use Rattle.pool.specs.Continuing.{Continues, NoDisk}
+use Rattle.pool.specs.Continuing.{NoDisk}
 use Rattle.pool.specs.Moment.{IsImage, IsNamed, moment_of, views_of}
-use Rattle.pool.specs.Replaced.{DriveWentFrom, DriveWentSince, HasMarkedOther, HasTable, IsAnswer, IsDeclined, IsLaidOn, IsLookedAt, IsOfDrive, IsReplaced, LeavesNew, MeansFormer, MeansWith, NamesDisk, faults_before}
+use Rattle.pool.specs.Replaced.{DriveWentSince, HasMarkedOther, HasTable, IsAnswer, IsDeclined, IsLaidOn, IsReplaced, LeavesNew, MeansFormer, MeansWith}
 use Rattle.pool.specs.Naming.{EntersDrive, EntersNamed, ReplacesDrive}
 use Rattle.pool.specs.Replacing.{IsAdmissible, refusal_of}
 use Rattle.pool.specs.Entering.{Declines, Enters, StaysStill}
 use Rattle.pool.specs.Taking.{AreTold, AttachesDisk, ReplacesBy}
 use Rattle.array_image.specs.Places.{log_slice}
 use Rattle.slice_rack.specs.Runs.{IsSliced}
-use Rattle.slice_rack.specs.Slices.{IsOrderly, disk_of, seat_of}
+use Rattle.slice_rack.specs.Slices.{IsOrderly, disk_of}
 use Rattle.pool.specs.View.{View, book, volume}
 use Rattle.pool.specs.Volume.{VolumeIs}
 use Rattle.pool.proofs.Booked.{book_same, raises_still}
 use Rattle.pool.proofs.Carrying.{carries_same, carries_then, ends_of, holds_of}
 use Rattle.pool.proofs.Continuing.{continues_same, continues_then, outside_fewer, outside_then}
 use Rattle.pool.proofs.Enlisted.{book_but}
-use Rattle.pool.proofs.Taken.{low_disk}
-use Rattle.raid_laws.proofs.Whole.{heeded_left}
+use Rattle.pool.proofs.NamedDisks.{attached_cause, before_same, names_since, not_drive, rose_from, unattached_cause}
 use Rattle.pool.proofs.Later.{later}
-use Rattle.pool.proofs.Late.{Answer, IsLate, answer_late, refusal_late, same_fault, same_of}
+use Rattle.pool.proofs.Late.{Answer, refusal_late, same_fault}
 
 -- nothing is called
 still_disk : (Told : Type 0) (a b : RackView) (d : ℕ) → ((k : ℕ) → b.held d k ≡ a.held d k) → b.clock ≡ a.clock → KeepsDisk Told a b d
@@ -162,20 +161,7 @@ module _ (x : View) (bay : x.bays.one) (place : ℕ) (name : List ℕ) (listed :
       truths = at.carries.truths;
       held = at.carries.held;
     };
-    cause = record {
-      missing = (λ same. absurd (not_listed (same_fault e NoSuchDrive same) at.err), λ past. absurd (omega (arith, listed, past)));
-      attach = λ same. at.attach (ap Err (same_fault e Attach same));
-      none = λ why. at.none (elim why [ inl same ↦ inl (ap Err (same_fault e Attach same)) | inr same ↦ inr (ap Err (same_fault e Memory same)) ]);
-      used = λ d named. (
-        λ same. (at.used d named).0 (ap Err (same_fault e Attach same)),
-        λ same. (at.used d named).1 (ap Err (same_fault e Memory same)),
-      );
-      twice = (λ same. (listed, at.twice.0 (ap Err (same_fault e Twice same))), λ of. ap Err (same_of e Twice (at.twice.1 of.1)));
-      named = λ look. absurd (looked look at.err);
-      answer = λ look. absurd (looked look at.err);
-      gone = λ same. absurd (not_gone (same_fault e Gone same) at.err);
-      not_whole = λ same. absurd (not_whole (same_fault e NotWhole same) at.err);
-    };
+    cause = unattached_cause x bay name (length (book x).state.drives.items) place (refusal_of x.linear (book x) place) (HasMarkedOther (moment_of x) (moment_of m) place) listed e at;
     declined = declined_none x m place e refl refl at.clock at.held;
     replaced = tt;
     table = tt;
@@ -186,53 +172,13 @@ module _ (x : View) (bay : x.bays.one) (place : ℕ) (name : List ℕ) (listed :
     steps = record { enters = tt; left = inl (at.clock, refl, refl) };
     ends = λ traced a holds i stopped. ends_of m (sound (at.continues.traced holds.shelf traced)) a (holds_of x m at.continues at.carries a holds) i stopped;
   }
-    where
-      Early : Type 0
-      Early = (e ≡ Attach) ⊎ ((e ≡ Memory) ⊎ (e ≡ Twice))
-
-      not_listed : e ≡ NoSuchDrive → Early → ⊥
-      not_listed is (inl one) = let same : NoSuchDrive ≡ Attach = sym is ∙ one in cc same
-      not_listed is (inr (inl one)) = let same : NoSuchDrive ≡ Memory = sym is ∙ one in cc same
-      not_listed is (inr (inr one)) = let same : NoSuchDrive ≡ Twice = sym is ∙ one in cc same
-
-      not_gone : e ≡ Gone → Early → ⊥
-      not_gone is (inl one) = let same : Gone ≡ Attach = sym is ∙ one in cc same
-      not_gone is (inr (inl one)) = let same : Gone ≡ Memory = sym is ∙ one in cc same
-      not_gone is (inr (inr one)) = let same : Gone ≡ Twice = sym is ∙ one in cc same
-
-      not_whole : e ≡ NotWhole → Early → ⊥
-      not_whole is (inl one) = let same : NotWhole ≡ Attach = sym is ∙ one in cc same
-      not_whole is (inr (inl one)) = let same : NotWhole ≡ Memory = sym is ∙ one in cc same
-      not_whole is (inr (inr one)) = let same : NotWhole ≡ Twice = sym is ∙ one in cc same
-
-      looked : IsLookedAt (moment_of x) place (Err e) → Early → ⊥
-      looked look (inl one) = look.attached (ap Err one)
-      looked look (inr (inl one)) = look.had (ap Err one)
-      looked look (inr (inr one)) = look.other (ap Err one)
 
   -- a disk is, and takes the place of the drive
   module _ (disk : ℕ) (at : AttachesDisk x m name (Ok disk)) where
-    pub before_same : (d : ℕ) → faults_before (moment_of m) d ≡ faults_before (moment_of x) d
-    before_same d =
-        elim (cases_lt d b.disks) [
-          | inl low ↦ ap (λ t. if t then b.faults d else 0) (lt-ltb d b.disks low) ∙ at.faults d low
-          | inr past ↦
-              let more = at.continues.disks in
-              let old : x.bay.disks ≤ d = omega (arith, past, more) in
-              ap (λ t. if t then b.faults d else 0) (le-ltb d b.disks past) ∙ sym (ap (λ t. if t then x.bay.faults d else 0) (le-ltb d x.bay.disks old))
-        ]
-
     went_since : (y : View) (k : ℕ) → DriveWentSince (moment_of m) (moment_of y) k → DriveWentSince (moment_of x) (moment_of y) k
     went_since y k rose =
         let d = disk_of y.slices (log_slice k) in
-        subst (λ n. Rose n (y.bay.faults d)) (before_same d) rose
-
-    pub rose_from : (y : View) (k : ℕ) → is_current (book x).state k ≡ true → DriveWentFrom (moment_of m) (moment_of y) k → DriveWentFrom (moment_of x) (moment_of y) k
-    rose_from y k was rose =
-        let d = disk_of x.slices (log_slice k) in
-        let low = low_disk (book x) x.slices x.bay k ordered fit.0.running.set (heeded_left (book x) k fit.0.heeded was) in
-        subst (λ n. Rose n (y.bay.faults d))
-        (at.faults d (let more = at.continues.disks in omega (arith, low, more)) ∙ ap (λ t. if t then x.bay.faults d else 0) (lt-ltb d x.bay.disks low)) rose
+        subst (λ n. Rose n (y.bay.faults d)) (before_same x bay name disk at d) rose
 
     former_since : (y : View) (a : FlatArray) (i : Image) → MeansFormer m y place a i → MeansFormer x y place a i
     former_since y a i (inl means) = inl means
@@ -241,27 +187,9 @@ module _ (x : View) (bay : x.bays.one) (place : ℕ) (name : List ℕ) (listed :
           | inr missing ↦ inr (inl missing, without.1)
           | inl was ↦ elim without.0 [
             | inl missing ↦ absurd (both_ways (is_current (book x).state place) missing was)
-            | inr rose ↦ inr (inr (rose_from y place was rose), without.1)
+            | inr rose ↦ inr (inr (rose_from x bay name disk at fit ordered y place was rose), without.1)
           ]
         ]
-
-    -- the name is no current drive's
-    pub not_drive : IsOfDrive (moment_of x) name → ⊥
-    not_drive of =
-        let same : of.0 ≡ disk = at.names.one of.0 disk (at.continues.names of.0 name of.2) at.ok.0 in
-        at.ok.2 (of.1, subst (λ e. seat_of x.slices of.1 ≡ Some e) same of.3, of.4)
-
-    pub names_since : (y : View) → y.shelf.names ≡ s.names → y.bay.disks ≡ b.disks → Continues m y → NamesDisk (moment_of x) (moment_of y) name
-    names_since y same disks go = record {
-      there = λ d named. let old = at.names.there d (before d named) in let more = go.disks in omega (arith, old, more);
-      one = λ d e first second. at.names.one d e (before d first) (before e second);
-      came = λ d past inside. ap (λ names. slice_get names d) same ∙ at.names.came d past (omega (arith, inside, disks));
-      old = λ d low named. at.names.old d low (before d named);
-      others = λ d n is. at.names.others d n (ap (λ names. slice_get names d) (sym same) ∙ is);
-    }
-      where
-        before : (d : ℕ) → IsNamed (moment_of y) name d → IsNamed (moment_of m) name d
-        before d named = ap (λ names. slice_get names d) (sym same) ∙ named
 
     pub declined_since : (y : View) (r : Answer) → IfErr r (IsDeclined (moment_of m) (moment_of y) place) → IfErr r (IsDeclined (moment_of x) (moment_of y) place)
     declined_since y (Ok u) declined = tt
@@ -269,7 +197,7 @@ module _ (x : View) (bay : x.bays.one) (place : ℕ) (name : List ℕ) (listed :
       marks = declined.marks;
       plan = declined.plan;
       arrays = declined.arrays;
-      cause = λ k was now. rose_from y k was (declined.cause k was now);
+      cause = λ k was now. rose_from x bay name disk at fit ordered y k was (declined.cause k was now);
       slices = declined.slices;
       unmarked = declined.unmarked;
       others = declined.others;
@@ -292,7 +220,7 @@ module _ (x : View) (bay : x.bays.one) (place : ℕ) (name : List ℕ) (listed :
           outside = outside_fewer x.slices y.slices (λ d. NoDisk d ⊎ (d ≡ disk)) (IsNamed (moment_of y) name) x.shelf.told x.bay y.bay (λ d is. named_at y here d is)
               (outside_then x m y NoDisk (λ d. d ≡ disk) at.continues by.continues at.outside by.outside);
           changes = λ low. record {
-            names = names_since y by.names by.disks by.continues;
+            names = names_since x bay name disk at y by.names by.disks;
             retired = λ p d inside missing seat unnamed.
                 let keeps = by.retired p d inside missing seat (λ is. unnamed (named_at y here d (inr is))) in
                 let old = fit.0.running.set.fit.1.seats p d seat in
@@ -311,29 +239,15 @@ module _ (x : View) (bay : x.bays.one) (place : ℕ) (name : List ℕ) (listed :
               | inl same ↦ inl same
               | inr none ↦ inr (disk, here, subst (IsAdmissible x.linear (book x) place) (sym size) none)
             ];
-            current = λ of. absurd (not_drive of);
+            current = λ of. absurd (not_drive x bay name disk at of);
             image = λ told all d named. subst (λ e. IsKept y e) (sym (only y by d named)) (kept y by told all);
             spent = λ s alive. carries.spent s alive;
             truths = carries.truths;
             held = carries.held;
           };
-          cause = record {
-            missing = (λ same. absurd ((late by NoSuchDrive same).listed refl), λ past. absurd (omega (arith, listed, past)));
-            attach = λ same. absurd ((late by Attach same).attached refl);
-            none = λ why. elim why [ inl same ↦ absurd ((late by Attach same).attached refl) | inr same ↦ absurd ((late by Memory same).had refl) ];
-            used = λ d named. (λ same. (late by Attach same).attached refl, λ same. (late by Memory same).had refl);
-            twice = (λ same. absurd ((late by Twice same).other refl), λ of. absurd (not_drive of.1));
-            named = λ look. (disk, here);
-            answer = λ look d named.
-                subst (λ e. IsAnswer (refusal_of x.linear (book x) place (y.bay.sectors e)) r) (sym (only y by d named))
-                (subst (λ n. IsAnswer (refusal_of x.linear (book x) place n) r) (sym size) by.answer);
-            gone = λ same d named.
-                subst (λ e. Rose (faults_before (moment_of x) e) (y.bay.faults e)) (sym (only y by d named))
-                (subst (λ n. Rose n (y.bay.faults disk)) (at.faults disk at.ok.1) (by.gone same));
-            not_whole = λ same d named.
-                subst (λ e. (refusal_of x.linear (book x) place (y.bay.sectors e) ≡ Some NotWhole) ⊎ HasMarkedOther (moment_of x) (moment_of y) place) (sym (only y by d named))
-                (subst (λ n. (refusal_of x.linear (book x) place n ≡ Some NotWhole) ⊎ HasMarkedOther (moment_of x) (moment_of y) place) (sym size) (by.not_whole same));
-          };
+          cause =
+              attached_cause x bay name disk at y by.names (length (book x).state.drives.items) place (refusal_of x.linear (book x) place) (HasMarkedOther (moment_of x) (moment_of y) place)
+              listed r size (refusal_late x.linear (book x) place (b.sectors disk)) by.answer by.gone by.not_whole;
           declined = declined_since y r by.declined;
           replaced = replaced_since y r (only y by) by.replaced;
           table = table_since y r (only y by) by.table;
@@ -353,9 +267,6 @@ module _ (x : View) (bay : x.bays.one) (place : ℕ) (name : List ℕ) (listed :
         named_at : (y : View) → IsNamed (moment_of y) name disk → (d : ℕ) → NoDisk d ⊎ (d ≡ disk) → IsNamed (moment_of y) name d
         named_at y here d (inl none) = absurd none
         named_at y here d (inr is) = subst (λ e. IsNamed (moment_of y) name e) (sym is) here
-
-        late : ReplacesBy m y place disk r → (f : GrowFault) → r ≡ Err f → IsLate f
-        late by = answer_late x.linear (book x) place (b.sectors disk) r by.answer
 
         only : (y : View) → ReplacesBy m y place disk r → (d : ℕ) → IsNamed (moment_of y) name d → d ≡ disk
         only y by d named = at.names.one d disk (ap (λ names. slice_get names d) (sym by.names) ∙ named) at.ok.0
@@ -380,7 +291,7 @@ module _ (x : View) (bay : x.bays.one) (place : ℕ) (name : List ℕ) (listed :
                     | inl before ↦ inl (subst (λ h. MayLeave h v) (one.2 k inside) before)
                     | inr new ↦ inr (record {
                       admitted = subst (IsAdmissible x.linear (book x) place) (sym size) new.0;
-                      other = not_drive;
+                      other = not_drive x bay name disk at;
                       value = subst (λ n. IsLaid disk (new_table (book x).state (views_of (book x)) place n) disk k v) (sym size) new.1;
                     })
                   ],

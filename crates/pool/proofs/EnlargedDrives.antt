@@ -1,6 +1,6 @@
 -- The disk of a name takes the place of a drive of other units, by what its parts say.
 use Rattle.std.specs.Prelude.{Ok, Err, OnOk}
-use Rattle.std.proofs.Common.{◌≡◌, ◌≢◌, ℕ, ◌*◌, ◌<◌, ◌&&◌, not, Bool, true, false, List, length, slice_get, None, refl, sym, ap, subst, ◌∙◌, inl, inr, arith}
+use Rattle.std.proofs.Common.{◌≡◌, ◌≢◌, ℕ, ◌*◌, ◌<◌, ◌&&◌, not, Bool, true, false, List, length, None, refl, sym, ap, subst, ◌∙◌, inl, inr, arith}
 use Rattle.std.proofs.lemmas.Bool.{and_from, and_parts, both_ways, cases_Bool}
 use Rattle.rack.specs.Seen.{Rose}
 use Rattle.slice_rack.specs.Slices.{IsOrderly}
@@ -12,14 +12,15 @@ use Rattle.raid_rack.proofs.Raises.{raises_more}
 use Rattle.pool.specs.Adding.{IsTakenIn}
 use Rattle.pool.specs.Enlarging.{Enlarges, EnlargesBy, EnlargesDrive, TakesLarger}
 use Rattle.pool.specs.Keeping.{most_raised}
-use Rattle.pool.specs.Moment.{IsNamed, moment_of}
+use Rattle.pool.specs.Moment.{moment_of}
 use Rattle.pool.specs.Replaced.{HasMarked, HasMarkedOther, IsAnswer}
 use Rattle.pool.specs.Replacing.{has_other_missing, has_same, refusal_of}
 use Rattle.pool.specs.Taking.{AttachesDisk}
 use Rattle.pool.specs.View.{View, book, volume}
 use Rattle.pool.specs.declared.replacing.GrowFault.TheVariants.{Gone, NoSuchDrive, NotWhole}
 use Rattle.pool.proofs.Admitted.{others_current}
-use Rattle.pool.proofs.Composed.{before_same, declined_since, names_since, not_drive, rose_from}
+use Rattle.pool.proofs.Composed.{declined_since}
+use Rattle.pool.proofs.NamedDisks.{before_same, here, names_since, not_drive, only, rose_from}
 use Rattle.pool.proofs.Continuing.{continues_then}
 use Rattle.pool.proofs.Late.{Answer, never_fault, same_fault}
 use Rattle.pool.proofs.Later.{later}
@@ -92,15 +93,15 @@ module _ (x : View) (bay : x.bays.one) (place : ℕ) (name : List ℕ) (listed :
   taken_since : (r : Answer) → OnOk r (IsTakenIn (moment_of m) (moment_of y) place (Replace place) disk) → OnOk r (IsTakenIn (moment_of x) (moment_of y) place (Replace place) disk)
   taken_since (Err e) is = tt
   taken_since (Ok u) is =
-      record { turns = is.turns; cause = λ now. subst (λ n. Rose n (y.bay.faults disk)) (before_same x bay place name listed fit ordered disk at disk) (is.cause now); seats = is.seats }
+      record { turns = is.turns; cause = λ now. subst (λ n. Rose n (y.bay.faults disk)) (before_same x bay name disk at disk) (is.cause now); seats = is.seats }
 
   by_since : EnlargesBy m y place disk r → EnlargesBy x y place disk r
   by_since by = record {
     continues = continues_then x m y at.continues by.continues;
-    marks = λ k was now. elim (by.marks k was now) [ inl rose ↦ inl (rose_from x bay place name listed fit ordered disk at y k was rose) | inr own ↦ inr own ];
+    marks = λ k was now. elim (by.marks k was now) [ inl rose ↦ inl (rose_from x bay name disk at fit ordered y k was rose) | inr own ↦ inr own ];
     takes = record {
       answer = by.takes.answer;
-      gone = λ is. subst (λ n. Rose n (y.bay.faults disk)) (before_same x bay place name listed fit ordered disk at disk) (by.takes.gone is);
+      gone = λ is. subst (λ n. Rose n (y.bay.faults disk)) (before_same x bay name disk at disk) (by.takes.gone is);
       declined = declined_since x bay place name listed fit ordered disk at y r by.takes.declined;
       taken = taken_since r by.takes.taken;
     };
@@ -109,22 +110,20 @@ module _ (x : View) (bay : x.bays.one) (place : ℕ) (name : List ℕ) (listed :
   pub enlarged_by : y.shelf.names ≡ (x.bays.shelf bay).names → y.bay.disks ≡ (x.bays.seen bay).disks → Enlarges m y place disk r → EnlargesDrive x y place name r
   enlarged_by names disks is =
       let by = by_since is.by in
-      let here : IsNamed (moment_of y) name disk = ap (λ ns. slice_get ns disk) names ∙ at.ok.0 in
-      let named = names_since x bay place name listed fit ordered disk at y names disks is.by.continues in
       record {
         continues = by.continues;
         raises = is.raises;
         marks = by.marks;
         enlarging = record {
           listed = listed;
-          other = not_drive x bay place name listed fit ordered disk at;
+          other = not_drive x bay name disk at;
           disk = disk;
-          named = here;
+          named = here x bay name disk at y names;
           larger = is.larger;
         };
         enlarges = record {
-          names = named;
+          names = names_since x bay name disk at y names disks;
           not_whole = is.not_whole;
-          takes = λ d is_d. subst (λ e. TakesLarger (moment_of x) (moment_of y) place e r) (named.one disk d here is_d) by.takes;
+          takes = λ d is_d. subst (λ e. TakesLarger (moment_of x) (moment_of y) place e r) (sym (only x bay name disk at y names d is_d)) by.takes;
         };
       }

@@ -105,11 +105,8 @@ refusal_late l v place sectors =
     (standing_late (is_planned v.state.plan) (has_other_missing v.state place) (has_resync (arrays_now v)))
 
 -- so is each answer
-pub answer_late : (l : Linear) (v : Raid) (place sectors : ℕ) (r : Answer) → IsAnswer (refusal_of l v place sectors) r → (f : GrowFault) → r ≡ Err f → IsLate f
-answer_late l v place sectors r answer f is = of (refusal_of l v place sectors) (refusal_late l v place sectors) answer
-  where
-    of : (o : Option GrowFault) → AreLate o → IsAnswer o r → IsLate f
-    of (Some e) late same = (late f (ap Some (same_fault e f (sym same ∙ is)))).0
-    of None late (inl served) = absurd (never_fault f (sym served ∙ is))
-    of None late (inr (inl gone)) = subst IsLate (same_fault Gone f (sym gone ∙ is)) late_gone
-    of None late (inr (inr whole)) = subst IsLate (same_fault NotWhole f (sym whole ∙ is)) late_whole.0
+pub answer_late : (o : Option GrowFault) → AreLate o → (r : Answer) → IsAnswer o r → (f : GrowFault) → r ≡ Err f → IsLate f
+answer_late (Some e) late r same f is = (late f (ap Some (same_fault e f (sym same ∙ is)))).0
+answer_late None late r (inl served) f is = absurd (never_fault f (sym served ∙ is))
+answer_late None late r (inr (inl gone)) f is = subst IsLate (same_fault Gone f (sym gone ∙ is)) late_gone
+answer_late None late r (inr (inr whole)) f is = subst IsLate (same_fault NotWhole f (sym whole ∙ is)) late_whole.0

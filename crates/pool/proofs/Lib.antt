@@ -15,6 +15,7 @@ mod Carrying
 mod Later
 mod Attaching
 mod Late
+mod NamedDisks
 mod Composed
 mod Vacating
 mod Taken

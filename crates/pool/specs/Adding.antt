@@ -1,5 +1,5 @@
 -- A drive is added: why a disk isn't taken in, by a pool's book, and what the pool is after it.
-use Rattle.std.specs.Prelude.{◌≡◌, ◌≢◌, ◌⊎◌, ◌↔◌, ℕ, ◌==◌, ◌||◌, ◌++◌, Bool, true, false, List, [], ◌∷◌, length, Option, Some, None, Result, Ok, Err, IfErr, OnOk}
+use Rattle.std.specs.Prelude.{◌≡◌, ℕ, ◌+◌, ◌==◌, ◌||◌, ◌++◌, Bool, true, false, List, [], ◌∷◌, length, Option, Some, Result, Err, IfErr, OnOk}
 use Rattle.std.specs.List.{list_any}
 use Rattle.rack.specs.Seen.{Rose}
 use Rattle.shr_base.specs.Units.{units_of}
@@ -16,12 +16,12 @@ use Rattle.raid_laws.specs.Moves.{RaisesBy}
 use Rattle.raid_laws.specs.NewDrive.{SeatsDrive, joins}
 use Rattle.raid_laws.specs.Raid.{Raid}
 use Rattle.pool.specs.declared.replacing.GrowFault.{GrowFault}
-use Rattle.pool.specs.declared.replacing.GrowFault.TheVariants.{Attach, Twice, Memory, PlanPending, NotWhole, NotResynced, Gone}
+use Rattle.pool.specs.declared.replacing.GrowFault.TheVariants.{PlanPending, NotWhole, NotResynced, Gone}
 use Rattle.pool.specs.Calls.{Marks}
 use Rattle.pool.specs.Continuing.{Continues}
 use Rattle.pool.specs.Keeping.{Raises}
 use Rattle.pool.specs.Moment.{IsNamed, Moment, moment_of, views_of}
-use Rattle.pool.specs.Replaced.{IsOfDrive, NamesDisk, faults_before}
+use Rattle.pool.specs.Replaced.{HasTakingCause, IsAnswer, NamesDisk, faults_before}
 use Rattle.pool.specs.Replacing.{first_of, has_resync, is_planned, lacks_room, new_drive, planning}
 use Rattle.pool.specs.View.{View, book}
 use Rattle.pool.specs.Works.{arrays_now}
@@ -56,28 +56,10 @@ refusal_of_units l v units = refusal_after ((NotResynced, has_resync (arrays_now
 
 -- ---- refusals, by how the pool stands before and after
 
--- by what the book says of a disk: the first refusal, or the new drive refused a call
-abbrev pub IsAddAnswer : Option GrowFault → Result (Unit {0}) GrowFault → Type 0
-IsAddAnswer (Some fault) result = result ≡ Err fault
-IsAddAnswer None result = (result ≡ Ok tt) ⊎ (result ≡ Err Gone)
-
--- it was looked at why the drive may not be added: the name has a disk that isn't a current drive's
-pub record IsLookedAtNow (result : Result (Unit {0}) GrowFault) : Type 0 where
-  pub attached : result ≢ Err Attach
-  pub had : result ≢ Err Memory
-  pub other : result ≢ Err Twice
-
--- Each refusal has its cause, in the order in which they are looked for.
-pub record HasAddCause (l : Linear) (p q : Moment) (name : List ℕ) (result : Result (Unit {0}) GrowFault) : Type 0 where
-  pub attach : result ≡ Err Attach → Rose p.unattached q.unattached
-  -- an image that can't be attached, or not for want of memory, comes as no disk
-  pub none : (result ≡ Err Attach) ⊎ (result ≡ Err Memory) → q.disks ≡ p.disks
-  -- a name that is attached is used
-  pub used : (d : ℕ) → IsNamed p name d → (result ≢ Err Attach) × (result ≢ Err Memory)
-  pub twice : (result ≡ Err Twice) ↔ IsOfDrive p name
-  pub named : IsLookedAtNow result → (d : ℕ) × IsNamed q name d
-  pub answer : IsLookedAtNow result → (d : ℕ) → IsNamed q name d → IsAddAnswer (refusal_of_add l p.book (q.sectors d)) result
-  pub gone : result ≡ Err Gone → (d : ℕ) → IsNamed q name d → Rose (faults_before p d) (q.faults d)
+-- Each refusal has its cause: those of a drive for the next place, which is always there. No other drive is found gone.
+abbrev pub HasAddCause : Linear → (p q : Moment) → List ℕ → Result (Unit {0}) GrowFault → Type 0
+HasAddCause l p q name result =
+    let next = length p.book.state.drives.items in HasTakingCause (next + 1) next (refusal_of_add l p.book) ⊥ p q name result
 
 -- ---- the call
 
@@ -110,7 +92,8 @@ pub record AddsBy (x y : View) (disk : ℕ) (result : Result (Unit {0}) GrowFaul
   pub raises : RaisesBy 36 (book x) (book y)
   pub names : y.shelf.names ≡ x.shelf.names
   pub disks : y.bay.disks ≡ x.bay.disks
-  pub answer : IsAddAnswer (refusal_of_add x.linear (book x) (x.bay.sectors disk)) result
+  pub answer : IsAnswer (refusal_of_add x.linear (book x) (x.bay.sectors disk)) result
+  pub not_whole : result ≡ Err NotWhole → refusal_of_add x.linear (book x) (x.bay.sectors disk) ≡ Some NotWhole
   pub gone : result ≡ Err Gone → Rose (x.bay.faults disk) (y.bay.faults disk)
   pub marks : Marks x y
   pub declined : IfErr result (λ e. IsUnchanged (moment_of x) (moment_of y))

@@ -48,9 +48,9 @@ IsOfDrive p name = (d : ℕ) × (k : ℕ) × IsNamed p name d × (seat_of p.slic
 abbrev pub faults_before : Moment → ℕ → ℕ
 faults_before p d = if nat_lt d p.disks then p.faults d else 0
 
--- it was looked at why the drive may not be replaced: the place is in the list, and the name has a disk that isn't a current drive's
-pub record IsLookedAt (p : Moment) (place : ℕ) (result : Result (Unit {0}) GrowFault) : Type 0 where
-  pub listed : place < length p.book.state.drives.items
+-- It was looked at why a drive may not be taken in at a place, of so many: the place is one of these, and the name has a disk that isn't a current drive's.
+pub record IsLookedAt (places place : ℕ) (result : Result (Unit {0}) GrowFault) : Type 0 where
+  pub listed : place < places
   pub attached : result ≢ Err Attach
   pub had : result ≢ Err Memory
   pub other : result ≢ Err Twice
@@ -68,20 +68,25 @@ HasMarked p q = (k : ℕ) × (is_current p.book.state k ≡ true) × (is_current
 abbrev pub HasMarkedOther : Moment → Moment → ℕ → Type 0
 HasMarkedOther p q place = (k : ℕ) × (k ≢ place) × (is_current p.book.state k ≡ true) × (is_current q.book.state k ≡ false)
 
--- Each refusal has its cause, in the order in which they are looked for.
-pub record HasGrowCause (l : Linear) (p q : Moment) (place : ℕ) (name : List ℕ) (result : Result (Unit {0}) GrowFault) : Type 0 where
-  pub missing : (result ≡ Err NoSuchDrive) ↔ (length p.book.state.drives.items ≤ place)
+-- Each refusal of a drive for a place, of so many, has its cause, in the order in which they are looked for. `refusal` is the first one by the book, of a disk of so many
+-- sectors; `Marked` says that another drive was found gone and is marked.
+pub record HasTakingCause (places place : ℕ) (refusal : ℕ → Option GrowFault) (Marked : Type 0) (p q : Moment) (name : List ℕ) (result : Result (Unit {0}) GrowFault) : Type 0 where
+  pub missing : (result ≡ Err NoSuchDrive) ↔ (places ≤ place)
   pub attach : result ≡ Err Attach → Rose p.unattached q.unattached
   -- an image that can't be attached, or not for want of memory, comes as no disk
   pub none : (result ≡ Err Attach) ⊎ (result ≡ Err Memory) → q.disks ≡ p.disks
   -- a name that is attached is used
   pub used : (d : ℕ) → IsNamed p name d → (result ≢ Err Attach) × (result ≢ Err Memory)
-  pub twice : (result ≡ Err Twice) ↔ ((place < length p.book.state.drives.items) × IsOfDrive p name)
-  pub named : IsLookedAt p place result → (d : ℕ) × IsNamed q name d
-  pub answer : IsLookedAt p place result → (d : ℕ) → IsNamed q name d → IsAnswer (refusal_of l p.book place (q.sectors d)) result
+  pub twice : (result ≡ Err Twice) ↔ ((place < places) × IsOfDrive p name)
+  pub named : IsLookedAt places place result → (d : ℕ) × IsNamed q name d
+  pub answer : IsLookedAt places place result → (d : ℕ) → IsNamed q name d → IsAnswer (refusal (q.sectors d)) result
   pub gone : result ≡ Err Gone → (d : ℕ) → IsNamed q name d → Rose (faults_before p d) (q.faults d)
-  pub not_whole :
-      result ≡ Err NotWhole → (d : ℕ) → IsNamed q name d → (refusal_of l p.book place (q.sectors d) ≡ Some NotWhole) ⊎ HasMarkedOther p q place
+  pub not_whole : result ≡ Err NotWhole → (d : ℕ) → IsNamed q name d → (refusal (q.sectors d) ≡ Some NotWhole) ⊎ Marked
+
+-- that of a drive which replaces the one of a place
+abbrev pub HasGrowCause : Linear → (p q : Moment) → (place : ℕ) → List ℕ → Result (Unit {0}) GrowFault → Type 0
+HasGrowCause l p q place name result =
+    HasTakingCause (length p.book.state.drives.items) place (refusal_of l p.book place) (HasMarkedOther p q place) p q name result
 
 -- ---- what is read of contents
 

@@ -141,7 +141,7 @@ module _ {L : Type 0} {o : Option Lone} (x y : View) (place : ℕ) (name : List 
         more : x.bay.disks < y.bay.disks
         more = omega (arith, past, low)
 
-        look : IsLookedAt (moment_of x) place (Err fault)
+        look : IsLookedAt (length (book x).state.drives.items) place (Err fault)
         look = record {
           listed = listed_of x y place name fault text looks performs;
           attached = λ same. (let none = performs.cause.0.none (inl same) in omega (arith, none, more));

@@ -174,7 +174,7 @@ module _ {L : Type 0} {o : Option Lone} (x y : View) (place : ℕ) (name text : 
     | inr past ↦ absurd (ok_err NoSuchDrive (cause.missing.1 past))
   ]
 
-  abbrev pub look : IsLookedAt (moment_of x) place (Ok tt)
+  abbrev pub look : IsLookedAt (length (book x).state.drives.items) place (Ok tt)
   look = record { listed = listed; attached = λ same. ok_err Attach same; had = λ same. ok_err Memory same; other = λ same. ok_err Twice same }
 
   abbrev pub disk : ℕ
