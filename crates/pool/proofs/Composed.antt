@@ -100,32 +100,34 @@ replaced_unlisted x place name fit sound past = record {
 pub nothing_done : (x : View) (place disk : ℕ) (e : GrowFault) → (volume x).fit → refusal_of x.linear (book x) place (x.bay.sectors disk) ≡ Some e
     → ReplacesBy x x place disk (Err e)
 nothing_done x place disk e fit is = record {
-  continues = continues_same x fit;
-  carries = carries_same x;
-  raises = raises_still 1 x;
-  keeps = book_but place (book x) (book x) (book_same (book x));
-  kept = book_same (book x);
-  outside = record {
-    slices = λ d s v is. inl is;
-    held = λ d s out. keeps_same (x.bay.held d s);
-    stops = λ told traced k i since until stopped. absurd (omega (arith, since, until));
+  takes = record {
+    continues = continues_same x fit;
+    carries = carries_same x;
+    keeps = book_but place (book x) (book x) (book_same (book x));
+    kept = book_same (book x);
+    outside = record {
+      slices = λ d s v is. inl is;
+      held = λ d s out. keeps_same (x.bay.held d s);
+      stops = λ told traced k i since until stopped. absurd (omega (arith, since, until));
+    };
+    names = refl;
+    bare = λ d seat other. inl refl;
+    disks = refl;
+    gone = λ same. absurd ((refusal_late x.linear (book x) place (x.bay.sectors disk) e is).1 (same_fault e Gone same));
+    declined = declined_none x x place e refl refl refl (λ d low s. refl);
+    replaced = tt;
+    table = tt;
+    moments = tt;
+    leaves = λ traced a holds k i since until stopped. absurd (omega (arith, since, until));
   };
+  raises = raises_still 1 x;
   retired = λ k d low missing seat other. still_disk x.shelf.told x.bay x.bay d (λ k. refl) refl;
   laid = λ low all k v within unsliced left. inl left;
-  names = refl;
-  bare = λ d seat other. inl refl;
-  disks = refl;
   admitted = inl refl;
   answer = subst (λ o. IsAnswer o (Err e)) (sym is) refl;
-  gone = λ same. absurd ((refusal_late x.linear (book x) place (x.bay.sectors disk) e is).1 (same_fault e Gone same));
   not_whole = λ same. inl (is ∙ ap Some (same_fault e NotWhole same));
-  declined = declined_none x x place e refl refl refl (λ d low s. refl);
   left = inl (refl, refl, refl);
-  replaced = tt;
-  table = tt;
   enters = tt;
-  moments = tt;
-  leaves = λ traced a holds k i since until stopped. absurd (omega (arith, since, until));
 }
 
 -- ---- a disk is attached, or none
@@ -208,19 +210,19 @@ module _ (x : View) (bay : x.bays.one) (place : ℕ) (name : List ℕ) (listed :
 
     pub replaced_by : (y : View) (r : Answer) → ReplacesBy m y place disk r → (y.bay.traced → IsSound (volume y)) → ReplacesDrive x y place name r
     replaced_by y r by sound =
-        let go = continues_then x m y at.continues by.continues in
-        let carries = carries_then x m y at.continues at.carries by.carries in
-        let here : IsNamed (moment_of y) name disk = ap (λ names. slice_get names disk) by.names ∙ at.ok.0 in
-        let size : y.bay.sectors disk ≡ b.sectors disk = by.continues.sectors disk at.ok.1 in
+        let go = continues_then x m y at.continues by.takes.continues in
+        let carries = carries_then x m y at.continues at.carries by.takes.carries in
+        let here : IsNamed (moment_of y) name disk = ap (λ names. slice_get names disk) by.takes.names ∙ at.ok.0 in
+        let size : y.bay.sectors disk ≡ b.sectors disk = by.takes.continues.sectors disk at.ok.1 in
         record {
           continues = go;
           raises = by.raises;
-          keeps = by.keeps;
-          kept = by.kept;
+          keeps = by.takes.keeps;
+          kept = by.takes.kept;
           outside = outside_fewer x.slices y.slices (λ d. NoDisk d ⊎ (d ≡ disk)) (IsNamed (moment_of y) name) x.shelf.told x.bay y.bay (λ d is. named_at y here d is)
-              (outside_then x m y NoDisk (λ d. d ≡ disk) at.continues by.continues at.outside by.outside);
+              (outside_then x m y NoDisk (λ d. d ≡ disk) at.continues by.takes.continues at.outside by.takes.outside);
           changes = λ low. record {
-            names = names_since x bay name disk at y by.names by.disks;
+            names = names_since x bay name disk at y by.takes.names by.takes.disks;
             retired = λ p d inside missing seat unnamed.
                 let keeps = by.retired p d inside missing seat (λ is. unnamed (named_at y here d (inr is))) in
                 let old = fit.0.running.set.fit.1.seats p d seat in
@@ -234,7 +236,7 @@ module _ (x : View) (bay : x.bays.one) (place : ℕ) (name : List ℕ) (listed :
                       (keeps.stops (at.continues.told told) (at.continues.traced told traced) k i (let clock = at.clock in omega (arith, since, clock)) until stopped q
                       (subst (λ n. q < n) (sym size_d) within) (at.continues.tells d old tells));
                 };
-            bare = λ d seat unnamed. by.bare d seat (λ is. unnamed (named_at y here d (inr is)));
+            bare = λ d seat unnamed. by.takes.bare d seat (λ is. unnamed (named_at y here d (inr is)));
             admitted = elim by.admitted [
               | inl same ↦ inl same
               | inr none ↦ inr (disk, here, subst (IsAdmissible x.linear (book x) place) (sym size) none)
@@ -246,16 +248,16 @@ module _ (x : View) (bay : x.bays.one) (place : ℕ) (name : List ℕ) (listed :
             held = carries.held;
           };
           cause =
-              attached_cause x bay name disk at y by.names (length (book x).state.drives.items) place (refusal_of x.linear (book x) place) (HasMarkedOther (moment_of x) (moment_of y) place)
-              listed r size (refusal_late x.linear (book x) place (b.sectors disk)) by.answer by.gone by.not_whole;
-          declined = declined_since y r by.declined;
-          replaced = replaced_since y r (only y by) by.replaced;
-          table = table_since y r (only y by) by.table;
-          moments = moments_since y r (only y by) by.moments;
+              attached_cause x bay name disk at y by.takes.names (length (book x).state.drives.items) place (refusal_of x.linear (book x) place) (HasMarkedOther (moment_of x) (moment_of y) place)
+              listed r size (refusal_late x.linear (book x) place (b.sectors disk)) by.answer by.takes.gone by.not_whole;
+          declined = declined_since y r by.takes.declined;
+          replaced = replaced_since y r (only y by) by.takes.replaced;
+          table = table_since y r (only y by) by.takes.table;
+          moments = moments_since y r (only y by) by.takes.moments;
           holds = holds_of x y go carries;
           truths = carries.truths;
           leaves = λ traced a holds k i since until stopped.
-              elim (by.leaves (at.continues.traced holds.shelf traced) a (holds_of x m at.continues at.carries a holds) k i
+              elim (by.takes.leaves (at.continues.traced holds.shelf traced) a (holds_of x m at.continues at.carries a holds) k i
               (let clock = at.clock in omega (arith, since, clock)) until stopped) [
                 | inl former ↦ inl (former_since y a i former)
                 | inr means ↦ inr means
@@ -269,7 +271,7 @@ module _ (x : View) (bay : x.bays.one) (place : ℕ) (name : List ℕ) (listed :
         named_at y here d (inr is) = subst (λ e. IsNamed (moment_of y) name e) (sym is) here
 
         only : (y : View) → ReplacesBy m y place disk r → (d : ℕ) → IsNamed (moment_of y) name d → d ≡ disk
-        only y by d named = at.names.one d disk (ap (λ names. slice_get names d) (sym by.names) ∙ named) at.ok.0
+        only y by d named = at.names.one d disk (ap (λ names. slice_get names d) (sym by.takes.names) ∙ named) at.ok.0
 
         -- what the disk may be left with
         IsKept : View → ℕ → Type 0
@@ -282,7 +284,7 @@ module _ (x : View) (bay : x.bays.one) (place : ℕ) (name : List ℕ) (listed :
         kept : (y : View) → ReplacesBy m y place disk r → x.shelf.told → AreTold x → IsKept y disk
         kept y by told all =
             let one = at.image told disk at.ok.0 in
-            let size : y.bay.sectors disk ≡ b.sectors disk = by.continues.sectors disk at.ok.1 in (
+            let size : y.bay.sectors disk ≡ b.sectors disk = by.takes.continues.sectors disk at.ok.1 in (
               one.0,
               subst (λ n. IsImage (moment_of x) name n one.0) (sym size) one.1,
               λ k v within unsliced left.

@@ -383,25 +383,57 @@ module _ (x : View) (b : RackView) (s : Shelf) (place disk units : ℕ) (t u : S
       let go = mid_goes x b s place disk t linear fit kind empty now names ordered orderly in
       let carries = mid_carries x b s place disk t linear fit kind empty now names ordered orderly in
       record {
-        continues = goes_on x b s place disk t linear fit kind empty now names ordered orderly u z may enlists.only fit_now orderly_now;
-        carries = carries_then x mid y go carries new_carries;
+        takes = record {
+          continues = goes_on x b s place disk t linear fit kind empty now names ordered orderly u z may enlists.only fit_now orderly_now;
+          carries = carries_then x mid y go carries new_carries;
+          kept = tt;
+          keeps =
+              book_enlisted place units (Replace place) (joins x.arrays.all.items place (x.bay.sectors disk)) (book x) (raid_by z) (slices_of t x.bay) (slices_of u b) empty.running.set
+              after.running.set after.heeded made enlists.is.arrays;
+          outside =
+              outside_of_it x b s place disk t linear fit kind empty now names ordered orderly u z may enlists.only fit_now orderly_now
+              (λ d k a at. elim at [ inl own ↦ inr own.0 | inr is ↦ new_sliced d k a is ]) new_sliced;
+          names = names.names;
+          bare = λ d seat other. inr (bare_now d seat other);
+          disks = enlists.only.stays.disks;
+          gone = λ same. absurd (let e : ◌≡◌ {A = Result (Unit {0}) GrowFault} (Ok tt) (Err Gone) = same in cc e);
+          declined = tt;
+          replaced = record {
+            units = units;
+            units_is = units_is;
+            enough = ap (λ n. units_of n x.arrays.state.extent) size ∙ same_units x.arrays.state place (units_of (x.bay.sectors disk) x.arrays.state.extent) units admits.units units_is;
+            marks = enlists.is.book;
+            plan = enlists.is.plan_is;
+            cause = λ p current gone.
+                let d = disk_of u (log_slice p) in
+                subst (λ n. Rose n (b.faults d)) (sym (ap (λ (c : Bool). if c then x.bay.faults d else 0) (lt-ltb d x.bay.disks (new_low p current))))
+                (went (later x x.bay x.shelf u x.arrays) y p refl (enlists.is.caused.cause p (left_before p current) (not_left (raid_by z) p gone)));
+            seats =
+                subst (λ n. SeatsDrive (views_of (book x)) place disk n x.slices u) (sym size)
+                (subst (λ vs. SeatsDrive vs place disk (x.bay.sectors disk) x.slices u) (sym list_is) all_seats);
+            arrays =
+                subst (λ n. KeepsArrays (with_drive place units (Replace place) (joins (views_of (book x)) place n) (book x)) (raid_by z)) (sym size)
+                (subst (λ vs. KeepsArrays (with_drive place units (Replace place) (joins vs place (x.bay.sectors disk)) (book x)) (raid_by z)) (sym list_is) enlists.is.arrays);
+          };
+          table = record {
+            copies = λ names_told all copy.
+                subst (λ (e : Table). HoldsCopy copy e (now_on b disk)) (sym table_is) (enlists.copies (λ k of. table_live all k (table_inside k of)) copy);
+            durable = λ names_told all k of.
+                let of_old = subst (λ n. IsOfTable n k) size of in
+                enlists.durable k of_old (table_live all k (table_inside k of_old));
+          };
+          leaves = λ traced a holds k i since until stopped.
+              elim (new_leaves traced a (holds_of x mid go carries a holds) k i since until stopped) [
+                | inl former ↦ inl former
+                | inr with_it ↦ inr with_it.0
+              ];
+          moments = λ traced a holds k i since until stopped. new_leaves traced a (holds_of x mid go carries a holds) k i since until stopped;
+        };
         raises = enlists.raises;
-        kept = tt;
-        keeps =
-            book_enlisted place units (Replace place) (joins x.arrays.all.items place (x.bay.sectors disk)) (book x) (raid_by z) (slices_of t x.bay) (slices_of u b) empty.running.set
-            after.running.set after.heeded made enlists.is.arrays;
-        outside =
-            outside_of_it x b s place disk t linear fit kind empty now names ordered orderly u z may enlists.only fit_now orderly_now
-            (λ d k a at. elim at [ inl own ↦ inr own.0 | inr is ↦ new_sliced d k a is ]) new_sliced;
         retired = λ why. former_kept;
         laid = laid_by x b s place disk t linear fit kind empty now names ordered orderly u by_book.only;
-        names = names.names;
-        bare = λ d seat other. inr (bare_now d seat other);
-        disks = enlists.only.stays.disks;
         answer = inl refl;
-        gone = λ same. absurd (let e : ◌≡◌ {A = Result (Unit {0}) GrowFault} (Ok tt) (Err Gone) = same in cc e);
         not_whole = λ same. absurd (let e : ◌≡◌ {A = Result (Unit {0}) GrowFault} (Ok tt) (Err NotWhole) = same in cc e);
-        declined = tt;
         left = tt;
         out = λ same. absurd (let e : ◌≡◌ {A = Result (Unit {0}) GrowFault} (Ok tt) (Err NotWhole) = same in cc e);
         enters = record {
@@ -412,36 +444,6 @@ module _ (x : View) (b : RackView) (s : Shelf) (place disk units : ℕ) (t u : S
           enlists = by_book;
           former = former_kept;
         };
-        replaced = record {
-          units = units;
-          units_is = units_is;
-          enough = ap (λ n. units_of n x.arrays.state.extent) size ∙ same_units x.arrays.state place (units_of (x.bay.sectors disk) x.arrays.state.extent) units admits.units units_is;
-          marks = enlists.is.book;
-          plan = enlists.is.plan_is;
-          cause = λ p current gone.
-              let d = disk_of u (log_slice p) in
-              subst (λ n. Rose n (b.faults d)) (sym (ap (λ (c : Bool). if c then x.bay.faults d else 0) (lt-ltb d x.bay.disks (new_low p current))))
-              (went (later x x.bay x.shelf u x.arrays) y p refl (enlists.is.caused.cause p (left_before p current) (not_left (raid_by z) p gone)));
-          seats =
-              subst (λ n. SeatsDrive (views_of (book x)) place disk n x.slices u) (sym size)
-              (subst (λ vs. SeatsDrive vs place disk (x.bay.sectors disk) x.slices u) (sym list_is) all_seats);
-          arrays =
-              subst (λ n. KeepsArrays (with_drive place units (Replace place) (joins (views_of (book x)) place n) (book x)) (raid_by z)) (sym size)
-              (subst (λ vs. KeepsArrays (with_drive place units (Replace place) (joins vs place (x.bay.sectors disk)) (book x)) (raid_by z)) (sym list_is) enlists.is.arrays);
-        };
-        table = record {
-          copies = λ names_told all copy.
-              subst (λ (e : Table). HoldsCopy copy e (now_on b disk)) (sym table_is) (enlists.copies (λ k of. table_live all k (table_inside k of)) copy);
-          durable = λ names_told all k of.
-              let of_old = subst (λ n. IsOfTable n k) size of in
-              enlists.durable k of_old (table_live all k (table_inside k of_old));
-        };
-        leaves = λ traced a holds k i since until stopped.
-            elim (new_leaves traced a (holds_of x mid go carries a holds) k i since until stopped) [
-              | inl former ↦ inl former
-              | inr with_it ↦ inr with_it.0
-            ];
-        moments = λ traced a holds k i since until stopped. new_leaves traced a (holds_of x mid go carries a holds) k i since until stopped;
       }
     where
       table_live : AreTold x → (k : ℕ) → k < x.bay.sectors disk → IsLive x.bay b disk k

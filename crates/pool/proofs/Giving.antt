@@ -75,12 +75,8 @@ pub record IsReady (x m : View) (place disk many : ℕ) : Type 0 where
 pub at_once : (x y : View) (place disk : ℕ) (r : Result (Unit {0}) GrowFault) → is_current (book x).state place ≡ false → IsAdmissible x.linear (book x) place (x.bay.sectors disk)
     → TakesBy x y place disk r → ReplacesBy x y place disk r
 at_once x y place disk r missing admits by = record {
-  continues = by.continues;
-  carries = by.carries;
+  takes = by.takes;
   raises = raises_more 19 most_raised (book x) (book y) (omega arith) by.raises;
-  keeps = by.keeps;
-  kept = by.kept;
-  outside = by.outside;
   retired = λ k d low gone seat other.
       elim (cases_eq k place) [
         | inl same ↦ by.retired (inl missing) d (subst (λ p. seat_of x.slices p ≡ Some d) same seat) other
@@ -88,23 +84,14 @@ at_once x y place disk r missing admits by = record {
             absurd (both_ways (is_current (book x).state k) gone
             (others_current (book x).state place (admitted x.linear (book x) place (x.bay.sectors disk) admits).whole k low away))
       ];
-  bare = by.bare;
   laid = λ low all s v within unsliced left. elim (by.laid low all s v within unsliced left) [ inl before ↦ inl before | inr new ↦ inr (admits, new) ];
-  names = by.names;
-  disks = by.disks;
   answer = subst (λ o. IsAnswer o r) (sym admits.0) by.answer;
   admitted = inr admits;
-  gone = by.gone;
   not_whole = λ same.
       let one = by.not_whole same in
       inr (one.0, (λ is. both_ways (is_current (book x).state place) missing (subst (λ k. is_current (book x).state k ≡ true) is one.1)), one.1, one.2);
-  declined = by.declined;
   left = left_of r by.left;
-  replaced = by.replaced;
-  table = by.table;
   enters = enters_of r by.enters;
-  leaves = by.leaves;
-  moments = by.moments;
 }
   where
     left_of : (r : Result (Unit {0}) GrowFault) → IfErr r (λ e. LeavesBy x y place disk) → IfErr r (λ e. StaysStill x y ⊎ Declines x y place disk)
@@ -218,37 +205,39 @@ module _ (x m : View) (place disk many : ℕ) (fit : (volume x).fit) (ordered : 
       let one = other_missing (book m).state place lacks in
       let marked : HasMarkedOther (moment_of x) (moment_of m) place = (one.0, one.1, other_was one.0 one.1 one.2, one.3) in
       record {
-        continues = ready.continues;
-        carries = ready.carries;
+        takes = record {
+          continues = ready.continues;
+          carries = ready.carries;
+          keeps = book_but place (book x) (book m) ready.keeps;
+          kept = ready.keeps;
+          outside = ready.outside;
+          bare = λ d seat other. inl ready.slices;
+          names = ready.names;
+          disks = ready.disks;
+          gone = λ same. absurd (let e : NotWhole ≡ Gone = cc same in cc e);
+          declined = record {
+            marks = ready.marks;
+            plan = ready.plan;
+            arrays = ready.arrays;
+            cause = ready.cause;
+            slices = inl ready.slices;
+            unmarked = λ is. absurd (let e : NotWhole ≡ Gone = is in cc e);
+            others = λ is. absurd (let e : NotWhole ≡ Gone = is in cc e);
+            quiet = λ other none. absurd (none (marked.0, marked.2, marked.3));
+          };
+          replaced = tt;
+          table = tt;
+          moments = tt;
+          leaves = λ traced a holds k i since until stopped. inl (ready.leaves traced a holds k i since until stopped);
+        };
         raises = raises_more many most_raised (book x) (book m) (omega (arith, few)) ready.raises;
-        keeps = book_but place (book x) (book m) ready.keeps;
-        kept = ready.keeps;
-        outside = ready.outside;
         retired = λ k d inside missing. absurd (both_ways (is_current (book x).state k) missing (all_current k inside));
-        bare = λ d seat other. inl ready.slices;
         laid = λ inside all s v within out may. elim (ready.laid inside all s v within (unsliced s) may) [ inl before ↦ inl before | inr new ↦ inr (admits, new) ];
-        names = ready.names;
-        disks = ready.disks;
         answer = subst (λ o. IsAnswer o (Err NotWhole)) (sym admits.0) (inr (inr refl));
         admitted = inr admits;
-        gone = λ same. absurd (let e : NotWhole ≡ Gone = cc same in cc e);
         not_whole = λ same. inr marked;
-        declined = record {
-          marks = ready.marks;
-          plan = ready.plan;
-          arrays = ready.arrays;
-          cause = ready.cause;
-          slices = inl ready.slices;
-          unmarked = λ is. absurd (let e : NotWhole ≡ Gone = is in cc e);
-          others = λ is. absurd (let e : NotWhole ≡ Gone = is in cc e);
-          quiet = λ other none. absurd (none (marked.0, marked.2, marked.3));
-        };
         left = inr left;
-        replaced = tt;
-        table = tt;
         enters = tt;
-        moments = tt;
-        leaves = λ traced a holds k i since until stopped. inl (ready.leaves traced a holds k i since until stopped);
       }
 
   -- ---- the new drive is taken in, or isn't, from that pool on
@@ -353,55 +342,57 @@ module _ (x m : View) (place disk many : ℕ) (fit : (volume x).fit) (ordered : 
     pub whole : (r : Result (Unit {0}) GrowFault) → (r ≡ Err NotWhole → HasMarkedOther (moment_of m) (moment_of y) place) → OnOk r (Enters x y place disk) → IfErr r (λ e. Declines x y place disk)
         → TakesBy m y place disk r → ReplacesBy x y place disk r
     whole r apart enters left by =
-        let go = continues_then x m y ready.continues by.continues in
-        let carries = carries_then x m y ready.continues ready.carries by.carries in
+        let go = continues_then x m y ready.continues by.takes.continues in
+        let carries = carries_then x m y ready.continues ready.carries by.takes.carries in
         let inside : disk < m.bay.disks = (let equal = ready.disks in omega (arith, low, equal)) in
         let size : m.bay.sectors disk ≡ x.bay.sectors disk = ready.continues.sectors disk low in
         record {
-          continues = go;
-          carries = carries;
+          takes = record {
+            continues = go;
+            carries = carries;
+            keeps = book_then_but place (book x) (book m) (book y) made (current_m r by.takes.replaced by.takes.declined) ready.keeps by.takes.keeps;
+            kept = kept_from r by.takes.declined by.takes.kept;
+            outside = outside_fewer x.slices y.slices (λ d. (d ≡ disk) ⊎ (d ≡ disk)) (λ d. d ≡ disk) x.shelf.told x.bay y.bay (λ d is. elim is [ inl one ↦ one | inr one ↦ one ])
+                (outside_then x m y (λ d. d ≡ disk) (λ d. d ≡ disk) ready.continues by.takes.continues ready.outside by.takes.outside);
+            bare = λ d seat other.
+                elim (by.takes.bare d (subst (λ t. seat_of t place ≡ Some d) (sym ready.slices) seat) other) [ inl same ↦ inl (same ∙ ready.slices) | inr bare ↦ inr bare ];
+            names = by.takes.names ∙ ready.names;
+            disks = by.takes.disks ∙ ready.disks;
+            gone = λ same. rose_since (ready.continues.faults disk low) (by.takes.gone same);
+            declined = declined_from r by.takes.continues by.answer by.not_whole by.takes.declined;
+            replaced = replaced_at r by.takes.replaced;
+            table = table_at r by.takes.table;
+            leaves = λ traced a holds k i since until stopped.
+                elim (cases_lt m.bay.clock k) [
+                  | inl now ↦
+                      elim (by.takes.leaves (ready.continues.traced holds.shelf traced) a (holds_of x m ready.continues ready.carries a holds) k i now until stopped) [
+                        | inl former ↦ inl (former_from x m y place a i ready.slices was (unread_from y by.takes.continues) former)
+                        | inr means ↦ inr means
+                      ]
+                  | inr past ↦ inl (early by traced a holds k i since past stopped)
+                ];
+            moments = moments_at r by by.takes.moments;
+          };
           raises = raises_more (many + 19) most_raised (book x) (book y) (omega (arith, few)) (raises_then many 19 (book x) (book m) (book y) made ready.raises by.raises);
-          keeps = book_then_but place (book x) (book m) (book y) made (current_m r by.replaced by.declined) ready.keeps by.keeps;
-          kept = kept_from r by.declined by.kept;
-          outside = outside_fewer x.slices y.slices (λ d. (d ≡ disk) ⊎ (d ≡ disk)) (λ d. d ≡ disk) x.shelf.told x.bay y.bay (λ d is. elim is [ inl one ↦ one | inr one ↦ one ])
-              (outside_then x m y (λ d. d ≡ disk) (λ d. d ≡ disk) ready.continues by.continues ready.outside by.outside);
           retired = λ k d inside missing. absurd (both_ways (is_current (book x).state k) missing (all_current k inside));
-          bare = λ d seat other.
-              elim (by.bare d (subst (λ t. seat_of t place ≡ Some d) (sym ready.slices) seat) other) [ inl same ↦ inl (same ∙ ready.slices) | inr bare ↦ inr bare ];
           laid = λ first all s v within out may.
               elim (by.laid inside (known all) s v (subst (λ n. s < n) (sym size) within) out may) [
                 | inl before ↦ elim (ready.laid first all s v within (unsliced s) before) [ inl old ↦ inl old | inr new ↦ inr (admits, new) ]
                 | inr new ↦ inr (admits, subst (λ e. IsLaid disk e disk s v) same_table new)
               ];
-          names = by.names ∙ ready.names;
-          disks = by.disks ∙ ready.disks;
           answer = subst (λ o. IsAnswer o r) (sym admits.0) by.answer;
           admitted = inr admits;
-          gone = λ same. rose_since (ready.continues.faults disk low) (by.gone same);
           not_whole = λ same.
               let one = apart same in
               inr (one.0, one.1, ready.marks.current one.0 one.2, one.3);
-          declined = declined_from r by.continues by.answer by.not_whole by.declined;
           left = left_from r left;
-          replaced = replaced_at r by.replaced;
-          table = table_at r by.table;
           enters = enters;
-          leaves = λ traced a holds k i since until stopped.
-              elim (cases_lt m.bay.clock k) [
-                | inl now ↦
-                    elim (by.leaves (ready.continues.traced holds.shelf traced) a (holds_of x m ready.continues ready.carries a holds) k i now until stopped) [
-                      | inl former ↦ inl (former_from x m y place a i ready.slices was (unread_from y by.continues) former)
-                      | inr means ↦ inr means
-                    ]
-                | inr past ↦ inl (early by traced a holds k i since past stopped)
-              ];
-          moments = moments_at r by by.moments;
         }
       where
         early : TakesBy m y place disk r → x.bay.traced → (a : FlatArray) → VolumeIs x a → (k : ℕ) (i : Image) → x.bay.clock < k → k ≤ m.bay.clock → y.bay.stops k i → MeansFormer x y place a i
         early by traced a holds k i since past stopped =
-            fewer_spent x m y place a i by.continues.linear by.carries.spent (unread_then y by.continues)
-            (ready.leaves traced a holds k i since past (by.continues.past (ready.continues.told holds.shelf) (ready.continues.traced holds.shelf traced) k i past stopped))
+            fewer_spent x m y place a i by.takes.continues.linear by.takes.carries.spent (unread_then y by.takes.continues)
+            (ready.leaves traced a holds k i since past (by.takes.continues.past (ready.continues.told holds.shelf) (ready.continues.traced holds.shelf traced) k i past stopped))
 
         left_from : (r : Result (Unit {0}) GrowFault) → IfErr r (λ e. Declines x y place disk) → IfErr r (λ e. StaysStill x y ⊎ Declines x y place disk)
         left_from (Ok u) left = tt
@@ -428,13 +419,13 @@ module _ (x m : View) (place disk many : ℕ) (fit : (volume x).fit) (ordered : 
             elim (cases_lt m.bay.clock k) [
               | inl now ↦
                   elim (moments (ready.continues.traced holds.shelf traced) a (holds_of x m ready.continues ready.carries a holds) k i now until stopped) [
-                    | inl former ↦ inl (former_from x m y place a i ready.slices was (unread_from y by.continues) former)
+                    | inl former ↦ inl (former_from x m y place a i ready.slices was (unread_from y by.takes.continues) former)
                     | inr means ↦ inr (means.0, λ s inside alive. subst (λ (e : Table). HoldsTable disk e i) (sym table_is) (means.1 s inside alive))
                   ]
               | inr past ↦
                   inl
-                  (fewer_spent x m y place a i by.continues.linear by.carries.spent (unread_then y by.continues)
-                  (ready.leaves traced a holds k i since past (by.continues.past (ready.continues.told holds.shelf) (ready.continues.traced holds.shelf traced) k i past stopped)))
+                  (fewer_spent x m y place a i by.takes.continues.linear by.takes.carries.spent (unread_then y by.takes.continues)
+                  (ready.leaves traced a holds k i since past (by.takes.continues.past (ready.continues.told holds.shelf) (ready.continues.traced holds.shelf traced) k i past stopped)))
             ]
 
   -- ---- the place's own drive was found gone while the disk was being laid
@@ -449,37 +440,37 @@ module _ (x m : View) (place disk many : ℕ) (fit : (volume x).fit) (ordered : 
       let inside : disk < m.bay.disks = (let equal = ready.disks in omega (arith, low, equal)) in
       let size : m.bay.sectors disk ≡ x.bay.sectors disk = ready.continues.sectors disk low in
       record {
-        continues = continues_then x m y ready.continues by.continues;
-        carries = carries_then x m y ready.continues ready.carries by.carries;
+        continues = continues_then x m y ready.continues by.takes.continues;
+        carries = carries_then x m y ready.continues ready.carries by.takes.carries;
         raises = raises_then many 18 (book x) (book m) (book y) made ready.raises left.not_whole.raises;
-        keeps = book_then (book x) (book m) (book y) made by.declined.marks ready.keeps by.kept;
+        keeps = book_then (book x) (book m) (book y) made by.takes.declined.marks ready.keeps by.takes.kept;
         outside = outside_fewer x.slices y.slices (λ d. (d ≡ disk) ⊎ (d ≡ disk)) (λ d. d ≡ disk) x.shelf.told x.bay y.bay (λ d is. elim is [ inl one ↦ one | inr one ↦ one ])
-            (outside_then x m y (λ d. d ≡ disk) (λ d. d ≡ disk) ready.continues by.continues ready.outside by.outside);
+            (outside_then x m y (λ d. d ≡ disk) (λ d. d ≡ disk) ready.continues by.takes.continues ready.outside by.takes.outside);
         slices = same ∙ ready.slices;
         laid = λ first all s v within out may.
             elim (by.laid inside (known all) s v (subst (λ n. s < n) (sym size) within) (λ w is. out w (subst (λ t. IsSliced t disk s w) (same ∙ ready.slices) is)) may) [
               | inl before ↦ ready.laid first all s v within out before
               | inr new ↦ inr (subst (λ e. IsLaid disk e disk s v) same_table new)
             ];
-        names = by.names ∙ ready.names;
-        disks = by.disks ∙ ready.disks;
-        marks = after_then (book x).state (book m).state (book y).state ready.marks by.declined.marks;
-        plan = by.declined.plan ∙ ready.plan;
-        arrays = arrays_then (book x) (book m) (book y) made ready.arrays by.declined.arrays;
+        names = by.takes.names ∙ ready.names;
+        disks = by.takes.disks ∙ ready.disks;
+        marks = after_then (book x).state (book m).state (book y).state ready.marks by.takes.declined.marks;
+        plan = by.takes.declined.plan ∙ ready.plan;
+        arrays = arrays_then (book x) (book m) (book y) made ready.arrays by.takes.declined.arrays;
         cause = λ k before gone.
             elim (cases_Bool (is_current (book m).state k)) [
-              | inl still ↦ rose_from y k before by.continues (by.declined.cause k still gone)
-              | inr early ↦ rose_then y k before by.continues (ready.cause k before early)
+              | inl still ↦ rose_from y k before by.takes.continues (by.takes.declined.cause k still gone)
+              | inr early ↦ rose_then y k before by.takes.continues (ready.cause k before early)
             ];
         leaves = λ traced a holds k i since until stopped.
             elim (cases_lt m.bay.clock k) [
               | inl now ↦
-                  elim (by.leaves (ready.continues.traced holds.shelf traced) a (holds_of x m ready.continues ready.carries a holds) k i now until stopped) [
-                    | inl former ↦ former_from x m y place a i ready.slices was (unread_from y by.continues) former
+                  elim (by.takes.leaves (ready.continues.traced holds.shelf traced) a (holds_of x m ready.continues ready.carries a holds) k i now until stopped) [
+                    | inl former ↦ former_from x m y place a i ready.slices was (unread_from y by.takes.continues) former
                     | inr means ↦ inl (was, subst (λ t. MeansBy t y a i) (same ∙ ready.slices) means)
                   ]
               | inr past ↦
-                  fewer_spent x m y place a i by.continues.linear by.carries.spent (unread_then y by.continues)
-                  (ready.leaves traced a holds k i since past (by.continues.past (ready.continues.told holds.shelf) (ready.continues.traced holds.shelf traced) k i past stopped))
+                  fewer_spent x m y place a i by.takes.continues.linear by.takes.carries.spent (unread_then y by.takes.continues)
+                  (ready.leaves traced a holds k i since past (by.takes.continues.past (ready.continues.told holds.shelf) (ready.continues.traced holds.shelf traced) k i past stopped))
             ];
       }

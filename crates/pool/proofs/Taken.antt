@@ -245,30 +245,32 @@ module _ (x : View) (b : RackView) (s : Shelf) (place disk : ℕ) (t : Slices) (
         let both = only_read mid b s linear mid_fit after reads in
         let fit_now : (volume y).fit = (after, inside_later x b s t x.arrays fit refl (λ n. refl)) in
         record {
-          continues = goes_on t x.arrays may only fit_now orderly;
-          carries = carries_then x mid y mid_goes mid_carries (carries_kept mid y both.0 both.1 refl (λ names all. truths_reads (book x) (slices_of t x.bay) (slices_of t b) empty.running.set reads)
-              (λ names all. held_reads mid b mid_fit after reads));
+          takes = record {
+            continues = goes_on t x.arrays may only fit_now orderly;
+            carries = carries_then x mid y mid_goes mid_carries (carries_kept mid y both.0 both.1 refl (λ names all. truths_reads (book x) (slices_of t x.bay) (slices_of t b) empty.running.set reads)
+                (λ names all. held_reads mid b mid_fit after reads));
+            keeps = book_but place (book x) (book x) (book_same (book x));
+            kept = book_same (book x);
+            outside = outside_of_it t x.arrays may only fit_now orderly (λ d k v at. inr at.0) (λ d k v is. inl is);
+            names = names.names;
+            bare = bare_left t refl;
+            disks = only.stays.disks;
+            gone = λ same. refused.gone;
+            declined = declined_gone;
+            replaced = tt;
+            table = tt;
+            moments = tt;
+            leaves = λ traced a holds k i since until stopped.
+                inr (means_kept mid y both.0 both.1 traced a (holds_of x mid mid_goes mid_carries a holds) k i since until stopped);
+          };
           raises = raises_more 0 19 (book x) (book x) (omega arith) (raises_none (book x));
-          keeps = book_but place (book x) (book x) (book_same (book x));
-          kept = book_same (book x);
-          outside = outside_of_it t x.arrays may only fit_now orderly (λ d k v at. inr at.0) (λ d k v is. inl is);
           retired = λ why d seat other. retired_by may only d seat (λ k v at. other at.0);
           laid = laid_by t (only_weaker may (IsWrittenBy t disk (table_on x place disk)) (λ d k v own. inl own) only);
-          names = names.names;
-          bare = bare_left t refl;
-          disks = only.stays.disks;
           answer = inr (inl refl);
-          gone = λ same. refused.gone;
           not_whole = λ same. absurd (let e : Gone ≡ NotWhole = cc same in cc e);
-          declined = declined_gone;
           left = inl (record { vacates = vacates; slices = refl; same = refl; refused = refused });
           out = λ same. absurd (let e : Gone ≡ NotWhole = cc same in cc e);
-          replaced = tt;
-          table = tt;
           enters = tt;
-          moments = tt;
-          leaves = λ traced a holds k i since until stopped.
-              inr (means_kept mid y both.0 both.1 traced a (holds_of x mid mid_goes mid_carries a holds) k i since until stopped);
         }
 
     -- ---- another drive was found gone
@@ -287,12 +289,24 @@ module _ (x : View) (b : RackView) (s : Shelf) (place disk : ℕ) (t : Slices) (
         let out : LeavesOut x y place disk = record { vacates = vacates; slices = refl; not_whole = lost } in
         let kept = book_lost (book x) (raid_by z) (slices_of t b) after.running.set after.heeded moves.book.same.made moves.arrays in
         record {
-          continues = goes_on t z may only fit_now orderly;
-          carries = carries_then x mid y mid_goes mid_carries (carries_kept mid y both.0 both.1 moves.book.same.made (λ names all. lost.truths) (λ names all. held_moves mid b t z mid_fit after moves));
+          takes = record {
+            continues = goes_on t z may only fit_now orderly;
+            carries = carries_then x mid y mid_goes mid_carries (carries_kept mid y both.0 both.1 moves.book.same.made (λ names all. lost.truths) (λ names all. held_moves mid b t z mid_fit after moves));
+            keeps = book_but place (book x) (raid_by z) kept;
+            kept = kept;
+            outside = outside_of_it t z may only fit_now orderly (λ d k v at. elim at [ inl own ↦ inr own.0 | inr sliced ↦ inl sliced ]) (λ d k v is. inl is);
+            names = names.names;
+            bare = bare_left t refl;
+            disks = only.stays.disks;
+            gone = λ same. absurd (let e : NotWhole ≡ Gone = cc same in cc e);
+            declined = declined_lost z moves.book moves.plan moves.arrays moves.cause (lost.lost.0, lost.lost.1, lost.lost.2);
+            replaced = tt;
+            table = tt;
+            moments = tt;
+            leaves = λ traced a holds k i since until stopped.
+                inr (means_kept mid y both.0 both.1 traced a (holds_of x mid mid_goes mid_carries a holds) k i since until stopped);
+          };
           raises = raises_more 18 19 (book x) (raid_by z) (omega arith) lost.raises;
-          keeps = book_but place (book x) (raid_by z) kept;
-          kept = kept;
-          outside = outside_of_it t z may only fit_now orderly (λ d k v at. elim at [ inl own ↦ inr own.0 | inr sliced ↦ inl sliced ]) (λ d k v is. inl is);
           retired = λ why d seat other.
               retired_by may only d seat
               (λ k v at. elim at [
@@ -303,19 +317,9 @@ module _ (x : View) (b : RackView) (s : Shelf) (place disk : ℕ) (t : Slices) (
                 ]
               ]);
           laid = laid_by t only;
-          names = names.names;
-          bare = bare_left t refl;
-          disks = only.stays.disks;
           answer = inr (inr refl);
-          gone = λ same. absurd (let e : NotWhole ≡ Gone = cc same in cc e);
           not_whole = λ same. (lost.lost.0, lost.lost.1, lost.lost.2);
-          declined = declined_lost z moves.book moves.plan moves.arrays moves.cause (lost.lost.0, lost.lost.1, lost.lost.2);
           left = inr out;
           out = λ same. out;
-          replaced = tt;
-          table = tt;
           enters = tt;
-          moments = tt;
-          leaves = λ traced a holds k i since until stopped.
-              inr (means_kept mid y both.0 both.1 traced a (holds_of x mid mid_goes mid_carries a holds) k i since until stopped);
         }

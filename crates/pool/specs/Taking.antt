@@ -1,5 +1,5 @@
 -- The parts of a replacing: a disk is attached, and then takes the place of a drive.
-use Rattle.std.specs.Prelude.{◌≡◌, ◌≢◌, ◌⊎◌, ◌↔◌, ℕ, ◌<◌, false, List, length, Some, Result, Ok, Err, IfErr, IfOk, OnOk}
+use Rattle.std.specs.Prelude.{◌≡◌, ◌≢◌, ◌⊎◌, ◌↔◌, ℕ, ◌<◌, false, List, length, Some, None, Result, Err, IfErr, IfOk, OnOk}
 use Rattle.rack.specs.Values.{Keeps, MayLeave, Values}
 use Rattle.rack.specs.Seen.{Rose}
 use Rattle.flat_array.specs.Array.{FlatArray}
@@ -64,73 +64,63 @@ pub record AttachesDisk (x y : View) (name : List ℕ) (result : Result ℕ Grow
   pub used : (d : ℕ) → IsNamed (moment_of x) name d → (result ≢ Err Attach) × (result ≢ Err Memory)
   pub twice : (result ≡ Err Twice) ↔ IsOfDrive (moment_of x) name
 
--- A disk, which isn't a current drive's, is taken in at a place of a pool that is ready for it: the place's drive is missing, or it gives way.
-pub record TakesBy (x y : View) (place disk : ℕ) (result : Result (Unit {0}) GrowFault) : Type 0 where
+-- A disk, which isn't a current drive's, is taken in at a place, or it isn't.
+pub record TakesDisk (x y : View) (place disk : ℕ) (result : Result (Unit {0}) GrowFault) : Type 0 where
   pub continues : Continues x y
   pub carries : Carries x y
-  pub raises : RaisesBy 19 (book x) (book y)
   pub keeps : KeepsBookBut place (book x) (book y)
   pub kept : IfErr result (λ e. KeepsBook (book x) (book y))
   pub outside : KeepsOutside x.slices y.slices (λ d. d ≡ disk) x.shelf.told x.bay y.bay
+  pub bare : (d : ℕ) → seat_of x.slices place ≡ Some d → d ≢ disk → (y.slices ≡ x.slices) ⊎ ((s : ℕ) (v : List ℕ) → IsSliced y.slices d s v → ⊥)
+  pub names : y.shelf.names ≡ x.shelf.names
+  pub disks : y.bay.disks ≡ x.bay.disks
+  pub gone : result ≡ Err Gone → Rose (x.bay.faults disk) (y.bay.faults disk)
+  pub declined : IfErr result (IsDeclined (moment_of x) (moment_of y) place)
+  pub replaced : OnOk result (IsReplaced (moment_of x) (moment_of y) place disk)
+  pub table : OnOk result (HasTable x y place disk)
+  pub leaves : x.bay.traced → (a : FlatArray) → VolumeIs x a → LeavesNew x y (λ i. MeansFormer x y place a i ⊎ Means y a i)
+  pub moments :
+      OnOk result (x.bay.traced → (a : FlatArray) → VolumeIs x a → LeavesNew x y (λ i. MeansFormer x y place a i ⊎ MeansWith x y place disk a i))
+
+-- So it is in a pool that is ready for it: the place's drive is missing, or it gives way.
+pub record TakesBy (x y : View) (place disk : ℕ) (result : Result (Unit {0}) GrowFault) : Type 0 where
+  pub takes : TakesDisk x y place disk result
+  pub raises : RaisesBy 19 (book x) (book y)
   -- the disk that the place had isn't written, but where a drive is found gone that isn't missing
   pub retired :
       (is_current (book x).state place ≡ false) ⊎ (result ≢ Err NotWhole) → (d : ℕ) → seat_of x.slices place ≡ Some d → d ≢ disk
       → KeepsDisk x.shelf.told x.bay y.bay d
-  pub bare : (d : ℕ) → seat_of x.slices place ≡ Some d → d ≢ disk → (y.slices ≡ x.slices) ⊎ ((s : ℕ) (v : List ℕ) → IsSliced y.slices d s v → ⊥)
   -- outside the slices the disk may be left with what it held, or with what is laid on a new drive
   pub laid :
       disk < x.bay.disks → AreTold x → (s : ℕ) (v : List ℕ) → s < x.bay.sectors disk → ((u : List ℕ) → IsSliced y.slices disk s u → ⊥)
       → MayLeave (y.bay.held disk s) v
       → MayLeave (x.bay.held disk s) v ⊎ IsLaid disk (table_on x place disk) disk s v
-  pub names : y.shelf.names ≡ x.shelf.names
-  pub disks : y.bay.disks ≡ x.bay.disks
-  pub answer : (result ≡ Ok tt) ⊎ ((result ≡ Err Gone) ⊎ (result ≡ Err NotWhole))
-  pub gone : result ≡ Err Gone → Rose (x.bay.faults disk) (y.bay.faults disk)
+  pub answer : IsAnswer None result
   pub not_whole : result ≡ Err NotWhole → HasMarked (moment_of x) (moment_of y)
-  pub declined : IfErr result (IsDeclined (moment_of x) (moment_of y) place)
   pub left : IfErr result (λ e. LeavesBy x y place disk)
   pub out : result ≡ Err NotWhole → LeavesOut x y place disk
-  pub replaced : OnOk result (IsReplaced (moment_of x) (moment_of y) place disk)
-  pub table : OnOk result (HasTable x y place disk)
   pub enters : OnOk result (EntersBy x y place disk)
-  pub leaves : x.bay.traced → (a : FlatArray) → VolumeIs x a → LeavesNew x y (λ i. MeansFormer x y place a i ⊎ Means y a i)
-  pub moments :
-      OnOk result (x.bay.traced → (a : FlatArray) → VolumeIs x a → LeavesNew x y (λ i. MeansFormer x y place a i ⊎ MeansWith x y place disk a i))
 
--- A disk, which isn't a current drive's, takes the place of a drive.
+-- So it is in any pool, in the place of a drive: it may be refused by how the pool stands.
 pub record ReplacesBy (x y : View) (place disk : ℕ) (result : Result (Unit {0}) GrowFault) : Type 0 where
-  pub continues : Continues x y
-  pub carries : Carries x y
+  pub takes : TakesDisk x y place disk result
   pub raises : Raises 1 x y
-  pub keeps : KeepsBookBut place (book x) (book y)
-  pub kept : IfErr result (λ e. KeepsBook (book x) (book y))
-  pub outside : KeepsOutside x.slices y.slices (λ d. d ≡ disk) x.shelf.told x.bay y.bay
   -- the disks of places of the list whose drives are missing aren't written any more
   pub retired :
       (k d : ℕ) → k < length (book x).state.drives.items → is_current (book x).state k ≡ false → seat_of x.slices k ≡ Some d → d ≢ disk
       → KeepsDisk x.shelf.told x.bay y.bay d
-  pub bare : (d : ℕ) → seat_of x.slices place ≡ Some d → d ≢ disk → (y.slices ≡ x.slices) ⊎ ((s : ℕ) (v : List ℕ) → IsSliced y.slices d s v → ⊥)
   -- outside the slices it may be left with what it held, or with what is laid on a new drive
   pub laid :
       disk < x.bay.disks → AreTold x → (s : ℕ) (v : List ℕ) → s < x.bay.sectors disk → ((u : List ℕ) → IsSliced y.slices disk s u → ⊥)
       → MayLeave (y.bay.held disk s) v
       → MayLeave (x.bay.held disk s) v
       ⊎ (IsAdmissible x.linear (book x) place (x.bay.sectors disk) × IsLaid disk (table_on x place disk) disk s v)
-  pub names : y.shelf.names ≡ x.shelf.names
-  pub disks : y.bay.disks ≡ x.bay.disks
   pub answer : IsAnswer (refusal_of x.linear (book x) place (x.bay.sectors disk)) result
   -- the tables stay but where nothing is against it and the units are the same
   pub admitted : (y.slices ≡ x.slices) ⊎ IsAdmissible x.linear (book x) place (x.bay.sectors disk)
-  pub gone : result ≡ Err Gone → Rose (x.bay.faults disk) (y.bay.faults disk)
   pub not_whole :
       result ≡ Err NotWhole
       → (refusal_of x.linear (book x) place (x.bay.sectors disk) ≡ Some NotWhole) ⊎ HasMarkedOther (moment_of x) (moment_of y) place
-  pub declined : IfErr result (IsDeclined (moment_of x) (moment_of y) place)
   -- no time passed, or nothing had been against it
   pub left : IfErr result (λ e. StaysStill x y ⊎ Declines x y place disk)
-  pub replaced : OnOk result (IsReplaced (moment_of x) (moment_of y) place disk)
-  pub table : OnOk result (HasTable x y place disk)
   pub enters : OnOk result (Enters x y place disk)
-  pub leaves : x.bay.traced → (a : FlatArray) → VolumeIs x a → LeavesNew x y (λ i. MeansFormer x y place a i ⊎ Means y a i)
-  pub moments :
-      OnOk result (x.bay.traced → (a : FlatArray) → VolumeIs x a → LeavesNew x y (λ i. MeansFormer x y place a i ⊎ MeansWith x y place disk a i))

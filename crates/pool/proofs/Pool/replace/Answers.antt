@@ -57,7 +57,7 @@ returns-in-Ok-clause-replaced g c =
       | inl same ↦
           inl
           (replaced_by x (bay_in q) c.args.place c.args.name.now listed c.requires (slices_in (arrays_of p)).orderly disk at y c.replace_by.result same
-          (sound_in seen shelf g.met.R.Rack.sound r same.continues.fit))
+          (sound_in seen shelf g.met.R.Rack.sound r same.takes.continues.fit))
       | inr other ↦
           inr
           (enlarged_by x (bay_in q) c.args.place c.args.name.now listed c.requires (slices_in (arrays_of p)).orderly disk at y c.replace_by.result names
