@@ -182,7 +182,7 @@ module _ (x : View) (bay : x.bays.one) (place : ℕ) (name : List ℕ) (listed :
         let d = disk_of y.slices (log_slice k) in
         subst (λ n. Rose n (y.bay.faults d)) (before_same x bay name disk at d) rose
 
-    former_since : (y : View) (a : FlatArray) (i : Image) → MeansFormer m y place a i → MeansFormer x y place a i
+    former_since : (y : View) (a : FlatArray) (i : Image) → MeansFormer (moment_of m) (moment_of y) place a i → MeansFormer (moment_of x) (moment_of y) place a i
     former_since y a i (inl means) = inl means
     former_since y a i (inr without) =
         elim (cases_Bool (is_current (book x).state place)) [
@@ -342,12 +342,12 @@ module _ (x : View) (bay : x.bays.one) (place : ℕ) (name : List ℕ) (listed :
             })
 
         moments_since : (y : View) (r : Answer) → ((d : ℕ) → IsNamed (moment_of y) name d → d ≡ disk)
-            → OnOk r (b.traced → (a : FlatArray) → VolumeIs m a → LeavesNew m y (λ i. MeansFormer m y place a i ⊎ MeansWith m y place disk a i))
-            → OnOk r ((d : ℕ) → IsNamed (moment_of y) name d → x.bay.traced → (a : FlatArray) → VolumeIs x a → LeavesNew x y (λ i. MeansFormer x y place a i ⊎ MeansWith x y place d a i))
+            → OnOk r (b.traced → (a : FlatArray) → VolumeIs m a → LeavesNew m y (λ i. MeansFormer (moment_of m) (moment_of y) place a i ⊎ MeansWith m y place disk a i))
+            → OnOk r ((d : ℕ) → IsNamed (moment_of y) name d → x.bay.traced → (a : FlatArray) → VolumeIs x a → LeavesNew x y (λ i. MeansFormer (moment_of x) (moment_of y) place a i ⊎ MeansWith x y place d a i))
         moments_since y (Err e) same moments = tt
         moments_since y (Ok u) same moments =
             λ d named traced a holds k i since until stopped.
-            subst (λ e. MeansFormer x y place a i ⊎ MeansWith x y place e a i) (sym (same d named))
+            subst (λ e. MeansFormer (moment_of x) (moment_of y) place a i ⊎ MeansWith x y place e a i) (sym (same d named))
             (elim (moments (at.continues.traced holds.shelf traced) a (holds_of x m at.continues at.carries a holds) k i
             (let clock = at.clock in omega (arith, since, clock)) until stopped) [
               | inl former ↦ inl (former_since y a i former)

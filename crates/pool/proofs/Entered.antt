@@ -47,7 +47,7 @@ use Rattle.pool.specs.declared.replacing.GrowFault.{GrowFault}
 use Rattle.pool.specs.declared.replacing.GrowFault.TheVariants.{Gone, NotWhole}
 use Rattle.rack.specs.Untouched.{KeepsDisk}
 use Rattle.pool.specs.Entering.{IsVacating}
-use Rattle.pool.specs.Moment.{views_of}
+use Rattle.pool.specs.Moment.{moment_of, views_of}
 use Rattle.pool.specs.Replaced.{MeansBy, MeansFormer, MeansWith, table_for}
 use Rattle.pool.specs.Replacing.{IsAdmitted}
 use Rattle.pool.specs.Taking.{AreTold, Carries, TakesBy}
@@ -226,7 +226,7 @@ module _ (x : View) (b : RackView) (s : Shelf) (place disk units : ℕ) (t u : S
     table_now held = subst (λ (e : Table). HoldsTable disk e i) (sym table_is) held
 
     -- before the slices of the disk were added
-    laying : k ≤ enlists.mid → MeansBy t y a i
+    laying : k ≤ enlists.mid → MeansBy t (moment_of y) a i
     laying early q inside alive =
         let says = ((told_of q inside alive).before traced (over_of q alive) k i since early stopped).says in
         given t i a q (inside_of q inside) (kept_of q inside alive) (book x).state says.shape says.is_state says.says alive
@@ -243,7 +243,7 @@ module _ (x : View) (b : RackView) (s : Shelf) (place disk units : ℕ) (t u : S
     )
 
     -- or wasn't: by the slices before, or by those after, as the state tells that these say
-    replacing_now : is_current (book x).state place ≡ true → enlists.mid < k → MeansBy t y a i ⊎ MeansWith x y place disk a i
+    replacing_now : is_current (book x).state place ≡ true → enlists.mid < k → MeansBy t (moment_of y) a i ⊎ MeansWith x y place disk a i
     replacing_now was late =
         elim (cases_eq (epoch_in i) (book x).state.epoch) [
           | inl same ↦
@@ -281,7 +281,7 @@ module _ (x : View) (b : RackView) (s : Shelf) (place disk units : ℕ) (t u : S
             let more = epoch_up (array_of x.linear q) (over_of q alive) in
             omega (arith, is, up, more)
 
-    new_leaves : MeansFormer x y place a i ⊎ MeansWith x y place disk a i
+    new_leaves : MeansFormer (moment_of x) (moment_of y) place a i ⊎ MeansWith x y place disk a i
     new_leaves =
         elim (cases_lt enlists.mid k) [
           | inr early ↦ inl (former (laying early))
@@ -291,10 +291,10 @@ module _ (x : View) (b : RackView) (s : Shelf) (place disk units : ℕ) (t u : S
           ]
         ]
       where
-        former : MeansBy t y a i → MeansFormer x y place a i
+        former : MeansBy t (moment_of y) a i → MeansFormer (moment_of x) (moment_of y) place a i
         former means = elim kind [
           | inl gave ↦ inr (inl gave.0, (t, gave.1, means))
-          | inr stays ↦ inl (stays.0, subst (λ r. MeansBy r y a i) stays.1 means)
+          | inr stays ↦ inl (stays.0, subst (λ r. MeansBy r (moment_of y) a i) stays.1 means)
         ]
 
   -- ---- the slices

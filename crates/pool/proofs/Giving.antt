@@ -32,8 +32,8 @@ use Rattle.pool.specs.Calls.{DriveWent}
 use Rattle.pool.specs.Continuing.{Continues, KeepsOutside}
 use Rattle.pool.specs.Entering.{Cleaned, Declines, Enters, EntersBy, LeavesBy, LeavesOut, StaysStill, table_on}
 use Rattle.pool.specs.Keeping.{KeepsBook, most_raised}
-use Rattle.pool.specs.Moment.{moment_of, views_of}
-use Rattle.pool.specs.Replaced.{DriveWentFrom, HasMarked, HasMarkedOther, HasTable, IsAnswer, IsDeclined, IsReplaced, LeavesNew, MeansBy, MeansFormer, MeansWith, faults_before, table_for}
+use Rattle.pool.specs.Moment.{DriveWentFrom, moment_of, views_of}
+use Rattle.pool.specs.Replaced.{HasMarked, HasMarkedOther, HasTable, IsAnswer, IsDeclined, IsReplaced, LeavesNew, MeansBy, MeansFormer, MeansWith, faults_before, table_for}
 use Rattle.pool.specs.Replacing.{IsAdmissible, IsAdmitted, has_other_missing}
 use Rattle.pool.specs.Taking.{AreTold, Carries, ReplacesBy, TakesBy}
 use Rattle.pool.specs.View.{View, book, slices_shown, volume}
@@ -69,7 +69,7 @@ pub record IsReady (x m : View) (place disk many : ℕ) : Type 0 where
   pub plan : (book m).state.plan ≡ (book x).state.plan
   pub arrays : KeepsArrays (book x) (book m)
   pub cause : (k : ℕ) → is_current (book x).state k ≡ true → is_current (book m).state k ≡ false → DriveWentFrom (moment_of x) (moment_of m) k
-  pub leaves : x.bay.traced → (a : FlatArray) → VolumeIs x a → LeavesNew x m (λ i. MeansFormer x m place a i)
+  pub leaves : x.bay.traced → (a : FlatArray) → VolumeIs x a → LeavesNew x m (λ i. MeansFormer (moment_of x) (moment_of m) place a i)
 
 -- A disk that is taken in at once, where the place's drive is missing.
 pub at_once : (x y : View) (place disk : ℕ) (r : Result (Unit {0}) GrowFault) → is_current (book x).state place ≡ false → IsAdmissible x.linear (book x) place (x.bay.sectors disk)
@@ -131,7 +131,7 @@ ready_clean x m place disk now was cleaned carries =
       arrays = cleaned.arrays;
       cause = λ k current gone. elim (cleaned.ends.marks k current gone) [ inl rose ↦ rose | inr none ↦ absurd none ];
       leaves = λ traced a holds k i since until stopped.
-          inl (was, subst (λ t. MeansBy t m a i) passes.slices ((cleaned.ends.does.leaves traced a holds).new k i since until stopped));
+          inl (was, subst (λ t. MeansBy t (moment_of m) a i) passes.slices ((cleaned.ends.does.leaves traced a holds).new k i since until stopped));
     }
 
 module _ (x m : View) (place disk many : ℕ) (fit : (volume x).fit) (ordered : IsOrderly x.slices) (was : is_current (book x).state place ≡ true)
@@ -389,7 +389,7 @@ module _ (x m : View) (place disk many : ℕ) (fit : (volume x).fit) (ordered : 
           enters = enters;
         }
       where
-        early : TakesBy m y place disk r → x.bay.traced → (a : FlatArray) → VolumeIs x a → (k : ℕ) (i : Image) → x.bay.clock < k → k ≤ m.bay.clock → y.bay.stops k i → MeansFormer x y place a i
+        early : TakesBy m y place disk r → x.bay.traced → (a : FlatArray) → VolumeIs x a → (k : ℕ) (i : Image) → x.bay.clock < k → k ≤ m.bay.clock → y.bay.stops k i → MeansFormer (moment_of x) (moment_of y) place a i
         early by traced a holds k i since past stopped =
             fewer_spent x m y place a i by.takes.continues.linear by.takes.carries.spent (unread_then y by.takes.continues)
             (ready.leaves traced a holds k i since past (by.takes.continues.past (ready.continues.told holds.shelf) (ready.continues.traced holds.shelf traced) k i past stopped))
@@ -411,8 +411,8 @@ module _ (x m : View) (place disk many : ℕ) (fit : (volume x).fit) (ordered : 
         }
 
         moments_at : (r : Result (Unit {0}) GrowFault) → TakesBy m y place disk r
-            → OnOk r (m.bay.traced → (a : FlatArray) → VolumeIs m a → LeavesNew m y (λ i. MeansFormer m y place a i ⊎ MeansWith m y place disk a i))
-            → OnOk r (x.bay.traced → (a : FlatArray) → VolumeIs x a → LeavesNew x y (λ i. MeansFormer x y place a i ⊎ MeansWith x y place disk a i))
+            → OnOk r (m.bay.traced → (a : FlatArray) → VolumeIs m a → LeavesNew m y (λ i. MeansFormer (moment_of m) (moment_of y) place a i ⊎ MeansWith m y place disk a i))
+            → OnOk r (x.bay.traced → (a : FlatArray) → VolumeIs x a → LeavesNew x y (λ i. MeansFormer (moment_of x) (moment_of y) place a i ⊎ MeansWith x y place disk a i))
         moments_at (Err e) by moments = tt
         moments_at (Ok u) by moments =
             λ traced a holds k i since until stopped.
@@ -467,7 +467,7 @@ module _ (x m : View) (place disk many : ℕ) (fit : (volume x).fit) (ordered : 
               | inl now ↦
                   elim (by.takes.leaves (ready.continues.traced holds.shelf traced) a (holds_of x m ready.continues ready.carries a holds) k i now until stopped) [
                     | inl former ↦ former_from x m y place a i ready.slices was (unread_from y by.takes.continues) former
-                    | inr means ↦ inl (was, subst (λ t. MeansBy t y a i) (same ∙ ready.slices) means)
+                    | inr means ↦ inl (was, subst (λ t. MeansBy t (moment_of y) a i) (same ∙ ready.slices) means)
                   ]
               | inr past ↦
                   fewer_spent x m y place a i by.takes.continues.linear by.takes.carries.spent (unread_then y by.takes.continues)

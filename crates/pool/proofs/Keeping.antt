@@ -23,11 +23,12 @@ use Rattle.raid_laws.specs.Truths.{KeepsTruths}
 use Rattle.raid_laws.proofs.Moving.{marked_later}
 use Rattle.raid_rack.proofs.Truths.{truths_then}
 use Rattle.raid_laws.proofs.Whole.{heeded_left}
+use Rattle.pool.specs.Moment.{MarksBut, moment_of}
 use Rattle.pool.specs.View.{View, arrays_shown, book, slices_shown, volume}
 use Rattle.pool.proofs.Booked.{book_same, book_then}
 use Rattle.raid_rack.proofs.Raises.{raises_more, raises_then}
 use Rattle.pool.specs.Keeping.{KeepsBook, Raises, most_raised}
-use Rattle.pool.specs.Calls.{DriveWent, Marks, MarksBut, CallFrame}
+use Rattle.pool.specs.Calls.{DriveWent, Marks, CallFrame}
 
 -- A drive that is marked missing isn't written again in two calls either.
 unwritten_then : (x y z : View) → y.slices ≡ x.slices → z.slices ≡ y.slices → SameRack x.bay y.bay → SameRack y.bay z.bay → OnlyMarksSince (book x).state (book y).state
@@ -70,7 +71,7 @@ passes_same x fit = record {
   shelf = keeps_shelf_same x.shelf;
 }
 
-pub marks_same : (x : View) (lost : ℕ → Type 0) → MarksBut lost x x
+pub marks_same : (x : View) (lost : ℕ → Type 0) → MarksBut lost (moment_of x) (moment_of x)
 marks_same x lost place was now = absurd (both_ways (is_current (book x).state place) now was)
 
 -- the volume stays, and calls in a row of its slices run below it

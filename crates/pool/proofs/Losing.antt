@@ -27,9 +27,10 @@ use Rattle.raid_laws.proofs.Noted.{IsNoting, current_few, gone_from, gone_some, 
 use Rattle.pool.specs.declared.Pool.{Pool}
 use Rattle.pool.specs.declared.calls.LoseFault.{LoseFault}
 use Rattle.pool.specs.declared.calls.LoseFault.TheVariants.{LastDrive, NoSuchDrive}
+use Rattle.pool.specs.Moment.{MarksBut, moment_of}
 use Rattle.pool.specs.View.{View, arrays_of, bay_in, book, slices_shown, view, volume}
 use Rattle.pool.specs.Keeping.{most_raised}
-use Rattle.pool.specs.Calls.{LosesDrive, MarksBut}
+use Rattle.pool.specs.Calls.{LosesDrive}
 use Rattle.raid_rack.proofs.Raises.{raises_more}
 use Rattle.pool.proofs.Booked.{arrays_noted, book_lost}
 use Rattle.pool.proofs.Keeping.{marks_same, not_left, passes_of, went}
@@ -95,7 +96,7 @@ module _ (v : Raid) (x : RackView) (place : ℕ) (set : IsSet v x) (heeded : IsH
 
 -- drives come to be marked lost only by faults, but for it
 marks_lost : (x y : View) (place : ℕ) → (volume x).fit → y.slices ≡ x.slices → is_current (book x).state place ≡ true
-    → Mends (noted_at (place ∷ []) (book x)) (book y) (slices_shown x) (slices_shown y) → MarksBut (λ p. p ≡ place) x y
+    → Mends (noted_at (place ∷ []) (book x)) (book y) (slices_shown x) (slices_shown y) → MarksBut (λ p. p ≡ place) (moment_of x) (moment_of y)
 marks_lost x y place fit same current mends p was now =
     elim (cases_eq p place) [
       | inl is ↦ inr is

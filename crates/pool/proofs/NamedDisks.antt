@@ -7,8 +7,8 @@ use Rattle.array_image.specs.Places.{log_slice}
 use Rattle.array_image.specs.States.{is_current}
 use Rattle.raid_laws.proofs.Whole.{heeded_left}
 use Rattle.slice_rack.specs.Slices.{IsOrderly, disk_of, seat_of}
-use Rattle.pool.specs.Moment.{IsNamed, moment_of}
-use Rattle.pool.specs.Replaced.{DriveWentFrom, HasTakingCause, IsAnswer, IsLookedAt, IsOfDrive, NamesDisk, faults_before}
+use Rattle.pool.specs.Moment.{DriveWentFrom, IsNamed, moment_of}
+use Rattle.pool.specs.Replaced.{HasTakingCause, IsAnswer, IsLookedAt, IsOfDrive, NamesDisk, faults_before}
 use Rattle.pool.specs.Taking.{AttachesDisk}
 use Rattle.pool.specs.View.{View, book, volume}
 use Rattle.pool.specs.declared.replacing.GrowFault.{GrowFault}

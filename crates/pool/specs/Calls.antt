@@ -1,16 +1,14 @@
 -- What each call of a pool does.
-use Rattle.std.specs.Prelude.{◌≡◌, ◌⊎◌, ◌↔◌, ℕ, ◌<◌, ◌≤◌, true, false, List, drop, Some, Result, Err, IfErr, IfOk, OnOk, OnErr}
+use Rattle.std.specs.Prelude.{◌≡◌, ◌↔◌, ℕ, ◌<◌, ◌≤◌, true, false, List, drop, Some, Result, Err, IfErr, IfOk, OnOk, OnErr}
 use Rattle.rack.specs.Seen.{Image, Rose, SameRack}
 use Rattle.rack.specs.Sequences.{WritesOnly}
 use Rattle.rack.specs.Shelf.{KeepsShelf}
 use Rattle.flat_array.specs.Array.{FlatArray, written, flushed}
 use Rattle.md_super.specs.declared.superblock.Super.{Super}
 use Rattle.array_image.specs.Left.{IsLeft}
-use Rattle.array_image.specs.Places.{log_slice}
 use Rattle.array_image.specs.States.{is_current}
 use Rattle.array_image.specs.Supers.{truth_in}
 use Rattle.array_core.specs.Superblocks.{is_settled, left_offset}
-use Rattle.slice_rack.specs.Slices.{disk_of}
 use Rattle.slice_rack.specs.Runs.{IsSliced}
 use Rattle.array_core.specs.TruthHeld.{HoldTruth}
 use Rattle.lvm_group.specs.Framed.{IsShown}
@@ -25,6 +23,7 @@ use Rattle.pool.specs.declared.calls.LoseFault.{LoseFault}
 use Rattle.pool.specs.declared.calls.LoseFault.TheVariants.{LastDrive, NoSuchDrive}
 use Rattle.pool.specs.declared.calls.SectorFault.{SectorFault}
 use Rattle.pool.specs.declared.calls.SectorFault.TheVariants.{Range, Spent}
+use Rattle.pool.specs.Moment.{DriveWentFrom, MarksBut, moment_of}
 use Rattle.pool.specs.View.{View, arrays_shown, book, slices_shown, volume}
 use Rattle.raid_rack.specs.declared.works.Stuck.{Stuck}
 use Rattle.pool.specs.Keeping.{KeepsBook, KeepsWorks, Raises}
@@ -51,15 +50,11 @@ pub record CallFrame (x y : View) : Type 0 where
 
 -- the faults of a place's drive rose
 abbrev pub DriveWent : View → View → ℕ → Type 0
-DriveWent x y place = Rose (x.bay.faults (disk_of x.slices (log_slice place))) (y.bay.faults (disk_of x.slices (log_slice place)))
+DriveWent x y = DriveWentFrom (moment_of x) (moment_of y)
 
--- drives come to be marked lost only where their faults rose, but for these places
-abbrev pub MarksBut : (ℕ → Type 0) → View → View → Type 0
-MarksBut lost x y =
-    (place : ℕ) → is_current (book x).state place ≡ true → is_current (book y).state place ≡ false → DriveWent x y place ⊎ lost place
-
+-- drives come to be marked lost only where their faults rose
 abbrev pub Marks : View → View → Type 0
-Marks x y = MarksBut (λ place. ⊥) x y
+Marks x y = MarksBut (λ place. ⊥) (moment_of x) (moment_of y)
 
 -- A sector is refused exactly where it is outside the volume, and else exactly where it is spent when the call returns.
 pub record HasFault (x y : View) (sector : ℕ) {X : Type 0} (result : Result X SectorFault) : Type 0 where
@@ -100,7 +95,7 @@ pub record LosesDrive (x y : View) (place : ℕ) {X : Type 0} (result : Result X
   pub passes : CallFrame x y
   pub raises : Raises 1 x y
   pub works : KeepsWorks (book x) (book y)
-  pub marks : MarksBut (λ p. p ≡ place) x y
+  pub marks : MarksBut (λ p. p ≡ place) (moment_of x) (moment_of y)
   pub missing : (result ≡ Err NoSuchDrive) ↔ (is_current (book x).state place ≡ false)
   pub last : (result ≡ Err LastDrive) ↔ ((is_current (book x).state place ≡ true) × (has_other (book x).state place ≡ false))
   pub lost : OnOk result (is_current (book y).state place ≡ false)

@@ -5,10 +5,9 @@ use Rattle.pool_state.specs.declared.contents.Plan.TheVariants.{Replace}
 use Rattle.pool.specs.declared.replacing.GrowFault.{GrowFault}
 use Rattle.pool.specs.declared.replacing.GrowFault.TheVariants.{Gone, NotWhole}
 use Rattle.pool.specs.Adding.{IsTakenIn}
-use Rattle.pool.specs.Calls.{MarksBut}
 use Rattle.pool.specs.Continuing.{Continues}
 use Rattle.pool.specs.Keeping.{Raises}
-use Rattle.pool.specs.Moment.{IsNamed, Moment, moment_of}
+use Rattle.pool.specs.Moment.{IsNamed, MarksBut, Moment, moment_of}
 use Rattle.pool.specs.Replaced.{HasMarkedOther, IsAnswer, IsDeclined, IsOfDrive, NamesDisk, faults_before}
 use Rattle.pool.specs.Replacing.{IsLarger}
 use Rattle.pool.specs.View.{View, book}
@@ -23,7 +22,7 @@ pub record TakesLarger (p q : Moment) (place disk : ℕ) (result : Result (Unit 
 -- So a call does. Drives are marked only where they refused a call; where the new one is, in the place of the one that gave way, `taken` says it of its disk.
 pub record EnlargesBy (x y : View) (place disk : ℕ) (result : Result (Unit {0}) GrowFault) : Type 0 where
   pub continues : Continues x y
-  pub marks : MarksBut (λ k. (result ≡ Ok tt) × (k ≡ place)) x y
+  pub marks : MarksBut (λ k. (result ≡ Ok tt) × (k ≡ place)) (moment_of x) (moment_of y)
   pub takes : TakesLarger (moment_of x) (moment_of y) place disk result
 
 -- Nothing was against it by the book before, and its units are others than those of the place's drive. Where another drive was found gone, it is marked.
@@ -53,6 +52,6 @@ pub record EnlargesNamed (p q : Moment) (place : ℕ) (name : List ℕ) (result 
 pub record EnlargesDrive (x y : View) (place : ℕ) (name : List ℕ) (result : Result (Unit {0}) GrowFault) : Type 0 where
   pub continues : Continues x y
   pub raises : Raises 1 x y
-  pub marks : MarksBut (λ k. (result ≡ Ok tt) × (k ≡ place)) x y
+  pub marks : MarksBut (λ k. (result ≡ Ok tt) × (k ≡ place)) (moment_of x) (moment_of y)
   pub enlarging : IsEnlarging (moment_of x) (moment_of y) place name
   pub enlarges : EnlargesNamed (moment_of x) (moment_of y) place name result

@@ -1,11 +1,13 @@
 -- How a pool stands at a moment: the part of what it shows of which later moments are told.
-use Rattle.std.specs.Prelude.{◌≡◌, ◌⊎◌, ℕ, ◌<◌, List, map, slice_get, Option, Some}
+use Rattle.std.specs.Prelude.{◌≡◌, ◌⊎◌, ℕ, ◌<◌, true, false, List, map, slice_get, Option, Some}
 use Rattle.std.specs.List.{range_with_len}
-use Rattle.rack.specs.Seen.{Held}
+use Rattle.rack.specs.Seen.{Held, Rose}
 use Rattle.rack.specs.Shelf.{Waiting}
 use Rattle.rack.specs.Values.{Values, only}
+use Rattle.array_image.specs.Places.{log_slice}
+use Rattle.array_image.specs.States.{is_current}
 use Rattle.array_model.specs.View.{View as ArrayView}
-use Rattle.slice_rack.specs.Slices.{Slices}
+use Rattle.slice_rack.specs.Slices.{Slices, disk_of}
 use Rattle.lvm_group.specs.Runs.{Linear}
 use Rattle.raid_laws.specs.Raid.{Raid}
 use Rattle.pool.specs.View.{View, book}
@@ -55,3 +57,13 @@ IsImage p name sectors held =
 -- the arrays of a book, by number
 abbrev pub views_of : Raid → List ArrayView
 views_of v = map v.arrays (range_with_len 0 v.state.made)
+
+-- ---- drives that go
+
+-- the faults of a place's drive rose, by where its slices lay before
+abbrev pub DriveWentFrom : Moment → Moment → ℕ → Type 0
+DriveWentFrom p q place = Rose (p.faults (disk_of p.slices (log_slice place))) (q.faults (disk_of p.slices (log_slice place)))
+
+-- drives come to be marked lost only where their faults rose, but for these places
+abbrev pub MarksBut : (ℕ → Type 0) → Moment → Moment → Type 0
+MarksBut lost p q = (place : ℕ) → is_current p.book.state place ≡ true → is_current q.book.state place ≡ false → DriveWentFrom p q place ⊎ lost place

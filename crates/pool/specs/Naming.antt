@@ -48,10 +48,10 @@ pub record ReplacesDrive (x y : View) (place : ℕ) (name : List ℕ) (result : 
   pub holds : (a : FlatArray) → VolumeIs x a → VolumeIs y a
   -- where the disks are told, superblocks that said an array's truth do so after it, and so do those of the new members
   pub truths : x.shelf.told → ((d : ℕ) → d < x.bay.disks → x.bay.told d) → KeepsTruths (book x) (book y) (slices_shown x) (slices_shown y)
-  pub leaves : x.bay.traced → (a : FlatArray) → VolumeIs x a → LeavesNew x y (λ i. MeansFormer x y place a i ⊎ Means y a i)
+  pub leaves : x.bay.traced → (a : FlatArray) → VolumeIs x a → LeavesNew x y (λ i. MeansFormer (moment_of x) (moment_of y) place a i ⊎ Means y a i)
   -- where it is replaced, stops leave it as it was, or with the new drive and its table
   pub moments :
       OnOk result ((d : ℕ) → IsNamed (moment_of y) name d → x.bay.traced → (a : FlatArray) → VolumeIs x a
-      → LeavesNew x y (λ i. MeansFormer x y place a i ⊎ MeansWith x y place d a i))
+      → LeavesNew x y (λ i. MeansFormer (moment_of x) (moment_of y) place a i ⊎ MeansWith x y place d a i))
   pub steps : EntersDrive x y place name result
   pub ends : x.bay.traced → (a : FlatArray) → VolumeIs x a → (i : Image) → y.bay.stops y.bay.clock i → Means y a i

@@ -25,13 +25,12 @@ use Rattle.shr_base.specs.Units.{units_of}
 use Rattle.pool.specs.declared.replacing.GrowFault.{GrowFault}
 use Rattle.pool.specs.declared.replacing.GrowFault.TheVariants.{NoSuchDrive, Attach, Twice, Memory, NotWhole, Gone}
 use Rattle.lvm_group.specs.Runs.{Linear}
-use Rattle.pool.specs.Calls.{DriveWent}
 use Rattle.rack.specs.Untouched.{KeepsDisk}
 use Rattle.pool.specs.Continuing.{KeepsOutside, NoDisk}
 use Rattle.pool.specs.Held.{KeepsHeld}
-use Rattle.pool.specs.Moment.{IsImage, IsNamed, Moment, moment_of, views_of}
+use Rattle.pool.specs.Moment.{DriveWentFrom, IsImage, IsNamed, Moment, moment_of, views_of}
 use Rattle.pool.specs.Replacing.{IsAdmissible, refusal_of}
-use Rattle.pool.specs.View.{View, book, contents_in, slices_shown}
+use Rattle.pool.specs.View.{View, book, contents_in, slices_shown, spent_by}
 use Rattle.pool.specs.Volume.{Means, PicksLive, is_spent}
 
 -- ---- refusals, by how the pool stands before and after
@@ -90,19 +89,19 @@ HasGrowCause l p q place name result =
 
 -- ---- what is read of contents
 
--- contents mean an array by the slices of these tables, in the sectors that aren't spent at the call's end
-abbrev pub MeansBy : Slices → View → FlatArray → Image → Type 0
-MeansBy t y a i = PicksLive (is_spent y) a (contents_in t y.linear i)
+-- contents mean an array by the slices of these tables, in the sectors that aren't spent at a moment
+abbrev pub MeansBy : Slices → Moment → FlatArray → Image → Type 0
+MeansBy t q a i = PicksLive (spent_by q.linear q.book) a (contents_in t q.linear i)
 
 -- by the slices of a pool in which a place, whose drive is missing, has no disk
-abbrev pub MeansWithout : View → View → ℕ → FlatArray → Image → Type 0
-MeansWithout x y place a i = (t : Slices) × Seats x.slices t place None × MeansBy t y a i
+abbrev pub MeansWithout : Moment → Moment → ℕ → FlatArray → Image → Type 0
+MeansWithout p q place a i = (t : Slices) × Seats p.slices t place None × MeansBy t q a i
 
 -- By the slices of the pool as it was: as they lay, where the place's drive wasn't missing then, or without the place's disk, where it was, or was found gone.
-abbrev pub MeansFormer : View → View → ℕ → FlatArray → Image → Type 0
-MeansFormer x y place a i =
-    ((is_current (book x).state place ≡ true) × MeansBy x.slices y a i)
-    ⊎ (((is_current (book x).state place ≡ false) ⊎ DriveWent x y place) × MeansWithout x y place a i)
+abbrev pub MeansFormer : Moment → Moment → ℕ → FlatArray → Image → Type 0
+MeansFormer p q place a i =
+    ((is_current p.book.state place ≡ true) × MeansBy p.slices q a i)
+    ⊎ (((is_current p.book.state place ≡ false) ⊎ DriveWentFrom p q place) × MeansWithout p q place a i)
 
 -- each stop since has left contents with this property
 abbrev pub LeavesNew : View → View → (Image → Type 0) → Type 0
@@ -113,10 +112,6 @@ LeavesNew x y P = (k : ℕ) (i : Image) → x.bay.clock < k → k ≤ y.bay.cloc
 -- the faults of a place's drive rose, by where its slices lie afterwards
 abbrev pub DriveWentSince : Moment → Moment → ℕ → Type 0
 DriveWentSince p q k = Rose (faults_before p (disk_of q.slices (log_slice k))) (q.faults (disk_of q.slices (log_slice k)))
-
--- where its slices lay before
-abbrev pub DriveWentFrom : Moment → Moment → ℕ → Type 0
-DriveWentFrom p q k = Rose (p.faults (disk_of p.slices (log_slice k))) (q.faults (disk_of p.slices (log_slice k)))
 
 -- The drive isn't replaced. Marks alone come to the book, each of a drive that refused a call. Where the new disk itself refused one, nobody but the place
 -- is marked, and the book is as it was where the place's drive was missing; and where nobody is marked and it refused none, nothing is called, and disks hold

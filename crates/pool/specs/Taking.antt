@@ -78,9 +78,9 @@ pub record TakesDisk (x y : View) (place disk : ℕ) (result : Result (Unit {0})
   pub declined : IfErr result (IsDeclined (moment_of x) (moment_of y) place)
   pub replaced : OnOk result (IsReplaced (moment_of x) (moment_of y) place disk)
   pub table : OnOk result (HasTable x y place disk)
-  pub leaves : x.bay.traced → (a : FlatArray) → VolumeIs x a → LeavesNew x y (λ i. MeansFormer x y place a i ⊎ Means y a i)
+  pub leaves : x.bay.traced → (a : FlatArray) → VolumeIs x a → LeavesNew x y (λ i. MeansFormer (moment_of x) (moment_of y) place a i ⊎ Means y a i)
   pub moments :
-      OnOk result (x.bay.traced → (a : FlatArray) → VolumeIs x a → LeavesNew x y (λ i. MeansFormer x y place a i ⊎ MeansWith x y place disk a i))
+      OnOk result (x.bay.traced → (a : FlatArray) → VolumeIs x a → LeavesNew x y (λ i. MeansFormer (moment_of x) (moment_of y) place a i ⊎ MeansWith x y place disk a i))
 
 -- So it is in a pool that is ready for it: the place's drive is missing, or it gives way.
 pub record TakesBy (x y : View) (place disk : ℕ) (result : Result (Unit {0}) GrowFault) : Type 0 where

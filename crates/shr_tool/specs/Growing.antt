@@ -1,6 +1,5 @@
 -- Lines of a script from the first one on that grows the pool. Of what the volume holds nothing is said after it: only how the pool stands before each line and after it.
 use Rattle.std.specs.Prelude.{◌≡◌, ◌⊎◌, ℕ, ◌*◌, ◌≤◌, min, true, false, List, [], ◌∷◌, ◌++◌, codes, Result, Ok, Err}
-use Rattle.array_image.specs.States.{is_current}
 use Rattle.flat_array.specs.Array.{FlatArray}
 use Rattle.growth_laws.specs.Growing.{GetsLonger}
 use Rattle.lvm_group.specs.Runs.{sectors_in}
@@ -15,9 +14,9 @@ use Rattle.pool.specs.Adding.{AddsNamed}
 use Rattle.pool.specs.Enlarging.{EnlargesNamed, IsEnlarging}
 use Rattle.pool.specs.Growing.{DoesMany, StopsBetween}
 use Rattle.pool.specs.Keeping.{Raises, most_raised}
-use Rattle.pool.specs.Moment.{Moment, moment_of}
+use Rattle.pool.specs.Moment.{MarksBut, Moment, moment_of}
 use Rattle.pool.specs.Proceeding.{Proceeds, has_growth}
-use Rattle.pool.specs.Replaced.{DriveWentFrom, DriveWentSince}
+use Rattle.pool.specs.Replaced.{DriveWentSince}
 use Rattle.pool.specs.View.{View}
 use Rattle.pool.specs.Works.{left_by}
 use Rattle.shr_tool.specs.declared.perform.Answer.{Answer}
@@ -114,9 +113,7 @@ IsAgainst line place = (line ≡ Ok (Lose place)) ⊎ ((name : List ℕ) × (lin
 
 -- A drive that was current is marked missing only where the faults of its disk rose, by where its slices lay or lie, or where it was lost so.
 abbrev pub MarksWent : (Lost : ℕ → Type 0) → (p q : Moment) → Type 0
-MarksWent Lost p q =
-    (place : ℕ) → is_current p.book.state place ≡ true → is_current q.book.state place ≡ false
-    → DriveWentFrom p q place ⊎ (DriveWentSince p q place ⊎ Lost place)
+MarksWent Lost p q = MarksBut (λ place. DriveWentSince p q place ⊎ Lost place) p q
 
 -- What so many calls do to a pool: its bay has the disks that it had, marks have their cause, and numbers rise by a bounded number for each call.
 pub record ProceedsTo (Traced : Type 0) (Lost : ℕ → Type 0) (calls : ℕ) (p q : Moment) : Type 0 where

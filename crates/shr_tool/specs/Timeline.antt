@@ -4,11 +4,9 @@ use Rattle.rack.specs.Seen.{Image, Rose}
 use Rattle.rack.specs.Values.{Keeps}
 use Rattle.shr_script.specs.declared.Command.TheVariants.{Lose}
 use Rattle.flat_array.specs.Array.{FlatArray}
-use Rattle.array_image.specs.Places.{log_slice}
 use Rattle.array_image.specs.States.{is_current}
-use Rattle.slice_rack.specs.Changes.{Seats}
 use Rattle.slice_rack.specs.Runs.{IsSliced}
-use Rattle.slice_rack.specs.Slices.{Slices, disk_of, seat_of}
+use Rattle.slice_rack.specs.Slices.{seat_of}
 use Rattle.lvm_group.specs.Runs.{sectors_in}
 use Rattle.raid_laws.specs.Book.{OnlyMarksSince}
 use Rattle.raid_laws.specs.Moves.{RaisesBy}
@@ -16,12 +14,12 @@ use Rattle.raid_laws.specs.Losses.{has_other}
 use Rattle.pool.specs.Calls.{CallFrame}
 use Rattle.pool.specs.Keeping.{HasMarkedSeats, KeepsBook, KeepsBookBut, KeepsWorks, Raises, most_raised}
 use Rattle.raid_laws.specs.Raid.{Raid}
-use Rattle.pool.specs.Moment.{IsNamed, Moment, moment_of}
+use Rattle.pool.specs.Moment.{IsNamed, MarksBut, Moment, moment_of}
 use Rattle.pool.specs.Continuing.{Continues, KeepsOutside}
 use Rattle.pool.specs.Entering.{StaysStill}
 use Rattle.pool.specs.Proceeding.{has_growth}
 use Rattle.pool.specs.Naming.{EntersNamed, LeavesNamed}
-use Rattle.pool.specs.Replaced.{ChangesDrive, DriveWentFrom, HasGrowCause, HasTable, IsDeclined, IsReplaced, LeavesNew, TakesImage, is_vacant}
+use Rattle.pool.specs.Replaced.{ChangesDrive, HasGrowCause, HasTable, IsDeclined, IsReplaced, LeavesNew, MeansBy, MeansFormer, TakesImage, is_vacant}
 use Rattle.pool.specs.View.{View, book, contents_in, spent_by}
 use Rattle.pool.specs.Works.{HasRowsAlone, KeepsAllMembers, KeepsPlan, StopsStuck, left_by, works_by}
 use Rattle.pool.specs.Volume.{VolumeIs, Means, PicksLive, size_of}
@@ -31,7 +29,7 @@ use Rattle.shr_tool.specs.Events.Event.{answered, spent, lost, last, replaced, d
 
 -- contents of the disks mean an array, in the sectors that aren't spent at a moment, read where the volume and the slices of drives lie then
 abbrev pub MeansAt : Moment → FlatArray → Image → Type 0
-MeansAt q a disks = PicksLive (spent_by q.linear q.book) a (contents_in q.slices q.linear disks)
+MeansAt q a disks = MeansBy q.slices q a disks
 
 -- Steps of maintenance: so many works are left by the book at their end. Where no disk's faults rose, and only rows to resync and to rebuild
 -- were left of the arrays, these are the works that were left, but for the first ones, as many as were asked for, or none. Members stay but for losses and rebuilds, and a plan goes on, or has ended as the last work.
@@ -68,9 +66,7 @@ HasCause p q (shown text) = text ≡ status_text q.linear q.book
 -- Marks alone come to the pool's state, each of a drive whose disk's faults rose or that the script lost.
 pub record MarksFor (p q : Moment) (event : Event) : Type 0 where
   pub after : OnlyMarksSince p.book.state q.book.state
-  pub cause :
-      (place : ℕ) → is_current p.book.state place ≡ true → is_current q.book.state place ≡ false
-      → Rose (p.faults (disk_of p.slices (log_slice place))) (q.faults (disk_of p.slices (log_slice place))) ⊎ (event ≡ lost place)
+  pub cause : MarksBut (λ place. event ≡ lost place) p q
 
 -- What an event does to the arrays of a book: they lose the members on drives that are marked meanwhile, and no row is left to resync that wasn't. Where a drive is
 -- replaced the members of its place are new ones.
@@ -113,18 +109,6 @@ pub record KeepsSlices (p q : Moment) : Type 0 where
   pub slices : q.slices ≡ p.slices
   pub names : q.names ≡ p.names
   pub ready : (name : List ℕ) → q.ready name ≡ p.ready name
-
--- contents mean an array by the slices of a pool in which a place, whose drive is missing, has no disk
-abbrev pub MeansWithout : Moment → Moment → ℕ → FlatArray → Image → Type 0
-MeansWithout p q place a disks =
-    (t : Slices) × Seats p.slices t place None × PicksLive (spent_by q.linear q.book) a (contents_in t q.linear disks)
-
--- Contents mean it by the slices of a pool of which a drive is to be replaced: as they lay, where it wasn't missing, or without the place's disk, where it was, or its
--- disk refused a call.
-abbrev pub MeansFormer : Moment → Moment → ℕ → FlatArray → Image → Type 0
-MeansFormer p q place a disks =
-    ((is_current p.book.state place ≡ true) × PicksLive (spent_by q.linear q.book) a (contents_in p.slices q.linear disks))
-    ⊎ (((is_current p.book.state place ≡ false) ⊎ DriveWentFrom p q place) × MeansWithout p q place a disks)
 
 -- contents mean an array as before an event
 abbrev pub MeansBefore : Moment → Moment → Event → FlatArray → Image → Type 0
