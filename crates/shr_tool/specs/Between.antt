@@ -22,7 +22,7 @@ use Rattle.pool_model.specs.Taken.{attached}
 use Rattle.pool.specs.declared.replacing.GrowFault.{GrowFault}
 use Rattle.pool.specs.Moment.{Moment}
 use Rattle.shr_tool.specs.Events.{Event, any_takes, looks_at}
-use Rattle.shr_tool.specs.Events.Event.{answered, spent, lost, last, replaced, declined, stepped, stuck, shown}
+use Rattle.shr_tool.specs.Events.Event.{lost, replaced, declined}
 use Rattle.shr_tool.specs.Service.{IsFitDisk, IsFitDrive, IsFitFor, IsServed, disk_in, disks_at, pool_after, units_in}
 use Rattle.shr_tool.specs.Timeline.{Steps}
 
@@ -91,16 +91,9 @@ HoldsEither f p q place name i =
 
 -- In what a stop leaves inside an event no other disk has the id of a drive that it took in.
 abbrev pub HasOthers : (ℕ → Image → Type 0) → Found → (p q : Moment) → Event → Type 0
-HasOthers stops f p q (answered line) = Unit {0}
-HasOthers stops f p q (spent line sector) = Unit {0}
-HasOthers stops f p q (lost place) = Unit {0}
-HasOthers stops f p q (last place) = Unit {0}
 HasOthers stops f p q (replaced place name) =
     (k : ℕ) (i : Image) → p.clock < k → k ≤ q.clock → stops k i → HaveOtherIds (attached f (disks_at q)) p.book.state place (disk_in q place) i
-HasOthers stops f p q (declined place name fault) = Unit {0}
-HasOthers stops f p q (stepped count left) = Unit {0}
-HasOthers stops f p q (stuck count array) = Unit {0}
-HasOthers stops f p q (shown text) = Unit {0}
+HasOthers stops f p q event = Unit {0}
 
 -- So it is inside each of several.
 abbrev pub HaveOthers : (ℕ → Image → Type 0) → Found → (p : Moment) → (events : List Event) → (q : Moment) → Steps p events q → Type 0
@@ -133,17 +126,11 @@ HoldsDeclined stops Serial Landing Group done f p q place name fault =
 
 -- So it is inside an event.
 abbrev pub HoldsWithin : (ℕ → Image → Type 0) → (Serial Landing Group : Type 0) → (done : List Event) → Found → (p q : Moment) → Event → Type 0
-HoldsWithin stops Serial Landing Group done f p q (answered line) = HoldsInside stops Serial Landing Group done f p q
-HoldsWithin stops Serial Landing Group done f p q (spent line sector) = HoldsInside stops Serial Landing Group done f p q
-HoldsWithin stops Serial Landing Group done f p q (lost place) = HoldsInside stops Serial Landing Group done f p q
-HoldsWithin stops Serial Landing Group done f p q (last place) = HoldsInside stops Serial Landing Group done f p q
 HoldsWithin stops Serial Landing Group done f p q (replaced place name) = HoldsTaking stops Serial Landing Group done f p q place name
 HoldsWithin stops Serial Landing Group done f p q (declined place name fault) =
     (looks_at fault ≡ false → HoldsInside stops Serial Landing Group done f p q)
     × (looks_at fault ≡ true → HoldsDeclined stops Serial Landing Group done f p q place name fault)
-HoldsWithin stops Serial Landing Group done f p q (stepped count left) = HoldsInside stops Serial Landing Group done f p q
-HoldsWithin stops Serial Landing Group done f p q (stuck count array) = HoldsInside stops Serial Landing Group done f p q
-HoldsWithin stops Serial Landing Group done f p q (shown text) = HoldsInside stops Serial Landing Group done f p q
+HoldsWithin stops Serial Landing Group done f p q event = HoldsInside stops Serial Landing Group done f p q
 
 -- So it is at the moment when events begin, at the end of each of them and inside it, with the drives that were taken in up to there. Only the images that
 -- lines named before that moment are to be fit for the pool.

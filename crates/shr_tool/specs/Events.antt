@@ -84,13 +84,7 @@ text_of a (shown text) = text
 abbrev pub becomes : FlatArray → Event → FlatArray
 becomes a (answered line) = after a line
 becomes a (spent line sector) = after_spent a line sector
-becomes a (lost place) = a
-becomes a (last place) = a
-becomes a (replaced place name) = a
-becomes a (declined place name fault) = a
-becomes a (stepped count left) = a
-becomes a (stuck count array) = a
-becomes a (shown text) = a
+becomes a event = a
 
 -- the replies to events in a row, and the array after them
 abbrev pub texts : FlatArray → List Event → List ℕ
@@ -108,31 +102,15 @@ lines_of (event ∷ events) = line_of event ∷ lines_of events
 
 -- what the status has to say of a drive that isn't replaced
 abbrev pub answer_by : GrowFault → Answer
-answer_by NoSuchDrive = Given
-answer_by Attach = Given
-answer_by Twice = Given
 answer_by NoMemory = Memory
-answer_by PlanPending = Given
-answer_by NotWhole = Given
-answer_by NotResynced = Given
-answer_by OfSize = Given
-answer_by Smaller = Given
-answer_by TooManyDrives = Given
-answer_by TooManyLayers = Given
-answer_by TooManySegments = Given
-answer_by Gone = Given
+answer_by fault = Given
 
 -- what the status has to say of an event
 abbrev pub answer_of : Event → Answer
-answer_of (answered line) = Given
 answer_of (spent line sector) = Spent
-answer_of (lost place) = Given
-answer_of (last place) = Given
-answer_of (replaced place name) = Given
 answer_of (declined place name fault) = answer_by fault
-answer_of (stepped count left) = Given
 answer_of (stuck count array) = Spent
-answer_of (shown text) = Given
+answer_of event = Given
 
 -- the worse of two answers: want of memory before a refused sector or work
 abbrev pub worse : Answer → Answer → Answer
@@ -150,42 +128,20 @@ worst_of (event ∷ events) = worse (answer_of event) (worst_of events)
 -- a drive of the list was to be replaced
 abbrev pub looks_at : GrowFault → Bool
 looks_at NoSuchDrive = false
-looks_at Attach = true
-looks_at Twice = true
-looks_at NoMemory = true
-looks_at PlanPending = true
-looks_at NotWhole = true
-looks_at NotResynced = true
-looks_at OfSize = true
-looks_at Smaller = true
-looks_at TooManyDrives = true
-looks_at TooManyLayers = true
-looks_at TooManySegments = true
-looks_at Gone = true
+looks_at fault = true
 
 -- a disk may be attached, or slices be taken from a place: a drive of the list was to be replaced
 abbrev pub takes_disk : Event → Bool
-takes_disk (answered line) = false
-takes_disk (spent line sector) = false
-takes_disk (lost place) = false
-takes_disk (last place) = false
 takes_disk (replaced place name) = true
 takes_disk (declined place name fault) = looks_at fault
-takes_disk (stepped count left) = false
-takes_disk (stuck count array) = false
-takes_disk (shown text) = false
+takes_disk event = false
 
 -- works are done, or begun by a new drive
 abbrev pub works_on : Event → Bool
-works_on (answered line) = false
-works_on (spent line sector) = false
-works_on (lost place) = false
-works_on (last place) = false
 works_on (replaced place name) = true
-works_on (declined place name fault) = false
 works_on (stepped count left) = true
 works_on (stuck count array) = true
-works_on (shown text) = false
+works_on event = false
 
 abbrev pub any_takes : List Event → Bool
 any_takes [] = false
@@ -193,15 +149,9 @@ any_takes (event ∷ events) = takes_disk event || any_takes events
 
 -- by these names of disks, an event took this one, or tried to
 abbrev pub Takes : List (List ℕ) → Event → ℕ → Type 0
-Takes names (answered line) d = ⊥
-Takes names (spent line sector) d = ⊥
-Takes names (lost place) d = ⊥
-Takes names (last place) d = ⊥
 Takes names (replaced place name) d = slice_get names d ≡ Some name
 Takes names (declined place name fault) d = slice_get names d ≡ Some name
-Takes names (stepped count left) d = ⊥
-Takes names (stuck count array) d = ⊥
-Takes names (shown text) d = ⊥
+Takes names event d = ⊥
 
 -- one of these did
 abbrev pub AnyTakes : List (List ℕ) → List Event → ℕ → Type 0

@@ -31,7 +31,7 @@ use Rattle.pool.specs.Replaced.{HasMarked}
 use Rattle.pool.specs.View.{View, book, slices_shown, spent_by}
 use Rattle.pool.specs.Volume.{is_spent, size_of}
 use Rattle.shr_tool.specs.Events.{Event, any_takes, looks_at}
-use Rattle.shr_tool.specs.Events.Event.{answered, spent, lost, last, replaced, declined, stepped, stuck, shown}
+use Rattle.shr_tool.specs.Events.Event.{replaced, declined}
 use Rattle.shr_tool.specs.Timeline.{Steps}
 
 -- no drive was to be replaced, or a sector of the volume can be had
@@ -55,15 +55,9 @@ units_in p place = option_map_or (λ drive. drive.units) (slice_get p.book.state
 -- The pool f after an event from one moment to another: where a drive was replaced the place has the new disk, and where one was to be, a disk
 -- may have been attached.
 abbrev pub pool_after : Found → Moment → Moment → Event → Found
-pool_after f p q (answered line) = f
-pool_after f p q (spent line sector) = f
-pool_after f p q (lost place) = f
-pool_after f p q (last place) = f
 pool_after f p q (replaced place name) = taken f (disks_at q) place (disk_in q place) (enlisted place (units_in p place) (Replacing place) p.book.state)
 pool_after f p q (declined place name fault) = if looks_at fault then attached f (disks_at q) else f
-pool_after f p q (stepped count left) = f
-pool_after f p q (stuck count array) = f
-pool_after f p q (shown text) = f
+pool_after f p q event = f
 
 -- after events in a row
 abbrev pub pool_by : Found → (p : Moment) → (events : List Event) → (q : Moment) → Steps p events q → Found
@@ -92,15 +86,9 @@ IsFitDisk f p name =
 
 -- what is to be known of the image that a line names
 abbrev pub IsFitFor : Found → Moment → Event → Type 0
-IsFitFor f p (answered line) = Unit {0}
-IsFitFor f p (spent line sector) = Unit {0}
-IsFitFor f p (lost place) = Unit {0}
-IsFitFor f p (last place) = Unit {0}
 IsFitFor f p (replaced place name) = IsFitDrive f p place name
 IsFitFor f p (declined place name fault) = looks_at fault ≡ true → IsFitDisk f p name
-IsFitFor f p (stepped count left) = Unit {0}
-IsFitFor f p (stuck count array) = Unit {0}
-IsFitFor f p (shown text) = Unit {0}
+IsFitFor f p event = Unit {0}
 
 -- of those that lines in a row name: nothing, where no drive was to be replaced
 abbrev pub AreFit : Found → (p : Moment) → (events : List Event) → (q : Moment) → Steps p events q → Type 0
@@ -137,15 +125,8 @@ pub record LaysNothing (f : Found) (bound : ℕ) (p q : Moment) (name : List ℕ
 -- What is to be known of a line so that a pool stands alone on its disks after it, where it did so before: of one that was declined the image is left out, or it
 -- laid nothing on its disk.
 abbrev pub IsLoneFor : Found → Lone → (p q : Moment) → Event → Type 0
-IsLoneFor f l p q (answered line) = Unit {0}
-IsLoneFor f l p q (spent line sector) = Unit {0}
-IsLoneFor f l p q (lost place) = Unit {0}
-IsLoneFor f l p q (last place) = Unit {0}
-IsLoneFor f l p q (replaced place name) = Unit {0}
 IsLoneFor f l p q (declined place name fault) = looks_at fault ≡ true → ((k : ℕ) × (slice_get l.out k ≡ Some name)) ⊎ LaysNothing f l.bound p q name fault
-IsLoneFor f l p q (stepped count left) = Unit {0}
-IsLoneFor f l p q (stuck count array) = Unit {0}
-IsLoneFor f l p q (shown text) = Unit {0}
+IsLoneFor f l p q event = Unit {0}
 
 -- of lines in a row
 abbrev pub AreLone : Found → Lone → (p : Moment) → (events : List Event) → (q : Moment) → Steps p events q → Type 0

@@ -20,9 +20,9 @@ use Rattle.pool.specs.Entering.{StaysStill}
 use Rattle.pool.specs.Proceeding.{has_growth}
 use Rattle.pool.specs.Naming.{EntersNamed, LeavesNamed}
 use Rattle.pool.specs.Replaced.{ChangesDrive, HasGrowCause, HasTable, IsDeclined, IsReplaced, LeavesNew, MeansBy, MeansFormer, TakesImage, is_vacant}
-use Rattle.pool.specs.View.{View, book, contents_in, spent_by}
+use Rattle.pool.specs.View.{View, book, spent_by}
 use Rattle.pool.specs.Works.{HasRowsAlone, KeepsAllMembers, KeepsPlan, StopsStuck, left_by, works_by}
-use Rattle.pool.specs.Volume.{VolumeIs, Means, PicksLive, size_of}
+use Rattle.pool.specs.Volume.{VolumeIs, Means, size_of}
 use Rattle.shr_tool.specs.Events.{Event, IsOfArray, Takes, Touches, TouchesLast, becomes, calls_in, calls_none, line_of, takes_disk, text_of, works_on}
 use Rattle.shr_tool.specs.StatusText.{status_text}
 use Rattle.shr_tool.specs.Events.Event.{answered, spent, lost, last, replaced, declined, stepped, stuck, shown}
@@ -71,15 +71,8 @@ pub record MarksFor (p q : Moment) (event : Event) : Type 0 where
 -- What an event does to the arrays of a book: they lose the members on drives that are marked meanwhile, and no row is left to resync that wasn't. Where a drive is
 -- replaced the members of its place are new ones.
 abbrev pub KeepsBookIn : Event → Raid → Raid → Type 0
-KeepsBookIn (answered line) v w = KeepsBook v w
-KeepsBookIn (spent line sector) v w = KeepsBook v w
-KeepsBookIn (lost place) v w = KeepsBook v w
-KeepsBookIn (last place) v w = KeepsBook v w
 KeepsBookIn (replaced place name) v w = KeepsBookBut place v w
-KeepsBookIn (declined place name fault) v w = KeepsBook v w
-KeepsBookIn (stepped count left) v w = KeepsBook v w
-KeepsBookIn (stuck count array) v w = KeepsBook v w
-KeepsBookIn (shown text) v w = KeepsBook v w
+KeepsBookIn event v w = KeepsBook v w
 
 -- What so many calls do to a pool's book: its numbers rise by a bounded number for each, its arrays are kept so; and at their end just those members are missing whose
 -- drives are marked.
@@ -112,27 +105,15 @@ pub record KeepsSlices (p q : Moment) : Type 0 where
 
 -- contents mean an array as before an event
 abbrev pub MeansBefore : Moment → Moment → Event → FlatArray → Image → Type 0
-MeansBefore p q (answered line) a disks = MeansAt q a disks
-MeansBefore p q (spent line sector) a disks = MeansAt q a disks
-MeansBefore p q (lost place) a disks = MeansAt q a disks
-MeansBefore p q (last place) a disks = MeansAt q a disks
 MeansBefore p q (replaced place name) a disks = MeansFormer p q place a disks
 MeansBefore p q (declined place name fault) a disks = MeansFormer p q place a disks ⊎ MeansAt q a disks
-MeansBefore p q (stepped count left) a disks = MeansAt q a disks
-MeansBefore p q (stuck count array) a disks = MeansAt q a disks
-MeansBefore p q (shown text) a disks = MeansAt q a disks
+MeansBefore p q event a disks = MeansAt q a disks
 
 -- what an event that names an image leaves of the disks
 abbrev pub KeepsNamed : Moment → Moment → Event → Type 0
-KeepsNamed p q (answered line) = Unit {0}
-KeepsNamed p q (spent line sector) = Unit {0}
-KeepsNamed p q (lost place) = Unit {0}
-KeepsNamed p q (last place) = Unit {0}
 KeepsNamed p q (replaced place name) = TakesImage p.linear p q place name
 KeepsNamed p q (declined place name fault) = TakesImage p.linear p q place name
-KeepsNamed p q (stepped count left) = Unit {0}
-KeepsNamed p q (stuck count array) = Unit {0}
-KeepsNamed p q (shown text) = Unit {0}
+KeepsNamed p q event = Unit {0}
 
 -- An event: what a stop inside it leaves means the array before it or after it, and one at its end the array after it. But where a drive
 -- is to be replaced, the slices of drives stay where they lie, no disk is attached, and marks alone come to the state. Outside the slices
@@ -192,15 +173,9 @@ LeavesDrive x y place name = ChangesDrive x y place name × (StaysStill x y ⊎ 
 
 -- what a line that names a disk does to the pool's drives
 abbrev pub Changes : View → View → Event → Type 0
-Changes x y (answered line) = Unit {0}
-Changes x y (spent line sector) = Unit {0}
-Changes x y (lost place) = Unit {0}
-Changes x y (last place) = Unit {0}
 Changes x y (replaced place name) = TakesDrive x y place name
 Changes x y (declined place name fault) = LeavesDrive x y place name
-Changes x y (stepped count left) = Unit {0}
-Changes x y (stuck count array) = Unit {0}
-Changes x y (shown text) = Unit {0}
+Changes x y event = Unit {0}
 
 -- A line was answered on a pool by this text.
 pub record LineContract (x y : View) (event : Event) (text : List ℕ) : Type 0 where
