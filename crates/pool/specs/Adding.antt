@@ -56,7 +56,7 @@ refusal_of_units l v units = refusal_after ((NotResynced, has_resync (arrays_now
 
 -- ---- refusals, by how the pool stands before and after
 
--- Each refusal has its cause: those of a drive for the next place, which is always there. No other drive is found gone.
+-- Each refusal of a drive for the next place has its cause. That place is always one of them, and no other drive is found gone.
 abbrev pub HasAddCause : Linear → (p q : Moment) → List ℕ → Result (Unit {0}) GrowFault → Type 0
 HasAddCause l p q name result =
     let next = length p.book.state.drives.items in HasTakingCause (next + 1) next (refusal_of_add l p.book) ⊥ p q name result

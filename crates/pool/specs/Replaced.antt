@@ -82,7 +82,7 @@ pub record HasTakingCause (places place : ℕ) (refusal : ℕ → Option GrowFau
   pub gone : result ≡ Err Gone → (d : ℕ) → IsNamed q name d → Rose (faults_before p d) (q.faults d)
   pub not_whole : result ≡ Err NotWhole → (d : ℕ) → IsNamed q name d → (refusal (q.sectors d) ≡ Some NotWhole) ⊎ Marked
 
--- that of a drive which replaces the one of a place
+-- of one that replaces the drive of a place in the list
 abbrev pub HasGrowCause : Linear → (p q : Moment) → (place : ℕ) → List ℕ → Result (Unit {0}) GrowFault → Type 0
 HasGrowCause l p q place name result =
     HasTakingCause (length p.book.state.drives.items) place (refusal_of l p.book place) (HasMarkedOther p q place) p q name result
