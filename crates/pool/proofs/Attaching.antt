@@ -109,33 +109,35 @@ module _ (x : View) (b : RackView) (s : Shelf) (name : List ℕ) (raw : Result �
 
     pub added_continues : Continues x m
     added_continues = record {
-      fit = (added_arrays, inside_later x b s x.slices x.arrays fit refl (λ n. refl));
+      proceeds = record {
+        fit = (added_arrays, inside_later x b s x.slices x.arrays fit refl (λ n. refl));
+        disks = let more = adds.disks in omega (arith, more);
+        sectors = λ d low. (adds.others d low).sectors;
+        faults = λ d low. let same = (adds.others d low).faults in omega (arith, same);
+        names = λ d own is. ap (λ names. slice_get names d) adds.names ∙ got_old x.shelf.names name d (slice_get_within x.shelf.names d own is) ∙ is;
+        waits = λ n.
+            elim (cases_Bool (bytes_eq n name)) [
+              | inl is ↦
+                  (let same = (bytes_eq-Decides n name).0 is in
+                  inr (
+                    subst (λ k. s.ready k ≡ None) (sym same) adds.gone,
+                    (number, (let at = adds.number in omega (arith, at)), subst (λ k. slice_get s.names number ≡ Some k) (sym same) named),
+                  ))
+              | inr other ↦ inl (adds.ready n (λ same. both_ways (bytes_eq n name) other ((bytes_eq-Decides n name).1 same)))
+            ];
+        told = adds.told;
+        traced = λ told traced. adds.traced traced told;
+        later = λ told traced. let same = adds.clock in omega (arith, same);
+        past = λ told traced k i until stopped. adds.past traced k i until stopped;
+      };
       orderly = λ orderly. orderly;
       linear = refl;
       size = refl;
-      disks = let more = adds.disks in omega (arith, more);
-      sectors = λ d low. (adds.others d low).sectors;
-      faults = λ d low. let same = (adds.others d low).faults in omega (arith, same);
-      names = λ d own is. ap (λ names. slice_get names d) adds.names ∙ got_old x.shelf.names name d (slice_get_within x.shelf.names d own is) ∙ is;
-      waits = λ n.
-          elim (cases_Bool (bytes_eq n name)) [
-            | inl is ↦
-                (let same = (bytes_eq-Decides n name).0 is in
-                inr (
-                  subst (λ k. s.ready k ≡ None) (sym same) adds.gone,
-                  (number, (let at = adds.number in omega (arith, at)), subst (λ k. slice_get s.names number ≡ Some k) (sym same) named),
-                ))
-            | inr other ↦ inl (adds.ready n (λ same. both_ways (bytes_eq n name) other ((bytes_eq-Decides n name).1 same)))
-          ];
       unattached = attaches.faults;
-      told = adds.told;
       tells = λ d low told. (adds.others d low).told told;
       known = all_told;
       lasting = λ _. now.lasting;
       lasts = λ _ d k low alive. now.unspent d k;
-      traced = λ told traced. adds.traced traced told;
-      later = λ told traced. let same = adds.clock in omega (arith, same);
-      past = λ told traced k i until stopped. adds.past traced k i until stopped;
     }
 
     pub added_carries : Carries x m
@@ -210,24 +212,26 @@ module _ (x : View) (b : RackView) (s : Shelf) (name : List ℕ) (raw : Result �
 
     pub same_continues : Continues x m
     same_continues = record {
-      fit = (same_arrays, inside_later x b s x.slices x.arrays fit refl (λ n. refl));
+      proceeds = record {
+        fit = (same_arrays, inside_later x b s x.slices x.arrays fit refl (λ n. refl));
+        disks = let equal = same.disks in omega (arith, equal);
+        sectors = λ d low. (same.others d).sectors;
+        faults = λ d low. let equal = (same.others d).faults in omega (arith, equal);
+        names = λ d own is. ap (λ names. slice_get names d) same.names ∙ is;
+        waits = λ n. inl (same.ready n);
+        told = same.told;
+        traced = λ told traced. same.traced traced;
+        later = λ told traced. let equal = same.clock in omega (arith, equal);
+        past = λ told traced k i until stopped. same.past k i stopped;
+      };
       orderly = λ orderly. orderly;
       linear = refl;
       size = refl;
-      disks = let equal = same.disks in omega (arith, equal);
-      sectors = λ d low. (same.others d).sectors;
-      faults = λ d low. let equal = (same.others d).faults in omega (arith, equal);
-      names = λ d own is. ap (λ names. slice_get names d) same.names ∙ is;
-      waits = λ n. inl (same.ready n);
       unattached = attaches.faults;
-      told = same.told;
       tells = λ d low told. (same.others d).told told;
       known = λ names all d low. (same.others d).told (all d (subst (λ n. d < n) same.disks low));
       lasting = λ _. now.lasting;
       lasts = λ _ d k low alive. now.unspent d k;
-      traced = λ told traced. same.traced traced;
-      later = λ told traced. let equal = same.clock in omega (arith, equal);
-      past = λ told traced k i until stopped. same.past k i stopped;
     }
 
     pub same_carries : Carries x m

@@ -29,16 +29,16 @@ pub carries_then : (x y z : View) → Continues x y → Carries x y → Carries 
 carries_then x y z go one two = record {
   spent = λ s alive. one.spent s (two.spent s alive);
   told = λ names all s low alive told.
-      two.told (go.told names) (go.known names all) s (subst (λ n. s < n) (sym go.size) low) alive (one.told names all s low (two.spent s alive) told);
+      two.told (go.proceeds.told names) (go.known names all) s (subst (λ n. s < n) (sym go.size) low) alive (one.told names all s low (two.spent s alive) told);
   keeps = λ names all s low alive told.
       let mid = two.spent s alive in
       keeps_then ((volume x).held 0 s) ((volume y).held 0 s) ((volume z).held 0 s) (one.keeps names all s low mid told)
-      (two.keeps (go.told names) (go.known names all) s (subst (λ n. s < n) (sym go.size) low) alive (one.told names all s low mid told));
+      (two.keeps (go.proceeds.told names) (go.known names all) s (subst (λ n. s < n) (sym go.size) low) alive (one.told names all s low mid told));
   made = two.made ∙ one.made;
   truths = λ names all.
-      truths_then (book x) (book y) (book z) (slices_shown x) (slices_shown y) (slices_shown z) one.made (one.truths names all) (two.truths (go.told names) (go.known names all));
+      truths_then (book x) (book y) (book z) (slices_shown x) (slices_shown y) (slices_shown z) one.made (one.truths names all) (two.truths (go.proceeds.told names) (go.known names all));
   held = λ names all.
-      held_then (book x) (book y) (book z) (slices_shown x) (slices_shown y) (slices_shown z) one.made (one.held names all) (two.held (go.told names) (go.known names all));
+      held_then (book x) (book y) (book z) (slices_shown x) (slices_shown y) (slices_shown z) one.made (one.held names all) (two.held (go.proceeds.told names) (go.known names all));
 }
 
 -- a call in which no value comes to the volume
@@ -60,7 +60,7 @@ pub holds_of : (x y : View) → Continues x y → Carries x y → (a : FlatArray
 holds_of x y go carries a holds = record {
   told = λ s low alive.
       carries.told holds.shelf holds.disks s (subst (λ n. s < n) holds.size low) alive (holds.told s low (carries.spent s alive));
-  shelf = go.told holds.shelf;
+  shelf = go.proceeds.told holds.shelf;
   disks = go.known holds.shelf holds.disks;
   size = holds.size ∙ sym go.size;
   values = λ s low alive.

@@ -172,7 +172,7 @@ module _ (x : View) (bay : x.bays.one) (place : ℕ) (name : List ℕ) (listed :
     truths = at.carries.truths;
     leaves = λ traced a holds k i since until stopped. let clock = at.clock in absurd (omega (arith, since, until, clock));
     steps = record { enters = tt; left = inl (at.clock, refl, refl) };
-    ends = λ traced a holds i stopped. ends_of m (sound (at.continues.traced holds.shelf traced)) a (holds_of x m at.continues at.carries a holds) i stopped;
+    ends = λ traced a holds i stopped. ends_of m (sound (at.continues.proceeds.traced holds.shelf traced)) a (holds_of x m at.continues at.carries a holds) i stopped;
   }
 
   -- a disk is, and takes the place of the drive
@@ -205,7 +205,7 @@ module _ (x : View) (bay : x.bays.one) (place : ℕ) (name : List ℕ) (listed :
       others = declined.others;
       quiet = λ other none.
           let still = declined.quiet other none in
-          (still.0, still.1, still.2 ∙ at.clock, λ d low s. still.3 d (let more = at.continues.disks in omega (arith, low, more)) s ∙ at.held d low s);
+          (still.0, still.1, still.2 ∙ at.clock, λ d low s. still.3 d (let more = at.continues.proceeds.disks in omega (arith, low, more)) s ∙ at.held d low s);
     }
 
     pub replaced_by : (y : View) (r : Answer) → ReplacesBy m y place disk r → (y.bay.traced → IsSound (volume y)) → ReplacesDrive x y place name r
@@ -213,7 +213,7 @@ module _ (x : View) (bay : x.bays.one) (place : ℕ) (name : List ℕ) (listed :
         let go = continues_then x m y at.continues by.takes.continues in
         let carries = carries_then x m y at.continues at.carries by.takes.carries in
         let here : IsNamed (moment_of y) name disk = ap (λ names. slice_get names disk) by.takes.names ∙ at.ok.0 in
-        let size : y.bay.sectors disk ≡ b.sectors disk = by.takes.continues.sectors disk at.ok.1 in
+        let size : y.bay.sectors disk ≡ b.sectors disk = by.takes.continues.proceeds.sectors disk at.ok.1 in
         record {
           continues = go;
           raises = by.raises;
@@ -226,14 +226,14 @@ module _ (x : View) (bay : x.bays.one) (place : ℕ) (name : List ℕ) (listed :
             retired = λ p d inside missing seat unnamed.
                 let keeps = by.retired p d inside missing seat (λ is. unnamed (named_at y here d (inr is))) in
                 let old = fit.0.running.set.fit.1.seats p d seat in
-                let size_d : b.sectors d ≡ x.bay.sectors d = at.continues.sectors d old in
+                let size_d : b.sectors d ≡ x.bay.sectors d = at.continues.proceeds.sectors d old in
                 record {
                   held = λ k within told.
                       subst (λ h. Keeps h (y.bay.held d k)) (at.held d old k)
                       (keeps.held k (subst (λ n. k < n) (sym size_d) within) (at.continues.tells d old told));
                   stops = λ told traced k i since until stopped q within tells.
                       subst (λ h. MayLeave h (i d q)) (at.held d old q)
-                      (keeps.stops (at.continues.told told) (at.continues.traced told traced) k i (let clock = at.clock in omega (arith, since, clock)) until stopped q
+                      (keeps.stops (at.continues.proceeds.told told) (at.continues.proceeds.traced told traced) k i (let clock = at.clock in omega (arith, since, clock)) until stopped q
                       (subst (λ n. q < n) (sym size_d) within) (at.continues.tells d old tells));
                 };
             bare = λ d seat unnamed. by.takes.bare d seat (λ is. unnamed (named_at y here d (inr is)));
@@ -257,13 +257,13 @@ module _ (x : View) (bay : x.bays.one) (place : ℕ) (name : List ℕ) (listed :
           holds = holds_of x y go carries;
           truths = carries.truths;
           leaves = λ traced a holds k i since until stopped.
-              elim (by.takes.leaves (at.continues.traced holds.shelf traced) a (holds_of x m at.continues at.carries a holds) k i
+              elim (by.takes.leaves (at.continues.proceeds.traced holds.shelf traced) a (holds_of x m at.continues at.carries a holds) k i
               (let clock = at.clock in omega (arith, since, clock)) until stopped) [
                 | inl former ↦ inl (former_since y a i former)
                 | inr means ↦ inr means
               ];
           steps = steps_since y r (only y by) here by.enters by.left;
-          ends = λ traced a holds i stopped. ends_of y (sound (go.traced holds.shelf traced)) a (holds_of x y go carries a holds) i stopped;
+          ends = λ traced a holds i stopped. ends_of y (sound (go.proceeds.traced holds.shelf traced)) a (holds_of x y go carries a holds) i stopped;
         }
       where
         named_at : (y : View) → IsNamed (moment_of y) name disk → (d : ℕ) → NoDisk d ⊎ (d ≡ disk) → IsNamed (moment_of y) name d
@@ -284,7 +284,7 @@ module _ (x : View) (bay : x.bays.one) (place : ℕ) (name : List ℕ) (listed :
         kept : (y : View) → ReplacesBy m y place disk r → x.shelf.told → AreTold x → IsKept y disk
         kept y by told all =
             let one = at.image told disk at.ok.0 in
-            let size : y.bay.sectors disk ≡ b.sectors disk = by.takes.continues.sectors disk at.ok.1 in (
+            let size : y.bay.sectors disk ≡ b.sectors disk = by.takes.continues.proceeds.sectors disk at.ok.1 in (
               one.0,
               subst (λ n. IsImage (moment_of x) name n one.0) (sym size) one.1,
               λ k v within unsliced left.
@@ -337,8 +337,8 @@ module _ (x : View) (bay : x.bays.one) (place : ℕ) (name : List ℕ) (listed :
             λ d named.
             subst (HasTable x y place) (sym (same d named))
             (record {
-              copies = λ names all. table.copies (at.continues.told names) (at.continues.known names all);
-              durable = λ names all. table.durable (at.continues.told names) (at.continues.known names all);
+              copies = λ names all. table.copies (at.continues.proceeds.told names) (at.continues.known names all);
+              durable = λ names all. table.durable (at.continues.proceeds.told names) (at.continues.known names all);
             })
 
         moments_since : (y : View) (r : Answer) → ((d : ℕ) → IsNamed (moment_of y) name d → d ≡ disk)
@@ -348,7 +348,7 @@ module _ (x : View) (bay : x.bays.one) (place : ℕ) (name : List ℕ) (listed :
         moments_since y (Ok u) same moments =
             λ d named traced a holds k i since until stopped.
             subst (λ e. MeansFormer (moment_of x) (moment_of y) place a i ⊎ MeansWith x y place e a i) (sym (same d named))
-            (elim (moments (at.continues.traced holds.shelf traced) a (holds_of x m at.continues at.carries a holds) k i
+            (elim (moments (at.continues.proceeds.traced holds.shelf traced) a (holds_of x m at.continues at.carries a holds) k i
             (let clock = at.clock in omega (arith, since, clock)) until stopped) [
               | inl former ↦ inl (former_since y a i former)
               | inr means ↦ inr means

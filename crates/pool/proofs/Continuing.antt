@@ -9,64 +9,29 @@ use Rattle.slice_rack.specs.Slices.{IsOrderly, Slices}
 use Rattle.pool.specs.View.{View, volume}
 use Rattle.pool.specs.Calls.{CallFrame}
 use Rattle.pool.specs.Continuing.{Continues, IsOutside, KeepsOutside}
+use Rattle.pool.specs.Proceeding.{Proceeds}
 
 -- no call
-pub continues_same : (x : View) → (volume x).fit → Continues x x
-continues_same x fit = record {
+pub proceeds_same : (x : View) → (volume x).fit → Proceeds x x
+proceeds_same x fit = record {
   fit = fit;
-  orderly = λ orderly. orderly;
-  linear = refl;
-  size = refl;
   disks = omega arith;
   sectors = λ d low. refl;
   faults = λ d low. omega arith;
   names = λ d name is. is;
   waits = λ name. inl refl;
-  unattached = omega arith;
   told = λ told. told;
-  tells = λ d low told. told;
-  known = λ told all. all;
-  lasting = λ lasting. lasting;
-  lasts = λ lasting d s low alive. alive;
   traced = λ told traced. traced;
   later = λ told traced. omega arith;
   past = λ told traced k i until stopped. stopped;
 }
 
--- a call that attaches none
-pub continues_of : (x y : View) → CallFrame x y → Continues x y
-continues_of x y passes =
-    let bay = passes.apart.stays in
-    record {
-      fit = passes.stays.fit;
-      orderly = subst IsOrderly (sym passes.slices);
-      linear = passes.linear;
-      size = passes.stays.sectors 0;
-      disks = let same = bay.disks in omega (arith, same);
-      sectors = λ d low. bay.sectors d;
-      faults = λ d low. bay.faults d;
-      names = λ d name is. ap (λ names. slice_get names d) passes.shelf.names ∙ is;
-      waits = λ name. inl (passes.shelf.ready name);
-      unattached = let same = passes.shelf.faults in omega (arith, same);
-      told = passes.shelf.told;
-      tells = λ d low told. bay.told d told;
-      known = λ told all d low. bay.told d (all d (subst (λ n. d < n) bay.disks low));
-      lasting = bay.lasting;
-      lasts = λ lasting d s low alive. bay.lasts lasting d s alive;
-      traced = λ told traced. bay.traced traced;
-      later = λ told traced. (passes.apart.stops traced).later;
-      past = λ told traced k i until stopped. (passes.apart.stops traced).past k i until stopped;
-    }
-
 -- calls in a row
-pub continues_then : (x y z : View) → Continues x y → Continues y z → Continues x z
-continues_then x y z one two =
+pub proceeds_then : (x y z : View) → Proceeds x y → Proceeds y z → Proceeds x z
+proceeds_then x y z one two =
     let more = one.disks in
     record {
       fit = two.fit;
-      orderly = λ orderly. two.orderly (one.orderly orderly);
-      linear = two.linear ∙ one.linear;
-      size = two.size ∙ one.size;
       disks = let rest = two.disks in omega (arith, more, rest);
       sectors = λ d low. two.sectors d (omega (arith, low, more)) ∙ one.sectors d low;
       faults = λ d low. let first = one.faults d low in let second = two.faults d (omega (arith, low, more)) in omega (arith, first, second);
@@ -79,12 +44,7 @@ continues_then x y z one two =
             ]
             | inr taken ↦ inr (taken.0, (taken.1.0, (let past = taken.1.1 in omega (arith, past, more)), taken.1.2))
           ];
-      unattached = let first = one.unattached in let second = two.unattached in omega (arith, first, second);
       told = λ told. two.told (one.told told);
-      tells = λ d low told. two.tells d (omega (arith, low, more)) (one.tells d low told);
-      known = λ told all. two.known (one.told told) (one.known told all);
-      lasting = λ lasting. two.lasting (one.lasting lasting);
-      lasts = λ lasting d s low alive. two.lasts (one.lasting lasting) d s (omega (arith, low, more)) (one.lasts lasting d s low alive);
       traced = λ told traced. two.traced (one.told told) (one.traced told traced);
       later = λ told traced.
           let first = one.later told traced in
@@ -92,7 +52,66 @@ continues_then x y z one two =
           omega (arith, first, second);
       past = λ told traced k i until stopped.
           let first = one.later told traced in
-          one.past told traced k i until (two.past (one.told told) (one.traced told traced) k i (omega (arith, until, first)) stopped);
+          one.past told traced k i until (two.past (one.told told) (one.traced told traced) k i (omega (arith, first, until)) stopped);
+    }
+
+-- ---- calls that keep the volume where it lies
+
+-- no call
+pub continues_same : (x : View) → (volume x).fit → Continues x x
+continues_same x fit = record {
+  proceeds = proceeds_same x fit;
+  orderly = λ orderly. orderly;
+  linear = refl;
+  size = refl;
+  unattached = omega arith;
+  tells = λ d low told. told;
+  known = λ told all. all;
+  lasting = λ lasting. lasting;
+  lasts = λ lasting d s low alive. alive;
+}
+
+-- a call that attaches none
+pub continues_of : (x y : View) → CallFrame x y → Continues x y
+continues_of x y passes =
+    let bay = passes.apart.stays in
+    record {
+      proceeds = record {
+        fit = passes.stays.fit;
+        disks = let same = bay.disks in omega (arith, same);
+        sectors = λ d low. bay.sectors d;
+        faults = λ d low. bay.faults d;
+        names = λ d name is. ap (λ names. slice_get names d) passes.shelf.names ∙ is;
+        waits = λ name. inl (passes.shelf.ready name);
+        told = passes.shelf.told;
+        traced = λ told traced. bay.traced traced;
+        later = λ told traced. (passes.apart.stops traced).later;
+        past = λ told traced k i until stopped. (passes.apart.stops traced).past k i until stopped;
+      };
+      orderly = subst IsOrderly (sym passes.slices);
+      linear = passes.linear;
+      size = passes.stays.sectors 0;
+      unattached = let same = passes.shelf.faults in omega (arith, same);
+      tells = λ d low told. bay.told d told;
+      known = λ told all d low. bay.told d (all d (subst (λ n. d < n) bay.disks low));
+      lasting = bay.lasting;
+      lasts = λ lasting d s low alive. bay.lasts lasting d s alive;
+    }
+
+-- calls in a row
+pub continues_then : (x y z : View) → Continues x y → Continues y z → Continues x z
+continues_then x y z one two =
+    let more = one.proceeds.disks in
+    record {
+      proceeds = proceeds_then x y z one.proceeds two.proceeds;
+      orderly = λ orderly. two.orderly (one.orderly orderly);
+      linear = two.linear ∙ one.linear;
+      size = two.size ∙ one.size;
+      unattached = let first = one.unattached in let second = two.unattached in omega (arith, first, second);
+      tells = λ d low told. two.tells d (omega (arith, low, more)) (one.tells d low told);
+      known = λ told all. two.known (one.proceeds.told told) (one.known told all);
+      lasting = λ lasting. two.lasting (one.lasting lasting);
+      lasts = λ lasting d s low alive. two.lasts (one.lasting lasting) d s (omega (arith, low, more)) (one.lasts lasting d s low alive);
     }
 
 -- ---- sectors outside slices
@@ -158,9 +177,9 @@ outside_then x y z first second before after one two = record {
       elim (cases_lt y.bay.clock k) [
         | inl now ↦
             (one.held d s (early d s out)).within (i d s)
-            (two.stops (before.told told) (before.traced told traced) k i now until stopped d s (late d s out))
+            (two.stops (before.proceeds.told told) (before.proceeds.traced told traced) k i now until stopped d s (late d s out))
         | inr past ↦
-            one.stops told traced k i since past (after.past (before.told told) (before.traced told traced) k i past stopped) d s (early d s out)
+            one.stops told traced k i since past (after.proceeds.past (before.proceeds.told told) (before.proceeds.traced told traced) k i past stopped) d s (early d s out)
       ];
 }
   where
@@ -172,8 +191,8 @@ outside_then x y z first second before after one two = record {
 
     late : (d s : ℕ) → IsOutside x.slices Both x.bay d s → IsOutside y.slices second y.bay d s
     late d s out = record {
-      disk = let low = out.disk in let more = before.disks in omega (arith, low, more);
-      sector = subst (λ n. s < n) (sym (before.sectors d out.disk)) out.sector;
+      disk = let low = out.disk in let more = before.proceeds.disks in omega (arith, low, more);
+      sector = subst (λ n. s < n) (sym (before.proceeds.sectors d out.disk)) out.sector;
       is_told = before.tells d out.disk out.is_told;
       unnamed = λ is. out.unnamed (inr is);
       unsliced = λ v is. elim (one.slices d s v is) [ inl old ↦ out.unsliced v old | inr named ↦ out.unnamed (inl named) ];

@@ -154,9 +154,9 @@ module _ (x m : View) (place disk many : ℕ) (fit : (volume x).fit) (ordered : 
   same_table : table_on m place disk ≡ table_on x place disk
   same_table =
       let before = fit.0.running in
-      let after = ready.continues.fit.0.running in
+      let after = ready.continues.proceeds.fit.0.running in
       let alike = same_views x.arrays m.arrays (slices_shown x) (slices_shown m) before after ready.marks ready.arrays place in
-      ap (λ n. new_table (book m).state (views_of (book m)) place n) (ready.continues.sectors disk low)
+      ap (λ n. new_table (book m).state (views_of (book m)) place n) (ready.continues.proceeds.sectors disk low)
       ∙ ap (λ (e : Id). drive_table e.0 (views_of (book m)) place (x.bay.sectors disk) (length (views_of (book m)))) (next_same (book x).state (book m).state ready.marks)
       ∙ ap (λ n. drive_table (next_drive (book x).state).0 (views_of (book m)) place (x.bay.sectors disk) n) alike.count
       ∙ table_same x.arrays m.arrays (slices_shown x) (slices_shown m) before after ready.marks ready.arrays place (next_drive (book x).state).0 (x.bay.sectors disk) (length (views_of (book x)))
@@ -182,12 +182,12 @@ module _ (x m : View) (place disk many : ℕ) (fit : (volume x).fit) (ordered : 
   rose_from : (y : View) (k : ℕ) → is_current (book x).state k ≡ true → Continues m y → DriveWentFrom (moment_of m) (moment_of y) k → DriveWentFrom (moment_of x) (moment_of y) k
   rose_from y k current go rose =
       let d = disk_of x.slices (log_slice k) in
-      rose_since (ready.continues.faults d (low_of k current)) (subst (λ t. Rose (m.bay.faults (disk_of t (log_slice k))) (y.bay.faults (disk_of t (log_slice k)))) ready.slices rose)
+      rose_since (ready.continues.proceeds.faults d (low_of k current)) (subst (λ t. Rose (m.bay.faults (disk_of t (log_slice k))) (y.bay.faults (disk_of t (log_slice k)))) ready.slices rose)
 
   -- a fault from before
   rose_then : (y : View) (k : ℕ) → is_current (book x).state k ≡ true → Continues m y → DriveWentFrom (moment_of x) (moment_of m) k → DriveWentFrom (moment_of x) (moment_of y) k
   rose_then y k current go rose =
-      rose_before (go.faults (disk_of x.slices (log_slice k)) (let inside = low_of k current in let equal = ready.disks in omega (arith, inside, equal))) rose
+      rose_before (go.proceeds.faults (disk_of x.slices (log_slice k)) (let inside = low_of k current in let equal = ready.disks in omega (arith, inside, equal))) rose
 
   -- the place's drive was found gone: meanwhile, or after that
   unread_then : (y : View) → Continues m y → IsUnread x m place → IsUnread x y place
@@ -244,7 +244,7 @@ module _ (x m : View) (place disk many : ℕ) (fit : (volume x).fit) (ordered : 
 
   module _ (y : View) (few : many ≤ 306) (alone : has_other_missing (book m).state place ≡ false) (x_run : IsRunning x.arrays (slices_shown x)) where
     m_run : IsRunning m.arrays (slices_shown m)
-    m_run = ready.continues.fit.0.running
+    m_run = ready.continues.proceeds.fit.0.running
 
     others_now : (k : ℕ) → k ≢ place → is_current (book x).state k ≡ true → is_current (book m).state k ≡ true
     others_now k away current =
@@ -258,7 +258,7 @@ module _ (x m : View) (place disk many : ℕ) (fit : (volume x).fit) (ordered : 
     faults_more d =
         elim (cases_lt d x.bay.disks) [
           | inl inside ↦
-              let more = ready.continues.faults d inside in
+              let more = ready.continues.proceeds.faults d inside in
               let equal = ready.disks in
               let first = ap (λ t. if t then x.bay.faults d else 0) (lt-ltb d x.bay.disks inside) in
               let second = ap (λ t. if t then m.bay.faults d else 0) (lt-ltb d m.bay.disks (omega (arith, inside, equal))) in
@@ -345,7 +345,7 @@ module _ (x m : View) (place disk many : ℕ) (fit : (volume x).fit) (ordered : 
         let go = continues_then x m y ready.continues by.takes.continues in
         let carries = carries_then x m y ready.continues ready.carries by.takes.carries in
         let inside : disk < m.bay.disks = (let equal = ready.disks in omega (arith, low, equal)) in
-        let size : m.bay.sectors disk ≡ x.bay.sectors disk = ready.continues.sectors disk low in
+        let size : m.bay.sectors disk ≡ x.bay.sectors disk = ready.continues.proceeds.sectors disk low in
         record {
           takes = record {
             continues = go;
@@ -358,14 +358,14 @@ module _ (x m : View) (place disk many : ℕ) (fit : (volume x).fit) (ordered : 
                 elim (by.takes.bare d (subst (λ t. seat_of t place ≡ Some d) (sym ready.slices) seat) other) [ inl same ↦ inl (same ∙ ready.slices) | inr bare ↦ inr bare ];
             names = by.takes.names ∙ ready.names;
             disks = by.takes.disks ∙ ready.disks;
-            gone = λ same. rose_since (ready.continues.faults disk low) (by.takes.gone same);
+            gone = λ same. rose_since (ready.continues.proceeds.faults disk low) (by.takes.gone same);
             declined = declined_from r by.takes.continues by.answer by.not_whole by.takes.declined;
             replaced = replaced_at r by.takes.replaced;
             table = table_at r by.takes.table;
             leaves = λ traced a holds k i since until stopped.
                 elim (cases_lt m.bay.clock k) [
                   | inl now ↦
-                      elim (by.takes.leaves (ready.continues.traced holds.shelf traced) a (holds_of x m ready.continues ready.carries a holds) k i now until stopped) [
+                      elim (by.takes.leaves (ready.continues.proceeds.traced holds.shelf traced) a (holds_of x m ready.continues ready.carries a holds) k i now until stopped) [
                         | inl former ↦ inl (former_from x m y place a i ready.slices was (unread_from y by.takes.continues) former)
                         | inr means ↦ inr means
                       ]
@@ -392,7 +392,7 @@ module _ (x m : View) (place disk many : ℕ) (fit : (volume x).fit) (ordered : 
         early : TakesBy m y place disk r → x.bay.traced → (a : FlatArray) → VolumeIs x a → (k : ℕ) (i : Image) → x.bay.clock < k → k ≤ m.bay.clock → y.bay.stops k i → MeansFormer (moment_of x) (moment_of y) place a i
         early by traced a holds k i since past stopped =
             fewer_spent x m y place a i by.takes.continues.linear by.takes.carries.spent (unread_then y by.takes.continues)
-            (ready.leaves traced a holds k i since past (by.takes.continues.past (ready.continues.told holds.shelf) (ready.continues.traced holds.shelf traced) k i past stopped))
+            (ready.leaves traced a holds k i since past (by.takes.continues.proceeds.past (ready.continues.proceeds.told holds.shelf) (ready.continues.proceeds.traced holds.shelf traced) k i past stopped))
 
         left_from : (r : Result (Unit {0}) GrowFault) → IfErr r (λ e. Declines x y place disk) → IfErr r (λ e. StaysStill x y ⊎ Declines x y place disk)
         left_from (Ok u) left = tt
@@ -406,8 +406,8 @@ module _ (x m : View) (place disk many : ℕ) (fit : (volume x).fit) (ordered : 
         table_at (Err e) is = tt
         table_at (Ok u) is = record {
           copies = λ names all copy.
-              subst (λ (e : Table). HoldsCopy copy e (now_on y.bay disk)) (sym table_is) (is.copies (ready.continues.told names) (ready.continues.known names all) copy);
-          durable = λ names all. is.durable (ready.continues.told names) (ready.continues.known names all);
+              subst (λ (e : Table). HoldsCopy copy e (now_on y.bay disk)) (sym table_is) (is.copies (ready.continues.proceeds.told names) (ready.continues.known names all) copy);
+          durable = λ names all. is.durable (ready.continues.proceeds.told names) (ready.continues.known names all);
         }
 
         moments_at : (r : Result (Unit {0}) GrowFault) → TakesBy m y place disk r
@@ -418,14 +418,14 @@ module _ (x m : View) (place disk many : ℕ) (fit : (volume x).fit) (ordered : 
             λ traced a holds k i since until stopped.
             elim (cases_lt m.bay.clock k) [
               | inl now ↦
-                  elim (moments (ready.continues.traced holds.shelf traced) a (holds_of x m ready.continues ready.carries a holds) k i now until stopped) [
+                  elim (moments (ready.continues.proceeds.traced holds.shelf traced) a (holds_of x m ready.continues ready.carries a holds) k i now until stopped) [
                     | inl former ↦ inl (former_from x m y place a i ready.slices was (unread_from y by.takes.continues) former)
                     | inr means ↦ inr (means.0, λ s inside alive. subst (λ (e : Table). HoldsTable disk e i) (sym table_is) (means.1 s inside alive))
                   ]
               | inr past ↦
                   inl
                   (fewer_spent x m y place a i by.takes.continues.linear by.takes.carries.spent (unread_then y by.takes.continues)
-                  (ready.leaves traced a holds k i since past (by.takes.continues.past (ready.continues.told holds.shelf) (ready.continues.traced holds.shelf traced) k i past stopped)))
+                  (ready.leaves traced a holds k i since past (by.takes.continues.proceeds.past (ready.continues.proceeds.told holds.shelf) (ready.continues.proceeds.traced holds.shelf traced) k i past stopped)))
             ]
 
   -- ---- the place's own drive was found gone while the disk was being laid
@@ -438,7 +438,7 @@ module _ (x m : View) (place disk many : ℕ) (fit : (volume x).fit) (ordered : 
       ] in
       let same : y.slices ≡ m.slices = left.slices ∙ stayed in
       let inside : disk < m.bay.disks = (let equal = ready.disks in omega (arith, low, equal)) in
-      let size : m.bay.sectors disk ≡ x.bay.sectors disk = ready.continues.sectors disk low in
+      let size : m.bay.sectors disk ≡ x.bay.sectors disk = ready.continues.proceeds.sectors disk low in
       record {
         continues = continues_then x m y ready.continues by.takes.continues;
         carries = carries_then x m y ready.continues ready.carries by.takes.carries;
@@ -465,12 +465,12 @@ module _ (x m : View) (place disk many : ℕ) (fit : (volume x).fit) (ordered : 
         leaves = λ traced a holds k i since until stopped.
             elim (cases_lt m.bay.clock k) [
               | inl now ↦
-                  elim (by.takes.leaves (ready.continues.traced holds.shelf traced) a (holds_of x m ready.continues ready.carries a holds) k i now until stopped) [
+                  elim (by.takes.leaves (ready.continues.proceeds.traced holds.shelf traced) a (holds_of x m ready.continues ready.carries a holds) k i now until stopped) [
                     | inl former ↦ former_from x m y place a i ready.slices was (unread_from y by.takes.continues) former
                     | inr means ↦ inl (was, subst (λ t. MeansBy t (moment_of y) a i) (same ∙ ready.slices) means)
                   ]
               | inr past ↦
                   fewer_spent x m y place a i by.takes.continues.linear by.takes.carries.spent (unread_then y by.takes.continues)
-                  (ready.leaves traced a holds k i since past (by.takes.continues.past (ready.continues.told holds.shelf) (ready.continues.traced holds.shelf traced) k i past stopped))
+                  (ready.leaves traced a holds k i since past (by.takes.continues.proceeds.past (ready.continues.proceeds.told holds.shelf) (ready.continues.proceeds.traced holds.shelf traced) k i past stopped))
             ];
       }

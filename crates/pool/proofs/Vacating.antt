@@ -32,24 +32,26 @@ module _ (x : View) (place : ℕ) (t : Slices) (linear : IsOrderlyVolume x.linea
 
   pub without_continues : IsOrderly t → Continues x without
   without_continues orderly = record {
-    fit = without_fit;
+    proceeds = record {
+      fit = without_fit;
+      disks = omega arith;
+      sectors = λ d low. refl;
+      faults = λ d low. omega arith;
+      names = λ d name is. is;
+      waits = λ name. inl refl;
+      told = λ told. told;
+      traced = λ told traced. traced;
+      later = λ told traced. omega arith;
+      past = λ told traced k i until stopped. stopped;
+    };
     orderly = λ before. orderly;
     linear = refl;
     size = refl;
-    disks = omega arith;
-    sectors = λ d low. refl;
-    faults = λ d low. omega arith;
-    names = λ d name is. is;
-    waits = λ name. inl refl;
     unattached = omega arith;
-    told = λ told. told;
     tells = λ d low told. told;
     known = λ told all. all;
     lasting = λ lasting. lasting;
     lasts = λ lasting d s low alive. alive;
-    traced = λ told traced. traced;
-    later = λ told traced. omega arith;
-    past = λ told traced k i until stopped. stopped;
   }
 
   low_array : (n : ℕ) → n < x.linear.arrays → n < (book x).state.made
@@ -126,22 +128,24 @@ pub bay_continues : (x y : View) (may : ℕ → ℕ → List ℕ → Type 0) →
 bay_continues x y may only names fit orderly same =
     let bay = only.stays in
     record {
-      fit = fit;
+      proceeds = record {
+        fit = fit;
+        disks = let equal = bay.disks in omega (arith, equal);
+        sectors = λ d low. bay.sectors d;
+        faults = λ d low. bay.faults d;
+        names = λ d name is. ap (λ names. slice_get names d) names.names ∙ is;
+        waits = λ name. inl (names.ready name);
+        told = names.told;
+        traced = λ told traced. bay.traced traced;
+        later = λ told traced. (only.stops traced).later;
+        past = λ told traced k i until stopped. (only.stops traced).past k i until stopped;
+      };
       orderly = λ before. orderly;
       linear = same;
       size = ap (λ l. sectors_in l) same;
-      disks = let equal = bay.disks in omega (arith, equal);
-      sectors = λ d low. bay.sectors d;
-      faults = λ d low. bay.faults d;
-      names = λ d name is. ap (λ names. slice_get names d) names.names ∙ is;
-      waits = λ name. inl (names.ready name);
       unattached = let equal = names.faults in omega (arith, equal);
-      told = names.told;
       tells = λ d low told. bay.told d told;
       known = λ told all d low. bay.told d (all d (subst (λ n. d < n) bay.disks low));
       lasting = bay.lasting;
       lasts = λ lasting d s low alive. bay.lasts lasting d s alive;
-      traced = λ told traced. bay.traced traced;
-      later = λ told traced. (only.stops traced).later;
-      past = λ told traced k i until stopped. (only.stops traced).past k i until stopped;
     }

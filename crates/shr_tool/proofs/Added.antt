@@ -21,7 +21,6 @@ use Rattle.shr_tool.specs.declared.perform.Answer.{Answer}
 use Rattle.shr_tool.specs.declared.perform.Answer.TheVariants.{Given, Spent}
 use Rattle.shr_tool.specs.Events.{answer_by, grow_word, stuck_line}
 use Rattle.shr_tool.specs.Growing.{GrowsOn, IsAgainst, IsGrownBy, KeepsBay, MarksWent, Stops, bay_at, taking_answer, taking_text}
-use Rattle.shr_tool.proofs.Growing.{proceeds_of}
 
 -- ---- `add NAME`
 
@@ -37,7 +36,7 @@ add_by :
     → AddsDrive x y name r
     → GrowsOn x y (Ok (Add name)) answer text
 add_by x y name text answer r answer_is text_is adds = record {
-  proceeds = proceeds_of x y adds.continues;
+  proceeds = adds.continues.proceeds;
   marks = marks_went x y (Ok (Add name)) adds.marks;
   raises = adds.raises;
   answered = inr (tt, (r, answer_is, text_is, adds.continues.linear, adds.adds));

@@ -71,7 +71,7 @@ module _ {L G : Type 0} {o : Option Lone} (x y : View) (a b : FlatArray) (events
       (heads_group (book x) (book y) x.linear (slices_shown x) (slices_shown y) heads made_now (λ n low. serving.1 n (joined_now n low)) alive (begins.group says))
 
   pub next_now : ((n : ℕ) → n < f.state.made → is_failed (book y) n ≡ false) → (i : Image) → IsPick y.bay y.bay y.bay.held i → HoldsNext L G f y.slices y.linear (book y) i
-  next_now lasts i pick = goes_again y f y.linear continues.fit goes told_now lasts truths_now group_now i pick
+  next_now lasts i pick = goes_again y f y.linear continues.proceeds.fit goes told_now lasts truths_now group_now i pick
 
 -- a stop now leaves values that the disks hold, so the pool by which the run goes
 pub holds_then :
@@ -88,7 +88,7 @@ pub holds_then :
     → HoldsThen y.bay.stops Serial L G events f (moment_of y)
 holds_then x y a b events Serial f continues passes heads serving holds begins traced sound goes = λ served serial lasts i stopped.
     next_now x y a b events f continues passes heads serving holds begins served (goes served serial) lasts i
-    ((sound continues.fit.0.running.set.fit.0 (continues.traced serving.0.shelf traced)).only_held i stopped)
+    ((sound continues.proceeds.fit.0.running.set.fit.0 (continues.proceeds.traced serving.0.shelf traced)).only_held i stopped)
 
 -- a stop inside calls that take no disk leaves what holds the pool still
 pub holds_inside :
@@ -108,7 +108,7 @@ holds_inside x y z a b events Serial f continues passes heads serving holds begi
     let told = told_now x y a b events f continues passes heads serving holds begins served going in
     let truths = truths_now x y a b events f continues passes heads serving holds begins served going in
     let group = group_now x y a b events f continues passes heads serving holds begins served going in
-    meanwhile_passes y z f y.linear continues.fit calls going lands told lasts truths group (continues.traced serving.0.shelf traced) k i since until stopped
+    meanwhile_passes y z f y.linear continues.proceeds.fit calls going lands told lasts truths group (continues.proceeds.traced serving.0.shelf traced) k i since until stopped
 
 -- ---- in a row
 

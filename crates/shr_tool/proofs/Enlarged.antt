@@ -15,7 +15,6 @@ use Rattle.shr_tool.specs.Events.{answer_by, grow_word}
 use Rattle.shr_tool.specs.Events.Event.{declined, replaced}
 use Rattle.shr_tool.specs.Growing.{GrowsOn, IsGrowing, taking_answer, taking_text}
 use Rattle.shr_tool.specs.Serving.{Acts}
-use Rattle.shr_tool.proofs.Growing.{proceeds_of}
 use Rattle.shr_tool.proofs.LostDrive.{IsCut}
 use Rattle.shr_tool.proofs.Replacing.{cut_listed, decline_done, replace_done}
 
@@ -32,7 +31,7 @@ enlarged_by x y at place name text answer r fit cut answer_is text_is enlarges_a
     let all : EnlargesDrive x y place name r = subst (λ p. EnlargesDrive x y p name r) (cut_listed x at place fit cut enlarges_at.enlarging.listed) enlarges_at in (
       all.enlarging,
       record {
-        proceeds = proceeds_of x y all.continues;
+        proceeds = all.continues.proceeds;
         marks = λ k was now. elim (all.marks k was now) [
           | inl rose ↦ inl rose
           | inr gave ↦ inr (inr (inr (name, ap (λ p. Ok (Replace p name)) (sym gave.1))))

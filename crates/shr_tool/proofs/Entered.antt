@@ -190,7 +190,7 @@ module _ (x y : View) (place : ℕ) (name : List ℕ) (disk : ℕ) (entered : En
   own_entered = elim entered.enters [
     | inl at_once ↦
         (let enters = at_once.1 in
-        let fit_before = entered.attaches.continues.fit in
+        let fit_before = entered.attaches.continues.proceeds.fit in
         own_from before enters (after_same (book x).state) fit_before.0.running.set fit_before.0.heeded
         (λ s within. record {
           disk = entered.attaches.ok.1;

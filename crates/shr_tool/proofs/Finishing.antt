@@ -33,7 +33,7 @@ use Rattle.shr_tool.specs.Service.{AreFit, AreLone, BeginsOn, IsOut, IsServed, L
 use Rattle.shr_tool.specs.Outcome.{DoneOutcome, EndsAt, EventsOutcome, HasStatusCause, IsRunOn, RunContract, LastsUntil, LeavesItsRows, Outcome, status_by}
 use Rattle.shr_tool.proofs.Between.{holds_inside, next_now, told_after}
 use Rattle.shr_tool.proofs.Grown.{gone_kept}
-use Rattle.shr_tool.proofs.Growing.{along_for, proceeds_of, proceeds_to}
+use Rattle.shr_tool.proofs.Growing.{along_for, proceeds_to}
 use Rattle.shr_tool.proofs.History.{IsLawful, IsUnspent, each_before, others_before, ran_before, slices_kept, standing, steps_before}
 use Rattle.shr_tool.proofs.Heads.{heads_passes, heads_then}
 use Rattle.shr_tool.proofs.Serviced.{goes_calls, goes_lone, goes_run}
@@ -158,7 +158,7 @@ again_at :
 again_at x m y a events unspent ran ends serving served f on serials fit lasts i pick =
     let h = pool_by f (moment_of x) events (moment_of m) ran.steps in
     let at_end = (ran.service a serving.0 (served_before m y events ends.passes served) f (goes_run x f on) serials fit).goes in
-    let goes = goes_calls m y h (array_by a events) unspent ran.continues.fit (ran.holds a serving.0) ends.passes at_end in
+    let goes = goes_calls m y h (array_by a events) unspent ran.continues.proceeds.fit (ran.holds a serving.0) ends.passes at_end in
     let made = goes.arrays in
     let linear = ap (λ (l : Linear). l.arrays) (ends.passes.linear ∙ ran.continues.linear) in
     let arrays = on.arrays ∙ on.joined in
@@ -218,8 +218,8 @@ lasts_of x m y a events laws ran ends =
       sectors = λ d. refl;
       held = λ d s. refl;
       ends =
-          ends_at m y (array_by a events) (IsServing x a) x.bay.traced ran.continues.fit (λ serving. ran.holds a serving.0)
-          (λ serving traced. ran.continues.traced serving.0.shelf traced) ends laws;
+          ends_at m y (array_by a events) (IsServing x a) x.bay.traced ran.continues.proceeds.fit (λ serving. ran.holds a serving.0)
+          (λ serving traced. ran.continues.proceeds.traced serving.0.shelf traced) ends laws;
       outside = outside_at x m y a events laws.0 ran ends.passes;
       apart = λ none. (passes none).apart;
       told = told_at x m y a events ran ends;
@@ -369,7 +369,7 @@ until_of x m y a lines worst Put grew laws ends = record {
 }
   where
     proceeds : Proceeds m y
-    proceeds = proceeds_of m y (continues_of m y ends.passes)
+    proceeds = (continues_of m y ends.passes).proceeds
 
     gone : HasGone x y.bay.stops grew.events grew.last
     gone =

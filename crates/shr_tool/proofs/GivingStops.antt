@@ -96,7 +96,7 @@ module _ {L : Type 0} (x y : View) (place : ℕ) (name text : List ℕ) (b : Fla
 
   other : has_other (book y).state place ≡ true
   other =
-      other_left c y place disk enters performs.continues.fit.0 (array_of x.linear some.0) (sector_of x.linear some.0) array_then
+      other_left c y place disk enters performs.continues.proceeds.fit.0 (array_of x.linear some.0) (sector_of x.linear some.0) array_then
       (live_parts (book y) (array_of x.linear some.0) (sector_of x.linear some.0) some.2).1
 
   goes_then : (n : ℕ) → n < f.state.made → is_failed (book c) n ≡ false
@@ -167,7 +167,7 @@ module _ {L : Type 0} (x y : View) (place : ℕ) (name text : List ℕ) (b : Fla
   orderly = performs.continues.orderly goes.orderly
 
   within : IsInside y.slices y.bay
-  within = performs.continues.fit.0.running.set.fit.1
+  within = performs.continues.proceeds.fit.0.running.set.fit.1
 
   -- ---- as the line says it
 

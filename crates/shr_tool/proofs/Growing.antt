@@ -1,5 +1,5 @@
 -- What lines of a script keep whatever becomes of the pool's volume.
-use Rattle.std.proofs.Common.{◌≡◌, ℕ, ◌||◌, true, false, List, [], ◌∷◌, ◌++◌, append_assoc, Ok, refl, sym, ◌∙◌, ap, subst, inl, inr, arith}
+use Rattle.std.proofs.Common.{◌≡◌, ℕ, ◌||◌, true, false, List, [], ◌∷◌, ◌++◌, append_assoc, Ok, refl, sym, ◌∙◌, ap, subst, inl, inr}
 use Rattle.std.proofs.lemmas.Bool.{both_ways, cases_Bool, cases_eq, ne_eqb}
 use Rattle.std.proofs.lemmas.List.{append-nil}
 use Rattle.array_image.specs.States.{is_current}
@@ -7,7 +7,6 @@ use Rattle.pool_state.specs.declared.contents.Plan.TheVariants.{Replace as Repla
 use Rattle.raid_rack.proofs.Enlisted.{current_enlisted}
 use Rattle.shr_script.specs.declared.Command.TheVariants.{Replace}
 use Rattle.shr_script.specs.Line.{Line}
-use Rattle.pool.specs.Continuing.{Continues}
 use Rattle.pool.specs.Keeping.{Raises}
 use Rattle.pool.specs.Moment.{Moment, moment_of}
 use Rattle.pool.specs.Proceeding.{Proceeds}
@@ -22,67 +21,6 @@ use Rattle.shr_tool.specs.Timeline.{LineContract}
 use Rattle.shr_tool.proofs.History.{IsLawful, performed}
 use Rattle.shr_tool.proofs.Serial.{listed_by, replaced_by}
 use Rattle.shr_tool.proofs.Timelines.{happens_for, worse_assoc, worse_given}
-
--- ---- the bay goes on
-
--- no call
-pub proceeds_same : (x : View) → (volume x).fit → Proceeds x x
-proceeds_same x fit = record {
-  fit = fit;
-  disks = omega arith;
-  sectors = λ d low. refl;
-  faults = λ d low. omega arith;
-  names = λ d name is. is;
-  waits = λ name. inl refl;
-  told = λ told. told;
-  traced = λ told traced. traced;
-  later = λ told traced. omega arith;
-  past = λ told traced k i until stopped. stopped;
-}
-
--- calls that keep the volume
-pub proceeds_of : (x y : View) → Continues x y → Proceeds x y
-proceeds_of x y continues = record {
-  fit = continues.fit;
-  disks = continues.disks;
-  sectors = continues.sectors;
-  faults = continues.faults;
-  names = continues.names;
-  waits = continues.waits;
-  told = continues.told;
-  traced = continues.traced;
-  later = continues.later;
-  past = continues.past;
-}
-
--- calls in a row
-pub proceeds_then : (x y z : View) → Proceeds x y → Proceeds y z → Proceeds x z
-proceeds_then x y z one two =
-    let more = one.disks in
-    record {
-      fit = two.fit;
-      disks = let rest = two.disks in omega (arith, more, rest);
-      sectors = λ d low. two.sectors d (omega (arith, low, more)) ∙ one.sectors d low;
-      faults = λ d low. let first = one.faults d low in let second = two.faults d (omega (arith, low, more)) in omega (arith, first, second);
-      names = λ d name is. two.names d name (one.names d name is);
-      waits = λ name.
-          elim (two.waits name) [
-            | inl still ↦ elim (one.waits name) [
-              | inl same ↦ inl (still ∙ same)
-              | inr taken ↦ inr (still ∙ taken.0, (taken.1.0, taken.1.1, two.names taken.1.0 name taken.1.2))
-            ]
-            | inr taken ↦ inr (taken.0, (taken.1.0, (let past = taken.1.1 in omega (arith, past, more)), taken.1.2))
-          ];
-      told = λ told. two.told (one.told told);
-      traced = λ told traced. two.traced (one.told told) (one.traced told traced);
-      later = λ told traced.
-          let first = one.later told traced in
-          let second = two.later (one.told told) (one.traced told traced) in
-          omega (arith, first, second);
-      past = λ told traced k i until stopped.
-          let first = one.later told traced in
-          one.past told traced k i until (two.past (one.told told) (one.traced told traced) k i (omega (arith, first, until)) stopped);
-    }
 
 -- ---- an event
 
@@ -146,7 +84,7 @@ event_of x y line answer text fit laws answers =
     }
 
 pub proceeds_by : (x y : View) (line : Line) (answer : Answer) (text : List ℕ) → Acts x y line answer text → Proceeds x y
-proceeds_by x y line answer text acts = elim acts [ inl answers ↦ proceeds_of x y answers.performs.continues | inr grows ↦ grows.1.proceeds ]
+proceeds_by x y line answer text acts = elim acts [ inl answers ↦ answers.performs.continues.proceeds | inr grows ↦ grows.1.proceeds ]
 
 -- a line that was done on a pool keeps what one keeps on a pool that has grown
 pub grows_by :
@@ -155,7 +93,7 @@ grows_by x y line answer text fit laws (inr grows) = grows.1
 grows_by x y line answer text fit laws (inl answers) =
     let performs = answers.performs in
     record {
-      proceeds = proceeds_of x y performs.continues;
+      proceeds = performs.continues.proceeds;
       marks = subst (λ l. MarksWent (IsAgainst l) (moment_of x) (moment_of y)) answers.line_is (marks_performed x y answers.event text performs);
       raises = subst (λ l. Raises (calls_in l) x y) answers.line_is performs.raises;
       answered = inl (event_of x y line answer text fit laws answers);

@@ -7,6 +7,7 @@ use Rattle.io_ends.specs.Sink.{AddsPrefix}
 use Rattle.pool_model.specs.Grouped.{HaveOwnAreas}
 use Rattle.pool_model.specs.Taken.{AreSerial}
 use Rattle.shr_script.specs.Line.{Line}
+use Rattle.pool.proofs.Continuing.{proceeds_then}
 use Rattle.pool.specs.Moment.{Moment, moment_of}
 use Rattle.pool.specs.View.{View}
 use Rattle.pool.specs.Volume.{VolumeIs}
@@ -17,7 +18,7 @@ use Rattle.shr_tool.specs.Events.{Event, calls_in, lines_of, texts, worse, worst
 use Rattle.shr_tool.specs.Growing.{GrowsOn, IsAgainst, IsGrowing}
 use Rattle.shr_tool.specs.Serving.{Answered, Grew, HasGone, Ran}
 use Rattle.shr_tool.proofs.Between.{each_kept}
-use Rattle.shr_tool.proofs.Growing.{along_more, proceeds_of, proceeds_then, proceeds_to}
+use Rattle.shr_tool.proofs.Growing.{along_more, proceeds_to}
 use Rattle.shr_tool.proofs.Timelines.{steps_kept, timeline_kept, worse_assoc}
 
 -- ---- the events before it
@@ -59,13 +60,13 @@ pub grew_first :
     → Grew x z (lines_of events ++ line ∷ []) (worse (worst_of events) answer) Put
 grew_first x y z events line answer text out out' Put answered growing grows puts =
     let ran = answered.ran in
-    let told : x.shelf.told → x.bay.traced → y.shelf.told × y.bay.traced = λ told traced. (ran.continues.told told, ran.continues.traced told traced) in
+    let told : x.shelf.told → x.bay.traced → y.shelf.told × y.bay.traced = λ told traced. (ran.continues.proceeds.told told, ran.continues.proceeds.traced told traced) in
     record {
       events = events;
       first = line;
       more = [];
       lines_are = refl;
-      proceeds = proceeds_then x y z (proceeds_of x y ran.continues) grows.proceeds;
+      proceeds = proceeds_then x y z ran.continues.proceeds grows.proceeds;
       last = moment_of y;
       gone =
           gone_kept x y.bay.stops z.bay.stops events (moment_of y)

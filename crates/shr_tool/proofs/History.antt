@@ -53,11 +53,11 @@ standing x y Keeps calls fit keeps raises =
 -- what they do to the bay
 disks_kept : (x y : View) → Continues x y → KeepsDisks (moment_of x) (moment_of y)
 disks_kept x y continues = record {
-  disks = continues.disks;
-  sectors = continues.sectors;
-  faults = continues.faults;
-  names = continues.names;
-  waits = continues.waits;
+  disks = continues.proceeds.disks;
+  sectors = continues.proceeds.sectors;
+  faults = continues.proceeds.faults;
+  names = continues.proceeds.names;
+  waits = continues.proceeds.waits;
 }
 
 pub slices_kept : (x y : View) → CallFrame x y → KeepsSlices (moment_of x) (moment_of y)
@@ -89,7 +89,7 @@ pub performed :
     → (Traced → VolumeIs x a)
     → EventContract Traced y.bay.stops (moment_of x) (moment_of y) a event
 performed x y event text Traced a fit performs laws traced holds = record {
-  later = λ told. performs.continues.later (holds told).shelf (traced told);
+  later = λ told. performs.continues.proceeds.later (holds told).shelf (traced told);
   still = performs.still;
   cause = performs.cause;
   linear = performs.continues.linear;
@@ -101,7 +101,7 @@ performed x y event text Traced a fit performs laws traced holds = record {
   missing = λ told. missing_performed x y event text fit performs laws.2 laws.0 (holds told).disks;
   slices = λ none. slices_kept x y (performs.passes none);
   marks = performs.marks;
-  stands = standing x y (KeepsBookIn event) (calls_in (line_of event)) performs.continues.fit performs.keeps performs.raises;
+  stands = standing x y (KeepsBookIn event) (calls_in (line_of event)) performs.continues.proceeds.fit performs.keeps performs.raises;
   works = performs.works;
   during = λ told. performs.leaves (traced told) a (holds told);
   ended = λ told. performs.ends (traced told) a (holds told);
@@ -115,7 +115,7 @@ pub ran_before :
     → Timeline (x.bay.traced × VolumeIs x a) z.bay.stops (moment_of x) a events (moment_of y)
 ran_before x y z events a ran continues =
     timeline_kept (x.bay.traced × VolumeIs x a) y.bay.stops z.bay.stops y.bay.clock
-    (λ told. continues.past (ran.continues.told told.1.shelf) (ran.continues.traced told.1.shelf told.0))
+    (λ told. continues.proceeds.past (ran.continues.proceeds.told told.1.shelf) (ran.continues.proceeds.traced told.1.shelf told.0))
     (moment_of x) a events (moment_of y)
     (omega arith)
     (ran.timeline a)
@@ -126,7 +126,7 @@ pub steps_before :
 unfolding ran_before
 steps_before x y z events a ran continues =
     steps_kept (x.bay.traced × VolumeIs x a) y.bay.stops z.bay.stops y.bay.clock
-    (λ told. continues.past (ran.continues.told told.1.shelf) (ran.continues.traced told.1.shelf told.0))
+    (λ told. continues.proceeds.past (ran.continues.proceeds.told told.1.shelf) (ran.continues.proceeds.traced told.1.shelf told.0))
     (moment_of x) a events (moment_of y)
     (omega arith)
     (ran.timeline a)
@@ -146,7 +146,7 @@ each_before x y z events a f ran continues serving traced begins goes =
     let later = HoldsEach z.bay.stops (AreSerial f.state) (TargetsLand f) (HaveOwnAreas f) [] f (moment_of x) events (moment_of y) in
     subst later (ran.steps_are a)
     (each_kept (x.bay.traced × VolumeIs x a) y.bay.stops z.bay.stops (AreSerial f.state) (TargetsLand f) (HaveOwnAreas f) y.bay.clock (traced, serving.0)
-    (continues.past (ran.continues.told serving.0.shelf) (ran.continues.traced serving.0.shelf traced))
+    (continues.proceeds.past (ran.continues.proceeds.told serving.0.shelf) (ran.continues.proceeds.traced serving.0.shelf traced))
     [] f (moment_of x) a events (moment_of y) (omega arith) (ran.timeline a)
     (subst each (sym (ran.steps_are a)) (ran.between a serving traced f begins goes)))
 
@@ -161,7 +161,7 @@ pub others_before :
 others_before x y z events a f ran continues holds traced have =
     subst (HaveOthers z.bay.stops f (moment_of x) events (moment_of y)) (ran.steps_are a)
     (have_kept (x.bay.traced × VolumeIs x a) y.bay.stops z.bay.stops y.bay.clock (traced, holds)
-    (continues.past (ran.continues.told holds.shelf) (ran.continues.traced holds.shelf traced))
+    (continues.proceeds.past (ran.continues.proceeds.told holds.shelf) (ran.continues.proceeds.traced holds.shelf traced))
     f (moment_of x) a events (moment_of y) (omega arith) (ran.timeline a)
     (subst (HaveOthers y.bay.stops f (moment_of x) events (moment_of y)) (sym (ran.steps_are a)) have))
 
@@ -215,7 +215,7 @@ on_more :
     (pool_by f (moment_of x) (events ++ event ∷ []) (moment_of z) (steps_more (moment_of x) events (moment_of y) event (moment_of z) ran.steps)) z
 on_more {o} x y z events event text a f unspent ran performs holds served serials fit lone early before =
     let after =
-    goes_performed y z event text (array_by a events) unspent ran.continues.fit performs (ran.holds a holds) (served_last y z events event performs.continues.linear served)
+    goes_performed y z event text (array_by a events) unspent ran.continues.proceeds.fit performs (ran.holds a holds) (served_last y z events event performs.continues.linear served)
     (pool_by f (moment_of x) events (moment_of y) ran.steps) before.goes (λ takes. before.serials (serials (takes_last events event takes))) fit lone early in
     subst (λ h. GoesOn (TargetsLand f) o f h z) (sym (pool_by-snoc f (moment_of x) events (moment_of y) event (moment_of z) ran.steps))
     (record { goes = after.goes; serials = λ serial. after.serials (before.serials serial) })
@@ -288,16 +288,16 @@ others_more x y z events event text a f bound unspent ran performs holds traced 
     let before = ran.lone a holds first f (none_out bound) goes sooner serials_first parts.0 lones.0 in
     have_more z.bay.stops f (moment_of x) events (moment_of y) event (moment_of z) ran.steps
     (others_before x y z events a f ran performs.continues holds traced (ran.others a holds traced first f bound goes sooner serials_first parts.0 lones.0))
-    (others_performed y z event text (array_by a events) unspent ran.continues.fit performs (ran.holds a holds) (served_last y z events event performs.continues.linear served)
+    (others_performed y z event text (array_by a events) unspent ran.continues.proceeds.fit performs (ran.holds a holds) (served_last y z events event performs.continues.linear served)
     (pool_by f (moment_of x) events (moment_of y) ran.steps) before.goes (λ takes. before.serials (serials (takes_last events event takes))) parts.1 early
-    (ran.continues.traced holds.shelf traced))
+    (ran.continues.proceeds.traced holds.shelf traced))
 
 -- what the arrays hold before the volume's first extents stays
 heads_more : (x y z : View) (events : List Event) (event : Event) (text : List ℕ) → Ran x y events → LineContract y z event text
     → x.shelf.told → ((d : ℕ) → d < x.bay.disks → x.bay.told d) → KeepsHeads (book x) (book z) (slices_shown x) (slices_shown z)
 heads_more x y z events event text ran performs names all =
     heads_then (book x) (book y) (book z) (slices_shown x) (slices_shown y) (slices_shown z) (ran.heads names all)
-    (heads_performed y z event text performs (ran.continues.told names) (ran.continues.known names all))
+    (heads_performed y z event text performs (ran.continues.proceeds.told names) (ran.continues.known names all))
 
 -- what a stop inside the event and at its end leaves holds it
 between_more :
@@ -342,7 +342,7 @@ ran_more x y z events event text laws ran performs = record {
       x.shelf.told x.bay z.bay
       (λ d takes.
       elim takes [
-        | inl before ↦ any_takes_before y.shelf.names z.shelf.names performs.continues.names events event d before
+        | inl before ↦ any_takes_before y.shelf.names z.shelf.names performs.continues.proceeds.names events event d before
         | inr now ↦ any_takes_last z.shelf.names events event d now
       ])
       (outside_then x y z (AnyTakes y.shelf.names events) (Takes z.shelf.names event) ran.continues performs.continues ran.outside
@@ -352,16 +352,16 @@ ran_more x y z events event text laws ran performs = record {
       λ a.
       timeline_more (x.bay.traced × VolumeIs x a) z.bay.stops (moment_of x) a events (moment_of y) event (moment_of z)
       (ran_before x y z events a ran performs.continues)
-      (performed y z event text (x.bay.traced × VolumeIs x a) (array_by a events) ran.continues.fit performs laws
-      (λ told. ran.continues.traced told.1.shelf told.0)
+      (performed y z event text (x.bay.traced × VolumeIs x a) (array_by a events) ran.continues.proceeds.fit performs laws
+      (λ told. ran.continues.proceeds.traced told.1.shelf told.0)
       (λ told. ran.holds a told.1));
   steps = steps_more (moment_of x) events (moment_of y) event (moment_of z) ran.steps;
   steps_are =
       λ a.
       steps_added (x.bay.traced × VolumeIs x a) z.bay.stops (moment_of x) a events (moment_of y) event (moment_of z)
       (ran_before x y z events a ran performs.continues)
-      (performed y z event text (x.bay.traced × VolumeIs x a) (array_by a events) ran.continues.fit performs laws
-      (λ told. ran.continues.traced told.1.shelf told.0)
+      (performed y z event text (x.bay.traced × VolumeIs x a) (array_by a events) ran.continues.proceeds.fit performs laws
+      (λ told. ran.continues.proceeds.traced told.1.shelf told.0)
       (λ told. ran.holds a told.1))
       ∙ ap (steps_more (moment_of x) events (moment_of y) event (moment_of z)) (steps_before x y z events a ran performs.continues);
   service = λ a holds served f goes serials fit. service_more x y z events event text a f laws.0 ran performs holds served goes serials fit;

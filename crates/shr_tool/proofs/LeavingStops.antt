@@ -77,7 +77,7 @@ module _ {L : Type 0} (x y : View) (place : ℕ) (name : List ℕ) (fault : Grow
         vacates.orderly vacates.fit.running.set.fit.1 (tables_named x named.bay name disk at spared fit b holds f goes waits lands)
         (opened x named.bay name disk at spared fit b holds f goes waits)
         (room_named x named.bay name disk at spared fit b holds f goes waits place listed vacates missing some.0 some.1 alive)
-        (at.continues.lasting goes.lasting) (at.continues.traced holds.shelf traced) (table_on m place disk) refl (book y) y.bay only moments
+        (at.continues.lasting goes.lasting) (at.continues.proceeds.traced holds.shelf traced) (table_on m place disk) refl (book y) y.bay only moments
         (λ n low.
         told_named x named.bay name disk at spared fit b holds f goes waits place listed vacates missing some.0 some.1 alive n (subst (λ k. n < k) (sym goes.arrays) low))
         lasts in
@@ -103,8 +103,8 @@ module _ {L : Type 0} (x y : View) (place : ℕ) (name : List ℕ) (fault : Grow
       let stays = cleaned.ends.passes.apart.stays in
       let spared : (d s : ℕ) → m.bay.spent d s ≡ false = λ d s. stays.spent d s (unspent d s) in
       let stops =
-      goes_amid m y (attached f (disks_of m.bay)) at.continues.fit.0.running.set.fit.1 cleaned.ends.passes (goes_named x named.bay name named.disk at spared fit b holds f goes waits) lands
-      (arrays_named x named.bay name named.disk at spared fit b holds f goes waits some.0 some.1 alive) lasts (at.continues.traced holds.shelf traced) in
+      goes_amid m y (attached f (disks_of m.bay)) at.continues.proceeds.fit.0.running.set.fit.1 cleaned.ends.passes (goes_named x named.bay name named.disk at spared fit b holds f goes waits) lands
+      (arrays_named x named.bay name named.disk at spared fit b holds f goes waits some.0 some.1 alive) lasts (at.continues.proceeds.traced holds.shelf traced) in
       let same_disks : disks_of m.bay ≡ disks_of y.bay = λ j. record { count = sym stays.disks j; sectors = λ d. sym (stays.sectors d) j } in
       subst (λ (z : Disks). RecoversInCall (attached f z) x.slices (book x).state (book y).state i) same_disks
       (stops.new k i (let clock = at.clock in omega (arith, since, clock)) until stopped)

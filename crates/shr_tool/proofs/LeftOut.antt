@@ -129,7 +129,7 @@ module _ (x y : View) (place : ℕ) (name : List ℕ) (named : LeavesNamed x y p
   pub since_left : HoldsSince (book x).state (slices_shown y)
   since_left = elim named.leaves [
     | inl at_once ↦
-        (let fit_before = named.attaches.continues.fit in
+        (let fit_before = named.attaches.continues.proceeds.fit in
         since_laid m y place named.disk at_once.1 fit_before.0.running.set fit_before.0.heeded n made told lasts (book x).state (after_same (book x).state) since_first)
     | inr ready ↦ elim ready.1 [
       | inl cleaned ↦ (cleaned.ends.passes.moments.since n (book x).state told lasts (after_same (book x).state) since_first).holds
@@ -175,7 +175,7 @@ module _ {L : Type 0} {o : Option Lone} (x y : View) (place : ℕ) (name : List 
   stays_first : (p d : ℕ) → (is_current (book y).state p ≡ true) ⊎ (Out d → ⊥) → (is_current (book x).state p ≡ true) ⊎ (IsOut l x.shelf.names d → ⊥)
   stays_first p d why = elim why [
     | inl now ↦ inl (is.marks.current p now)
-    | inr stays ↦ inr (λ was. stays (out_later l x.shelf.names y.shelf.names performs.continues.names d was))
+    | inr stays ↦ inr (λ was. stays (out_later l x.shelf.names y.shelf.names performs.continues.proceeds.names d was))
   ]
 
   there : (p d : ℕ) → f.seats p ≡ Some d → d < x.bay.disks
@@ -195,7 +195,7 @@ module _ {L : Type 0} {o : Option Lone} (x y : View) (place : ℕ) (name : List 
     | inl now ↦
         old.not_current x y place name fault text b looks unspent fit performs holds some f goes fits p (is.marks.current p now) (subst (λ e. f.seats p ≡ Some e) same seat)
     | inr stays ↦
-        other_disk d stays (let low = there p d seat in let more = performs.continues.disks in omega (arith, low, more)) same
+        other_disk d stays (let low = there p d seat in let more = performs.continues.proceeds.disks in omega (arith, low, more)) same
   ]
 
   module _ (i : Image) (off : IsPickOutsideSlices t y.bay i) where
@@ -245,7 +245,7 @@ module _ {L : Type 0} {o : Option Lone} (x y : View) (place : ℕ) (name : List 
         let counted = old_disk d stays low in
         let before : IsStranger f l.bound (identities_of (disks_of y.bay) i d) =
         subst (IsStranger f l.bound) (said d (other_disk d stays low) counted)
-        (says.others d never (λ was. stays (out_later l x.shelf.names y.shelf.names performs.continues.names d was)) counted) in
+        (says.others d never (λ was. stays (out_later l x.shelf.names y.shelf.names performs.continues.proceeds.names d was)) counted) in
         record { apart = record { stands = before.apart.stands; pool = before.apart.pool }; ungiven = before.ungiven }
 
   alone_then : NoImpostor (attached f (disks_of y.bay)) l.bound Out (book y).state t y.bay
@@ -351,7 +351,7 @@ module _ {L : Type 0} {o : Option Lone} (x y : View) (place : ℕ) (name : List 
     own_copy : (is_current (book y).state p ≡ true) ⊎ (Out d → ⊥) → IsOwnCopy f.state p copy
     own_copy why = elim (cases_Bool (is_current (book y).state p)) [
       | inl now ↦
-          own_current y p performs.continues.fit (attached f (disks_of y.bay)) next d seat (going_seat y (attached f (disks_of y.bay)) next p d seat now) (performs.holds b holds) s within
+          own_current y p performs.continues.proceeds.fit (attached f (disks_of y.bay)) next d seat (going_seat y (attached f (disks_of y.bay)) next p d seat now) (performs.holds b holds) s within
           alive now u copy may says
       | inr gone ↦ elim why [
         | inl now ↦ absurd (both_ways (is_current (book y).state p) gone now)

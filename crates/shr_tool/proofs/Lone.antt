@@ -74,7 +74,7 @@ module _ (x m y : View) (a : FlatArray) (events : List Event) (unspent : (d s : 
 
   goes : GoesBy (TargetsLand f) (Some l) h y
   goes =
-      goes_calls m y h (array_by a events) unspent ran.continues.fit (ran.holds a serving.0) ends.passes
+      goes_calls m y h (array_by a events) unspent ran.continues.proceeds.fit (ran.holds a serving.0) ends.passes
       (ran.lone a serving.0 served f l (goes_lone x f a l ran.fit serving.0 on only ungiven) (omega arith) serials fit lone).goes
 
   mid : KeepsHeads (book x) (book m) (slices_shown x) (slices_shown m)

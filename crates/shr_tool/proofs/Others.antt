@@ -130,7 +130,7 @@ module _ {L : Type 0} {bound : ℕ} (x y : View) (place : ℕ) (name text : List
   -- ---- a stop inside the line
 
   traced_then : m.bay.traced
-  traced_then = at.continues.traced holds.shelf traced
+  traced_then = at.continues.proceeds.traced holds.shelf traced
 
   module _ (k : ℕ) (i : Image) (since : x.bay.clock < k) (until : k ≤ y.bay.clock) (stopped : y.bay.stops k i) where
     begun : m.bay.clock < k
@@ -148,8 +148,8 @@ module _ {L : Type 0} {bound : ℕ} (x y : View) (place : ℕ) (name text : List
         subst (λ h. MayLeave h (i d s)) (at.held d live.disk s)
         (elim ((only.stops traced_then).new k i begun until stopped d s
         (record {
-          disk = (let low = live.disk in let more = performs.continues.disks in omega (arith, low, more));
-          sector = subst (λ n. s < n) (sym (performs.continues.sectors d live.disk)) live.sector;
+          disk = (let low = live.disk in let more = performs.continues.proceeds.disks in omega (arith, low, more));
+          sector = subst (λ n. s < n) (sym (performs.continues.proceeds.sectors d live.disk)) live.sector;
           is_told = at.continues.tells d live.disk live.is_told;
           unspent = unspent d s;
         })) [
@@ -204,7 +204,7 @@ module _ {L : Type 0} {bound : ℕ} (x y : View) (place : ℕ) (name text : List
       -- the drive that the place had
       module _ (seat : f.seats place ≡ Some d) where
         told_named : m.bay.told d
-        told_named = at.continues.known holds.shelf holds.disks d (let at = there in let more = entered.attaches.continues.disks in omega (arith, at, more))
+        told_named = at.continues.known holds.shelf holds.disks d (let at = there in let more = entered.attaches.continues.proceeds.disks in omega (arith, at, more))
 
         -- it has no slices by the new tables
         bare : (w : List ℕ) → IsSliced y.slices d state_sector w → ⊥
@@ -246,7 +246,7 @@ module _ {L : Type 0} {bound : ℕ} (x y : View) (place : ℕ) (name text : List
           lasts : is_failed (book e) n ≡ false
           lasts =
               (let left = live_parts (book y) n (sector_of x.linear some.0) some.2 in
-              ready.enters.enlists.is.still n made (other_left e y place disk ready.enters performs.continues.fit.0 n (sector_of x.linear some.0) made left.1) left.0)
+              ready.enters.enlists.is.still n made (other_left e y place disk ready.enters performs.continues.proceeds.fit.0 n (sector_of x.linear some.0) made left.1) left.0)
 
           told : IsTracked (book x) (slices_shown m) n
           told = told_attached x entered.bay name disk at holds some.0 some.1 alive n (array_low x some.0 fit some.1)

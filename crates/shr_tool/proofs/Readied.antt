@@ -169,10 +169,10 @@ module _ {L : Type 0} (x : View) (bay : x.bays.one) (name : List ℕ) (place dis
   lasting_named = at.continues.lasting goes.lasting
 
   traced_named : m.bay.traced
-  traced_named = at.continues.traced holds.shelf traced
+  traced_named = at.continues.proceeds.traced holds.shelf traced
 
   inside_named : IsInside x.slices m.bay
-  inside_named = at.continues.fit.0.running.set.fit.1
+  inside_named = at.continues.proceeds.fit.0.running.set.fit.1
 
   -- ---- once it was cleaned
 

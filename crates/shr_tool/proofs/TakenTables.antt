@@ -36,7 +36,7 @@ module _ (x y : View) (place : ℕ) (name text : List ℕ) (b : FlatArray) (unsp
       let of : slice_of (log_slice place) ≡ 0 = omega arith in
       let many : sectors_of y.slices (log_slice place) ≡ log_sectors =
       is.seats.own (log_slice place) on_place ∙ ap (sectors_laid (views_of (book x)) place (y.bay.sectors disk)) of in
-      let inside = performs.continues.fit.0.running.set.fit.1.slices (log_slice place) (omega (arith, many)) in
+      let inside = performs.continues.proceeds.fit.0.running.set.fit.1.slices (log_slice place) (omega (arith, many)) in
       let seat : seat_of y.slices place ≡ Some disk =
       is.seats.seats place ∙ ap (λ (c : Bool). if c then Some disk else seat_of x.slices place) (eq-eqb place place refl) in
       let on : disk_of y.slices (log_slice place) ≡ disk = ap (λ o. unwrap_or o 0) (ap (seat_of y.slices) on_place ∙ seat) in

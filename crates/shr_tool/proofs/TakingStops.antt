@@ -124,7 +124,7 @@ module _ {L : Type 0} (x y : View) (place : ℕ) (name text : List ℕ) (b : Fla
   -- a drive is left that the pool had, since a sector can be had
   other : has_other (book y).state place ≡ true
   other =
-      other_left m y place disk enters performs.continues.fit.0 (array_of x.linear some.0) (sector_of x.linear some.0)
+      other_left m y place disk enters performs.continues.proceeds.fit.0 (array_of x.linear some.0) (sector_of x.linear some.0)
       (let low = array_low x some.0 fit some.1 in let arrays = fit.1.arrays in omega (arith, low, arrays))
       (live_parts (book y) (array_of x.linear some.0) (sector_of x.linear some.0) some.2).1
 
@@ -132,10 +132,10 @@ module _ {L : Type 0} (x y : View) (place : ℕ) (name text : List ℕ) (b : Fla
   orderly = performs.continues.orderly goes.orderly
 
   within : IsInside y.slices y.bay
-  within = performs.continues.fit.0.running.set.fit.1
+  within = performs.continues.proceeds.fit.0.running.set.fit.1
 
   traced_then : m.bay.traced
-  traced_then = entered.attaches.continues.traced holds.shelf traced
+  traced_then = entered.attaches.continues.proceeds.traced holds.shelf traced
 
   lasting : m.bay.lasting
   lasting = entered.attaches.continues.lasting goes.lasting

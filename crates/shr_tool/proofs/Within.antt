@@ -43,18 +43,18 @@ module _ {L G : Type 0} (x y z : View) (a b : FlatArray) (events : List Event) (
       let before = served_first y z events event text performs served in
       let some = served_some y z event refl (served_last y z events event performs.continues.linear served) in
       let going = goes before (λ takes. serial) in
-      let told = continues.traced serving.0.shelf traced in
+      let told = continues.proceeds.traced serving.0.shelf traced in
       elim (cases_Bool (is_current (book y).state place)) [
-        | inl current ↦ giving_amid y z place name text b unspent continues.fit performs holds some f going current fit waits (serials before serial) lands lasts told
-        | inr missing ↦ taking_amid y z place name text b unspent continues.fit performs holds some f going missing fit waits (serials before serial) lands lasts told
+        | inl current ↦ giving_amid y z place name text b unspent continues.proceeds.fit performs holds some f going current fit waits (serials before serial) lands lasts told
+        | inr missing ↦ taking_amid y z place name text b unspent continues.proceeds.fit performs holds some f going missing fit waits (serials before serial) lands lasts told
       ]
   holds_within (declined place name fault) performs = (
     λ none. holds_inside x y z a b events Serial f continues passes heads serving holds begins traced (performs.passes none) goes,
     λ looks served serial lands waits lasts.
         let event = declined place name fault in
         let before = served_first y z events event text performs served in
-        declined_amid y z place name fault text b looks unspent continues.fit performs holds (served_some y z event looks (served_last y z events event performs.continues.linear served)) f
-        (goes before (λ takes. serial)) waits lands lasts (continues.traced serving.0.shelf traced),
+        declined_amid y z place name fault text b looks unspent continues.proceeds.fit performs holds (served_some y z event looks (served_last y z events event performs.continues.linear served)) f
+        (goes before (λ takes. serial)) waits lands lasts (continues.proceeds.traced serving.0.shelf traced),
   )
   holds_within (stepped count left) performs = holds_inside x y z a b events Serial f continues passes heads serving holds begins traced (performs.passes refl) goes
   holds_within (stuck count array) performs = holds_inside x y z a b events Serial f continues passes heads serving holds begins traced (performs.passes refl) goes

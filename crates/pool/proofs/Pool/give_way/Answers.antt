@@ -262,7 +262,7 @@ returns-then-has_drive-clause-replaces g c =
     (sym c.lacks_other.ensures ∙ c.if-lacks_other.false) (λ same. inr (sym c.has_drive-in-Err.ensures ∙ c.if-has_drive.true)) by
 
 pub fill_alone-requires-clause-fit : goal.fill_alone-requires-clause-fit
-fill_alone-requires-clause-fit g c = c.in-Err.ensures.takes.takes.continues.fit
+fill_alone-requires-clause-fit g c = c.in-Err.ensures.takes.takes.continues.proceeds.fit
 
 pub fill_alone-requires-clause-listed : goal.fill_alone-requires-clause-listed
 fill_alone-requires-clause-listed g c =

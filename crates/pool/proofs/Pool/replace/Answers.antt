@@ -34,7 +34,7 @@ returns-in-Err-clause-replaced g c =
     inl
     (subst (λ r. ReplacesDrive x (view seen shelf r) c.args.place c.args.name.now (Err fault)) (sym c.disk_of.ensures.rest)
     (replaced_unattached x (bay_in q) c.args.place c.args.name.now listed c.requires (slices_in (arrays_of p)).orderly fault at
-    (sound_in seen shelf g.met.R.Rack.sound (with_bay p (bay_in q)) at.continues.fit)))
+    (sound_in seen shelf g.met.R.Rack.sound (with_bay p (bay_in q)) at.continues.proceeds.fit)))
 
 pub returns-in-Ok-clause-replaced : goal.returns-in-Ok-clause-replaced
 returns-in-Ok-clause-replaced g c =
@@ -57,7 +57,7 @@ returns-in-Ok-clause-replaced g c =
       | inl same ↦
           inl
           (replaced_by x (bay_in q) c.args.place c.args.name.now listed c.requires (slices_in (arrays_of p)).orderly disk at y c.replace_by.result same
-          (sound_in seen shelf g.met.R.Rack.sound r same.takes.continues.fit))
+          (sound_in seen shelf g.met.R.Rack.sound r same.takes.continues.proceeds.fit))
       | inr other ↦
           inr
           (enlarged_by x (bay_in q) c.args.place c.args.name.now listed c.requires (slices_in (arrays_of p)).orderly disk at y c.replace_by.result names

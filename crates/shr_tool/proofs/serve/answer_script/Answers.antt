@@ -4,8 +4,8 @@ use Rattle.shr_script.specs.Line.{line_of}
 use Rattle.shr_script.specs.Script.{without_return}
 use Rattle.shr_script.specs.LongLines.{line_of-kept}
 use Rattle.raid_rack.specs.RaidRack.{slices_in}
+use Rattle.pool.proofs.Continuing.{proceeds_same, proceeds_then}
 use Rattle.pool.specs.View.{arrays_of, bay_in, view}
-use Rattle.shr_tool.proofs.Growing.{proceeds_same, proceeds_then}
 use Rattle.shr_tool.proofs.History.{history_none}
 use Rattle.shr_tool.proofs.Limits.{passed_none, passed_line, part_within, line_within, most_over}
 use Rattle.shr_tool.proofs.Stopping.{line_answered, line_stopped, last_answered, line_script, last_script, last_length, limit_stopped, no_limit, serves_as, source_stopped}

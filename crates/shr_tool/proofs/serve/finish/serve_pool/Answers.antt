@@ -3,14 +3,13 @@ use Rattle.raid_rack.specs.RaidRack.{slices_in}
 use Rattle.pool.specs.View.{arrays_of, bay_in, view}
 use Rattle.shr_tool.proofs.Finishing.{limit_status, outcome_by, status_cause, status_limit}
 use Rattle.std.proofs.Common.{◌^◌}
-use Rattle.pool.proofs.Continuing.{continues_of}
-use Rattle.shr_tool.proofs.Growing.{proceeds_of, proceeds_then}
+use Rattle.pool.proofs.Continuing.{continues_of, proceeds_then}
 use Rattle.shr_tool.proofs.Limits.{keeps_limit}
 use Rattle.shr_tool.proofs.serve.finish.serve_pool.Goals as goal
 
 pub returns-clause-proceeds : goal.returns-clause-proceeds
 returns-clause-proceeds g c =
-    proceeds_then _ _ _ c.answer_script-stopped.ensures.proceeds (proceeds_of _ _ (continues_of _ _ c.end.ensures.ended.passes))
+    proceeds_then _ _ _ c.answer_script-stopped.ensures.proceeds (continues_of _ _ c.end.ensures.ended.passes).proceeds
 
 pub returns-clause-frame : goal.returns-clause-frame
 returns-clause-frame g c = g.met.R.Bay.frame_then _ _ _ c.answer_script-stopped.ensures.frame (g.met.R.Bay.runs_frame _ _ c.end.ensures.runs)
