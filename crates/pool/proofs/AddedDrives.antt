@@ -61,7 +61,7 @@ module _ (x : View) (bay : x.bays.one) (name : List ℕ) (fit : (volume x).fit) 
       adds = record {
         names = names_since x bay name disk at y by.names by.disks;
         cause =
-            attached_cause x bay name disk at y by.names (next + 1) next (refusal_of_add x.linear (book x)) ⊥ past_last r (by.continues.proceeds.sectors disk at.ok.1)
+            attached_cause x bay name disk at y by.names (next + 1) next (refusal_of_add x.linear (book x)) ⊥ past_last r (by.continues.proceeds.disks.sectors disk at.ok.1)
             (late_add x.linear (book x) (m.bay.sectors disk)) by.answer by.gone (λ same. inl (by.not_whole same));
         declined = by.declined;
         added = all r by.added;

@@ -111,20 +111,22 @@ module _ (x : View) (b : RackView) (s : Shelf) (name : List ℕ) (raw : Result �
     added_continues = record {
       proceeds = record {
         fit = (added_arrays, inside_later x b s x.slices x.arrays fit refl (λ n. refl));
-        disks = let more = adds.disks in omega (arith, more);
-        sectors = λ d low. (adds.others d low).sectors;
-        faults = λ d low. let same = (adds.others d low).faults in omega (arith, same);
-        names = λ d own is. ap (λ names. slice_get names d) adds.names ∙ got_old x.shelf.names name d (slice_get_within x.shelf.names d own is) ∙ is;
-        waits = λ n.
-            elim (cases_Bool (bytes_eq n name)) [
-              | inl is ↦
-                  (let same = (bytes_eq-Decides n name).0 is in
-                  inr (
-                    subst (λ k. s.ready k ≡ None) (sym same) adds.gone,
-                    (number, (let at = adds.number in omega (arith, at)), subst (λ k. slice_get s.names number ≡ Some k) (sym same) named),
-                  ))
-              | inr other ↦ inl (adds.ready n (λ same. both_ways (bytes_eq n name) other ((bytes_eq-Decides n name).1 same)))
-            ];
+        disks = record {
+          disks = let more = adds.disks in omega (arith, more);
+          sectors = λ d low. (adds.others d low).sectors;
+          faults = λ d low. let same = (adds.others d low).faults in omega (arith, same);
+          names = λ d own is. ap (λ names. slice_get names d) adds.names ∙ got_old x.shelf.names name d (slice_get_within x.shelf.names d own is) ∙ is;
+          waits = λ n.
+              elim (cases_Bool (bytes_eq n name)) [
+                | inl is ↦
+                    (let same = (bytes_eq-Decides n name).0 is in
+                    inr (
+                      subst (λ k. s.ready k ≡ None) (sym same) adds.gone,
+                      (number, (let at = adds.number in omega (arith, at)), subst (λ k. slice_get s.names number ≡ Some k) (sym same) named),
+                    ))
+                | inr other ↦ inl (adds.ready n (λ same. both_ways (bytes_eq n name) other ((bytes_eq-Decides n name).1 same)))
+              ];
+        };
         told = adds.told;
         traced = λ told traced. adds.traced traced told;
         later = λ told traced. let same = adds.clock in omega (arith, same);
@@ -214,11 +216,13 @@ module _ (x : View) (b : RackView) (s : Shelf) (name : List ℕ) (raw : Result �
     same_continues = record {
       proceeds = record {
         fit = (same_arrays, inside_later x b s x.slices x.arrays fit refl (λ n. refl));
-        disks = let equal = same.disks in omega (arith, equal);
-        sectors = λ d low. (same.others d).sectors;
-        faults = λ d low. let equal = (same.others d).faults in omega (arith, equal);
-        names = λ d own is. ap (λ names. slice_get names d) same.names ∙ is;
-        waits = λ n. inl (same.ready n);
+        disks = record {
+          disks = let equal = same.disks in omega (arith, equal);
+          sectors = λ d low. (same.others d).sectors;
+          faults = λ d low. let equal = (same.others d).faults in omega (arith, equal);
+          names = λ d own is. ap (λ names. slice_get names d) same.names ∙ is;
+          waits = λ n. inl (same.ready n);
+        };
         told = same.told;
         traced = λ told traced. same.traced traced;
         later = λ told traced. let equal = same.clock in omega (arith, equal);

@@ -205,7 +205,7 @@ module _ (x : View) (bay : x.bays.one) (place : ℕ) (name : List ℕ) (listed :
       others = declined.others;
       quiet = λ other none.
           let still = declined.quiet other none in
-          (still.0, still.1, still.2 ∙ at.clock, λ d low s. still.3 d (let more = at.continues.proceeds.disks in omega (arith, low, more)) s ∙ at.held d low s);
+          (still.0, still.1, still.2 ∙ at.clock, λ d low s. still.3 d (let more = at.continues.proceeds.disks.disks in omega (arith, low, more)) s ∙ at.held d low s);
     }
 
     pub replaced_by : (y : View) (r : Answer) → ReplacesBy m y place disk r → (y.bay.traced → IsSound (volume y)) → ReplacesDrive x y place name r
@@ -213,7 +213,7 @@ module _ (x : View) (bay : x.bays.one) (place : ℕ) (name : List ℕ) (listed :
         let go = continues_then x m y at.continues by.takes.continues in
         let carries = carries_then x m y at.continues at.carries by.takes.carries in
         let here : IsNamed (moment_of y) name disk = ap (λ names. slice_get names disk) by.takes.names ∙ at.ok.0 in
-        let size : y.bay.sectors disk ≡ b.sectors disk = by.takes.continues.proceeds.sectors disk at.ok.1 in
+        let size : y.bay.sectors disk ≡ b.sectors disk = by.takes.continues.proceeds.disks.sectors disk at.ok.1 in
         record {
           continues = go;
           raises = by.raises;
@@ -226,7 +226,7 @@ module _ (x : View) (bay : x.bays.one) (place : ℕ) (name : List ℕ) (listed :
             retired = λ p d inside missing seat unnamed.
                 let keeps = by.retired p d inside missing seat (λ is. unnamed (named_at y here d (inr is))) in
                 let old = fit.0.running.set.fit.1.seats p d seat in
-                let size_d : b.sectors d ≡ x.bay.sectors d = at.continues.proceeds.sectors d old in
+                let size_d : b.sectors d ≡ x.bay.sectors d = at.continues.proceeds.disks.sectors d old in
                 record {
                   held = λ k within told.
                       subst (λ h. Keeps h (y.bay.held d k)) (at.held d old k)
@@ -284,7 +284,7 @@ module _ (x : View) (bay : x.bays.one) (place : ℕ) (name : List ℕ) (listed :
         kept : (y : View) → ReplacesBy m y place disk r → x.shelf.told → AreTold x → IsKept y disk
         kept y by told all =
             let one = at.image told disk at.ok.0 in
-            let size : y.bay.sectors disk ≡ b.sectors disk = by.takes.continues.proceeds.sectors disk at.ok.1 in (
+            let size : y.bay.sectors disk ≡ b.sectors disk = by.takes.continues.proceeds.disks.sectors disk at.ok.1 in (
               one.0,
               subst (λ n. IsImage (moment_of x) name n one.0) (sym size) one.1,
               λ k v within unsliced left.

@@ -15,11 +15,13 @@ use Rattle.pool.specs.Proceeding.{Proceeds}
 pub proceeds_same : (x : View) → (volume x).fit → Proceeds x x
 proceeds_same x fit = record {
   fit = fit;
-  disks = omega arith;
-  sectors = λ d low. refl;
-  faults = λ d low. omega arith;
-  names = λ d name is. is;
-  waits = λ name. inl refl;
+  disks = record {
+    disks = omega arith;
+    sectors = λ d low. refl;
+    faults = λ d low. omega arith;
+    names = λ d name is. is;
+    waits = λ name. inl refl;
+  };
   told = λ told. told;
   traced = λ told traced. traced;
   later = λ told traced. omega arith;
@@ -29,21 +31,23 @@ proceeds_same x fit = record {
 -- calls in a row
 pub proceeds_then : (x y z : View) → Proceeds x y → Proceeds y z → Proceeds x z
 proceeds_then x y z one two =
-    let more = one.disks in
+    let more = one.disks.disks in
     record {
       fit = two.fit;
-      disks = let rest = two.disks in omega (arith, more, rest);
-      sectors = λ d low. two.sectors d (omega (arith, low, more)) ∙ one.sectors d low;
-      faults = λ d low. let first = one.faults d low in let second = two.faults d (omega (arith, low, more)) in omega (arith, first, second);
-      names = λ d name is. two.names d name (one.names d name is);
-      waits = λ name.
-          elim (two.waits name) [
-            | inl still ↦ elim (one.waits name) [
-              | inl same ↦ inl (still ∙ same)
-              | inr taken ↦ inr (still ∙ taken.0, (taken.1.0, taken.1.1, two.names taken.1.0 name taken.1.2))
-            ]
-            | inr taken ↦ inr (taken.0, (taken.1.0, (let past = taken.1.1 in omega (arith, past, more)), taken.1.2))
-          ];
+      disks = record {
+        disks = let rest = two.disks.disks in omega (arith, more, rest);
+        sectors = λ d low. two.disks.sectors d (omega (arith, low, more)) ∙ one.disks.sectors d low;
+        faults = λ d low. let first = one.disks.faults d low in let second = two.disks.faults d (omega (arith, low, more)) in omega (arith, first, second);
+        names = λ d name is. two.disks.names d name (one.disks.names d name is);
+        waits = λ name.
+            elim (two.disks.waits name) [
+              | inl still ↦ elim (one.disks.waits name) [
+                | inl same ↦ inl (still ∙ same)
+                | inr taken ↦ inr (still ∙ taken.0, (taken.1.0, taken.1.1, two.disks.names taken.1.0 name taken.1.2))
+              ]
+              | inr taken ↦ inr (taken.0, (taken.1.0, (let past = taken.1.1 in omega (arith, past, more)), taken.1.2))
+            ];
+      };
       told = λ told. two.told (one.told told);
       traced = λ told traced. two.traced (one.told told) (one.traced told traced);
       later = λ told traced.
@@ -78,11 +82,13 @@ continues_of x y passes =
     record {
       proceeds = record {
         fit = passes.stays.fit;
-        disks = let same = bay.disks in omega (arith, same);
-        sectors = λ d low. bay.sectors d;
-        faults = λ d low. bay.faults d;
-        names = λ d name is. ap (λ names. slice_get names d) passes.shelf.names ∙ is;
-        waits = λ name. inl (passes.shelf.ready name);
+        disks = record {
+          disks = let same = bay.disks in omega (arith, same);
+          sectors = λ d low. bay.sectors d;
+          faults = λ d low. bay.faults d;
+          names = λ d name is. ap (λ names. slice_get names d) passes.shelf.names ∙ is;
+          waits = λ name. inl (passes.shelf.ready name);
+        };
         told = passes.shelf.told;
         traced = λ told traced. bay.traced traced;
         later = λ told traced. (passes.apart.stops traced).later;
@@ -101,7 +107,7 @@ continues_of x y passes =
 -- calls in a row
 pub continues_then : (x y z : View) → Continues x y → Continues y z → Continues x z
 continues_then x y z one two =
-    let more = one.proceeds.disks in
+    let more = one.proceeds.disks.disks in
     record {
       proceeds = proceeds_then x y z one.proceeds two.proceeds;
       orderly = λ orderly. two.orderly (one.orderly orderly);
@@ -191,8 +197,8 @@ outside_then x y z first second before after one two = record {
 
     late : (d s : ℕ) → IsOutside x.slices Both x.bay d s → IsOutside y.slices second y.bay d s
     late d s out = record {
-      disk = let low = out.disk in let more = before.proceeds.disks in omega (arith, low, more);
-      sector = subst (λ n. s < n) (sym (before.proceeds.sectors d out.disk)) out.sector;
+      disk = let low = out.disk in let more = before.proceeds.disks.disks in omega (arith, low, more);
+      sector = subst (λ n. s < n) (sym (before.proceeds.disks.sectors d out.disk)) out.sector;
       is_told = before.tells d out.disk out.is_told;
       unnamed = λ is. out.unnamed (inr is);
       unsliced = λ v is. elim (one.slices d s v is) [ inl old ↦ out.unsliced v old | inr named ↦ out.unnamed (inl named) ];

@@ -119,12 +119,12 @@ module _ (x m y : View) (place disk : ℕ) (fit : (volume x).fit) (ordered : IsO
 
   went_since : (k : ℕ) → is_current (book x).state k ≡ true → DriveWent m y k → DriveWent x y k
   went_since k current rose =
-      rose_since (first.continues.proceeds.faults (disk_of x.slices (log_slice k)) (low_of k current))
+      rose_since (first.continues.proceeds.disks.faults (disk_of x.slices (log_slice k)) (low_of k current))
       (subst (λ t. Rose (m.bay.faults (disk_of t (log_slice k))) (y.bay.faults (disk_of t (log_slice k)))) same rose)
 
   went_before : (k : ℕ) → is_current (book x).state k ≡ true → DriveWent x m k → DriveWent x y k
   went_before k current rose =
-      rose_before (by.continues.proceeds.faults (disk_of x.slices (log_slice k)) (let inside = low_of k current in let more = first.continues.proceeds.disks in omega (arith, inside, more))) rose
+      rose_before (by.continues.proceeds.disks.faults (disk_of x.slices (log_slice k)) (let inside = low_of k current in let more = first.continues.proceeds.disks.disks in omega (arith, inside, more))) rose
 
   -- whoever was marked by the first try
   went_early : (k : ℕ) → is_current (book x).state k ≡ true → is_current (book m).state k ≡ false → DriveWent x y k
@@ -140,8 +140,8 @@ module _ (x m y : View) (place disk : ℕ) (fit : (volume x).fit) (ordered : IsO
 
   faults_more : faults_before (moment_of x) disk ≤ faults_before (moment_of m) disk
   faults_more =
-      let more = first.continues.proceeds.faults disk low in
-      let disks = first.continues.proceeds.disks in
+      let more = first.continues.proceeds.disks.faults disk low in
+      let disks = first.continues.proceeds.disks.disks in
       let before = ap (λ c. if c then x.bay.faults disk else 0) (lt-ltb disk x.bay.disks low) in
       let after = ap (λ c. if c then m.bay.faults disk else 0) (lt-ltb disk m.bay.disks (omega (arith, low, disks))) in
       omega (arith, more, before, after)

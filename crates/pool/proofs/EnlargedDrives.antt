@@ -32,7 +32,7 @@ pub enlarged : (x y : View) (place disk : ℕ) (r : Answer) → disk < x.bay.dis
     → has_same (book x) place (x.bay.sectors disk) ≡ false → (k : ℕ) → k < most_raised → RaisesBy k (book x) (book y) → (r ≡ Err NotWhole → HasMarkedOther (moment_of x) (moment_of y) place)
     → EnlargesBy x y place disk r → Enlarges x y place disk r
 enlarged x y place disk r low admits other k few raises lost by =
-    let size : y.bay.sectors disk ≡ x.bay.sectors disk = by.continues.proceeds.sectors disk low in
+    let size : y.bay.sectors disk ≡ x.bay.sectors disk = by.continues.proceeds.disks.sectors disk low in
     record {
       larger = (ap (refusal_of x.linear (book x) place) size ∙ admits, ap (has_same (book x) place) size ∙ other);
       raises = raises_more k (most_raised * 1) (book x) (book y) (omega (arith, few)) raises;

@@ -156,7 +156,7 @@ module _ (x m : View) (place disk many : ℕ) (fit : (volume x).fit) (ordered : 
       let before = fit.0.running in
       let after = ready.continues.proceeds.fit.0.running in
       let alike = same_views x.arrays m.arrays (slices_shown x) (slices_shown m) before after ready.marks ready.arrays place in
-      ap (λ n. new_table (book m).state (views_of (book m)) place n) (ready.continues.proceeds.sectors disk low)
+      ap (λ n. new_table (book m).state (views_of (book m)) place n) (ready.continues.proceeds.disks.sectors disk low)
       ∙ ap (λ (e : Id). drive_table e.0 (views_of (book m)) place (x.bay.sectors disk) (length (views_of (book m)))) (next_same (book x).state (book m).state ready.marks)
       ∙ ap (λ n. drive_table (next_drive (book x).state).0 (views_of (book m)) place (x.bay.sectors disk) n) alike.count
       ∙ table_same x.arrays m.arrays (slices_shown x) (slices_shown m) before after ready.marks ready.arrays place (next_drive (book x).state).0 (x.bay.sectors disk) (length (views_of (book x)))
@@ -182,12 +182,12 @@ module _ (x m : View) (place disk many : ℕ) (fit : (volume x).fit) (ordered : 
   rose_from : (y : View) (k : ℕ) → is_current (book x).state k ≡ true → Continues m y → DriveWentFrom (moment_of m) (moment_of y) k → DriveWentFrom (moment_of x) (moment_of y) k
   rose_from y k current go rose =
       let d = disk_of x.slices (log_slice k) in
-      rose_since (ready.continues.proceeds.faults d (low_of k current)) (subst (λ t. Rose (m.bay.faults (disk_of t (log_slice k))) (y.bay.faults (disk_of t (log_slice k)))) ready.slices rose)
+      rose_since (ready.continues.proceeds.disks.faults d (low_of k current)) (subst (λ t. Rose (m.bay.faults (disk_of t (log_slice k))) (y.bay.faults (disk_of t (log_slice k)))) ready.slices rose)
 
   -- a fault from before
   rose_then : (y : View) (k : ℕ) → is_current (book x).state k ≡ true → Continues m y → DriveWentFrom (moment_of x) (moment_of m) k → DriveWentFrom (moment_of x) (moment_of y) k
   rose_then y k current go rose =
-      rose_before (go.proceeds.faults (disk_of x.slices (log_slice k)) (let inside = low_of k current in let equal = ready.disks in omega (arith, inside, equal))) rose
+      rose_before (go.proceeds.disks.faults (disk_of x.slices (log_slice k)) (let inside = low_of k current in let equal = ready.disks in omega (arith, inside, equal))) rose
 
   -- the place's drive was found gone: meanwhile, or after that
   unread_then : (y : View) → Continues m y → IsUnread x m place → IsUnread x y place
@@ -258,7 +258,7 @@ module _ (x m : View) (place disk many : ℕ) (fit : (volume x).fit) (ordered : 
     faults_more d =
         elim (cases_lt d x.bay.disks) [
           | inl inside ↦
-              let more = ready.continues.proceeds.faults d inside in
+              let more = ready.continues.proceeds.disks.faults d inside in
               let equal = ready.disks in
               let first = ap (λ t. if t then x.bay.faults d else 0) (lt-ltb d x.bay.disks inside) in
               let second = ap (λ t. if t then m.bay.faults d else 0) (lt-ltb d m.bay.disks (omega (arith, inside, equal))) in
@@ -345,7 +345,7 @@ module _ (x m : View) (place disk many : ℕ) (fit : (volume x).fit) (ordered : 
         let go = continues_then x m y ready.continues by.takes.continues in
         let carries = carries_then x m y ready.continues ready.carries by.takes.carries in
         let inside : disk < m.bay.disks = (let equal = ready.disks in omega (arith, low, equal)) in
-        let size : m.bay.sectors disk ≡ x.bay.sectors disk = ready.continues.proceeds.sectors disk low in
+        let size : m.bay.sectors disk ≡ x.bay.sectors disk = ready.continues.proceeds.disks.sectors disk low in
         record {
           takes = record {
             continues = go;
@@ -358,7 +358,7 @@ module _ (x m : View) (place disk many : ℕ) (fit : (volume x).fit) (ordered : 
                 elim (by.takes.bare d (subst (λ t. seat_of t place ≡ Some d) (sym ready.slices) seat) other) [ inl same ↦ inl (same ∙ ready.slices) | inr bare ↦ inr bare ];
             names = by.takes.names ∙ ready.names;
             disks = by.takes.disks ∙ ready.disks;
-            gone = λ same. rose_since (ready.continues.proceeds.faults disk low) (by.takes.gone same);
+            gone = λ same. rose_since (ready.continues.proceeds.disks.faults disk low) (by.takes.gone same);
             declined = declined_from r by.takes.continues by.answer by.not_whole by.takes.declined;
             replaced = replaced_at r by.takes.replaced;
             table = table_at r by.takes.table;
@@ -438,7 +438,7 @@ module _ (x m : View) (place disk many : ℕ) (fit : (volume x).fit) (ordered : 
       ] in
       let same : y.slices ≡ m.slices = left.slices ∙ stayed in
       let inside : disk < m.bay.disks = (let equal = ready.disks in omega (arith, low, equal)) in
-      let size : m.bay.sectors disk ≡ x.bay.sectors disk = ready.continues.proceeds.sectors disk low in
+      let size : m.bay.sectors disk ≡ x.bay.sectors disk = ready.continues.proceeds.disks.sectors disk low in
       record {
         continues = continues_then x m y ready.continues by.takes.continues;
         carries = carries_then x m y ready.continues ready.carries by.takes.carries;

@@ -72,7 +72,7 @@ module _ (x : View) (bay : x.bays.one) (name : List ℕ) where
         elim (cases_lt d b.disks) [
           | inl low ↦ ap (λ t. if t then b.faults d else 0) (lt-ltb d b.disks low) ∙ at.faults d low
           | inr past ↦
-              let more = at.continues.proceeds.disks in
+              let more = at.continues.proceeds.disks.disks in
               let old : x.bay.disks ≤ d = omega (arith, past, more) in
               ap (λ t. if t then b.faults d else 0) (le-ltb d b.disks past) ∙ sym (ap (λ t. if t then x.bay.faults d else 0) (le-ltb d x.bay.disks old))
         ]
@@ -83,12 +83,12 @@ module _ (x : View) (bay : x.bays.one) (name : List ℕ) where
         let d = disk_of x.slices (log_slice k) in
         let low = low_disk (book x) x.slices x.bay k ordered fit.0.running.set (heeded_left (book x) k fit.0.heeded was) in
         subst (λ n. Rose n (y.bay.faults d))
-        (at.faults d (let more = at.continues.proceeds.disks in omega (arith, low, more)) ∙ ap (λ t. if t then x.bay.faults d else 0) (lt-ltb d x.bay.disks low)) rose
+        (at.faults d (let more = at.continues.proceeds.disks.disks in omega (arith, low, more)) ∙ ap (λ t. if t then x.bay.faults d else 0) (lt-ltb d x.bay.disks low)) rose
 
     -- the name is no current drive's
     pub not_drive : IsOfDrive (moment_of x) name → ⊥
     not_drive of =
-        let same : of.0 ≡ disk = at.names.one of.0 disk (at.continues.proceeds.names of.0 name of.2) at.ok.0 in
+        let same : of.0 ≡ disk = at.names.one of.0 disk (at.continues.proceeds.disks.names of.0 name of.2) at.ok.0 in
         at.ok.2 (of.1, subst (λ e. seat_of x.slices of.1 ≡ Some e) same of.3, of.4)
 
     -- and calls later it is of one disk still

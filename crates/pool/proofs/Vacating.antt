@@ -34,11 +34,13 @@ module _ (x : View) (place : ℕ) (t : Slices) (linear : IsOrderlyVolume x.linea
   without_continues orderly = record {
     proceeds = record {
       fit = without_fit;
-      disks = omega arith;
-      sectors = λ d low. refl;
-      faults = λ d low. omega arith;
-      names = λ d name is. is;
-      waits = λ name. inl refl;
+      disks = record {
+        disks = omega arith;
+        sectors = λ d low. refl;
+        faults = λ d low. omega arith;
+        names = λ d name is. is;
+        waits = λ name. inl refl;
+      };
       told = λ told. told;
       traced = λ told traced. traced;
       later = λ told traced. omega arith;
@@ -130,11 +132,13 @@ bay_continues x y may only names fit orderly same =
     record {
       proceeds = record {
         fit = fit;
-        disks = let equal = bay.disks in omega (arith, equal);
-        sectors = λ d low. bay.sectors d;
-        faults = λ d low. bay.faults d;
-        names = λ d name is. ap (λ names. slice_get names d) names.names ∙ is;
-        waits = λ name. inl (names.ready name);
+        disks = record {
+          disks = let equal = bay.disks in omega (arith, equal);
+          sectors = λ d low. bay.sectors d;
+          faults = λ d low. bay.faults d;
+          names = λ d name is. ap (λ names. slice_get names d) names.names ∙ is;
+          waits = λ name. inl (names.ready name);
+        };
         told = names.told;
         traced = λ told traced. bay.traced traced;
         later = λ told traced. (only.stops traced).later;

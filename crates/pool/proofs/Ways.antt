@@ -75,7 +75,7 @@ module _ (x : View) (place disk : ℕ) (fit : (volume x).fit) (ordered : IsOrder
     -- what the next step asks for
     pub next_admitted : has_other_missing (book m).state place ≡ false → IsAdmitted (book m) place (m.bay.sectors disk)
     next_admitted alone =
-        subst (λ n. IsAdmitted (book m) place n) (sym (ready.continues.proceeds.sectors disk low))
+        subst (λ n. IsAdmitted (book m) place n) (sym (ready.continues.proceeds.disks.sectors disk low))
         (still_admitted x.arrays m.arrays (slices_shown x) (slices_shown m) fit.0.running ready.continues.proceeds.fit.0.running ready.marks ready.arrays place (x.bay.sectors disk) alone here)
 
     pub next_listed : place < length (book m).state.drives.items

@@ -8,7 +8,7 @@ use Rattle.pool.specs.Proceeding.{Proceeds}
 use Rattle.pool.specs.View.{View}
 use Rattle.pool.specs.Volume.{size_of}
 
--- The volume lies where it lay.
+-- The bay goes on so, the volume lies where it lay, and what was told of disks stays told.
 pub record Continues (x y : View) : Type 0 where
   pub proceeds : Proceeds x y
   -- slices that don't overlap don't afterwards

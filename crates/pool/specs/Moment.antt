@@ -1,5 +1,5 @@
 -- How a pool stands at a moment: the part of what it shows of which later moments are told.
-use Rattle.std.specs.Prelude.{◌≡◌, ◌⊎◌, ℕ, ◌<◌, true, false, List, map, slice_get, Option, Some}
+use Rattle.std.specs.Prelude.{◌≡◌, ◌⊎◌, ℕ, ◌<◌, ◌≤◌, true, false, List, map, slice_get, Option, Some, None}
 use Rattle.std.specs.List.{range_with_len}
 use Rattle.rack.specs.Seen.{Held, Rose}
 use Rattle.rack.specs.Shelf.{Waiting}
@@ -58,7 +58,18 @@ IsImage p name sectors held =
 abbrev pub views_of : Raid → List ArrayView
 views_of v = map v.arrays (range_with_len 0 v.state.made)
 
--- ---- drives that go
+-- ---- what calls keep
+
+-- The bay has the disks that it had, under their names, and their counts of faults never fall. What waits under a name stays, but for what was
+-- attached.
+pub record KeepsDisks (p q : Moment) : Type 0 where
+  pub disks : p.disks ≤ q.disks
+  pub sectors : (d : ℕ) → d < p.disks → q.sectors d ≡ p.sectors d
+  pub faults : (d : ℕ) → d < p.disks → p.faults d ≤ q.faults d
+  pub names : (d : ℕ) (name : List ℕ) → IsNamed p name d → IsNamed q name d
+  pub waits :
+      (name : List ℕ)
+      → (q.ready name ≡ p.ready name) ⊎ ((q.ready name ≡ None) × ((d : ℕ) × (p.disks ≤ d) × IsNamed q name d))
 
 -- the faults of a place's drive rose, by where its slices lay before
 abbrev pub DriveWentFrom : Moment → Moment → ℕ → Type 0

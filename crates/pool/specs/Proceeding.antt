@@ -1,23 +1,17 @@
 -- What calls of a pool keep whatever they make of its volume, as such do by which it grows.
-use Rattle.std.specs.Prelude.{◌≡◌, ◌⊎◌, ℕ, ◌<◌, ◌≤◌, Bool, false, nat_lt, if◌then◌else◌, List, length, slice_get, Some, None}
+use Rattle.std.specs.Prelude.{ℕ, ◌≤◌, Bool, false, nat_lt, if◌then◌else◌, length}
 use Rattle.rack.specs.Seen.{Image}
 use Rattle.lvm_group.specs.Runs.{Linear}
 use Rattle.growth_plan.specs.Works.{grows}
 use Rattle.raid_laws.specs.Raid.{Raid}
+use Rattle.pool.specs.Moment.{KeepsDisks, moment_of}
 use Rattle.pool.specs.View.{View, volume}
 use Rattle.pool.specs.Works.{progress_by}
 
--- The disks that there were are still there, with their names, and what stops left of them before is as it was. What waits stays, but for what was attached.
+-- The disks that there were are still there, and what stops left of them before is as it was.
 pub record Proceeds (x y : View) : Type 0 where
   pub fit : (volume y).fit
-  pub disks : x.bay.disks ≤ y.bay.disks
-  pub sectors : (d : ℕ) → d < x.bay.disks → y.bay.sectors d ≡ x.bay.sectors d
-  pub faults : (d : ℕ) → d < x.bay.disks → x.bay.faults d ≤ y.bay.faults d
-  pub names : (d : ℕ) (name : List ℕ) → slice_get x.shelf.names d ≡ Some name → slice_get y.shelf.names d ≡ Some name
-  pub waits :
-      (name : List ℕ)
-      → (y.shelf.ready name ≡ x.shelf.ready name)
-      ⊎ ((y.shelf.ready name ≡ None) × ((d : ℕ) × (x.bay.disks ≤ d) × (slice_get y.shelf.names d ≡ Some name)))
+  pub disks : KeepsDisks (moment_of x) (moment_of y)
   pub told : x.shelf.told → y.shelf.told
   pub traced : x.shelf.told → x.bay.traced → y.bay.traced
   pub later : x.shelf.told → x.bay.traced → x.bay.clock ≤ y.bay.clock

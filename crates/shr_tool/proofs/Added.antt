@@ -71,11 +71,13 @@ proceeds_grown count x y keeps =
     let bay = keeps.goes.stays in
     record {
       fit = keeps.fit;
-      disks = let same = bay.disks in omega (arith, same);
-      sectors = λ d low. bay.sectors d;
-      faults = λ d low. bay.faults d;
-      names = λ d name is. ap (λ names. slice_get names d) keeps.shelf.names ∙ is;
-      waits = λ name. inl (keeps.shelf.ready name);
+      disks = record {
+        disks = let same = bay.disks in omega (arith, same);
+        sectors = λ d low. bay.sectors d;
+        faults = λ d low. bay.faults d;
+        names = λ d name is. ap (λ names. slice_get names d) keeps.shelf.names ∙ is;
+        waits = λ name. inl (keeps.shelf.ready name);
+      };
       told = keeps.shelf.told;
       traced = λ told traced. bay.traced traced;
       later = λ told traced. (keeps.goes.leaves traced).later;

@@ -202,8 +202,8 @@ module _ {L : Type 0} {o : Option Lone} (x : View) (place : ℕ) (fit : (volume 
       (bare : (w : List ℕ) → IsSliced y.slices d state_sector w → ⊥) where
     live : IsLive y.bay y.bay d state_sector
     live =
-        let low : d < y.bay.disks = (let at = there_then in let more = continues.proceeds.disks in omega (arith, at, more)) in
-        record { disk = low; sector = subst (λ n. state_sector < n) (sym (continues.proceeds.sectors d there_then)) (sector x place fit f goes d seat on_then); is_told = told d low; unspent = unspent d state_sector }
+        let low : d < y.bay.disks = (let at = there_then in let more = continues.proceeds.disks.disks in omega (arith, at, more)) in
+        record { disk = low; sector = subst (λ n. state_sector < n) (sym (continues.proceeds.disks.sectors d there_then)) (sector x place fit f goes d seat on_then); is_told = told d low; unspent = unspent d state_sector }
 
     told_here : IsTracked (book x) (slices_of goes.tables x.bay) (array_of x.linear s)
     told_here = subst (λ (u : Slices). IsTracked (book x) (slices_of u x.bay) (array_of x.linear s)) same (told_by x b s fit holds within alive)

@@ -65,14 +65,14 @@ module _ (x : View) (bay : x.bays.one) (place : ℕ) (name : List ℕ) (disk : �
         low_named : d < m.bay.disks
         low_named =
             let first = old.there x place fit f goes d seat on in
-            let more = at.continues.proceeds.disks in
+            let more = at.continues.proceeds.disks.disks in
             omega (arith, first, more)
 
         told_named : m.bay.told d
         told_named = at.continues.known holds.shelf holds.disks d low_named
 
         sector_named : state_sector < m.bay.sectors d
-        sector_named = subst (λ n. state_sector < n) (sym (at.continues.proceeds.sectors d (old.there x place fit f goes d seat on))) (old.sector x place fit f goes d seat on)
+        sector_named = subst (λ n. state_sector < n) (sym (at.continues.proceeds.disks.sectors d (old.there x place fit f goes d seat on))) (old.sector x place fit f goes d seat on)
 
         -- over a part in which no other drive is lost
         part : (s u : State) (a e : RackView) → KeepsUnlost s u (slices_of x.slices a) (slices_of x.slices e) → ((k : ℕ) → k ≢ place → KeepsPlace s u k)

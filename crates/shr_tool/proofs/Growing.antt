@@ -107,13 +107,7 @@ pub proceeds_to :
     → Proceeds x y → MarksWent Lost (moment_of x) (moment_of y) → Raises calls x y → ProceedsTo Traced Lost calls (moment_of x) (moment_of y)
 proceeds_to x y Traced Lost calls told proceeds marks raises = record {
   later = λ traced. proceeds.later (told traced).0 (told traced).1;
-  disks = record {
-    disks = proceeds.disks;
-    sectors = proceeds.sectors;
-    faults = proceeds.faults;
-    names = proceeds.names;
-    waits = proceeds.waits;
-  };
+  disks = proceeds.disks;
   marks = marks;
   raises = raises;
 }

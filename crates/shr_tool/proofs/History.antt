@@ -19,7 +19,7 @@ use Rattle.shr_tool.specs.declared.perform.Answer.{Answer}
 use Rattle.shr_tool.specs.declared.perform.Answer.TheVariants.{Given}
 use Rattle.shr_tool.specs.Events.{AnyTakes, Event, Takes, any_takes, array_by, calls_in, line_of, lines_of, takes_disk, text_of, texts, worst_of}
 use Rattle.pool.specs.Moment.{moment_of}
-use Rattle.shr_tool.specs.Timeline.{KeepsBookIn, KeepsDisks, KeepsSlices, KeepsStanding, EventContract, LineContract, Timeline, steps_of}
+use Rattle.shr_tool.specs.Timeline.{KeepsBookIn, KeepsSlices, KeepsStanding, EventContract, LineContract, Timeline, steps_of}
 use Rattle.shr_tool.specs.Between.{HaveOthers, HoldsEach}
 use Rattle.shr_tool.specs.Heads.{KeepsHeads}
 use Rattle.shr_tool.specs.Service.{AreFit, AreLone, BeginsOn, GoesBy, GoesOn, IsFitFor, IsLoneFor, IsServed, Lone, none_out, pool_by}
@@ -51,15 +51,6 @@ standing x y Keeps calls fit keeps raises =
     record { raises = raises; keeps = keeps; seated = book_seated (book y) (slices_shown y) fit.0.running.set fit.0.heeded }
 
 -- what they do to the bay
-disks_kept : (x y : View) → Continues x y → KeepsDisks (moment_of x) (moment_of y)
-disks_kept x y continues = record {
-  disks = continues.proceeds.disks;
-  sectors = continues.proceeds.sectors;
-  faults = continues.proceeds.faults;
-  names = continues.proceeds.names;
-  waits = continues.proceeds.waits;
-}
-
 pub slices_kept : (x y : View) → CallFrame x y → KeepsSlices (moment_of x) (moment_of y)
 slices_kept x y passes = record { slices = passes.slices; names = passes.shelf.names; ready = passes.shelf.ready }
 
@@ -93,7 +84,7 @@ performed x y event text Traced a fit performs laws traced holds = record {
   still = performs.still;
   cause = performs.cause;
   linear = performs.continues.linear;
-  disks = disks_kept x y performs.continues;
+  disks = performs.continues.proceeds.disks;
   held = λ told d s low within untaken unsliced.
       (outside_by x y event text laws.0 performs).held d s
       (record { disk = low; sector = within; is_told = (holds told).disks d low; unnamed = untaken; unsliced = unsliced });
@@ -342,7 +333,7 @@ ran_more x y z events event text laws ran performs = record {
       x.shelf.told x.bay z.bay
       (λ d takes.
       elim takes [
-        | inl before ↦ any_takes_before y.shelf.names z.shelf.names performs.continues.proceeds.names events event d before
+        | inl before ↦ any_takes_before y.shelf.names z.shelf.names performs.continues.proceeds.disks.names events event d before
         | inr now ↦ any_takes_last z.shelf.names events event d now
       ])
       (outside_then x y z (AnyTakes y.shelf.names events) (Takes z.shelf.names event) ran.continues performs.continues ran.outside

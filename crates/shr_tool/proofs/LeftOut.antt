@@ -175,7 +175,7 @@ module _ {L : Type 0} {o : Option Lone} (x y : View) (place : ℕ) (name : List 
   stays_first : (p d : ℕ) → (is_current (book y).state p ≡ true) ⊎ (Out d → ⊥) → (is_current (book x).state p ≡ true) ⊎ (IsOut l x.shelf.names d → ⊥)
   stays_first p d why = elim why [
     | inl now ↦ inl (is.marks.current p now)
-    | inr stays ↦ inr (λ was. stays (out_later l x.shelf.names y.shelf.names performs.continues.proceeds.names d was))
+    | inr stays ↦ inr (λ was. stays (out_later l x.shelf.names y.shelf.names performs.continues.proceeds.disks.names d was))
   ]
 
   there : (p d : ℕ) → f.seats p ≡ Some d → d < x.bay.disks
@@ -195,7 +195,7 @@ module _ {L : Type 0} {o : Option Lone} (x y : View) (place : ℕ) (name : List 
     | inl now ↦
         old.not_current x y place name fault text b looks unspent fit performs holds some f goes fits p (is.marks.current p now) (subst (λ e. f.seats p ≡ Some e) same seat)
     | inr stays ↦
-        other_disk d stays (let low = there p d seat in let more = performs.continues.proceeds.disks in omega (arith, low, more)) same
+        other_disk d stays (let low = there p d seat in let more = performs.continues.proceeds.disks.disks in omega (arith, low, more)) same
   ]
 
   module _ (i : Image) (off : IsPickOutsideSlices t y.bay i) where
@@ -245,7 +245,7 @@ module _ {L : Type 0} {o : Option Lone} (x y : View) (place : ℕ) (name : List 
         let counted = old_disk d stays low in
         let before : IsStranger f l.bound (identities_of (disks_of y.bay) i d) =
         subst (IsStranger f l.bound) (said d (other_disk d stays low) counted)
-        (says.others d never (λ was. stays (out_later l x.shelf.names y.shelf.names performs.continues.proceeds.names d was)) counted) in
+        (says.others d never (λ was. stays (out_later l x.shelf.names y.shelf.names performs.continues.proceeds.disks.names d was)) counted) in
         record { apart = record { stands = before.apart.stands; pool = before.apart.pool }; ungiven = before.ungiven }
 
   alone_then : NoImpostor (attached f (disks_of y.bay)) l.bound Out (book y).state t y.bay

@@ -64,7 +64,7 @@ module _ {L : Type 0} {o : Option Lone} (x : View) (bay : x.bays.one) (name : Li
   count = ap (λ (z : Disks). z.count) goes.service.disks
 
   sectors_kept : (d : ℕ) → d < f.disks.count → m.bay.sectors d ≡ f.disks.sectors d
-  sectors_kept d low = at.continues.proceeds.sectors d (let same = count in omega (arith, low, same)) ∙ sym (ap (λ (z : Disks). z.sectors d) goes.service.disks)
+  sectors_kept d low = at.continues.proceeds.disks.sectors d (let same = count in omega (arith, low, same)) ∙ sym (ap (λ (z : Disks). z.sectors d) goes.service.disks)
 
   pub live_now : (d s : ℕ) → d < m.bay.disks → s < m.bay.sectors d → IsLive m.bay m.bay d s
   live_now d s low within = record { disk = low; sector = within; is_told = at.continues.known holds.shelf holds.disks d low; unspent = unspent d s }
@@ -87,7 +87,7 @@ module _ {L : Type 0} {o : Option Lone} (x : View) (bay : x.bays.one) (name : Li
   left_off : (u : Slices) (i : Image) → IsPickOutsideSlices u m.bay i → (d s : ℕ) → d < x.bay.disks → s < m.bay.sectors d → ((w : List ℕ) → IsSliced u d s w → ⊥)
       → MayLeave (x.bay.held d s) (i d s)
   left_off u i off d s low within never =
-      subst (λ h. MayLeave h (i d s)) (at.held d low s) (off d s (live_now d s (let more = at.continues.proceeds.disks in omega (arith, low, more)) within) never)
+      subst (λ h. MayLeave h (i d s)) (at.held d low s) (off d s (live_now d s (let more = at.continues.proceeds.disks.disks in omega (arith, low, more)) within) never)
 
   -- a disk that came says an earlier state, as what waited did
   came_says : (i : Image) → IsPickOutsideSlices t m.bay i → (d : ℕ) → d < m.bay.disks → f.disks.count ≤ d
@@ -105,7 +105,7 @@ module _ {L : Type 0} {o : Option Lone} (x : View) (bay : x.bays.one) (name : Li
       elim image.1 [
         | inl old ↦
             (let first = old.1 in
-            let one = at.names.one old.0 d (at.continues.proceeds.names old.0 name old.2) named in
+            let one = at.names.one old.0 d (at.continues.proceeds.disks.names old.0 name old.2) named in
             absurd (omega (arith, new, first, one)))
         | inr came ↦
             (let w = came.1.0 in
@@ -120,8 +120,8 @@ module _ {L : Type 0} {o : Option Lone} (x : View) (bay : x.bays.one) (name : Li
   keeps_off : (u : Slices) → KeepsOutsideSlices u disk x.bay m.bay
   keeps_off u d s other live never = (
     record {
-      disk = (let low = live.disk in let more = at.continues.proceeds.disks in omega (arith, low, more));
-      sector = subst (λ n. s < n) (sym (at.continues.proceeds.sectors d live.disk)) live.sector;
+      disk = (let low = live.disk in let more = at.continues.proceeds.disks.disks in omega (arith, low, more));
+      sector = subst (λ n. s < n) (sym (at.continues.proceeds.disks.sectors d live.disk)) live.sector;
       is_told = at.continues.tells d live.disk live.is_told;
       unspent = unspent d s;
     },
@@ -130,7 +130,7 @@ module _ {L : Type 0} {o : Option Lone} (x : View) (bay : x.bays.one) (name : Li
 
   keeps_others : KeepsOthers f t (book x).state disk x.bay m.bay
   keeps_others = record {
-    disks = (let same = count in let more = at.continues.proceeds.disks in omega (arith, same, more));
+    disks = (let same = count in let more = at.continues.proceeds.disks.disks in omega (arith, same, more));
     sectors = sectors_kept;
     drive = elim (seated_below f.seats disk 16) [
       | inl one ↦ inr one
@@ -152,7 +152,7 @@ module _ {L : Type 0} {o : Option Lone} (x : View) (bay : x.bays.one) (name : Li
   few = goes.service.arranged.made.1
 
   same_truths : HasTruths f h
-  same_truths = truths_attached f (disks_of m.bay) goes.service.arranged (let same = count in let more = at.continues.proceeds.disks in omega (arith, same, more)) sectors_kept
+  same_truths = truths_attached f (disks_of m.bay) goes.service.arranged (let same = count in let more = at.continues.proceeds.disks.disks in omega (arith, same, more)) sectors_kept
 
   pub member_named : (n p : ℕ) → n < f.state.made → is_member h n p ≡ is_member f n p
   member_named n p low = member_same f h few goes.service.arranged.truths same_truths n low p
@@ -200,7 +200,7 @@ module _ {L : Type 0} {o : Option Lone} (x : View) (bay : x.bays.one) (name : Li
         let left =
         left_off x.slices i off d state_sector low parts.0
         (λ w is. vacant_free t x.slices k lacks.vacated f goes.service.slices d state_sector w (λ q other. one_seat f t (book x) x.bay goes.service q k d other seat) is) in
-        lacks_value f t x.slices (book x) k x.bay lacks d seat (i d state_sector) copy (subst (λ n. state_sector < n) (at.continues.proceeds.sectors d low) parts.0) left parts.1;
+        lacks_value f t x.slices (book x) k x.bay lacks d seat (i d state_sector) copy (subst (λ n. state_sector < n) (at.continues.proceeds.disks.sectors d low) parts.0) left parts.1;
   }
 
   pub goes_named : GoesBy L None h m
@@ -226,7 +226,7 @@ module _ {L : Type 0} {o : Option Lone} (x : View) (bay : x.bays.one) (name : Li
   -- what is remembered of a place's drive
   pub sector_named : (p s : ℕ) → drive_sector h p s ≡ drive_sector f p s
   sector_named =
-      sector_same f (disks_of m.bay) goes.service.arranged (let same = count in let more = at.continues.proceeds.disks in omega (arith, same, more)) sectors_kept
+      sector_same f (disks_of m.bay) goes.service.arranged (let same = count in let more = at.continues.proceeds.disks.disks in omega (arith, same, more)) sectors_kept
 
   -- ---- the place gives its disk up, where a sector of the volume can be had
 
@@ -285,7 +285,7 @@ module _ {L : Type 0} {o : Option Lone} (x : View) (bay : x.bays.one) (name : Li
               (let lacks : LacksDrive f t x.slices (book x) place x.bay =
               subst (λ k. LacksDrive f t x.slices (book x) k x.bay) (vacant_is one.0 one.1 one.2.missing) one.2 in
               lacks_value f t x.slices (book x) place x.bay lacks d seat (i d state_sector) copy
-              (subst (λ n. state_sector < n) (at.continues.proceeds.sectors d low) parts.0) left parts.1)
+              (subst (λ n. state_sector < n) (at.continues.proceeds.disks.sectors d low) parts.0) left parts.1)
         ]
 
     pub lacks_named : LacksDrive h t u (book x) place m.bay

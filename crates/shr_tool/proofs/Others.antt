@@ -148,8 +148,8 @@ module _ {L : Type 0} {bound : ℕ} (x y : View) (place : ℕ) (name text : List
         subst (λ h. MayLeave h (i d s)) (at.held d live.disk s)
         (elim ((only.stops traced_then).new k i begun until stopped d s
         (record {
-          disk = (let low = live.disk in let more = performs.continues.proceeds.disks in omega (arith, low, more));
-          sector = subst (λ n. s < n) (sym (performs.continues.proceeds.sectors d live.disk)) live.sector;
+          disk = (let low = live.disk in let more = performs.continues.proceeds.disks.disks in omega (arith, low, more));
+          sector = subst (λ n. s < n) (sym (performs.continues.proceeds.disks.sectors d live.disk)) live.sector;
           is_told = at.continues.tells d live.disk live.is_told;
           unspent = unspent d s;
         })) [
@@ -204,7 +204,7 @@ module _ {L : Type 0} {bound : ℕ} (x y : View) (place : ℕ) (name text : List
       -- the drive that the place had
       module _ (seat : f.seats place ≡ Some d) where
         told_named : m.bay.told d
-        told_named = at.continues.known holds.shelf holds.disks d (let at = there in let more = entered.attaches.continues.proceeds.disks in omega (arith, at, more))
+        told_named = at.continues.known holds.shelf holds.disks d (let at = there in let more = entered.attaches.continues.proceeds.disks.disks in omega (arith, at, more))
 
         -- it has no slices by the new tables
         bare : (w : List ℕ) → IsSliced y.slices d state_sector w → ⊥

@@ -96,8 +96,8 @@ module _ {L : Type 0} {o : Option Lone} (x y : View) (place : ℕ) (name : List 
   -- what the disks may be left with outside the slices they might have been left with before
   before : (i : Image) → IsPickOutsideSlices goes.tables y.bay i → IsPickOutsideSlices goes.tables x.bay i
   before i off d s live never =
-      let low : d < y.bay.disks = (let at = live.disk in let more = performs.continues.proceeds.disks in omega (arith, at, more)) in
-      let within : s < y.bay.sectors d = subst (λ n. s < n) (sym (performs.continues.proceeds.sectors d live.disk)) live.sector in
+      let low : d < y.bay.disks = (let at = live.disk in let more = performs.continues.proceeds.disks.disks in omega (arith, at, more)) in
+      let within : s < y.bay.sectors d = subst (λ n. s < n) (sym (performs.continues.proceeds.disks.sectors d live.disk)) live.sector in
       subst (λ h. MayLeave h (i d s)) (stayed.3 d live.disk s)
       (off d s (live_at x y place name unspent performs.continues (performs.outside looks) changes told f goes d s low within) never)
 
@@ -111,7 +111,7 @@ module _ {L : Type 0} {o : Option Lone} (x y : View) (place : ℕ) (name : List 
       stands.own s (subst (λ n. s < n) performs.continues.size within) (changes.spent s alive) p d u copy seat
       (elim why [
         | inl now ↦ inl (is.marks.current p now)
-        | inr stays ↦ inr (λ out. stays (out_later l x.shelf.names y.shelf.names performs.continues.proceeds.names d out))
+        | inr stays ↦ inr (λ out. stays (out_later l x.shelf.names y.shelf.names performs.continues.proceeds.disks.names d out))
       ])
       (subst (λ h. MayLeave h u) (stayed.3 d there state_sector) may) says
 
@@ -124,7 +124,7 @@ module _ {L : Type 0} {o : Option Lone} (x y : View) (place : ℕ) (name : List 
     -- no disk had the name
     new_name : (e : ℕ) → IsNamed (moment_of x) name e → e < x.bay.disks → ⊥
     new_name e was there =
-        let same : e ≡ d = changes.names.one e d (performs.continues.proceeds.names e name was) named in
+        let same : e ≡ d = changes.names.one e d (performs.continues.proceeds.disks.names e name was) named in
         omega (arith, same, there, past)
 
     -- something was against taking it
@@ -185,7 +185,7 @@ module _ {L : Type 0} {o : Option Lone} (x y : View) (place : ℕ) (name : List 
         (sectors_kept x y place name unspent performs.continues (performs.outside looks) changes told f goes) before
         (λ i off d past low stays.
         (let count = count_is x y place name unspent performs.continues (performs.outside looks) changes told f goes in came d (omega (arith, past, count)) low i off))
-        (alone_later f l x.shelf.names y.shelf.names performs.continues.proceeds.names (book x).state (book y).state goes.tables x.bay is.marks.current stands.alone);
+        (alone_later f l x.shelf.names y.shelf.names performs.continues.proceeds.disks.names (book x).state (book y).state goes.tables x.bay is.marks.current stands.alone);
     distinct = stands.distinct;
     own = own;
   }

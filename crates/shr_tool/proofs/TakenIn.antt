@@ -75,10 +75,10 @@ module _ {L : Type 0} {o : Option Lone} (x y : View) (place : ℕ) (name : List 
   count_is = ap (λ (z : Disks). z.count) goes.service.disks
 
   pub disks_more : f.disks.count ≤ y.bay.disks
-  disks_more = let same = count_is in let more = continues.proceeds.disks in omega (arith, same, more)
+  disks_more = let same = count_is in let more = continues.proceeds.disks.disks in omega (arith, same, more)
 
   pub sectors_kept : (d : ℕ) → d < f.disks.count → y.bay.sectors d ≡ f.disks.sectors d
-  sectors_kept d low = continues.proceeds.sectors d (let same = count_is in omega (arith, low, same)) ∙ sym (ap (λ (z : Disks). z.sectors d) goes.service.disks)
+  sectors_kept d low = continues.proceeds.disks.sectors d (let same = count_is in omega (arith, low, same)) ∙ sym (ap (λ (z : Disks). z.sectors d) goes.service.disks)
 
   pub sliced_old : (d s : ℕ) (w : List ℕ) → IsSliced x.slices d s w → IsSliced goes.tables d s w
   sliced_old d s w is = elim goes.vacant [
@@ -91,8 +91,8 @@ module _ {L : Type 0} {o : Option Lone} (x y : View) (place : ℕ) (name : List 
       → ((d s : ℕ) (w : List ℕ) → IsSliced x.slices d s w → IsSliced t d s w) → (disk : ℕ) → ((d : ℕ) → d ≢ disk → named d → ⊥) → KeepsOutsideSlices t disk x.bay y.bay
   keeps_but named kept t old disk unnamed d s other live never = (
     record {
-      disk = (let low = live.disk in let more = continues.proceeds.disks in omega (arith, low, more));
-      sector = subst (λ n. s < n) (sym (continues.proceeds.sectors d live.disk)) live.sector;
+      disk = (let low = live.disk in let more = continues.proceeds.disks.disks in omega (arith, low, more));
+      sector = subst (λ n. s < n) (sym (continues.proceeds.disks.sectors d live.disk)) live.sector;
       is_told = continues.tells d live.disk live.is_told;
       unspent = unspent d s;
     },
@@ -324,7 +324,7 @@ module _ {L : Type 0} {o : Option Lone} (x y : View) (place : ℕ) (name text : 
         let less =
         lacks_still f t x.slices y.slices (book x) one.0 disk x.bay y.bay one.2
         (keeps_off x y place name unspent performs.continues (performs.outside refl) changes told f goes x.slices (λ e s w at. at) disk only) fewer d
-        (subst (λ p. f.seats p ≡ Some d) now seat) other (performs.continues.proceeds.sectors d (low_of d seat)) i pick copy here in
+        (subst (λ p. f.seats p ≡ Some d) now seat) other (performs.continues.proceeds.disks.sectors d (low_of d seat)) i pick copy here in
         up_of (book x).state.epoch copy.state.epoch less)
   ]
     where
@@ -365,7 +365,7 @@ module _ {L : Type 0} {o : Option Lone} (x y : View) (place : ℕ) (name text : 
 
   module _ (l : Lone) (so : o ≡ Some l) (d : ℕ) (other : d ≢ disk) (seat : f.seats place ≡ Some d) (stays : IsOut l y.shelf.names d → ⊥) where
     stayed : (is_current (book x).state place ≡ true) ⊎ (IsOut l x.shelf.names d → ⊥)
-    stayed = inr (λ out. stays (out_later l x.shelf.names y.shelf.names performs.continues.proceeds.names d out))
+    stayed = inr (λ out. stays (out_later l x.shelf.names y.shelf.names performs.continues.proceeds.disks.names d out))
 
     there : d < x.bay.disks
     there =
@@ -394,7 +394,7 @@ module _ {L : Type 0} {o : Option Lone} (x y : View) (place : ℕ) (name text : 
     own_former : (i : Image) → IsPickOutsideSlices y.slices y.bay i → (copy : Copied) → (identities_of (disks_of y.bay) i d).copied ≡ Some copy → IsOwnCopy f.state place copy
     own_former i pick copy here =
         let parts = copy_parts (y.bay.sectors d) (i d state_sector) copy here in
-        let low : d < y.bay.disks = (let at = there in let more = performs.continues.proceeds.disks in omega (arith, at, more)) in
+        let low : d < y.bay.disks = (let at = there in let more = performs.continues.proceeds.disks.disks in omega (arith, at, more)) in
         let left =
         pick d state_sector (live_at x y place name unspent performs.continues (performs.outside refl) changes told f goes d state_sector low parts.0) kept_there.1 in
         (goes.alone l so).own some.0 some.1 alive place d (i d state_sector) copy seat stayed (kept_there.0.within (i d state_sector) left) parts.1
@@ -458,7 +458,7 @@ module _ {L : Type 0} {o : Option Lone} (x y : View) (place : ℕ) (name text : 
         alone =
             alone_taken f t y.slices (book x) x.bay y.bay place disk is.units (Replacing place) goes.service seats_new keeps_rest l.bound (below l so) (IsOut l y.shelf.names)
             (book y).state (takes_alone l so)
-            (alone_later f l x.shelf.names y.shelf.names performs.continues.proceeds.names (book x).state (book x).state t x.bay (λ p now. now) stands.alone);
+            (alone_later f l x.shelf.names y.shelf.names performs.continues.proceeds.disks.names (book x).state (book x).state t x.bay (λ p now. now) stands.alone);
         distinct = subst (λ (pool : Id). AreDistinct pool.0 l.bound) (sym goes.service.after.same.pool) stands.distinct;
         own = λ s within left. own_now l;
       }

@@ -184,7 +184,7 @@ module _ {L : Type 0} {o : Option Lone} (x y : View) (place : ℕ) (name : List 
       ]
 
   same_named : (d e : ℕ) → IsNamed (moment_of y) name d → IsNamed (moment_of x) name e → e ≡ d
-  same_named d e named was = changes.names.one e d (performs.continues.proceeds.names e name was) named
+  same_named d e named was = changes.names.one e d (performs.continues.proceeds.disks.names e name was) named
 
   -- one that was there had it
   held_there : (d : ℕ) → d < x.bay.disks → IsNamed (moment_of y) name d → (i : Image) (copy : Copied) → HasCopy d i copy
@@ -235,7 +235,7 @@ module _ {L : Type 0} {o : Option Lone} (x y : View) (place : ℕ) (name : List 
     | inl named ↦
         (let on = seat_now x y place name unspent performs.continues (performs.outside looks) changes told f goes p disk seat current in
         named.1 (disk, p, changes.names.old disk (seat_disk p disk seat) named.0, on, vacant_not (book x).state p current))
-    | inr past ↦ (let there = seat_disk p disk seat in let more = performs.continues.proceeds.disks in omega (arith, past, there, more))
+    | inr past ↦ (let there = seat_disk p disk seat in let more = performs.continues.proceeds.disks.disks in omega (arith, past, there, more))
   ]
 
   keeps_others : KeepsOthers f t (book x).state disk x.bay y.bay
@@ -255,7 +255,7 @@ module _ {L : Type 0} {o : Option Lone} (x y : View) (place : ℕ) (name : List 
               (let same = count in
               let has = has_copy disk i copy here in
               held_there disk (omega (arith, low, same)) named.0 i copy has (free_now disk (λ k. never k)) (left_at disk i copy named.0 (λ k. never k) off has))
-          | inr past ↦ (let more = performs.continues.proceeds.disks in let same = count in absurd (omega (arith, past, low, same, more)))
+          | inr past ↦ (let more = performs.continues.proceeds.disks.disks in let same = count in absurd (omega (arith, past, low, same, more)))
         ];
   }
 
@@ -285,7 +285,7 @@ module _ {L : Type 0} {o : Option Lone} (x y : View) (place : ℕ) (name : List 
         (live_at x y place name unspent performs.continues (performs.outside looks) changes told f goes d state_sector (changes.names.there d named) has.within) free)
 
     was_within : state_sector < x.bay.sectors d
-    was_within = subst (λ n. state_sector < n) (performs.continues.proceeds.sectors d (seat_disk k d seat)) has.within
+    was_within = subst (λ n. state_sector < n) (performs.continues.proceeds.disks.sectors d (seat_disk k d seat)) has.within
 
   -- a disk whose place has none says an earlier state, where it did before
   earlier_still : (k : ℕ) → LacksDrive f t x.slices (book x) k x.bay → Seats t y.slices k None → (d : ℕ) → f.seats k ≡ Some d
@@ -302,12 +302,12 @@ module _ {L : Type 0} {o : Option Lone} (x y : View) (place : ℕ) (name : List 
               (was_held k d seat vacated i off copy here named_d) (has k d seat vacated i off copy here).says in
               omega (arith, less, up))
           | inr past ↦
-              (let there = seat_disk k d seat in let more = performs.continues.proceeds.disks in absurd (omega (arith, past, same, there, more)))
+              (let there = seat_disk k d seat in let more = performs.continues.proceeds.disks.disks in absurd (omega (arith, past, same, there, more)))
         ]
         | inr other ↦
             (let less =
             lacks_still f t x.slices y.slices (book x) k disk x.bay y.bay lacks (one.1.off x.slices (λ e s w at. at)) (λ e s w away at. sliced_now e s w at) d seat
-            other (performs.continues.proceeds.sectors d (seat_disk k d seat)) i off copy here in
+            other (performs.continues.proceeds.disks.sectors d (seat_disk k d seat)) i off copy here in
             omega (arith, less, up))
       ]
 

@@ -14,7 +14,7 @@ use Rattle.pool.specs.Adding.{AddsNamed}
 use Rattle.pool.specs.Enlarging.{EnlargesNamed, IsEnlarging}
 use Rattle.pool.specs.Growing.{DoesMany, StopsBetween}
 use Rattle.pool.specs.Keeping.{Raises, most_raised}
-use Rattle.pool.specs.Moment.{MarksBut, Moment, moment_of}
+use Rattle.pool.specs.Moment.{KeepsDisks, MarksBut, Moment, moment_of}
 use Rattle.pool.specs.Proceeding.{Proceeds, has_growth}
 use Rattle.pool.specs.Replaced.{DriveWentSince}
 use Rattle.pool.specs.View.{View}
@@ -22,7 +22,7 @@ use Rattle.pool.specs.Works.{left_by}
 use Rattle.shr_tool.specs.declared.perform.Answer.{Answer}
 use Rattle.shr_tool.specs.declared.perform.Answer.TheVariants.{Given, Spent}
 use Rattle.shr_tool.specs.Events.{Event, answer_by, answer_of, calls_in, grow_word, line_of, stuck_line, text_of, worse}
-use Rattle.shr_tool.specs.Timeline.{EventContract, KeepsDisks}
+use Rattle.shr_tool.specs.Timeline.{EventContract}
 
 -- A line grows the pool as it stands: it adds a drive; it replaces one by a disk of other units, where nothing is against it; or it asks for works while one of a growth is
 -- left. `q` is the pool after the line, by which the disk of a name is known.

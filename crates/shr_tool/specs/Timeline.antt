@@ -1,5 +1,5 @@
 -- A run as a list of events at moments that never fall.
-use Rattle.std.specs.Prelude.{◌≡◌, ◌⊎◌, ℕ, ◌*◌, ◌<◌, ◌≤◌, true, false, List, [], ◌∷◌, drop, Some, None, Ok, Err}
+use Rattle.std.specs.Prelude.{◌≡◌, ◌⊎◌, ℕ, ◌*◌, ◌<◌, ◌≤◌, true, false, List, [], ◌∷◌, drop, Some, Ok, Err}
 use Rattle.rack.specs.Seen.{Image, Rose}
 use Rattle.rack.specs.Values.{Keeps}
 use Rattle.shr_script.specs.declared.Command.TheVariants.{Lose}
@@ -14,7 +14,7 @@ use Rattle.raid_laws.specs.Losses.{has_other}
 use Rattle.pool.specs.Calls.{CallFrame}
 use Rattle.pool.specs.Keeping.{HasMarkedSeats, KeepsBook, KeepsBookBut, KeepsWorks, Raises, most_raised}
 use Rattle.raid_laws.specs.Raid.{Raid}
-use Rattle.pool.specs.Moment.{IsNamed, MarksBut, Moment, moment_of}
+use Rattle.pool.specs.Moment.{IsNamed, KeepsDisks, MarksBut, Moment, moment_of}
 use Rattle.pool.specs.Continuing.{Continues, KeepsOutside}
 use Rattle.pool.specs.Entering.{StaysStill}
 use Rattle.pool.specs.Proceeding.{has_growth}
@@ -80,17 +80,6 @@ pub record KeepsStanding (Keeps : Raid → Raid → Type 0) (calls : ℕ) (p q :
   pub raises : RaisesBy (most_raised * calls) p.book q.book
   pub keeps : Keeps p.book q.book
   pub seated : HasMarkedSeats q.book
-
--- The bay has the disks that it had, under their names, and their counts of faults never fall. What waits under a name stays, but for what was
--- attached.
-pub record KeepsDisks (p q : Moment) : Type 0 where
-  pub disks : p.disks ≤ q.disks
-  pub sectors : (d : ℕ) → d < p.disks → q.sectors d ≡ p.sectors d
-  pub faults : (d : ℕ) → d < p.disks → p.faults d ≤ q.faults d
-  pub names : (d : ℕ) (name : List ℕ) → IsNamed p name d → IsNamed q name d
-  pub waits :
-      (name : List ℕ)
-      → (q.ready name ≡ p.ready name) ⊎ ((q.ready name ≡ None) × ((d : ℕ) × (p.disks ≤ d) × IsNamed q name d))
 
 -- A drive that is marked missing isn't written again: the disk of its place keeps what it holds, unless it is one of these.
 abbrev pub KeepsMissing : Moment → Moment → (ℕ → Type 0) → Type 0

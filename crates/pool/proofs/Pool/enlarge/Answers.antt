@@ -104,7 +104,7 @@ take_larger-requires-then-lacks_alone-clause-some g c =
     let own = c.in-Err.ensures in
     let was = sym c.has_drive.ensures ∙ c.if-not-has_drive.false in
     let listed = c.requires.listed in
-    subst (λ n. 0 < units_of n (book m).state.extent) (sym (own.enlarges.continues.proceeds.sectors c.args.disk c.requires.disk))
+    subst (λ n. 0 < units_of n (book m).state.extent) (sym (own.enlarges.continues.proceeds.disks.sectors c.args.disk c.requires.disk))
     (subst (λ n. 0 < units_of (x.bay.sectors c.args.disk) n) (sym own.loses.marks.same.extent)
     (some_units (book x).state c.args.place (units_of (x.bay.sectors c.args.disk) (book x).state.extent) (c.requires.fit.0.running.set.valid 0 (omega (arith, listed))) listed free.units))
 
@@ -115,7 +115,7 @@ take_larger-requires-then-lacks_alone-clause-reaches g c =
     let m = view g.R.Rack.seen g.R.Bay.shelf c.take_larger-2.new.self in
     let own = c.in-Err.ensures in
     let was = sym c.has_drive.ensures ∙ c.if-not-has_drive.false in
-    subst (λ n. reaches_own (book m) c.args.place n ≡ true) (sym (own.enlarges.continues.proceeds.sectors c.args.disk c.requires.disk))
+    subst (λ n. reaches_own (book m) c.args.place n ≡ true) (sym (own.enlarges.continues.proceeds.disks.sectors c.args.disk c.requires.disk))
     (still_reached x.arrays m.arrays (slices_shown x) (slices_shown m) c.requires.fit.0.running own.enlarges.continues.proceeds.fit.0.running own.loses.marks own.loses.arrays c.args.place
     (x.bay.sectors c.args.disk) free.reaches)
 

@@ -48,7 +48,7 @@ returns-in-Ok-clause-outcome g c =
     (record {
       opened = (bay_in pool).now;
       kept = opens.runs.1;
-      names = does.proceeds.names;
+      names = does.proceeds.disks.names;
       drives = pool_through seen _ runs (λ r. r.now) (λ r s ran. ran.1) _ (bay_in pool) opens.drives;
       from = moment_in seen shelf pool (λ r. r.now);
       clock = refl;
