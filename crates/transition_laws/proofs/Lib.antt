@@ -12,6 +12,7 @@ pub mod StepMakes
 pub mod SteppedMakes
 pub mod WriteMakes
 pub mod Follows
+pub mod Tracked
 pub mod MomentsOf
 pub mod Closed
 pub mod ClosedMakes
@@ -20,6 +21,9 @@ pub mod Rewritten
 pub mod MarkedMakes
 pub mod RunsOf
 pub mod OwnBook
+pub mod AnyOrigin
+pub mod LongerBooks
+pub mod OldSectors
 pub mod OverMakes
 pub mod LossesMade
 pub mod Readied

@@ -1,4 +1,5 @@
 pub mod Changes
+pub mod Growth
 pub mod Holds
 pub mod Losses
 pub mod Makes

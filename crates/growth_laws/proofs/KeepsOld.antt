@@ -1,0 +1,132 @@
+-- A work of a growth keeps the sectors that arrays have, and what they hold, where it makes its change of the book between losses.
+use Rattle.std.proofs.Common.{◌≡◌, ℕ, ◌+◌, ◌^◌, ◌<◌, ◌≤◌, ◌&&◌, Bool, true, false, not, nat_le, nat_lt, if◌then◌else◌, List, [], ◌∷◌, ◌++◌, length, refl, sym, ap, subst, ◌∙◌, inl, inr, arith, le-ltb, leb-true}
+use Rattle.std.proofs.lemmas.Bool.{and_from, and_parts, both_ways, cases_lt}
+use Rattle.std.proofs.lemmas.Option.{slice_get_past}
+use Rattle.std.specs.List.{list_all}
+use Rattle.std.specs.Option.{option_map_or}
+use Rattle.rack.specs.Values.{only, Values}
+use Rattle.rack.specs.Seen.{RackView}
+use Rattle.md_super.specs.Profile.{is_mirror}
+use Rattle.parity.specs.Xor.{zeros}
+use Rattle.pool_state.specs.declared.contents.State.{State}
+use Rattle.pool_state.specs.Valid.{has_arrays, has_epoch, has_places, is_drive, is_extent, is_valid}
+use Rattle.array_image.specs.States.{is_current}
+use Rattle.array_image.specs.Supers.{is_reshaping}
+use Rattle.array_model.specs.View.{IsArray, sectors_of, View}
+use Rattle.array_core.specs.Superblocks.{raised, settled}
+use Rattle.sync_laws.specs.Steps.{if_done}
+use Rattle.reshape_laws.specs.Ahead.{ahead_by, finished, taken_over}
+use Rattle.raid_laws.specs.Moves.{AreCaused, IsHeeded, IsSet}
+use Rattle.raid_laws.specs.Raid.{gone_in, held_in, is_failed, is_left, IsWritten, Raid, StopsInside}
+use Rattle.raid_laws.proofs.Over.{someone_left}
+use Rattle.transition_laws.specs.Changes.{Change, steps}
+use Rattle.transition_laws.specs.Growth.{AreReady}
+use Rattle.transition_laws.specs.Holds.{has_sector}
+use Rattle.transition_laws.specs.Reshaping.{FitsReshape}
+use Rattle.transition_laws.proofs.LongerBooks.{AllKeepOld, KeepsOld, losses_keep, old_joined, step_keeps}
+use Rattle.transition_laws.proofs.OldSectors.{IsGrowing, old_values}
+use Rattle.transition_laws.proofs.ReshapeSectors.{ahead_sectors, finished_sectors, taken_sectors}
+use Rattle.transition_laws.proofs.SettledMakes.{settled_sectors}
+use Rattle.growth_laws.specs.Growing.{GrowsBy, MakesTurn, moves, whole_position}
+
+-- ---- a state that lists a drive has no more arrays of the volume than arrays
+
+arrays_joined : (s : State) (place : ℕ) → is_valid s place ≡ true → s.joined ≤ s.made
+arrays_joined s place is =
+    let one = and_parts (is_extent s.extent) (has_places s place && (has_arrays s && (list_all is_drive s.drives.items && has_epoch s))) is in
+    let two = and_parts (has_places s place) (has_arrays s && (list_all is_drive s.drives.items && has_epoch s)) one.1 in
+    let three = and_parts (has_arrays s) (list_all is_drive s.drives.items && has_epoch s) two.1 in
+    let four = and_parts (nat_le 1 s.made && nat_le s.made 16) (nat_le 1 s.joined && (nat_le s.joined s.made && nat_le s.made (s.joined + 1))) three.0 in
+    let five = and_parts (nat_le 1 s.joined) (nat_le s.joined s.made && nat_le s.made (s.joined + 1)) four.1 in
+    leb-true s.joined s.made (and_parts (nat_le s.joined s.made) (nat_le s.made (s.joined + 1)) five.1).0
+
+current_listed : (s : State) (p : ℕ) → is_current s p ≡ true → p < length s.drives.items
+current_listed s p current = elim (cases_lt p (length s.drives.items)) [
+  | inl below ↦ below
+  | inr past ↦ absurd (both_ways (is_current s p) (ap (λ o. option_map_or (λ drive. not drive.missing) o false) (slice_get_past s.drives.items p past)) current)
+]
+
+joined_low : (v w : Raid) (a b : RackView) → IsSet v a → AreCaused v w a b → (n : ℕ) → is_failed w n ≡ false → v.state.joined ≤ v.state.made
+joined_low v w a b set caused n goes =
+    let some = someone_left w n goes in
+    let left = caused.left some.0 (and_from (is_current w.state some.0) (not (gone_in w some.0)) some.1 (ap not some.2)) in
+    let current = (and_parts (is_current v.state some.0) (not (gone_in v some.0)) left).0 in
+    arrays_joined v.state some.0 (set.valid some.0 (current_listed v.state some.0 current))
+
+-- ---- changes of one array
+
+-- rows are moved
+pub moves_keep : (v : Raid) (n rows k : ℕ) → (v.arrays n).young ≡ false → (v.arrays n).truth.size < 2 ^ 48 → KeepsOld v k (moves n rows v)
+moves_keep v n rows k young small =
+    step_keeps v k n (ahead_by (v.arrays n) rows (raised (v.arrays n).truth.events)) (λ same. small)
+    (λ same y has. ahead_sectors (v.arrays n) rows (raised (v.arrays n).truth.events) young y (subst (λ j. has_sector (v.arrays j) y ≡ true) same has))
+
+-- a reshape ends that has moved all
+pub finish_keeps : (v : Raid) (n k : ℕ) → IsArray (v.arrays n) → (v.arrays n).young ≡ false → is_reshaping (v.arrays n).truth ≡ true
+    → (v.arrays n).truth.reshape_position ≡ whole_position (v.arrays n) → KeepsOld v k (steps n (finished (v.arrays n) (raised (v.arrays n).truth.events)))
+finish_keeps v n k is_array young reshaping whole =
+    step_keeps v k n (finished (v.arrays n) (raised (v.arrays n).truth.events)) (λ same. is_array.small)
+    (λ same y has.
+    sym (finished_sectors (v.arrays n) (raised (v.arrays n).truth.events) is_array young reshaping whole y)
+    ∙ subst (λ j. has_sector (v.arrays j) y ≡ true) same has)
+
+-- a mirror becomes RAID-5
+pub takeover_keeps : (v : Raid) (n k : ℕ) → IsArray (v.arrays n) → (v.arrays n).young ≡ false → is_reshaping (v.arrays n).truth ≡ false → is_mirror (v.arrays n).truth ≡ true
+    → KeepsOld v k (steps n (taken_over (v.arrays n) (raised (v.arrays n).truth.events)))
+takeover_keeps v n k is_array young not_reshaping mirrored =
+    step_keeps v k n (taken_over (v.arrays n) (raised (v.arrays n).truth.events)) (λ same. is_array.small)
+    (λ same y has.
+    sym (taken_sectors (v.arrays n) (raised (v.arrays n).truth.events) is_array young not_reshaping mirrored y)
+    ∙ subst (λ j. has_sector (v.arrays j) y ≡ true) same has)
+
+-- an array is cleaned
+pub clean_keeps : (v : Raid) (n k : ℕ) → (v.arrays n).truth.size < 2 ^ 48 → KeepsOld v k (steps n (settled (v.arrays n)))
+clean_keeps v n k small =
+    step_keeps v k n (settled (v.arrays n)) (λ same. small) (λ same y has. settled_sectors (v.arrays n) small y ∙ subst (λ j. has_sector (v.arrays j) y ≡ true) same has)
+
+-- ---- values that fit
+
+-- those that arrays hold fit a step of a reshape
+pub old_fit : (v : Raid) (x : RackView) (n : ℕ) → IsWritten (v.arrays n) → FitsReshape v n (old_values v x)
+old_fit v x n written = record {
+  written = written;
+  zeros_past = λ y past. ap (λ (t : Bool). (if t then held_in v x n y else only (zeros 512)).current) (le-ltb y (sectors_of (v.arrays n)) past);
+}
+
+-- ---- calls
+
+-- the lists of a call's changes
+abbrev pub made_changes : List Change → Change → Bool → List Change → List Change
+made_changes before change is_done after = before ++ if_done is_done after (change ∷ after)
+
+-- what a call has that changes the book between losses
+pub record IsTurning (v w : Raid) (a b : RackView) : Type 0 where
+  pub before : IsHeeded v
+  pub after : IsHeeded w
+  pub began : IsSet v a
+  pub set : IsSet w b
+  pub inside : StopsInside b
+  pub caused : AreCaused v w a b
+  pub made : v.state.made ≤ w.state.made
+  pub joined : v.state.joined ≤ w.state.joined
+
+pub turn_grows : (change : Change) (is_done : Bool) (Fits : (ℕ → ℕ → Values) → Type 0) (v w : Raid) (a b : RackView) → (turn : MakesTurn change is_done Fits v w a b)
+    → Fits (old_values v a) → ((n : ℕ) → n < v.state.joined → KeepsOld v n change) → IsTurning v w a b → AreReady v
+    → IsGrowing (made_changes turn.before change is_done turn.after) v w a b
+turn_grows change is_done Fits v w a b turn fits keeps call ready = record {
+  makes = turn.makes (old_values v a) fits;
+  old = λ n low. old_joined v n turn.before (if_done is_done turn.after (change ∷ turn.after)) (losses_keep v n turn.before turn.losses_before) (rest n low is_done);
+  before = call.before;
+  after = call.after;
+  began = call.began;
+  set = call.set;
+  inside = call.inside;
+  made = call.made;
+  joined = call.joined;
+  joined_made = joined_low v w a b call.began call.caused;
+  ready = ready;
+}
+  where
+    rest : (n : ℕ) → n < v.state.joined → (d : Bool) → AllKeepOld v n (if_done d turn.after (change ∷ turn.after))
+    rest n low true = (keeps n low, losses_keep v n turn.after turn.losses_after)
+    rest n low false = losses_keep v n turn.after turn.losses_after
