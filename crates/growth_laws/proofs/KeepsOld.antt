@@ -1,5 +1,5 @@
 -- A work of a growth keeps the sectors that arrays have, and what they hold, where it makes its change of the book between losses.
-use Rattle.std.proofs.Common.{◌≡◌, ℕ, ◌+◌, ◌^◌, ◌<◌, ◌≤◌, ◌&&◌, Bool, true, false, not, nat_le, nat_lt, if◌then◌else◌, List, [], ◌∷◌, ◌++◌, length, refl, sym, ap, subst, ◌∙◌, inl, inr, arith, le-ltb, leb-true}
+use Rattle.std.proofs.Common.{◌≡◌, ℕ, ◌+◌, ◌^◌, ◌<◌, ◌≤◌, ◌&&◌, Bool, true, false, not, nat_le, if◌then◌else◌, List, ◌∷◌, ◌++◌, length, sym, ap, subst, ◌∙◌, inl, inr, le-ltb, leb-true}
 use Rattle.std.proofs.lemmas.Bool.{and_from, and_parts, both_ways, cases_lt}
 use Rattle.std.proofs.lemmas.Option.{slice_get_past}
 use Rattle.std.specs.List.{list_all}
@@ -12,12 +12,12 @@ use Rattle.pool_state.specs.declared.contents.State.{State}
 use Rattle.pool_state.specs.Valid.{has_arrays, has_epoch, has_places, is_drive, is_extent, is_valid}
 use Rattle.array_image.specs.States.{is_current}
 use Rattle.array_image.specs.Supers.{is_reshaping}
-use Rattle.array_model.specs.View.{IsArray, sectors_of, View}
+use Rattle.array_model.specs.View.{IsArray, sectors_of}
 use Rattle.array_core.specs.Superblocks.{raised, settled}
 use Rattle.sync_laws.specs.Steps.{if_done}
 use Rattle.reshape_laws.specs.Ahead.{ahead_by, finished, taken_over}
 use Rattle.raid_laws.specs.Moves.{AreCaused, IsHeeded, IsSet}
-use Rattle.raid_laws.specs.Raid.{gone_in, held_in, is_failed, is_left, IsWritten, Raid, StopsInside}
+use Rattle.raid_laws.specs.Raid.{gone_in, held_in, is_failed, IsWritten, Raid, StopsInside}
 use Rattle.raid_laws.proofs.Over.{someone_left}
 use Rattle.transition_laws.specs.Changes.{Change, steps}
 use Rattle.transition_laws.specs.Growth.{AreReady}
@@ -27,7 +27,7 @@ use Rattle.transition_laws.proofs.LongerBooks.{AllKeepOld, KeepsOld, losses_keep
 use Rattle.transition_laws.proofs.OldSectors.{IsGrowing, old_values}
 use Rattle.transition_laws.proofs.ReshapeSectors.{ahead_sectors, finished_sectors, taken_sectors}
 use Rattle.transition_laws.proofs.SettledMakes.{settled_sectors}
-use Rattle.growth_laws.specs.Growing.{GrowsBy, MakesTurn, moves, whole_position}
+use Rattle.growth_laws.specs.Growing.{MakesTurn, moves, whole_position}
 
 -- ---- a state that lists a drive has no more arrays of the volume than arrays
 
