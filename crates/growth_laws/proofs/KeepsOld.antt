@@ -1,5 +1,5 @@
 -- A work of a growth keeps the sectors that arrays have, and what they hold, where it makes its change of the book between losses.
-use Rattle.std.proofs.Common.{◌≡◌, ℕ, ◌+◌, ◌^◌, ◌<◌, ◌≤◌, ◌&&◌, Bool, true, false, not, nat_le, if◌then◌else◌, List, ◌∷◌, ◌++◌, length, sym, ap, subst, ◌∙◌, inl, inr, le-ltb, leb-true}
+use Rattle.std.proofs.Common.{◌≡◌, ℕ, ◌+◌, ◌^◌, ◌<◌, ◌≤◌, ◌&&◌, Bool, true, false, not, nat_le, if◌then◌else◌, List, ◌∷◌, ◌++◌, length, sym, ap, subst, ◌∙◌, inl, inr, le-ltb, leb-true, ap₂, bit_and, ◌==◌, eq-eqb, int_eq, pos, ◌-◌, ◌*◌}
 use Rattle.std.proofs.lemmas.Bool.{and_from, and_parts, both_ways, cases_lt}
 use Rattle.std.proofs.lemmas.Option.{slice_get_past}
 use Rattle.std.specs.List.{list_all}
@@ -12,21 +12,24 @@ use Rattle.pool_state.specs.declared.contents.State.{State}
 use Rattle.pool_state.specs.Valid.{has_arrays, has_epoch, has_places, is_drive, is_extent, is_valid}
 use Rattle.array_image.specs.States.{is_current}
 use Rattle.array_image.specs.Supers.{is_reshaping}
-use Rattle.array_model.specs.View.{IsArray, sectors_of}
+use Rattle.array_model.specs.View.{IsArray, IsSameArray, sectors_of, View}
 use Rattle.array_core.specs.Superblocks.{raised, settled}
 use Rattle.sync_laws.specs.Steps.{if_done}
 use Rattle.reshape_laws.specs.Ahead.{ahead_by, finished, taken_over}
 use Rattle.raid_laws.specs.Moves.{AreCaused, IsHeeded, IsSet}
 use Rattle.raid_laws.specs.Raid.{gone_in, held_in, is_failed, IsWritten, Raid, StopsInside}
+use Rattle.raid_laws.proofs.Frames.{geometry_frame}
 use Rattle.raid_laws.proofs.Over.{someone_left}
-use Rattle.transition_laws.specs.Changes.{Change, steps}
+use Rattle.transition_laws.specs.Changes.{Change, changed, steps}
 use Rattle.transition_laws.specs.Growth.{AreReady}
-use Rattle.transition_laws.specs.Holds.{has_sector}
+use Rattle.transition_laws.specs.Holds.{has_sector, moved_to}
 use Rattle.transition_laws.specs.Reshaping.{FitsReshape}
-use Rattle.transition_laws.proofs.LongerBooks.{AllKeepOld, KeepsOld, losses_keep, old_joined, step_keeps}
+use Rattle.transition_laws.proofs.LongerBooks.{AllKeepOld, HasOldSectors, KeepsOld, losses_keep, old_joined, step_keeps}
 use Rattle.transition_laws.proofs.OldSectors.{IsGrowing, old_values}
-use Rattle.transition_laws.proofs.ReshapeSectors.{ahead_sectors, finished_sectors, taken_sectors}
+use Rattle.transition_laws.proofs.ReshapeSectors.{ahead_sectors, finished_sectors, mirror_two, taken_sectors}
 use Rattle.transition_laws.proofs.SettledMakes.{settled_sectors}
+use Rattle.transition_laws.proofs.SteppedMakes.{framed_sectors}
+use Rattle.reshape_laws.proofs.Finishing.{no_mirror}
 use Rattle.growth_laws.specs.Growing.{MakesTurn, moves, whole_position}
 
 -- ---- a state that lists a drive has no more arrays of the volume than arrays
@@ -53,36 +56,55 @@ joined_low v w a b set caused n goes =
     let current = (and_parts (is_current v.state some.0) (not (gone_in v some.0)) left).0 in
     arrays_joined v.state some.0 (set.valid some.0 (current_listed v.state some.0 current))
 
--- ---- changes of one array
+-- ---- changes of one array, by the book behind losses
 
--- rows are moved
-pub moves_keep : (v : Raid) (n rows k : ℕ) → (v.arrays n).young ≡ false → (v.arrays n).truth.size < 2 ^ 48 → KeepsOld v k (moves n rows v)
-moves_keep v n rows k young small =
-    step_keeps v k n (ahead_by (v.arrays n) rows (raised (v.arrays n).truth.events)) (λ same. small)
-    (λ same y has. ahead_sectors (v.arrays n) rows (raised (v.arrays n).truth.events) young y (subst (λ j. has_sector (v.arrays j) y ≡ true) same has))
+-- an array that has lost members alone has the sectors that it had
+lost_sectors : (u w : View) → IsSameArray u w → u.young ≡ false → (y : ℕ) → has_sector u y ≡ has_sector w y
+lost_sectors u w same young y =
+    let geometry = same.geometry in
+    framed_sectors u w (geometry_frame u.truth w.truth geometry)
+    (ap₂ (λ features position. if bit_and features 4 == 4 then position else 0) geometry.features geometry.position) young (same.young ∙ young) y
 
--- a reshape ends that has moved all
-pub finish_keeps : (v : Raid) (n k : ℕ) → IsArray (v.arrays n) → (v.arrays n).young ≡ false → is_reshaping (v.arrays n).truth ≡ true
-    → (v.arrays n).truth.reshape_position ≡ whole_position (v.arrays n) → KeepsOld v k (steps n (finished (v.arrays n) (raised (v.arrays n).truth.events)))
-finish_keeps v n k is_array young reshaping whole =
-    step_keeps v k n (finished (v.arrays n) (raised (v.arrays n).truth.events)) (λ same. is_array.small)
-    (λ same y has.
-    sym (finished_sectors (v.arrays n) (raised (v.arrays n).truth.events) is_array young reshaping whole y)
-    ∙ subst (λ j. has_sector (v.arrays j) y ≡ true) same has)
+-- Array n of v has become `mid` by losses, and a step makes `next` of that.
+module _ (v : Raid) (n k : ℕ) (mid : View) (is_array : IsArray (v.arrays n)) (young : (v.arrays n).young ≡ false) (same : IsSameArray (v.arrays n) mid) where
+  small : mid.truth.size < 2 ^ 48
+  small = subst (λ size. size < 2 ^ 48) (sym same.geometry.size) is_array.small
 
--- a mirror becomes RAID-5
-pub takeover_keeps : (v : Raid) (n k : ℕ) → IsArray (v.arrays n) → (v.arrays n).young ≡ false → is_reshaping (v.arrays n).truth ≡ false → is_mirror (v.arrays n).truth ≡ true
-    → KeepsOld v k (steps n (taken_over (v.arrays n) (raised (v.arrays n).truth.events)))
-takeover_keeps v n k is_array young not_reshaping mirrored =
-    step_keeps v k n (taken_over (v.arrays n) (raised (v.arrays n).truth.events)) (λ same. is_array.small)
-    (λ same y has.
-    sym (taken_sectors (v.arrays n) (raised (v.arrays n).truth.events) is_array young not_reshaping mirrored y)
-    ∙ subst (λ j. has_sector (v.arrays j) y ≡ true) same has)
+  behind : (next : View) → next.truth.size < 2 ^ 48 → ((y : ℕ) → has_sector mid y ≡ true → has_sector next y ≡ true) → KeepsOld v k (steps n next)
+  behind next low longer =
+      step_keeps v k n next (λ other. low)
+      (λ other y has. longer y (sym (lost_sectors (v.arrays n) mid same young y) ∙ subst (λ j. has_sector (v.arrays j) y ≡ true) other has))
 
--- an array is cleaned
-pub clean_keeps : (v : Raid) (n k : ℕ) → (v.arrays n).truth.size < 2 ^ 48 → KeepsOld v k (steps n (settled (v.arrays n)))
-clean_keeps v n k small =
-    step_keeps v k n (settled (v.arrays n)) (λ same. small) (λ same y has. settled_sectors (v.arrays n) small y ∙ subst (λ j. has_sector (v.arrays j) y ≡ true) same has)
+  reshaping_same : is_reshaping mid.truth ≡ is_reshaping (v.arrays n).truth
+  reshaping_same = ap (λ features. bit_and features 4 == 4) same.geometry.features
+
+  mirror_same : is_mirror mid.truth ≡ is_mirror (v.arrays n).truth
+  mirror_same = ap (λ level. int_eq level (pos 1)) same.geometry.level
+
+  -- rows are moved
+  pub moves_keep : (rows events : ℕ) → KeepsOld v k (steps n (ahead_by mid rows events))
+  moves_keep rows events = behind (ahead_by mid rows events) small (ahead_sectors mid rows events (same.young ∙ young))
+
+  -- a reshape ends that has moved all
+  pub finish_keeps : (events : ℕ) → is_reshaping (v.arrays n).truth ≡ true → (v.arrays n).truth.reshape_position ≡ whole_position (v.arrays n) → KeepsOld v k (steps n (finished mid events))
+  finish_keeps events reshaping whole =
+      behind (finished mid events) small
+      (λ y has.
+      sym (finished_sectors mid events (mirror_same ∙ no_mirror (v.arrays n) is_array reshaping) (same.young ∙ young) (reshaping_same ∙ reshaping)
+      (same.geometry.position ∙ whole ∙ ap₂ (λ disks size. (disks - 1) * size) (sym same.geometry.disks) (sym same.geometry.size)) y)
+      ∙ has)
+
+  -- a mirror becomes RAID-5
+  pub takeover_keeps : (events : ℕ) → is_reshaping (v.arrays n).truth ≡ false → is_mirror (v.arrays n).truth ≡ true → KeepsOld v k (steps n (taken_over mid events))
+  takeover_keeps events not_reshaping mirrored =
+      behind (taken_over mid events) small
+      (λ y has.
+      sym (taken_sectors mid events (same.geometry.disks ∙ mirror_two (v.arrays n) is_array mirrored) (same.young ∙ young) (reshaping_same ∙ not_reshaping) (mirror_same ∙ mirrored) y)
+      ∙ has)
+
+  -- an array is cleaned
+  pub clean_keeps : KeepsOld v k (steps n (settled mid))
+  clean_keeps = behind (settled mid) small (λ y has. settled_sectors mid small y ∙ has)
 
 -- ---- values that fit
 

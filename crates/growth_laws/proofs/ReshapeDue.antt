@@ -7,6 +7,7 @@ use Rattle.array_image.specs.Supers.{is_reshaping}
 use Rattle.array_model.specs.View.{sectors_of, shape_of, View, rows_of}
 use Rattle.array_core.specs.Superblocks.{raised}
 use Rattle.reshape_laws.specs.Ahead.{next_row}
+use Rattle.reshape_laws.proofs.Finishing.{no_mirror}
 use Rattle.reshape_laws.proofs.Arrays.{ahead_written, finished_written}
 use Rattle.reshape_laws.proofs.StepsOf.{reach_low}
 use Rattle.raid_laws.specs.Moves.{IsHeeded, IsSet}
@@ -117,7 +118,7 @@ ended_keeps v x n set is =
       unsynced = refl;
       events = (raised_low u.truth.events pool.events pool.events_end).0;
       written = λ written. finished_written u events seated.is_array u.number written;
-      sectors = λ y has. sym (finished_sectors u events seated.is_array is.rest.grown is.reshaping is.whole y) ∙ has;
+      sectors = λ y has. sym (finished_sectors u events (no_mirror u seated.is_array is.reshaping) is.rest.grown is.reshaping is.whole y) ∙ has;
       spent = λ y has past. finished_spent u events y is.reshaping (moved_past u y is.rest.grown is.reshaping has past);
       new = λ s. finished_new s u events is.reshaping;
     }
@@ -129,5 +130,5 @@ ended_turn v f number n a b on answered call is w c losses =
     reshape_then v f (ended v n) number n a b on answered call w c (FitsReshape v n) (λ vals fits. fits.written)
     (λ vals fits p stands live.
     holds_next n (ended v n) v p vals a stands live is.rest.low
-    (finished_sectors (v.arrays n) (raised (v.arrays n).truth.events) (call.set.arrays n is.rest.low).is_array is.rest.grown is.reshaping is.whole))
+    (finished_sectors (v.arrays n) (raised (v.arrays n).truth.events) (no_mirror (v.arrays n) (call.set.arrays n is.rest.low).is_array is.reshaping) is.rest.grown is.reshaping is.whole))
     losses

@@ -19,10 +19,11 @@ use Rattle.reshape_laws.specs.Ahead.{ahead_by, finished, next_row, taken_over}
 use Rattle.reshape_laws.specs.Reshapes.{joined, lacks_joined, lacks_two}
 use Rattle.raid_laws.specs.Moves.{AreCaused, IsHeeded}
 use Rattle.raid_laws.specs.NewDrive.{first_in, slice_length}
-use Rattle.raid_laws.specs.Raid.{Raid, is_empty, is_used_up}
+use Rattle.raid_laws.specs.Raid.{IsWritten, Raid, is_empty, is_used_up}
 pub use Rattle.growth_laws.specs.NewArrays.{drive_id, may_make, reaching, views_of}
 use Rattle.growth_laws.specs.Losses.{LosesBook}
 use Rattle.transition_laws.specs.Changes.{Change, changed, closed, makes, readied, steps}
+use Rattle.transition_laws.specs.Growth.{AreReady}
 use Rattle.transition_laws.specs.Losses.{AreLosses}
 use Rattle.transition_laws.specs.Makes.{Makes}
 use Rattle.transition_laws.specs.Reshaping.{FitsReshape}
@@ -186,3 +187,10 @@ pub record MakesReshape (change : Raid → Change) (Lacks : Raid → Raid → Ty
 -- that of the next rows: some of them, at least one and at most so many
 abbrev pub MovesRows : (n most : ℕ) → Raid → Raid → RackView → RackView → {E : Type 0} → Result ℕ E → Type 0
 MovesRows n most v w a b result = DoesRows (λ rows. MakesReshape (moves n rows) (Lacks (Reshape n)) n v w a b) (rows_of (v.arrays n) - next_row (v.arrays n)) most result
+
+-- ---- what arrays keep in it
+
+-- What a work on array n is asked for where values are spoken of: no array of the volume is young, and the array's truth has the fields that a pool writes.
+pub record IsFitToGrow (v : Raid) (n : ℕ) : Type 0 where
+  pub ready : AreReady v
+  pub written : IsWritten (v.arrays n)

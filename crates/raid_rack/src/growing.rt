@@ -7,7 +7,7 @@ ghost use Rattle.array_image.specs.Supers.{is_reshaping};
 ghost use Rattle.reshape_laws.specs.Reshapes.{lacks_joined, lacks_two};
 ghost use Rattle.raid_laws.specs.Moves.{IsHeeded, RaisesBy};
 ghost use Rattle.growth_laws.specs.Growing as spec;
-ghost use Rattle.growth_laws.specs.Growing.{Grows, Lacks, MakesReshape, MovesRows};
+ghost use Rattle.growth_laws.specs.Growing.{Grows, IsFitToGrow, Lacks, MakesReshape, MovesRows};
 ghost use Rattle.raid_rack.specs.RaidRack.{IsRunning, raid_by};
 
 use crate::arrays::{Arrays, RaidRack};
@@ -262,8 +262,9 @@ impl<R: Rack> RaidRack<R> {
     ghost use Rattle.array_core.specs.Seats.{seat_of};
     ghost use Rattle.slice_rack.specs.SliceRack.{below_of, tables};
     ghost use Rattle.slice_rack.specs.Slices.{seat_of as disk_at};
-    ghost use Rattle.raid_rack.specs.RaidRack.{IsFit, SliceRuns, arrays_in, raid_in, refused_in, slices_in, slices_seen, written_in};
+    ghost use Rattle.raid_rack.specs.RaidRack.{IsFit, SliceRuns, arrays_in, raid_in, raid_seen, refused_in, slices_in, slices_seen, written_in};
     ghost use Rattle.raid_rack.specs.Growing.{CannotLay};
+    ghost use Rattle.transition_laws.specs.Growth.{KeepsOldSectors};
 
     /// Makes RAID-5 of a mirror, durably. No value moves. It is refused where the array is no mirror, is young or has rows left to resync, and
     /// then nothing changes; else where it can't be done once the losses of this call are marked.
@@ -299,6 +300,7 @@ impl<R: Rack> RaidRack<R> {
         ensures idle { spec.is_due (raid_in self.old) (Reshape array) ≡ false → (is_ok result ≡ false) × (self.new ≡ self.old) }
         ensures grows { spec.is_due (raid_in self.old) (Reshape array) ≡ true
             → MovesRows array most (raid_in self.old) (raid_in self.new) (slices_seen R.seen self.old) (slices_seen R.seen self.new) result }
+        ensures old { IsFitToGrow (raid_in self.old) array → KeepsOldSectors (raid_in self.old).state.joined (raid_seen R.seen self.old) (raid_seen R.seen self.new) }
         ensures named { IfErr result (λ e. e.array ≡ array) }
         ensures fit { IsFit (arrays_in self.new) (slices_seen R.seen self.new) }
         ensures raises { RaisesBy 18 (raid_in self.old) (raid_in self.new) }
@@ -321,6 +323,7 @@ impl<R: Rack> RaidRack<R> {
             → Grows (Reshape array) (Lacks (Reshape array)) (raid_in self.old) (raid_in self.new) (slices_seen R.seen self.old) (slices_seen R.seen self.new) (is_ok result) }
         ensures contents { spec.is_due (raid_in self.old) (Reshape array) ≡ true
             → MakesReshape (spec.change_of (Reshape array)) (Lacks (Reshape array)) array (raid_in self.old) (raid_in self.new) (slices_seen R.seen self.old) (slices_seen R.seen self.new) (is_ok result) }
+        ensures old { IsFitToGrow (raid_in self.old) array → KeepsOldSectors (raid_in self.old).state.joined (raid_seen R.seen self.old) (raid_seen R.seen self.new) }
         ensures named { IfErr result (λ e. e.array ≡ array) }
         ensures fit { IsFit (arrays_in self.new) (slices_seen R.seen self.new) }
         ensures raises { RaisesBy 18 (raid_in self.old) (raid_in self.new) }
@@ -343,6 +346,7 @@ impl<R: Rack> RaidRack<R> {
             → Grows (Finish array) (Lacks (Finish array)) (raid_in self.old) (raid_in self.new) (slices_seen R.seen self.old) (slices_seen R.seen self.new) (is_ok result) }
         ensures contents { spec.is_due (raid_in self.old) (Finish array) ≡ true
             → MakesReshape (spec.change_of (Finish array)) (Lacks (Finish array)) array (raid_in self.old) (raid_in self.new) (slices_seen R.seen self.old) (slices_seen R.seen self.new) (is_ok result) }
+        ensures old { IsFitToGrow (raid_in self.old) array → KeepsOldSectors (raid_in self.old).state.joined (raid_seen R.seen self.old) (raid_seen R.seen self.new) }
         ensures named { IfErr result (λ e. e.array ≡ array) }
         ensures fit { IsFit (arrays_in self.new) (slices_seen R.seen self.new) }
         ensures raises { RaisesBy 18 (raid_in self.old) (raid_in self.new) }
