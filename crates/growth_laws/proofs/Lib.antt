@@ -11,6 +11,7 @@ pub mod Turning
 pub mod CleanTurn
 pub mod ReshapeMakes
 pub mod ReshapeDue
+pub mod ReshapeBegins
 pub mod Stating
 pub mod Listing
 pub mod Reached

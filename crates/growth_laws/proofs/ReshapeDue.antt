@@ -24,7 +24,7 @@ use Rattle.transition_laws.proofs.StepMakes.{holds_next}
 use Rattle.growth_laws.specs.Growing.{has_room, is_due, is_synced, MakesTurn, whole_position}
 use Rattle.growth_laws.proofs.Becoming.{IsAtRest, reshaping_rests, synced_parts}
 use Rattle.growth_laws.proofs.Due.{ended, moved}
-use Rattle.growth_laws.proofs.ReshapeMakes.{KeepsMembers, ReshapeCall, reshape_then}
+use Rattle.growth_laws.proofs.ReshapeMakes.{KeepsMembers, none_joins, ReshapeCall, reshape_then}
 
 -- a sector past the end of an array has been moved
 moved_past : (u : View) (y : ℕ) → u.young ≡ false → is_reshaping u.truth ≡ true → has_sector u y ≡ true → sectors_of u ≤ y → y < u.truth.reshape_position
@@ -53,7 +53,7 @@ is_moving v x n set heeded due =
     }
 
 pub moved_keeps : (v : Raid) (x : RackView) (n rows : ℕ) → IsSet v x → IsMoving v n → 0 < rows → next_row (v.arrays n) + rows ≤ rows_of (v.arrays n)
-    → KeepsMembers (v.arrays n) (moved rows v n)
+    → KeepsMembers (v.arrays n) (moved rows v n) x
 unfolding shape_of
 moved_keeps v x n rows set is some left =
     let u = v.arrays n in
@@ -61,8 +61,8 @@ moved_keeps v x n rows set is some left =
     let pool = seated.is_of_pool in
     let events = raised (v.arrays n).truth.events in
     record {
-      members = refl;
-      seats = refl;
+      joining = none_joins u (moved rows v n) x refl;
+      some = λ left. left;
       marked = refl;
       resync = refl;
       unsynced = refl;
@@ -103,7 +103,7 @@ is_moved v x n set heeded due =
       whole = eqb-true u.truth.reshape_position (whole_position u) room.0;
     }
 
-pub ended_keeps : (v : Raid) (x : RackView) (n : ℕ) → IsSet v x → IsMoved v n → KeepsMembers (v.arrays n) (ended v n)
+pub ended_keeps : (v : Raid) (x : RackView) (n : ℕ) → IsSet v x → IsMoved v n → KeepsMembers (v.arrays n) (ended v n) x
 unfolding shape_of
 ended_keeps v x n set is =
     let u = v.arrays n in
@@ -111,8 +111,8 @@ ended_keeps v x n set is =
     let pool = seated.is_of_pool in
     let events = raised (v.arrays n).truth.events in
     record {
-      members = refl;
-      seats = refl;
+      joining = none_joins u (ended v n) x refl;
+      some = λ left. left;
       marked = refl;
       resync = refl;
       unsynced = refl;

@@ -2,11 +2,11 @@
 use Rattle.std.specs.Prelude.{◌≡◌, ◌⊎◌, ℕ, ◌+◌, ◌-◌, ◌*◌, ◌<◌, ◌≤◌, ◌^◌, Bool, true, false, ◌==◌, ◌&&◌, ◌||◌, not, nat_le, nat_lt, List, ◌∷◌, ◌++◌, is_none, length, Result, count_by, sum_by}
 use Rattle.std.specs.List.{range_with_len}
 use Rattle.rack.specs.Seen.{RackView}
-use Rattle.rack.specs.Values.{Values}
+use Rattle.rack.specs.Values.{IsSingle, Values}
 use Rattle.md_super.specs.Profile.{is_mirror, is_raid5}
 use Rattle.pool_state.specs.declared.contents.Work.{Work}
 use Rattle.pool_state.specs.declared.contents.Work.TheVariants.{Resync, Rebuild, TakeOver, Begin, Reshape, Finish, Make, Zero, Ready, Extend, Close}
-use Rattle.array_image.specs.Places.{member_slice}
+use Rattle.array_image.specs.Places.{data_sector, member_slice}
 use Rattle.array_image.specs.SoundArray.{first_unsynced}
 use Rattle.array_image.specs.States.{current_places, is_current}
 use Rattle.array_image.specs.Supers.{is_reshaping}
@@ -17,7 +17,7 @@ use Rattle.sync_laws.specs.Rows.{lacks_two as lacks_two_in}
 use Rattle.sync_laws.specs.Steps.{DoesRows, if_done, rebuilt, resynced, zeroed}
 use Rattle.reshape_laws.specs.Ahead.{ahead_by, finished, next_row, taken_over}
 use Rattle.reshape_laws.specs.Reshapes.{joined, lacks_joined, lacks_two}
-use Rattle.raid_laws.specs.Moves.{AreCaused, IsHeeded}
+use Rattle.raid_laws.specs.Moves.{AreCaused, AreMarked, IsHeeded}
 use Rattle.raid_laws.specs.NewDrive.{first_in, slice_length}
 use Rattle.raid_laws.specs.Raid.{IsWritten, Raid, is_empty, is_used_up}
 pub use Rattle.growth_laws.specs.NewArrays.{drive_id, may_make, reaching, views_of}
@@ -106,6 +106,12 @@ pub record HasJoiningSlice (v : Raid) (n place : ℕ) (x : RackView) : Type 0 wh
   pub disk : is_current v.state place ≡ true → member_slice place n < x.disks
   pub sectors : is_current v.state place ≡ true → slice_length (v.arrays n) ≤ x.sectors (member_slice place n)
 
+-- That slice has one value of 512 bytes in each sector of the member's data, unless the place is missing.
+abbrev pub HasSettledSlice : Raid → (n place : ℕ) → RackView → Type 0
+HasSettledSlice v n place x =
+    is_current v.state place ≡ true → (t : ℕ) → t < (v.arrays n).truth.size
+    → IsSingle (x.held (member_slice place n) (data_sector + t)) × (length (x.held (member_slice place n) (data_sector + t)).current ≡ 512)
+
 -- ---- what it changes
 
 -- so many next rows of a reshape are moved
@@ -183,6 +189,15 @@ MakesClean n v w a b = (is_done : Bool) × MakesTurn (steps n (settled (v.arrays
 pub record MakesReshape (change : Raid → Change) (Lacks : Raid → Raid → Type 0) (n : ℕ) (v w : Raid) (a b : RackView) (answered : Bool) : Type 0 where
   pub grows : GrowsBy change Lacks v w a b answered
   pub contents : MakesTurn (change grows.turns.mid) grows.turns.is_done (FitsReshape v n) v w a b
+
+-- Array n is cleaned, and a step of its reshape is made behind that, of slices of which this is seen: by the book that the run has then, in which whoever
+-- went is marked.
+pub record CleansAndReshapes {X : Type 0} (seen : X → RackView) (change : Raid → Change) (Lacks : Raid → Raid → Type 0) (n : ℕ) (v w : Raid) (a b : RackView) (answered : Bool) : Type 0 where
+  pub mid : Raid
+  pub at : X
+  pub cleans : MakesClean n v mid a (seen at)
+  pub marked : AreMarked mid
+  pub step : MakesReshape change Lacks n mid w (seen at) b answered
 
 -- that of the next rows: some of them, at least one and at most so many
 abbrev pub MovesRows : (n most : ℕ) → Raid → Raid → RackView → RackView → {E : Type 0} → Result ℕ E → Type 0

@@ -7,7 +7,7 @@ ghost use Rattle.array_image.specs.Supers.{is_reshaping};
 ghost use Rattle.reshape_laws.specs.Reshapes.{lacks_joined, lacks_two};
 ghost use Rattle.raid_laws.specs.Moves.{IsHeeded, RaisesBy};
 ghost use Rattle.growth_laws.specs.Growing as spec;
-ghost use Rattle.growth_laws.specs.Growing.{Grows, IsFitToGrow, Lacks, MakesReshape, MovesRows};
+ghost use Rattle.growth_laws.specs.Growing.{CleansAndReshapes, Grows, IsFitToGrow, Lacks, MakesReshape, MovesRows};
 ghost use Rattle.raid_rack.specs.RaidRack.{IsRunning, raid_by};
 
 use crate::arrays::{Arrays, RaidRack};
@@ -172,6 +172,7 @@ impl Arrays {
         requires heeded { IsHeeded (raid_by self.old) }
         requires due { spec.is_due (raid_by self.old) (TakeOver number) ≡ true }
         ensures grows { Grows (TakeOver number) (Lacks (TakeOver number)) (raid_by self.old) (raid_by self.new) (S.seen rack.old) (S.seen rack.new) result }
+        ensures contents { CleansAndReshapes S.seen (spec.change_of (TakeOver number)) (Lacks (TakeOver number)) number (raid_by self.old) (raid_by self.new) (S.seen rack.old) (S.seen rack.new) result }
         ensures raises { RaisesBy 36 (raid_by self.old) (raid_by self.new) }
         ensures running { IsRunning self.new (S.seen rack.new) }
         ensures runs { S.runs rack.old rack.new }
@@ -198,19 +199,23 @@ impl Arrays {
         requires clean { spec.is_clean ((raid_by self.old).arrays number) ≡ true }
         requires slice { spec.HasJoiningSlice (raid_by self.old) number place (S.seen rack.old) }
         ensures grows { Grows (Begin number place) (Lacks (Begin number place)) (raid_by self.old) (raid_by self.new) (S.seen rack.old) (S.seen rack.new) result }
+        ensures contents { spec.HasSettledSlice (raid_by self.old) number place (S.seen rack.old)
+            → MakesReshape (spec.change_of (Begin number place)) (Lacks (Begin number place)) number (raid_by self.old) (raid_by self.new) (S.seen rack.old) (S.seen rack.new) result }
         ensures raises { RaisesBy 18 (raid_by self.old) (raid_by self.new) }
         ensures running { IsRunning self.new (S.seen rack.new) }
         ensures runs { S.runs rack.old rack.new }
     {
         let on = current_places(&self.state);
-        let lacked = lacks_with(&self.all[number as usize], &on, place);
+        if lacks_with(&self.all[number as usize], &on, place) {
+            return false;
+        }
         let drive = drive_id(&self.state, place);
         self.log.clear();
         let array = &mut self.all[number as usize];
         let _ = begin(array, rack, &mut self.log, &on, place, &drive);
         let _places = array.went();
         self.mend(rack);
-        !lacked && !self.lacks(number)
+        !self.lacks(number)
     }
 
     /// Moves the next rows of a reshape, by one commit, and answers how many: at most so many, and at least one. Whoever goes is marked. It
@@ -262,7 +267,7 @@ impl<R: Rack> RaidRack<R> {
     ghost use Rattle.array_core.specs.Seats.{seat_of};
     ghost use Rattle.slice_rack.specs.SliceRack.{below_of, tables};
     ghost use Rattle.slice_rack.specs.Slices.{seat_of as disk_at};
-    ghost use Rattle.raid_rack.specs.RaidRack.{IsFit, SliceRuns, arrays_in, raid_in, raid_seen, refused_in, slices_in, slices_seen, written_in};
+    ghost use Rattle.raid_rack.specs.RaidRack.{IsFit, SliceRuns, arrays_in, raid_in, raid_seen, refused_in, slices_by, slices_in, slices_seen, written_in};
     ghost use Rattle.raid_rack.specs.Growing.{CannotLay};
     ghost use Rattle.transition_laws.specs.Growth.{KeepsOldSectors};
 
@@ -273,6 +278,8 @@ impl<R: Rack> RaidRack<R> {
         ensures idle { spec.is_due (raid_in self.old) (TakeOver array) ≡ false → (is_ok result ≡ false) × (self.new ≡ self.old) }
         ensures grows { spec.is_due (raid_in self.old) (TakeOver array) ≡ true
             → Grows (TakeOver array) (Lacks (TakeOver array)) (raid_in self.old) (raid_in self.new) (slices_seen R.seen self.old) (slices_seen R.seen self.new) (is_ok result) }
+        ensures contents { spec.is_due (raid_in self.old) (TakeOver array) ≡ true
+            → CleansAndReshapes (slices_by R.seen) (spec.change_of (TakeOver array)) (Lacks (TakeOver array)) array (raid_in self.old) (raid_in self.new) (slices_seen R.seen self.old) (slices_seen R.seen self.new) (is_ok result) }
         ensures named { IfErr result (λ e. e.array ≡ array) }
         ensures fit { IsFit (arrays_in self.new) (slices_seen R.seen self.new) }
         ensures raises { RaisesBy 36 (raid_in self.old) (raid_in self.new) }
