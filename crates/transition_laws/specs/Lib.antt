@@ -2,5 +2,6 @@ pub mod Changes
 pub mod Holds
 pub mod Losses
 pub mod Makes
+pub mod Readying
 pub mod Reshaping
 pub mod Stages
