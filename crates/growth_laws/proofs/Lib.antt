@@ -18,3 +18,4 @@ pub mod Made
 pub mod Newcomer
 pub mod Layers
 pub mod OpenedNew
+pub mod ReadyTurn
