@@ -20,3 +20,4 @@ pub mod Newcomer
 pub mod Layers
 pub mod OpenedNew
 pub mod KeepsOld
+pub mod ReadyTurn

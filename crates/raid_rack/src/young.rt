@@ -11,8 +11,9 @@ ghost use Rattle.sync_laws.specs.Rows.{lacks_two};
 ghost use Rattle.pool_state.specs.declared.contents.Work.TheVariants.{Zero, Ready, Make};
 ghost use Rattle.raid_laws.specs.Moves.{IsHeeded, RaisesBy};
 ghost use Rattle.growth_laws.specs.Growing as spec;
-ghost use Rattle.growth_laws.specs.Growing.{Grows, GrowsBy, Lacks};
-ghost use Rattle.transition_laws.specs.Changes.{makes};
+ghost use Rattle.growth_laws.specs.Growing.{AnyValues, Grows, GrowsBy, Lacks, MakesTurn};
+ghost use Rattle.transition_laws.specs.Changes.{makes, readied};
+ghost use Rattle.transition_laws.specs.Readying.{FitsReady};
 ghost use Rattle.growth_laws.specs.NewArrays as new;
 ghost use Rattle.raid_laws.specs.NewDrive.{first_in};
 ghost use Rattle.raid_rack.specs.RaidRack.{IsRunning, raid_by};
@@ -179,6 +180,7 @@ impl Arrays {
         requires due { spec.is_due (raid_by self.old) (Ready number) ≡ true }
         requires some { spec.lacks (raid_by self.old) number ≡ false }
         ensures grows { Grows (Ready number) (Lacks (Ready number)) (raid_by self.old) (raid_by self.new) (S.seen rack.old) (S.seen rack.new) true }
+        ensures contents { FitsReady (raid_by self.old) number (S.seen rack.old) → MakesTurn readied true AnyValues (raid_by self.old) (raid_by self.new) (S.seen rack.old) (S.seen rack.new) }
         ensures raises { RaisesBy 18 (raid_by self.old) (raid_by self.new) }
         ensures running { IsRunning self.new (S.seen rack.new) }
         ensures runs { S.runs rack.old rack.new }
@@ -201,6 +203,7 @@ impl Arrays {
     ghost use Rattle.raid_laws.specs.Moves.{AreCaused};
     ghost use Rattle.raid_laws.specs.Settling.{IsSuperOf};
     ghost use Rattle.growth_laws.specs.Losses.{LosesBook};
+    ghost use Rattle.growth_laws.specs.Stating.{CommitsState};
 
     /// Where the layers of all arrays end, in extents of a drive.
     fn top(&self) -> u64
@@ -311,6 +314,7 @@ impl Arrays {
         ensures state { self.new.state ≡ self.old.state }
         ensures loses { LosesBook (raid_by self.old) (raid_by self.new) }
         ensures caused { AreCaused (raid_by self.old) (raid_by self.new) (S.seen rack.old) (S.seen rack.new) }
+        ensures commits { CommitsState (raid_by self.old) (raid_by self.new) self.old.log.added (S.seen rack.old) (S.seen rack.new) }
         ensures stays { SameRack (S.seen rack.old) (S.seen rack.new) }
         ensures raises { RaisesBy 1 (raid_by self.old) (raid_by self.new) }
         ensures running { IsRunning self.new (S.seen rack.new) }
@@ -394,6 +398,9 @@ impl<R: Rack> RaidRack<R> {
         ensures stuck { (spec.is_due (raid_in self.old) (Ready array) ≡ true) × (is_ok result ≡ false) → (self.new ≡ self.old) × (spec.lacks (raid_in self.old) array ≡ true) }
         ensures grows { is_ok result ≡ true
             → Grows (Ready array) (Lacks (Ready array)) (raid_in self.old) (raid_in self.new) (slices_seen R.seen self.old) (slices_seen R.seen self.new) true }
+        ensures contents { is_ok result ≡ true
+            → FitsReady (raid_in self.old) array (slices_seen R.seen self.old)
+            → MakesTurn readied true AnyValues (raid_in self.old) (raid_in self.new) (slices_seen R.seen self.old) (slices_seen R.seen self.new) }
         ensures named { IfErr result (λ e. e.array ≡ array) }
         ensures fit { IsFit (arrays_in self.new) (slices_seen R.seen self.new) }
         ensures raises { RaisesBy 18 (raid_in self.old) (raid_in self.new) }

@@ -3,6 +3,8 @@ pub mod Standing
 pub mod CommitMakes
 pub mod MoreArrays
 pub mod Committing
+pub mod TruthShown
+pub mod SettledEven
 pub mod TurnMakes
 pub mod ReadMakes
 pub mod NotedMakes
@@ -27,6 +29,7 @@ pub mod OldSectors
 pub mod OverMakes
 pub mod LossesMade
 pub mod Readied
+pub mod ReadyMakes
 pub mod ReshapeSectors
 pub mod ReshapeHolds
 pub mod RenewMakes
