@@ -84,7 +84,7 @@ abbrev pub lacks_places : Raid → List ℕ → Bool
 lacks_places v places = nat_lt 1 (count_by (λ place. not (is_current v.state place)) places)
 
 -- A work can't be done, by the book before its commit and the one after the losses that were met in it: it isn't due any more once the array is
--- cleaned, or the array lacks two members, a joining one among them whose place is missing. A young array lacks two in the row that is zeroed, and one that is made
+-- cleaned, or the array lacks two members, a joining one among them whose place is missing. A young array lacks two in the first row that is zeroed, and one that is made
 -- lacks two of the places that are to be its members.
 abbrev pub Lacks : Work → Raid → Raid → Type 0
 Lacks (TakeOver n) mid w = ((is_due mid (TakeOver n) && is_clean (mid.arrays n)) ≡ false) ⊎ (lacks w n ≡ true)
@@ -118,6 +118,10 @@ HasSettledSlice v n place x =
 abbrev pub moves : ℕ → ℕ → Raid → Change
 moves n rows v = steps n (ahead_by (v.arrays n) rows (raised (v.arrays n).truth.events))
 
+-- so many next rows of a young array are zeroed
+abbrev pub zeroes : ℕ → ℕ → Raid → Change
+zeroes n rows v = steps n (zeroed (v.arrays n) rows)
+
 -- what it changes, by the book before the commit; the volume's extension changes no array, and what is made hangs on the time too
 abbrev pub change_of : Work → Raid → Change
 change_of (Resync n) v = steps n (resynced (v.arrays n) 1)
@@ -127,7 +131,7 @@ change_of (Begin n place) v = steps n (joined (v.arrays n) (current_places v.sta
 change_of (Reshape n) v = moves n 1 v
 change_of (Finish n) v = steps n (finished (v.arrays n) (raised (v.arrays n).truth.events))
 change_of (Make n height) v = makes (v.arrays v.state.made)
-change_of (Zero n) v = steps n (zeroed (v.arrays n) 1)
+change_of (Zero n) v = zeroes n 1 v
 change_of (Ready n) v = readied
 change_of Extend v = steps 0 (v.arrays 0)
 change_of Close v = closed
@@ -165,6 +169,10 @@ pub record GrowsBy (change : Raid → Change) (Lacks : Raid → Raid → Type 0)
 -- that of a work
 abbrev pub Grows : Work → (Raid → Raid → Type 0) → Raid → Raid → RackView → RackView → Bool → Type 0
 Grows work Lacks v w a b answered = GrowsBy (change_of work) Lacks v w a b answered
+
+-- The next rows of young array n are zeroed: some of them, at least one and at most so many.
+abbrev pub ZeroesNext : (n most : ℕ) → Raid → Raid → RackView → RackView → {E : Type 0} → Result ℕ E → Type 0
+ZeroesNext n most v w a b result = DoesRows (λ rows. GrowsBy (zeroes n rows) (Lacks (Zero n)) v w a b) (rows_of (v.arrays n) - first_unsynced (v.arrays n).truth) most result
 
 -- ---- what contents hold in it
 
