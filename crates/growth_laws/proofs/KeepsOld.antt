@@ -1,5 +1,5 @@
 -- A work of a growth keeps the sectors that arrays have, and what they hold, where it makes its change of the book between losses.
-use Rattle.std.proofs.Common.{◌≡◌, ℕ, ◌+◌, ◌^◌, ◌<◌, ◌≤◌, ◌&&◌, Bool, true, false, not, nat_le, if◌then◌else◌, List, ◌∷◌, ◌++◌, length, sym, ap, subst, ◌∙◌, inl, inr, le-ltb, leb-true, ap₂, bit_and, ◌==◌, eq-eqb, int_eq, pos, ◌-◌, ◌*◌}
+use Rattle.std.proofs.Common.{◌≡◌, ℕ, ◌+◌, ◌^◌, ◌<◌, ◌≤◌, ◌&&◌, Bool, true, false, not, nat_le, if◌then◌else◌, List, ◌∷◌, ◌++◌, length, sym, ap, subst, ◌∙◌, inl, inr, le-ltb, leb-true, ap₂, bit_and, ◌==◌, int_eq, pos, ◌-◌, ◌*◌}
 use Rattle.std.proofs.lemmas.Bool.{and_from, and_parts, both_ways, cases_lt}
 use Rattle.std.proofs.lemmas.Option.{slice_get_past}
 use Rattle.std.specs.List.{list_all}
@@ -13,24 +13,24 @@ use Rattle.pool_state.specs.Valid.{has_arrays, has_epoch, has_places, is_drive, 
 use Rattle.array_image.specs.States.{is_current}
 use Rattle.array_image.specs.Supers.{is_reshaping}
 use Rattle.array_model.specs.View.{IsArray, IsSameArray, sectors_of, View}
-use Rattle.array_core.specs.Superblocks.{raised, settled}
+use Rattle.array_core.specs.Superblocks.{settled}
 use Rattle.sync_laws.specs.Steps.{if_done}
 use Rattle.reshape_laws.specs.Ahead.{ahead_by, finished, taken_over}
 use Rattle.raid_laws.specs.Moves.{AreCaused, IsHeeded, IsSet}
 use Rattle.raid_laws.specs.Raid.{gone_in, held_in, is_failed, IsWritten, Raid, StopsInside}
 use Rattle.raid_laws.proofs.Frames.{geometry_frame}
 use Rattle.raid_laws.proofs.Over.{someone_left}
-use Rattle.transition_laws.specs.Changes.{Change, changed, steps}
+use Rattle.transition_laws.specs.Changes.{Change, steps}
 use Rattle.transition_laws.specs.Growth.{AreReady}
-use Rattle.transition_laws.specs.Holds.{has_sector, moved_to}
+use Rattle.transition_laws.specs.Holds.{has_sector}
 use Rattle.transition_laws.specs.Reshaping.{FitsReshape}
-use Rattle.transition_laws.proofs.LongerBooks.{AllKeepOld, HasOldSectors, KeepsOld, losses_keep, old_joined, step_keeps}
+use Rattle.transition_laws.proofs.LongerBooks.{AllKeepOld, KeepsOld, losses_keep, old_joined, step_keeps}
 use Rattle.transition_laws.proofs.OldSectors.{IsGrowing, old_values}
 use Rattle.transition_laws.proofs.ReshapeSectors.{ahead_sectors, finished_sectors, mirror_two, taken_sectors}
 use Rattle.transition_laws.proofs.SettledMakes.{settled_sectors}
 use Rattle.transition_laws.proofs.SteppedMakes.{framed_sectors}
 use Rattle.reshape_laws.proofs.Finishing.{no_mirror}
-use Rattle.growth_laws.specs.Growing.{MakesTurn, moves, whole_position}
+use Rattle.growth_laws.specs.Growing.{MakesTurn, whole_position}
 
 -- ---- a state that lists a drive has no more arrays of the volume than arrays
 

@@ -23,7 +23,7 @@ use Rattle.transition_laws.specs.Changes.{steps}
 use Rattle.transition_laws.specs.Holds.{has_sector, moved_to}
 use Rattle.transition_laws.specs.Losses.{IsRunOf, MakesLosses}
 use Rattle.transition_laws.specs.Reshaping.{FitsReshape}
-use Rattle.transition_laws.proofs.ReshapeSectors.{begun_new, begun_sectors, steady, taken_new, taken_sectors}
+use Rattle.transition_laws.proofs.ReshapeSectors.{begun_new, begun_sectors, mirror_two, steady, taken_new, taken_sectors}
 use Rattle.transition_laws.proofs.StepMakes.{holds_next}
 use Rattle.growth_laws.specs.Growing.{drive_id, HasJoiningSlice, HasSettledSlice, is_clean, is_due, is_synced, MakesTurn}
 use Rattle.growth_laws.proofs.Becoming.{clean_rests, IsAtRest, synced_parts}
@@ -67,7 +67,7 @@ taken_keeps v x n set is =
       unsynced = refl;
       events = (raised_low u.truth.events pool.events pool.events_end).0;
       written = λ written. taken_written u events seated.is_array is.still u.number written;
-      sectors = λ y has. sym (taken_sectors u events seated.is_array is.rest.grown is.still is.mirrored y) ∙ has;
+      sectors = λ y has. sym (taken_sectors u events (mirror_two u seated.is_array is.mirrored) is.rest.grown is.still is.mirrored y) ∙ has;
       spent = λ y has past. absurd (none_past u y is.rest.grown is.still has past);
       new = λ s. taken_new s u events is.mirrored;
     }
@@ -79,7 +79,7 @@ taken_turn v f number n a b on answered call is w c losses =
     reshape_then v f (taken v n) number n a b on answered call w c (FitsReshape v n) (λ vals fits. fits.written)
     (λ vals fits p stands live.
     holds_next n (taken v n) v p vals a stands live is.rest.low
-    (taken_sectors (v.arrays n) (raised (v.arrays n).truth.events) (call.set.arrays n is.rest.low).is_array is.rest.grown is.still is.mirrored))
+    (taken_sectors (v.arrays n) (raised (v.arrays n).truth.events) (mirror_two (v.arrays n) (call.set.arrays n is.rest.low).is_array is.mirrored) is.rest.grown is.still is.mirrored))
     losses
 
 -- ---- the begin

@@ -14,7 +14,6 @@ use Rattle.array_model.specs.declared.Seat.{Seat}
 use Rattle.array_model.specs.View.{IsArray, sectors_of, shape_of, spent_in, View}
 use Rattle.raid_laws.proofs.Seated.{or_last}
 use Rattle.reshape_laws.specs.Ahead.{ahead_by, begun, finished, taken_over}
-use Rattle.reshape_laws.proofs.Finishing.{no_mirror}
 use Rattle.pool_state.specs.declared.contents.State.{State}
 use Rattle.transition_laws.specs.Changes.{Maintains}
 use Rattle.transition_laws.specs.Holds.{has_sector, moved_to}
