@@ -289,3 +289,12 @@ reshapes_nothing change Lacks n v x set heeded refused = record {
   grows = grows_nothing change Lacks v v x x (loses_nothing v) (caused_nothing v x x) heeded refused;
   contents = turns_nothing (change v) (FitsReshape v n) v x set;
 }
+
+-- it is refused for less
+pub reshapes_more : (change : Raid → Change) (Lacks More : Raid → Raid → Type 0) (n : ℕ) (v w : Raid) (a b : RackView) (answered : Bool) → ((mid z : Raid) → Lacks mid z → More mid z)
+    → MakesReshape change Lacks n v w a b answered → MakesReshape change More n v w a b answered
+unfolding grows_over
+reshapes_more change Lacks More n v w a b answered more makes = record {
+  grows = grows_over change Lacks More v w a b a b answered (λ d. refl) (λ d. refl) more makes.grows;
+  contents = makes.contents;
+}

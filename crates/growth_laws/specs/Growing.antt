@@ -198,14 +198,19 @@ pub record MakesReshape (change : Raid → Change) (Lacks : Raid → Raid → Ty
   pub grows : GrowsBy change Lacks v w a b answered
   pub contents : MakesTurn (change grows.turns.mid) grows.turns.is_done (FitsReshape v n) v w a b
 
--- Array n is cleaned, and a step of its reshape is made behind that, of slices of which this is seen: by the book that the run has then, in which whoever
--- went is marked.
-pub record CleansAndReshapes {X : Type 0} (seen : X → RackView) (change : Raid → Change) (Lacks : Raid → Raid → Type 0) (n : ℕ) (v w : Raid) (a b : RackView) (answered : Bool) : Type 0 where
+-- Array n is cleaned, over slices of which this is seen, and then a step of it is so, of the book that the run has then: it has losses alone, and whoever
+-- went is marked in it.
+pub record CleansBefore {X : Type 0} (seen : X → RackView) (n : ℕ) (v : Raid) (a : RackView) (Step : Raid → X → Type 0) : Type 0 where
   pub mid : Raid
   pub at : X
+  pub loses : LosesBook v mid
   pub cleans : MakesClean n v mid a (seen at)
   pub marked : AreMarked mid
-  pub step : MakesReshape change Lacks n mid w (seen at) b answered
+  pub step : Step mid at
+
+-- Array n is cleaned, and then a step of its reshape is made.
+abbrev pub CleansAndReshapes : {X : Type 0} → (X → RackView) → (Raid → Change) → (Raid → Raid → Type 0) → ℕ → Raid → Raid → RackView → RackView → Bool → Type 0
+CleansAndReshapes seen change Lacks n v w a b answered = CleansBefore seen n v a (λ mid at. MakesReshape change Lacks n mid w (seen at) b answered)
 
 -- that of the next rows: some of them, at least one and at most so many
 abbrev pub MovesRows : (n most : ℕ) → Raid → Raid → RackView → RackView → {E : Type 0} → Result ℕ E → Type 0

@@ -2,8 +2,8 @@
 //!
 //! **What it defines.** What happens to the book between two of its changes (those of transition_laws): losses alone
 //! (`specs/Losses.antt`). For each work of a growth when it is due, which change it makes, and what a call of it does to the book: losses,
-//! its change where it is done, and losses again; and what contents hold meanwhile (`MakesTurn`, `MakesReshape`, `MakesClean`,
-//! `CleansAndReshapes`: `specs/Growing.antt`). Which arrays a drive reaches that joins, and what is laid on it (`specs/NewDrives.antt`); which places a new array
+//! its change where it is done, and losses again; and what contents hold meanwhile (`MakesTurn`, `MakesReshape`, `MakesClean`, `CleansBefore`:
+//! `specs/Growing.antt`). Which arrays a drive reaches that joins, and what is laid on it (`specs/NewDrives.antt`); which places a new array
 //! has, and its superblocks (`specs/NewArrays.antt`).
 //!
 //! **What its lemmas say.** The array that a work makes of one is one of the pool as well, so all calls of the rack may follow

@@ -104,8 +104,8 @@
 //! moment of such a call a stop leaves contents that hold the book before the change or after it, but for losses, and each promised sector
 //! has one of the values that it had; after it the run stands by the last book. It is said of a run that stands by its book before the call,
 //! and of a reshape where the truth has the fields that a pool writes and values past the array's end are zeros. A takeover is such a call
-//! behind a cleaning (`CleansAndReshapes`), and so is, inside the rack, a reshape's begin over slices with that of the joining member. A new
-//! array, its zeros and its readiness don't say it yet.
+//! behind a cleaning (`CleansAndReshapes`), and so is a reshape's begin, over slices with that of the joining member, where this slice is settled
+//! (`CleansBefore`, `ReshapesWith`). A new array, its zeros and its readiness don't say it yet.
 //!
 //! **For a whole call.** Parts of a call in a row are one (`moves_then`, `brings_then`); a read, a sync or a settling of one array is
 //! a part for all (`moves_read`), and so are a write (`write_brings`), losses that are noted and heeded, and the commit that marks

@@ -174,6 +174,7 @@ returns-then-not-may_take_over-clause-contents g c =
     record {
       mid = w;
       at = c.clean_array.new.rack;
+      loses = moves_lose v w (g.S.Rack.seen c.args.rack.now) y e.cleans.moves;
       cleans = e.contents;
       marked = λ p current. heeded_gone w e.cleans.heeded p;
       step = reshapes_nothing (change_of (TakeOver n)) (Lacks (TakeOver n)) n w y e.running.set e.cleans.heeded
@@ -214,6 +215,7 @@ returns-clause-contents g c =
     record {
       mid = v;
       at = c.clean_array.new.rack;
+      loses = moves_lose (raid_by c.args.self.now) v (g.S.Rack.seen c.args.rack.now) x e.cleans.moves;
       cleans = e.contents;
       marked = λ p current. heeded_gone v e.cleans.heeded p;
       step = reshape_answered (change_of (TakeOver n)) (Lacks (TakeOver n)) a c.mend.new.self all c.take_over.new.log x y z n (taken v n) c.take_over.new.array on (is_ok c.take_over.result) _ call refl
