@@ -19,3 +19,4 @@ pub mod Newcomer
 pub mod Layers
 pub mod OpenedNew
 pub mod ReadyTurn
+pub mod MadeTurn
