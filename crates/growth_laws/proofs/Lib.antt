@@ -21,3 +21,4 @@ pub mod Layers
 pub mod OpenedNew
 pub mod KeepsOld
 pub mod ReadyTurn
+pub mod MadeTurn

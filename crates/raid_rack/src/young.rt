@@ -13,6 +13,7 @@ ghost use Rattle.raid_laws.specs.Moves.{IsHeeded, RaisesBy};
 ghost use Rattle.growth_laws.specs.Growing as spec;
 ghost use Rattle.growth_laws.specs.Growing.{AnyValues, Grows, GrowsBy, Lacks, MakesTurn, ZeroesNext};
 ghost use Rattle.transition_laws.specs.Changes.{makes, readied};
+ghost use Rattle.transition_laws.specs.Making.{FitsMake};
 ghost use Rattle.transition_laws.specs.Readying.{FitsReady};
 ghost use Rattle.growth_laws.specs.NewArrays as new;
 ghost use Rattle.raid_laws.specs.NewDrive.{first_in};
@@ -352,6 +353,8 @@ impl Arrays {
             → 2048 + new.new_size (raid_by self.old) height ≤ (S.seen rack.old).sectors (member_slice p self.old.state.made) }
         ensures grows { GrowsBy (λ mid. makes (new.new_view seconds mid height)) (Lacks (Make self.old.state.made height))
             (raid_by self.old) (raid_by self.new) (S.seen rack.old) (S.seen rack.new) result }
+        ensures contents { FitsMake self.old.state self.old.state.made (new.new_view seconds (raid_by self.old) height) (S.seen rack.old)
+            → MakesTurn (makes (new.new_view seconds (raid_by self.old) height)) true AnyValues (raid_by self.old) (raid_by self.new) (S.seen rack.old) (S.seen rack.new) }
         ensures raises { RaisesBy 18 (raid_by self.old) (raid_by self.new) }
         ensures running { IsRunning self.new (S.seen rack.new) }
         ensures runs { S.runs rack.old rack.new }

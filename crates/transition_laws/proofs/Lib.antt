@@ -30,6 +30,7 @@ pub mod OverMakes
 pub mod LossesMade
 pub mod Readied
 pub mod ReadyMakes
+pub mod MadeMakes
 pub mod ReshapeSectors
 pub mod ReshapeHolds
 pub mod RenewMakes

@@ -328,7 +328,7 @@ module _ (v : Raid) (x : RackView) (is : IsReadying v x) where
         let w = run_after v (with_ready v.state) (next_number l.number) f in
         let one : Makes (readied ∷ []) (readying v) (readying v) w vals vals x b =
         committing_makes readied (readying v) v.number (readying v).arrays on gone l f x b commit vals
-        (λ p. stages_readied (readying v) w vals l.added x b p (readied_again v) all_rows (λ q current. heeded_gone v is.heeded q) others) in
+        (λ p suits. stages_readied (readying v) w vals l.added x b p (readied_again v) all_rows (λ q current. heeded_gone v is.heeded q) others) in
         let suit : (p : Promise) → Suits p (readied ∷ []) v → Suits p (readied ∷ []) (readying v) = λ p suits. record { free = suits.free; owned = suits.owned; growing = suits.growing } in
         record {
           due = (is.due, tt);
