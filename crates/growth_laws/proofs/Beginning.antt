@@ -3,10 +3,13 @@ use Rattle.std.proofs.Common.{◌≡◌, ◌≢◌, ℕ, ◌+◌, ◌-◌, ◌*�
 use Rattle.std.proofs.lemmas.Bool.{and_from, both_ways, cases_eq, cases_lt}
 use Rattle.std.proofs.lemmas.Option.{slice_get_past}
 use Rattle.std.proofs.lemmas.List.{length-append}
+use Rattle.std.specs.Option.{option_map_or}
 use Rattle.rack.specs.Seen.{RackView}
 use Rattle.shr_base.specs.declared.Id.{Id}
 use Rattle.md_super.specs.Profile.{is_mirror, is_raid5}
 use Rattle.pool_state.specs.declared.contents.State.{State}
+use Rattle.array_image.specs.Arrays.{Member}
+use Rattle.array_image.specs.Held.{Among}
 use Rattle.array_image.specs.Places.{data_sector, member_id, member_slice}
 use Rattle.array_image.specs.SoundArray.{first_unsynced}
 use Rattle.array_image.specs.States.{current_places, is_current}
@@ -14,20 +17,22 @@ use Rattle.array_image.specs.Stripes.{capacity, mirror, parity}
 use Rattle.array_image.specs.Supers.{is_reshaping, new_row}
 use Rattle.array_model.specs.declared.Seat.{Seat}
 use Rattle.array_model.specs.declared.Seat.TheVariants.{Missing, Rebuilding, Whole}
-use Rattle.array_model.specs.View.{View, has_gone, is_missing_seat, place_at, sectors_of}
+use Rattle.array_model.specs.View.{View, has_gone, is_missing_seat, member_by_seat, member_on, place_at, seat_reach, sectors_of, shape_of}
 use Rattle.array_model.specs.Members.{HasSlices}
+use Rattle.array_model.proofs.Firsts.{member_among, position_of}
+use Rattle.array_model.proofs.Views.{shape_members}
 use Rattle.array_core.specs.Model.{is_truth}
 use Rattle.array_core.specs.Seats.{names, seat_of}
 use Rattle.array_core.specs.Superblocks.{raised}
 use Rattle.reshape_laws.specs.Reshapes.{joined, joining_seat}
 use Rattle.reshape_laws.proofs.Beginning.{no_mirror_now}
-use Rattle.reshape_laws.proofs.Begun.{begun_array, new_place}
+use Rattle.reshape_laws.proofs.Begun.{begun_array, begun_written, new_place}
 use Rattle.reshape_laws.proofs.Joining.{nobody_has, roles_long, room_for, spare_role}
 use Rattle.reshape_laws.proofs.Roles.{begun_roles}
 use Rattle.reshape_laws.proofs.StepMoves.{places, seat_kept}
 use Rattle.reshape_laws.proofs.Truths.{begun_profile}
 use Rattle.raid_laws.specs.Moves.{IsHeeded, IsSeated, IsSet}
-use Rattle.raid_laws.specs.Raid.{Raid}
+use Rattle.raid_laws.specs.Raid.{IsWritten, Raid}
 use Rattle.raid_laws.proofs.Added.{names_current}
 use Rattle.raid_laws.proofs.Calls.{raised_low}
 use Rattle.growth_laws.specs.Growing.{HasJoiningSlice}
@@ -202,6 +207,37 @@ module _ (s : State) (n : ℕ) (u : View) (place : ℕ) (drive : Id) (x : RackVi
     where
       zero_mod : (k : ℕ) → 0 % k ≡ 0
       zero_mod k = omega arith
+
+  pub joined_written : IsWritten u → IsWritten (joined u (current_places s) place drive)
+  joined_written written =
+      begun_written u (raised u.truth.events) place seat device is.seated.is_array is.raid5 plain room small long spare none u.number written
+
+  -- a member that it hadn't is the one that joins, and its place is current where it counts
+  pub joined_member : (m : Member) (t : ℕ) → Among m (shape_of (joined u (current_places s) place drive)).members → (Among m (shape_of u).members → ⊥) → t < m.reach
+      → (m.place ≡ place) × (is_current s place ≡ true) × (t < u.truth.size)
+  joined_member m t among old inside =
+      let at = position_of next (u.truth.raid_disks + 1) m (subst (λ (ms : List Member). Among m ms) (shape_members next) among) in
+      let low = at.1 in
+      let here : t < (member_on next at.0).reach = subst (λ (o : Member). t < o.reach) at.2 inside in
+      elim (cases_eq at.0 u.truth.raid_disks) [
+        | inl same ↦
+            let counts =
+            reaches (names (current_places s) place)
+            (subst (λ o. t < option_map_or (seat_reach u.truth.size) o 0) last_seat (subst (λ k. t < (member_on next k).reach) same here)) in (
+              ap (λ (o : Member). o.place) at.2 ∙ ap (place_at next) same ∙ last_place,
+              sym (names_current s place) ∙ counts.0,
+              counts.1,
+            )
+        | inr other ↦
+            let below : at.0 < u.truth.raid_disks = omega (arith, low, other) in
+            let own : m ≡ member_on u at.0 = at.2 ∙ ap₂ (λ p o. member_by_seat u.truth.size p o) (old_place at.0 below) (old_seat at.0 below) in
+            absurd (old (subst (λ (o : Member). Among o (shape_of u).members) (sym own)
+            (subst (λ (ms : List Member). Among (member_on u at.0) ms) (sym (shape_members u)) (member_among u at.0 u.truth.raid_disks below))))
+      ]
+    where
+      reaches : (b : Bool) → t < option_map_or (seat_reach u.truth.size) (Some (if b then Whole else Missing)) 0 → (b ≡ true) × (t < u.truth.size)
+      reaches true low = (refl, low)
+      reaches false low = absurd (let none : t < 0 = low in omega (arith, none))
 
   pub joined_sectors : sectors_of (joined u (current_places s) place drive) ≡ sectors_of u
   joined_sectors =

@@ -11,6 +11,7 @@ pub mod Turning
 pub mod CleanTurn
 pub mod ReshapeMakes
 pub mod ReshapeDue
+pub mod ReshapeBegins
 pub mod Stating
 pub mod Listing
 pub mod Reached
@@ -18,3 +19,6 @@ pub mod Made
 pub mod Newcomer
 pub mod Layers
 pub mod OpenedNew
+pub mod KeepsOld
+pub mod ReadyTurn
+pub mod MadeTurn

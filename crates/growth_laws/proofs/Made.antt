@@ -5,6 +5,7 @@ use Rattle.std.specs.List.{list_all}
 use Rattle.rack.specs.Seen.{RackView}
 use Rattle.pool_state.specs.Valid.{is_valid, is_drive, is_extent, has_arrays, has_epoch, has_places}
 use Rattle.pool_state.specs.declared.contents.State.{State}
+use Rattle.array_image.specs.SoundArray.{first_unsynced}
 use Rattle.array_image.specs.States.{is_current}
 use Rattle.array_model.specs.View.{View, is_whole_array, sectors_of}
 use Rattle.raid_laws.specs.Raid.{Raid, gone_in}
@@ -76,6 +77,11 @@ pub record MayCome (v : Raid) (next : View) (x : RackView) : Type 0 where
   pub seated : IsSeated (made_state v.state) v.state.made next x
   pub went : next.went ≡ []
   pub unmarked : next.marked ≡ false
+
+-- It is young, and no row of it is zeroed.
+pub record IsUnzeroed (next : View) : Type 0 where
+  pub young : next.young ≡ true
+  pub none : first_unsynced next.truth ≡ 0
 
 -- what holds of the new array, and of each other one
 pub by_made : (X : ℕ → View → Type 0) (v : Raid) (next : View) (n : ℕ) → n < v.state.made + 1 → X v.state.made next → (n < v.state.made → X n (v.arrays n))

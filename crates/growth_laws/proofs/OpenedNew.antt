@@ -1,6 +1,6 @@
 -- The superblocks of a young array's members make it: it may come to the book, and its slices end on a drive.
-use Rattle.std.proofs.Common.{◌≡◌, ◌≢◌, ℕ, ◌+◌, ◌<◌, ◌≤◌, ◌^◌, ◌&&◌, not, nat_le, Bool, true, false, List, count_by, get_or, length, slice_get, sum_by, take, if◌then◌else◌, Option, Some, Ok, option_map, unwrap_or, refl, sym, ap, subst, ◌∙◌, inl, inr, arith}
-use Rattle.std.proofs.lemmas.Bool.{and_parts, both_ways, cases_Bool, eq-eqb, le-leb, leb-true, ltb-false, ne_eqb}
+use Rattle.std.proofs.Common.{◌≡◌, ◌≢◌, ℕ, ◌+◌, ◌/◌, ◌<◌, ◌≤◌, ◌^◌, ◌&&◌, not, nat_le, Bool, true, false, List, count_by, get_or, length, slice_get, sum_by, take, if◌then◌else◌, Option, Some, Ok, option_map, unwrap_or, refl, sym, ap, subst, ◌∙◌, inl, inr, arith}
+use Rattle.std.proofs.lemmas.Bool.{and_parts, both_ways, cases_Bool, eq-eqb, le-leb, leb-true, lt-ltb, ltb-false, ne_eqb}
 use Rattle.std.proofs.lemmas.List.FromFn.{get_or-map-range_with_len, length-map-range_with_len, take-map-range_with_len}
 use Rattle.std.proofs.lemmas.List.Sums.{sum_by_more}
 use Rattle.std.proofs.lemmas.Option.{slice_get_within}
@@ -10,6 +10,7 @@ use Rattle.md_super.specs.declared.superblock.Super.{Super}
 use Rattle.pool_state.specs.declared.contents.State.{State}
 use Rattle.pool_state.specs.Valid.{is_extent}
 use Rattle.array_image.specs.Places.{data_sector, member_slice}
+use Rattle.array_image.specs.SoundArray.{first_unsynced}
 use Rattle.array_image.specs.States.{is_current}
 use Rattle.array_model.specs.declared.Seat.{Seat}
 use Rattle.array_model.specs.declared.Seat.TheVariants.{Missing, Rebuilding, Whole}
@@ -34,7 +35,7 @@ use Rattle.transition_laws.specs.Changes.{changed, makes}
 use Rattle.growth_laws.specs.Growing.{has_room, lacks_places}
 use Rattle.growth_laws.specs.NewArrays.{drive_id, found_for, may_make, new_size, new_view, reaches, reaching, super_for, top_of, views_of}
 use Rattle.growth_laws.proofs.Layers.{MayMake, make_parts, set_extent, some_drive}
-use Rattle.growth_laws.proofs.Made.{MayCome, made_state}
+use Rattle.growth_laws.proofs.Made.{IsUnzeroed, made_state, MayCome}
 
 -- An array of this height may be made, and one of its members is missing at most.
 pub record CanMake (v : Raid) (height : ℕ) : Type 0 where
@@ -204,6 +205,13 @@ module _ (v : Raid) (height seconds : ℕ) (may : CanMake v height) where
         subst (λ w. IsSeated (made_state v.state) v.state.made w x) (sym new_is.2) (seated new_is.0 new_is.1 x set slices (subst IsArray new_is.2 is_array));
     went = ap (λ (w : View). w.went) new_is.2;
     unmarked = ap (λ (w : View). w.marked) new_is.2;
+  }
+
+  pub new_unzeroed : IsUnzeroed (new_view seconds v height)
+  new_unzeroed = record {
+    young = ap (λ (w : View). w.young) new_is.2;
+    none =
+        ap (λ (w : View). first_unsynced w.truth) new_is.2 ∙ ap (λ (b : Bool). if b then 0 else new_size v height / 128) (lt-ltb 0 (new_size v height) (omega arith));
   }
 
   -- its slices end on a drive behind all others

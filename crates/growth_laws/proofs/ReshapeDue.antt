@@ -7,6 +7,7 @@ use Rattle.array_image.specs.Supers.{is_reshaping}
 use Rattle.array_model.specs.View.{sectors_of, shape_of, View, rows_of}
 use Rattle.array_core.specs.Superblocks.{raised}
 use Rattle.reshape_laws.specs.Ahead.{next_row}
+use Rattle.reshape_laws.proofs.Finishing.{no_mirror}
 use Rattle.reshape_laws.proofs.Arrays.{ahead_written, finished_written}
 use Rattle.reshape_laws.proofs.StepsOf.{reach_low}
 use Rattle.raid_laws.specs.Moves.{IsHeeded, IsSet}
@@ -23,7 +24,7 @@ use Rattle.transition_laws.proofs.StepMakes.{holds_next}
 use Rattle.growth_laws.specs.Growing.{has_room, is_due, is_synced, MakesTurn, whole_position}
 use Rattle.growth_laws.proofs.Becoming.{IsAtRest, reshaping_rests, synced_parts}
 use Rattle.growth_laws.proofs.Due.{ended, moved}
-use Rattle.growth_laws.proofs.ReshapeMakes.{KeepsMembers, ReshapeCall, reshape_then}
+use Rattle.growth_laws.proofs.ReshapeMakes.{KeepsMembers, none_joins, ReshapeCall, reshape_then}
 
 -- a sector past the end of an array has been moved
 moved_past : (u : View) (y : ℕ) → u.young ≡ false → is_reshaping u.truth ≡ true → has_sector u y ≡ true → sectors_of u ≤ y → y < u.truth.reshape_position
@@ -52,7 +53,7 @@ is_moving v x n set heeded due =
     }
 
 pub moved_keeps : (v : Raid) (x : RackView) (n rows : ℕ) → IsSet v x → IsMoving v n → 0 < rows → next_row (v.arrays n) + rows ≤ rows_of (v.arrays n)
-    → KeepsMembers (v.arrays n) (moved rows v n)
+    → KeepsMembers (v.arrays n) (moved rows v n) x
 unfolding shape_of
 moved_keeps v x n rows set is some left =
     let u = v.arrays n in
@@ -60,8 +61,8 @@ moved_keeps v x n rows set is some left =
     let pool = seated.is_of_pool in
     let events = raised (v.arrays n).truth.events in
     record {
-      members = refl;
-      seats = refl;
+      joining = none_joins u (moved rows v n) x refl;
+      some = λ left. left;
       marked = refl;
       resync = refl;
       unsynced = refl;
@@ -102,7 +103,7 @@ is_moved v x n set heeded due =
       whole = eqb-true u.truth.reshape_position (whole_position u) room.0;
     }
 
-pub ended_keeps : (v : Raid) (x : RackView) (n : ℕ) → IsSet v x → IsMoved v n → KeepsMembers (v.arrays n) (ended v n)
+pub ended_keeps : (v : Raid) (x : RackView) (n : ℕ) → IsSet v x → IsMoved v n → KeepsMembers (v.arrays n) (ended v n) x
 unfolding shape_of
 ended_keeps v x n set is =
     let u = v.arrays n in
@@ -110,14 +111,14 @@ ended_keeps v x n set is =
     let pool = seated.is_of_pool in
     let events = raised (v.arrays n).truth.events in
     record {
-      members = refl;
-      seats = refl;
+      joining = none_joins u (ended v n) x refl;
+      some = λ left. left;
       marked = refl;
       resync = refl;
       unsynced = refl;
       events = (raised_low u.truth.events pool.events pool.events_end).0;
       written = λ written. finished_written u events seated.is_array u.number written;
-      sectors = λ y has. sym (finished_sectors u events seated.is_array is.rest.grown is.reshaping is.whole y) ∙ has;
+      sectors = λ y has. sym (finished_sectors u events (no_mirror u seated.is_array is.reshaping) is.rest.grown is.reshaping is.whole y) ∙ has;
       spent = λ y has past. finished_spent u events y is.reshaping (moved_past u y is.rest.grown is.reshaping has past);
       new = λ s. finished_new s u events is.reshaping;
     }
@@ -129,5 +130,5 @@ ended_turn v f number n a b on answered call is w c losses =
     reshape_then v f (ended v n) number n a b on answered call w c (FitsReshape v n) (λ vals fits. fits.written)
     (λ vals fits p stands live.
     holds_next n (ended v n) v p vals a stands live is.rest.low
-    (finished_sectors (v.arrays n) (raised (v.arrays n).truth.events) (call.set.arrays n is.rest.low).is_array is.rest.grown is.reshaping is.whole))
+    (finished_sectors (v.arrays n) (raised (v.arrays n).truth.events) (no_mirror (v.arrays n) (call.set.arrays n is.rest.low).is_array is.reshaping) is.rest.grown is.reshaping is.whole))
     losses

@@ -1,11 +1,12 @@
 -- A step of a reshape in a call of all arrays makes its change of the book.
-use Rattle.std.proofs.Common.{◌≡◌, ℕ, ◌<◌, ◌≤◌, Bool, true, false, ◌&&◌, not, List, [], refl, sym, ap, subst, ◌∙◌, inl, inr, arith}
+use Rattle.std.proofs.Common.{◌≡◌, ℕ, ◌+◌, ◌<◌, ◌≤◌, Bool, true, false, ◌==◌, ◌&&◌, ◌||◌, not, List, [], length, refl, sym, ap, subst, ◌∙◌, inl, inr, ne_eqb, arith}
 use Rattle.std.proofs.lemmas.Bool.{and_parts, both_ways, cases_eq, cases_lt}
-use Rattle.rack.specs.Values.{Values}
+use Rattle.rack.specs.Values.{IsSingle, Values}
 use Rattle.rack.specs.Seen.{RackView}
 use Rattle.pool_state.specs.declared.contents.State.{State}
 use Rattle.array_image.specs.Arrays.{Member}
 use Rattle.array_image.specs.Held.{Among}
+use Rattle.array_image.specs.Places.{data_sector, member_slice}
 use Rattle.array_image.specs.SoundArray.{array_fields, first_unsynced}
 use Rattle.array_image.specs.States.{current_places, is_current}
 use Rattle.log_laws.specs.Kept.{LogInvariant}
@@ -22,11 +23,11 @@ use Rattle.sync_laws.specs.Steps.{as_it_was, done, Stepped}
 use Rattle.reshape_laws.specs.Reshapes.{MayReshape, Reshapes}
 use Rattle.raid_laws.specs.Frames.{frame_of}
 use Rattle.raid_laws.specs.Moves.{IsHeeded, IsSet}
-use Rattle.raid_laws.specs.Raid.{gone_in, IsWritten, Raid}
+use Rattle.raid_laws.specs.Raid.{gone_in, is_empty, is_failed, is_used_up, IsWritten, Raid}
 use Rattle.raid_laws.proofs.Added.{names_current}
 use Rattle.raid_laws.proofs.Changed.{called, further as further_read, keeps_arrays}
 use Rattle.raid_laws.proofs.Noted.{current_few, gone_from, gone_not}
-use Rattle.raid_laws.proofs.Over.{IsFurther, number_room, over_still, someone_left}
+use Rattle.raid_laws.proofs.Over.{IsFurther, member_left, number_room, or_from, or_parts, over_still, someone_left}
 use Rattle.raid_laws.proofs.Seated.{view_with}
 use Rattle.raid_laws.proofs.Views.{NotesOne}
 use Rattle.raid_laws.proofs.Whole.{heeded_gone, heeded_left, heeded_whole}
@@ -45,11 +46,13 @@ use Rattle.growth_laws.proofs.Becoming.{IsAtRest}
 use Rattle.growth_laws.proofs.Turning.{turn_then}
 use Rattle.growth_laws.proofs.Steps.{MayBecome, notes_views, stepped_heeded, stepped_own, stepped_other, stepped_set}
 
--- What a step of a reshape leaves of an array: its members, its mark and its rows. It has the sectors that it had, and those past its end, which are
--- moved already, are spent where they were.
-pub record KeepsMembers (u next : View) : Type 0 where
-  pub members : (shape_of next).members ≡ (shape_of u).members
-  pub seats : next.seats ≡ u.seats
+-- What a step of a reshape leaves of an array: its mark and its rows, and some member where it has one after it. A member that joins holds one value in
+-- each sector. The array has the sectors that it had, and those past its end, which are moved already, are spent where they were.
+pub record KeepsMembers (u next : View) (a : RackView) : Type 0 where
+  pub joining :
+      (k : Member) (t : ℕ) → Among k (shape_of next).members → (Among k (shape_of u).members → ⊥) → t < k.reach
+      → IsSingle (a.held (member_slice k.place u.number) (data_sector + t)) × (length (a.held (member_slice k.place u.number) (data_sector + t)).current ≡ 512)
+  pub some : 0 < present next.seats → 0 < present u.seats
   pub marked : next.marked ≡ u.marked
   pub resync : next.resync ≡ u.resync
   pub unsynced : first_unsynced next.truth ≡ first_unsynced u.truth
@@ -59,13 +62,34 @@ pub record KeepsMembers (u next : View) : Type 0 where
   pub spent : (y : ℕ) → has_sector u y ≡ true → sectors_of u ≤ y → spent_in next y ≡ spent_in u y
   pub new : (s : State) → Maintains s u next → ⊥
 
+-- where nobody joins
+pub none_joins : (u next : View) (a : RackView) → (shape_of next).members ≡ (shape_of u).members → (k : Member) (t : ℕ) → Among k (shape_of next).members
+    → (Among k (shape_of u).members → ⊥) → t < k.reach
+    → IsSingle (a.held (member_slice k.place u.number) (data_sector + t)) × (length (a.held (member_slice k.place u.number) (data_sector + t)).current ≡ 512)
+none_joins u next a same k t among old inside = absurd (old (subst (λ (ms : List Member). Among k ms) same among))
+
+-- a run of which the arrays have the members of another
+abbrev seated_as : Raid → Raid → Raid
+seated_as v w = record w { arrays = λ k. record (w.arrays k) { seats = (v.arrays k).seats } }
+
+-- a pool that isn't at its end after a step wasn't before it, where an array has a member left after it only if it had one
+over_but : (v w : Raid) → IsFurther v (seated_as v w) → (n : ℕ) → n < v.state.made → (0 < present (w.arrays n).seats → 0 < present (v.arrays n).seats) → is_failed w n ≡ false
+    → is_failed v n ≡ false
+over_but v w further n low some goes =
+    let parts = or_parts (is_empty w) (is_used_up w || (present (w.arrays n).seats == 0)) goes in
+    let rest = or_parts (is_used_up w) (present (w.arrays n).seats == 0) parts.1 in
+    let left = some (member_left w n goes) in
+    over_still v (seated_as v w) further n low
+    (or_from (is_empty w) (is_used_up w || (present (v.arrays n).seats == 0)) parts.0
+    (or_from (is_used_up w) (present (v.arrays n).seats == 0) rest.0 (ne_eqb (present (v.arrays n).seats) 0 (λ none. absurd (omega (arith, left, none))))))
+
 -- Such a step of array m in a call of all.
 pub record ReshapeCall (v : Raid) (f : ℕ → View) (next : View) (number m : ℕ) (a b : RackView) (on : List ℕ) (answered : Bool) : Type 0 where
   pub set : IsSet v a
   pub heeded : IsHeeded v
   pub rest : IsAtRest v m
   pub may : MayBecome v m next a
-  pub keeps : KeepsMembers (v.arrays m) next
+  pub keeps : KeepsMembers (v.arrays m) next a
   pub others : (n : ℕ) → (n ≡ m → ⊥) → f n ≡ v.arrays n
   pub goes : Goes a b
   pub later : v.number ≤ number
@@ -86,11 +110,11 @@ module _ (v : Raid) (f : ℕ → View) (next : View) (number m : ℕ) (a b : Rac
   low = call.may.low
 
   -- what the step needs of the pool, where not all is over after it
-  allowed : IsWritten (v.arrays m) → (further : IsFurther v (called v f number)) (p : Promise) → IsPromised p (called v f number) → (vals : ℕ → ℕ → Values) → Stands v v p vals a
+  allowed : IsWritten (v.arrays m) → ((n : ℕ) → n < v.state.made → is_failed (called v f number) n ≡ false → is_failed v n ≡ false) → (p : Promise) → IsPromised p (called v f number) → (vals : ℕ → ℕ → Values) → Stands v v p vals a
       → MayReshape v.state (v.arrays m) next (f m) v.number on a
-  allowed written further p promised vals stands =
+  allowed written still p promised vals stands =
       let goes = promised.goes p.one promised.is_one stands.one in
-      let before = over_still v (called v f number) further p.one stands.one goes in
+      let before = still p.one stands.one goes in
       let some = someone_left (called v f number) p.one goes in
       record {
         commit = record {
@@ -107,7 +131,7 @@ module _ (v : Raid) (f : ℕ → View) (next : View) (number m : ℕ) (a b : Rac
             (state_of (changed (steps m next) v) a m (stepped_set v m next a call.set call.heeded call.may) (stepped_heeded v m next call.heeded call.may.went) low);
         opened = subst (λ k. IsOpen (shape_of next) k a) (call.may.seated.number ∙ sym (call.set.arrays m low).number)
             (opened v.state v.state.made m next a call.may.seated stands.slices low);
-        joining = λ k t among old. absurd (old (subst (λ (ms : List Member). Among k ms) call.keeps.members among));
+        joining = call.keeps.joining;
         unmarked = call.rest.unmarked;
         whole = written.resync;
       }
@@ -129,7 +153,7 @@ module _ (v : Raid) (f : ℕ → View) (next : View) (number m : ℕ) (a b : Rac
         notes_views (changed (steps m next) v) f m a b (stepped_set v m next a call.set call.heeded call.may) low call.goes.stays
         (λ n other. call.others n other ∙ sym (stepped_other v m next n other)) (subst (λ (u : View). Notes u (f m) a b) (sym (stepped_own v m next)) noted)
 
-    further : IsFurther v (called v f number)
+    further : IsFurther v (seated_as v (called v f number))
     further = record {
       left = λ q left. heeded_left v q call.heeded (and_parts (is_current v.state q) (not (gone_in (called v f number) q)) left).0;
       number = call.later;
@@ -141,13 +165,22 @@ module _ (v : Raid) (f : ℕ → View) (next : View) (number m : ℕ) (a b : Rac
             (let up = call.keeps.events in let more = subst (λ (u : View). u.truth.events ≤ (f m).truth.events) (stepped_own v m next) views.views.events in omega (arith, up, more))
         | inr other ↦ subst (λ (u : View). (v.arrays n).truth.events ≤ u.truth.events) (sym (call.others n other)) (omega arith)
       ];
-      seats = λ n there. elim (cases_eq n m) [
-        | inl same ↦
-            subst (λ k. present (f k).seats ≤ present (v.arrays k).seats) (sym same)
-            (subst (λ seats. present (f m).seats ≤ present seats) call.keeps.seats (subst (λ (u : View). present (f m).seats ≤ present u.seats) (stepped_own v m next) views.views.seats))
-        | inr other ↦ subst (λ (u : View). present u.seats ≤ present (v.arrays n).seats) (sym (call.others n other)) (omega arith)
-      ];
+      seats = λ n there. omega arith;
     }
+
+    some : (n : ℕ) → 0 < present (f n).seats → 0 < present (v.arrays n).seats
+    some n left = elim (cases_eq n m) [
+      | inl same ↦
+          subst (λ k. 0 < present (v.arrays k).seats) (sym same)
+          (call.keeps.some
+          (let fewer = subst (λ (u : View). present (f m).seats ≤ present u.seats) (stepped_own v m next) views.views.seats in
+          let own = subst (λ k. 0 < present (f k).seats) same left in
+          omega (arith, fewer, own)))
+      | inr other ↦ subst (λ (u : View). 0 < present u.seats) (call.others n other) left
+    ]
+
+    still : (n : ℕ) → n < v.state.made → is_failed (called v f number) n ≡ false → is_failed v n ≡ false
+    still n there goes = over_but v (called v f number) further n there (some n) goes
 
     unspent : (y : ℕ) → spent_in (f m) y ≡ false → spent_in next y ≡ false
     unspent y alive = subst (λ (u : View). spent_in u y ≡ false) (stepped_own v m next) (views.views.spent y alive)
@@ -163,9 +196,9 @@ module _ (v : Raid) (f : ℕ → View) (next : View) (number m : ℕ) (a b : Rac
       marked = λ q current. heeded_gone v call.heeded q;
       others = call.others;
       same = refl;
-      goes = λ n there goes. over_still v (called v f number) further n there goes;
+      goes = still;
       someone = λ n goes. someone_left (called v f number) n goes;
-      becomes = λ p promised stands. reshapes_become v.state (v.arrays m) next (f m) v.number number on answered (vals m) a b call.reshapes is (allowed written further p promised vals stands);
+      becomes = λ p promised stands. reshapes_become v.state (v.arrays m) next (f m) v.number number on answered (vals m) a b call.reshapes is (allowed written still p promised vals stands);
       gone = λ kept.
           kept_more v.state number (has_gone (f m)) (gone_in (called v f number)) b (λ q went. gone_from (called v f number) q m (call.few q went) low went) kept;
       number = (call.set.arrays m low).number;
@@ -221,6 +254,9 @@ module _ (v : Raid) (f : ℕ → View) (next : View) (number m : ℕ) (a b : Rac
     further_before : IsFurther v (called v f number)
     further_before = further_read v f m a b call.set views_before.views number call.later
 
+    still_before : (n : ℕ) → n < v.state.made → is_failed (called v f number) n ≡ false → is_failed v n ≡ false
+    still_before n there goes = over_still v (called v f number) further_before n there goes
+
     pub reshape_undone : (vals : ℕ → ℕ → Values) → IsWritten (v.arrays m) → RenewsOne m (v.arrays m) v (called v f number) vals a b
     reshape_undone vals written = record {
       few = let there = low in let most = call.set.most in omega (arith, there, most);
@@ -232,7 +268,7 @@ module _ (v : Raid) (f : ℕ → View) (next : View) (number m : ℕ) (a b : Rac
       same = refl;
       back = λ p promised. record {
         is_one = promised.is_one;
-        goes = λ n live there. over_still v (called v f number) further_before n there (promised.goes n live there);
+        goes = λ n live there. still_before n there (promised.goes n live there);
         covers = λ n live there. elim (cases_eq n m) [
           | inl same ↦ subst (λ k. IncludesSpent (v.arrays k) (spent_at p k (v.arrays k))) (sym same) (λ y alive.
               views_before.views.spent y
@@ -242,14 +278,14 @@ module _ (v : Raid) (f : ℕ → View) (next : View) (number m : ℕ) (a b : Rac
         ];
       };
       someone = λ n goes. someone_left (called v f number) n goes;
-      acts = λ p promised stands spent covers. call.reshapes.undone is v.state (vals m) spent covers (allowed written further_before p promised vals stands);
+      acts = λ p promised stands spent covers. call.reshapes.undone is v.state (vals m) spent covers (allowed written still_before p promised vals stands);
       truths = λ p promised stands spent covers.
           supers_truths v.state (v.arrays m).number (λ t. array_fields t ≡ array_fields (v.arrays m).truth)
           (ArrayInvariant v.state (shape_of (v.arrays m)) (v.arrays m) (vals m) spent a) a b (call.reshapes.kept_supers is);
       renewed = same_renewed (v.arrays m) call.rest.unmarked (let rows = call.rest.rows in omega (arith, rows));
       kept = λ p promised stands.
           kept_more v.state number (has_gone (f m)) (gone_in (called v f number)) b (λ q went. gone_from (called v f number) q m (call.few q went) low went)
-          (call.reshapes.kept v.state (allowed written further_before p promised vals stands));
+          (call.reshapes.kept v.state (allowed written still_before p promised vals stands));
       number = (call.set.arrays m low).number;
       noted = as_before.same;
       written = views_before.views.written;

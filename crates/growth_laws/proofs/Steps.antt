@@ -2,6 +2,7 @@
 use Rattle.std.proofs.Common.{◌≡◌, ℕ, ◌<◌, ◌≤◌, Bool, true, false, not, if◌then◌else◌, [], refl, sym, ap, subst, ◌∙◌, inl, inr, eq-eqb, ne_eqb, arith}
 use Rattle.std.proofs.lemmas.Bool.{and_parts, both_ways, cases_Bool, cases_eq}
 use Rattle.rack.specs.Seen.{Rose, RackView, SameRack}
+use Rattle.rack.specs.Values.{Values}
 use Rattle.array_image.specs.States.{is_current}
 use Rattle.array_model.specs.View.{View, is_whole_array, sectors_of}
 use Rattle.array_model.specs.Members.{Notes}
@@ -16,6 +17,8 @@ use Rattle.raid_laws.proofs.Whole.{heeded_left, heeded_whole}
 use Rattle.growth_laws.specs.Losses.{LosesBook}
 use Rattle.transition_laws.specs.Changes.{Change, changed, steps}
 use Rattle.transition_laws.specs.Reshaping.{FitsReshape}
+use Rattle.transition_laws.proofs.LossesMade.{no_losses}
+use Rattle.transition_laws.proofs.RunsOf.{run_of_itself}
 use Rattle.growth_laws.specs.Growing.{GetsLonger, GrowsBy, MakesReshape, MakesTurn}
 use Rattle.growth_laws.proofs.Losing.{as_long, loses_as_long, loses_book_then, loses_nothing, longer_then, mends_lose, moves_caused}
 
@@ -269,4 +272,29 @@ grows_over change Lacks More v w a b x y answered before after more grows = reco
   };
   heeded = grows.heeded;
   longer = grows.longer;
+}
+
+-- ---- a step of a reshape that isn't begun, and what contents hold meanwhile
+
+-- where nothing is called no change is made
+turns_nothing : (change : Change) (Fits : (ℕ → ℕ → Values) → Type 0) (v : Raid) (x : RackView) → IsSet v x → MakesTurn change false Fits v v x x
+turns_nothing change Fits v x set =
+    let none = no_losses v v x set.fit (run_of_itself v x set) in
+    record { before = []; after = none.changes; losses_before = tt; losses_after = none.losses; makes = λ vals fits. none.makes vals }
+
+pub reshapes_nothing : (change : Raid → Change) (Lacks : Raid → Raid → Type 0) (n : ℕ) (v : Raid) (x : RackView) → IsSet v x → IsHeeded v → Lacks v v
+    → MakesReshape change Lacks n v v x x false
+unfolding grows_nothing
+reshapes_nothing change Lacks n v x set heeded refused = record {
+  grows = grows_nothing change Lacks v v x x (loses_nothing v) (caused_nothing v x x) heeded refused;
+  contents = turns_nothing (change v) (FitsReshape v n) v x set;
+}
+
+-- it is refused for less
+pub reshapes_more : (change : Raid → Change) (Lacks More : Raid → Raid → Type 0) (n : ℕ) (v w : Raid) (a b : RackView) (answered : Bool) → ((mid z : Raid) → Lacks mid z → More mid z)
+    → MakesReshape change Lacks n v w a b answered → MakesReshape change More n v w a b answered
+unfolding grows_over
+reshapes_more change Lacks More n v w a b answered more makes = record {
+  grows = grows_over change Lacks More v w a b a b answered (λ d. refl) (λ d. refl) more makes.grows;
+  contents = makes.contents;
 }

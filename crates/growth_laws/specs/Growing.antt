@@ -2,11 +2,11 @@
 use Rattle.std.specs.Prelude.{◌≡◌, ◌⊎◌, ℕ, ◌+◌, ◌-◌, ◌*◌, ◌<◌, ◌≤◌, ◌^◌, Bool, true, false, ◌==◌, ◌&&◌, ◌||◌, not, nat_le, nat_lt, List, ◌∷◌, ◌++◌, is_none, length, Result, count_by, sum_by}
 use Rattle.std.specs.List.{range_with_len}
 use Rattle.rack.specs.Seen.{RackView}
-use Rattle.rack.specs.Values.{Values}
+use Rattle.rack.specs.Values.{IsSingle, Values}
 use Rattle.md_super.specs.Profile.{is_mirror, is_raid5}
 use Rattle.pool_state.specs.declared.contents.Work.{Work}
 use Rattle.pool_state.specs.declared.contents.Work.TheVariants.{Resync, Rebuild, TakeOver, Begin, Reshape, Finish, Make, Zero, Ready, Extend, Close}
-use Rattle.array_image.specs.Places.{member_slice}
+use Rattle.array_image.specs.Places.{data_sector, member_slice}
 use Rattle.array_image.specs.SoundArray.{first_unsynced}
 use Rattle.array_image.specs.States.{current_places, is_current}
 use Rattle.array_image.specs.Supers.{is_reshaping}
@@ -17,12 +17,13 @@ use Rattle.sync_laws.specs.Rows.{lacks_two as lacks_two_in}
 use Rattle.sync_laws.specs.Steps.{DoesRows, if_done, rebuilt, resynced, zeroed}
 use Rattle.reshape_laws.specs.Ahead.{ahead_by, finished, next_row, taken_over}
 use Rattle.reshape_laws.specs.Reshapes.{joined, lacks_joined, lacks_two}
-use Rattle.raid_laws.specs.Moves.{AreCaused, IsHeeded}
+use Rattle.raid_laws.specs.Moves.{AreCaused, AreMarked, IsHeeded}
 use Rattle.raid_laws.specs.NewDrive.{first_in, slice_length}
-use Rattle.raid_laws.specs.Raid.{Raid, is_empty, is_used_up}
+use Rattle.raid_laws.specs.Raid.{IsWritten, Raid, is_empty, is_used_up}
 pub use Rattle.growth_laws.specs.NewArrays.{drive_id, may_make, reaching, views_of}
 use Rattle.growth_laws.specs.Losses.{LosesBook}
 use Rattle.transition_laws.specs.Changes.{Change, changed, closed, makes, readied, steps}
+use Rattle.transition_laws.specs.Growth.{AreReady}
 use Rattle.transition_laws.specs.Losses.{AreLosses}
 use Rattle.transition_laws.specs.Makes.{Makes}
 use Rattle.transition_laws.specs.Reshaping.{FitsReshape}
@@ -83,7 +84,7 @@ abbrev pub lacks_places : Raid → List ℕ → Bool
 lacks_places v places = nat_lt 1 (count_by (λ place. not (is_current v.state place)) places)
 
 -- A work can't be done, by the book before its commit and the one after the losses that were met in it: it isn't due any more once the array is
--- cleaned, or the array lacks two members, a joining one among them whose place is missing. A young array lacks two in the row that is zeroed, and one that is made
+-- cleaned, or the array lacks two members, a joining one among them whose place is missing. A young array lacks two in the first row that is zeroed, and one that is made
 -- lacks two of the places that are to be its members.
 abbrev pub Lacks : Work → Raid → Raid → Type 0
 Lacks (TakeOver n) mid w = ((is_due mid (TakeOver n) && is_clean (mid.arrays n)) ≡ false) ⊎ (lacks w n ≡ true)
@@ -105,11 +106,21 @@ pub record HasJoiningSlice (v : Raid) (n place : ℕ) (x : RackView) : Type 0 wh
   pub disk : is_current v.state place ≡ true → member_slice place n < x.disks
   pub sectors : is_current v.state place ≡ true → slice_length (v.arrays n) ≤ x.sectors (member_slice place n)
 
+-- That slice has one value of 512 bytes in each sector of the member's data, unless the place is missing.
+abbrev pub HasSettledSlice : Raid → (n place : ℕ) → RackView → Type 0
+HasSettledSlice v n place x =
+    is_current v.state place ≡ true → (t : ℕ) → t < (v.arrays n).truth.size
+    → IsSingle (x.held (member_slice place n) (data_sector + t)) × (length (x.held (member_slice place n) (data_sector + t)).current ≡ 512)
+
 -- ---- what it changes
 
 -- so many next rows of a reshape are moved
 abbrev pub moves : ℕ → ℕ → Raid → Change
 moves n rows v = steps n (ahead_by (v.arrays n) rows (raised (v.arrays n).truth.events))
+
+-- so many next rows of a young array are zeroed
+abbrev pub zeroes : ℕ → ℕ → Raid → Change
+zeroes n rows v = steps n (zeroed (v.arrays n) rows)
 
 -- what it changes, by the book before the commit; the volume's extension changes no array, and what is made hangs on the time too
 abbrev pub change_of : Work → Raid → Change
@@ -120,7 +131,7 @@ change_of (Begin n place) v = steps n (joined (v.arrays n) (current_places v.sta
 change_of (Reshape n) v = moves n 1 v
 change_of (Finish n) v = steps n (finished (v.arrays n) (raised (v.arrays n).truth.events))
 change_of (Make n height) v = makes (v.arrays v.state.made)
-change_of (Zero n) v = steps n (zeroed (v.arrays n) 1)
+change_of (Zero n) v = zeroes n 1 v
 change_of (Ready n) v = readied
 change_of Extend v = steps 0 (v.arrays 0)
 change_of Close v = closed
@@ -159,6 +170,10 @@ pub record GrowsBy (change : Raid → Change) (Lacks : Raid → Raid → Type 0)
 abbrev pub Grows : Work → (Raid → Raid → Type 0) → Raid → Raid → RackView → RackView → Bool → Type 0
 Grows work Lacks v w a b answered = GrowsBy (change_of work) Lacks v w a b answered
 
+-- The next rows of young array n are zeroed: some of them, at least one and at most so many.
+abbrev pub ZeroesNext : (n most : ℕ) → Raid → Raid → RackView → RackView → {E : Type 0} → Result ℕ E → Type 0
+ZeroesNext n most v w a b result = DoesRows (λ rows. GrowsBy (zeroes n rows) (Lacks (Zero n)) v w a b) (rows_of (v.arrays n) - first_unsynced (v.arrays n).truth) most result
+
 -- ---- what contents hold in it
 
 -- A change of the book between losses, where it is done: this is all that calls make of the book, of values that fit. So at each moment a stop leaves
@@ -183,6 +198,27 @@ pub record MakesReshape (change : Raid → Change) (Lacks : Raid → Raid → Ty
   pub grows : GrowsBy change Lacks v w a b answered
   pub contents : MakesTurn (change grows.turns.mid) grows.turns.is_done (FitsReshape v n) v w a b
 
+-- Array n is cleaned, over slices of which this is seen, and then a step of it is so, of the book that the run has then: it has losses alone, and whoever
+-- went is marked in it.
+pub record CleansBefore {X : Type 0} (seen : X → RackView) (n : ℕ) (v : Raid) (a : RackView) (Step : Raid → X → Type 0) : Type 0 where
+  pub mid : Raid
+  pub at : X
+  pub loses : LosesBook v mid
+  pub cleans : MakesClean n v mid a (seen at)
+  pub marked : AreMarked mid
+  pub step : Step mid at
+
+-- Array n is cleaned, and then a step of its reshape is made.
+abbrev pub CleansAndReshapes : {X : Type 0} → (X → RackView) → (Raid → Change) → (Raid → Raid → Type 0) → ℕ → Raid → Raid → RackView → RackView → Bool → Type 0
+CleansAndReshapes seen change Lacks n v w a b answered = CleansBefore seen n v a (λ mid at. MakesReshape change Lacks n mid w (seen at) b answered)
+
 -- that of the next rows: some of them, at least one and at most so many
 abbrev pub MovesRows : (n most : ℕ) → Raid → Raid → RackView → RackView → {E : Type 0} → Result ℕ E → Type 0
 MovesRows n most v w a b result = DoesRows (λ rows. MakesReshape (moves n rows) (Lacks (Reshape n)) n v w a b) (rows_of (v.arrays n) - next_row (v.arrays n)) most result
+
+-- ---- what arrays keep in it
+
+-- What a work on array n is asked for where values are spoken of: no array of the volume is young, and the array's truth has the fields that a pool writes.
+pub record IsFitToGrow (v : Raid) (n : ℕ) : Type 0 where
+  pub ready : AreReady v
+  pub written : IsWritten (v.arrays n)

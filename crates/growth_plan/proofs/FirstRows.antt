@@ -82,7 +82,7 @@ rebuilds_no_resync place x =
 -- ---- the first work
 
 -- all works, by the first
-begins : (works : List Work) (w : Work) → slice_get works 0 ≡ Some w → works ≡ w ∷ drop 1 works
+pub begins : (works : List Work) (w : Work) → slice_get works 0 ≡ Some w → works ≡ w ∷ drop 1 works
 begins [] w first = cc first
 begins (v ∷ works) w first = let same : v ≡ w = cc first in ap (λ (u : Work). u ∷ works) same
 

@@ -16,6 +16,7 @@ pub mod EndDone
 pub mod Done
 pub mod Beginning
 pub mod FirstRows
+pub mod FirstZeros
 pub mod Last
 pub mod Above
 pub mod Held

@@ -36,6 +36,10 @@ rows_rebuilt rows a = record a { rebuild = a.rebuild - rows; rebuilding = if a.r
 abbrev pub rows_reshaped : ℕ → ArrayNow → ArrayNow
 rows_reshaped rows a = record a { reshape = a.reshape - rows }
 
+-- so many rows of a young array are zeroed
+abbrev pub rows_zeroed : ℕ → ArrayNow → ArrayNow
+rows_zeroed rows a = record a { zero = a.zero - rows }
+
 -- a place among others, which are in ascending order
 abbrev pub inserted : ℕ → List ℕ → List ℕ
 inserted place [] = place ∷ []
@@ -71,7 +75,7 @@ after (Reshape n) s p = with_arrays s p (change n (rows_reshaped 1) p.arrays.ite
 after (Finish n) s p = with_arrays s p (change n (λ a. record a { reshaping = false }) p.arrays.items)
 after (Make n height) s p =
     with_arrays (record s { made = s.made + 1 }) p (p.arrays.items ++ new_array s p.arrays.items height ∷ [])
-after (Zero n) s p = with_arrays s p (change n (λ a. record a { zero = a.zero - 1 }) p.arrays.items)
+after (Zero n) s p = with_arrays s p (change n (rows_zeroed 1) p.arrays.items)
 after (Ready n) s p = record { state = record s { joined = s.made }; progress = p }
 after Extend s p = record { state = s; progress = record p { extents = sum (targets s p.arrays.items) } }
 after Close s p = record { state = record s { plan = Nothing }; progress = p }

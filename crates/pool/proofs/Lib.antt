@@ -6,7 +6,9 @@ pub mod Continuing
 mod Rebuilding
 mod Reached
 mod Losing
+mod LastRow
 mod MovedRows
+mod ZeroedRows
 mod ExtensionTried
 mod Planning
 pub mod Admitted

@@ -109,6 +109,7 @@ impl<R: Bay> Pool<R> {
     {
         match self.next_work() {
             Some(Work::Reshape { array }) => self.volume.inner().reshape_rows(array, most),
+            Some(Work::Zero { array }) => self.volume.inner().zero_rows(array, most),
             Some(work) => {
                 if is_row(&work) {
                     return self.volume.inner().works(&work, most);
@@ -123,7 +124,7 @@ impl<R: Bay> Pool<R> {
     /// Does the first of the works that are left, whatever it is, so many times or until none is left, and answers how many are left then.
     /// Arrays get longer meanwhile, and new ones are made; the volume gets longer as the last work but one of a plan. A drive that is lost
     /// changes what is left, and the works go on. They end where a work can't be done, which names its array; those before it are done.
-    /// Rows to resync, to rebuild or to move that follow each other are done several by one commit.
+    /// Rows to resync, to rebuild, to move or to zero that follow each other are done several by one commit.
     pub fn grow(&mut self, count: u64) -> Result<u64, Stuck>
         requires { (volume (view R.seen R.shelf self.old)).fit }
         ensures grows { spec.GrowsBy count (view R.seen R.shelf self.old) (view R.seen R.shelf self.new) R.runs result }

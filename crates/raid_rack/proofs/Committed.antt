@@ -1,5 +1,5 @@
 -- The code that commits a state, with superblocks or without, on all places that the state has as current.
-use Rattle.std.proofs.Common.{◌≡◌, ℕ, ◌<◌, ◌≤◌, true, false, not, List, get_or, length, slice_get, option_map, sym, ap, subst, ◌∙◌, arith}
+use Rattle.std.proofs.Common.{◌≡◌, ℕ, ◌<◌, ◌≤◌, true, false, not, List, get_or, length, slice_get, option_map, refl, sym, ap, subst, ◌∙◌, arith}
 use Rattle.std.proofs.lemmas.Bool.{and_parts}
 use Rattle.std.specs.List.{list_any, range_with_len}
 use Rattle.arrayvec.specs.ArrayVec.{ArrayVec}
@@ -18,6 +18,7 @@ use Rattle.raid_laws.proofs.Over.{not_false, or_parts}
 use Rattle.raid_laws.proofs.Ranges.{any_some}
 use Rattle.growth_laws.specs.Growing.{is_ended}
 use Rattle.growth_laws.specs.Losses.{LosesBook}
+use Rattle.growth_laws.specs.Stating.{CommitsState}
 use Rattle.growth_laws.proofs.Stating.{AreStated, IsStating, after_stating, stating_caused, stating_loses, stating_raises, stating_set}
 use Rattle.raid_rack.specs.declared.arrays.Arrays.{Arrays}
 use Rattle.raid_rack.specs.RaidRack.{IsRunning, no_array, raid_by}
@@ -27,6 +28,7 @@ use Rattle.raid_rack.proofs.Raises.{raised_up}
 -- What it makes of the arrays, before losses are mended: losses alone.
 pub record HasCommitted (a b : Arrays) (x y : RackView) : Type 0 where
   pub running : IsRunning b y
+  pub commits : CommitsState (raid_by a) (raid_by b) a.log.added x y
   pub loses : LosesBook (raid_by a) (raid_by b)
   pub caused : AreCaused (raid_by a) (raid_by b) x y
   pub raises : RaisesBy 1 (raid_by a) (raid_by b)
@@ -49,6 +51,18 @@ has_committed a all log l on gone x y count stated number call each same next =
     let whole : after_stating v (next_number l.number) f ≡ raid_by (record a { all = all; log = log }) =
     λ i. record { state = a.state; arrays = f; number = back i } in
     record {
+      commits = record {
+        on = on;
+        gone = gone;
+        log = l;
+        on_is = stated.takes_are;
+        copies = stated.copies;
+        number = number;
+        call = call;
+        arrays = commit.arrays;
+        state = refl;
+        next = next;
+      };
       running = record { count = same ∙ count; set = subst (λ (w : Raid). IsSet w y) whole (stating_set v on on gone a.log.added l f x y commit) };
       loses = subst (λ (w : Raid). LosesBook v w) whole (stating_loses v on on gone a.log.added l f x y commit);
       caused = subst (λ (w : Raid). AreCaused v w x y) whole (stating_caused v on on gone a.log.added l f x y commit);

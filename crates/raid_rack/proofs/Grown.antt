@@ -1,6 +1,6 @@
 -- The code of a growth: a call of one array that makes another one of it, and the mending after it.
-use Rattle.std.proofs.Common.{◌&&◌, ◌≡◌, ◌⊎◌, ℕ, ◌+◌, ◌-◌, ◌<◌, ◌≤◌, Bool, true, false, ◌||◌, not, nat_lt, List, map, set, length, get_or, Result, Ok, Err, is_ok, IfOk, IfErr, refl, sym, ap, subst, ◌∙◌, inl, inr, le-ltb, arith}
-use Rattle.std.proofs.lemmas.Bool.{both_ways, cases_Bool, ltb-false}
+use Rattle.std.proofs.Common.{◌&&◌, ◌≡◌, ◌⊎◌, ℕ, ◌+◌, ◌-◌, ◌<◌, ◌≤◌, Bool, true, false, ◌||◌, not, nat_lt, if◌then◌else◌, List, map, set, length, get_or, Result, Ok, Err, is_ok, IfOk, IfErr, refl, sym, ap, subst, ◌∙◌, inl, inr, le-ltb, arith}
+use Rattle.std.proofs.lemmas.Bool.{both_ways, cases_Bool, cases_lt, ltb-false}
 use Rattle.std.proofs.lemmas.List.{same_lists}
 use Rattle.std.proofs.lemmas.Option.{slice_get-get_or}
 use Rattle.std.proofs.lemmas.List.FromFn.{get_or-map-range_with_len, length-map-range_with_len}
@@ -12,14 +12,15 @@ use Rattle.array_image.specs.Places.{log_sectors, log_slice}
 use Rattle.array_image.specs.Spent.{wanting}
 use Rattle.array_image.specs.States.{current_places}
 use Rattle.log_laws.specs.View.{LogView}
-use Rattle.array_model.specs.View.{View, has_gone, member_on, rows_of}
+use Rattle.array_model.specs.View.{IsArray, View, has_gone, member_on, present, rows_of}
 use Rattle.array_core.specs.Pool.{Goes}
+use Rattle.array_core.specs.Seats.{names}
 use Rattle.array_model.specs.Members.{members_of}
 use Rattle.array_core.specs.Superblocks.{raised}
 use Rattle.sync_laws.specs.Steps.{Stepped, as_it_was, done, if_done}
 use Rattle.shr_base.specs.declared.Id.{Id}
 use Rattle.reshape_laws.specs.Ahead.{next_row}
-use Rattle.reshape_laws.specs.Reshapes.{Reshapes, joined, lacks_two}
+use Rattle.reshape_laws.specs.Reshapes.{Reshapes, joined, lacks_joined, lacks_two}
 use Rattle.raid_laws.specs.Moves.{IsHeeded, OnlyFailures, Mends}
 use Rattle.raid_laws.specs.Raid.{Raid}
 use Rattle.raid_laws.proofs.Noted.{current_few}
@@ -33,6 +34,7 @@ use Rattle.growth_laws.proofs.Steps.{CallsTo, MayBecome, calls_to, grows_one, re
 use Rattle.raid_rack.specs.declared.arrays.Arrays.{Arrays}
 use Rattle.raid_rack.specs.declared.works.Stuck.{Stuck}
 use Rattle.raid_rack.specs.RaidRack.{IsRunning, no_array, raid_by}
+use Rattle.raid_rack.proofs.Ended.{all_wanting}
 use Rattle.raid_rack.proofs.Mended.{not_of_false, not_of_true, on_named}
 use Rattle.raid_rack.proofs.Raises.{raised_up}
 use Rattle.raid_rack.proofs.Resynced.{done_alone, told_rows, wanting_less}
@@ -159,7 +161,7 @@ grows_answered change Lacking a b c x y z n next u is_done ok answered change_is
 
 pub reshape_call : (step : View → View) (a : Arrays) (all : ArrayVec View) (log : LogView) (x y : RackView) (n number : ℕ) (old u : View) (on : List ℕ) (answered : Bool)
     → IsRunning a x → IsHeeded (raid_by a) → IsAtRest (raid_by a) n → MayBecome (raid_by a) n (step ((raid_by a).arrays n)) x
-    → KeepsMembers ((raid_by a).arrays n) (step ((raid_by a).arrays n)) → old ≡ get_or a.all.items n no_array → all.items ≡ set a.all.items n u
+    → KeepsMembers ((raid_by a).arrays n) (step ((raid_by a).arrays n)) x → old ≡ get_or a.all.items n no_array → all.items ≡ set a.all.items n u
     → number ≡ a.log.number → number ≤ log.number → on ≡ current_places a.state → list_all (λ place. nat_lt place 16) u.went ≡ true → Goes x y
     → Reshapes old (step old) u number log.number on x y answered
     → ReshapeCall (raid_by a) (λ k. get_or all.items k no_array) (step ((raid_by a).arrays n)) log.number n x y on answered
@@ -246,6 +248,24 @@ pub begun_view : (old u : View) (on places : List ℕ) (place : ℕ) (drive id :
 begun_view old u on places place drive id x y is_done on_is drive_is view =
     subst (λ (ps : List ℕ). Stepped old (joined old ps place id) u x y is_done) on_is
     (subst (λ (d : Id). Stepped old (joined old on place d) u x y is_done) drive_is view)
+
+pub begun_reshapes : (old u : View) (number after : ℕ) (on places : List ℕ) (place : ℕ) (drive id : Id) (x y : RackView) (ok : Bool) → on ≡ places → drive ≡ id
+    → Reshapes old (joined old on place drive) u number after on x y ok → Reshapes old (joined old places place id) u number after on x y ok
+begun_reshapes old u number after on places place drive id x y ok on_is drive_is reshapes =
+    subst (λ (ps : List ℕ). Reshapes old (joined old ps place id) u number after on x y ok) on_is
+    (subst (λ (d : Id). Reshapes old (joined old on place d) u number after on x y ok) drive_is reshapes)
+
+-- an array that doesn't lack two members has one
+pub some_member : (u : View) (on : List ℕ) (place : ℕ) → IsArray u → lacks_joined u on place ≡ false → 0 < present u.seats
+some_member u on place is_array few =
+    let most = ltb-false 1 ((if names on place then 0 else 1) + wanting (u.truth.size - 1) (members_of u)) few in
+    elim (cases_lt 0 (present u.seats)) [
+      | inl some ↦ some
+      | inr none ↦
+          let all = all_wanting u (u.truth.size - 1) 0 u.truth.raid_disks (let e : present u.seats ≡ 0 = omega (arith, none) in e) in
+          let two = is_array.least in
+          absurd (omega (arith, most, all, two))
+    ]
 
 -- where nobody was lacking with the place before the call, it is refused of an array that lacks two after it
 pub refused_after : {E : Type 0} (before after : Bool) (P : E → Type 0) (r : Result (Unit {0}) E) → IfErr r (λ e. P e × ((before ≡ true) ⊎ (after ≡ true)))

@@ -20,10 +20,11 @@ use Rattle.reshape_laws.proofs.Joining.{no_member}
 use Rattle.raid_laws.specs.Moves.{IsSet}
 use Rattle.raid_laws.specs.NewDrive.{first_in, slice_length}
 use Rattle.raid_laws.specs.Raid.{Raid}
+use Rattle.transition_laws.specs.Changes.{Change}
 use Rattle.growth_laws.specs.Growing.{HasJoiningSlice, views_of}
-use Rattle.growth_laws.proofs.Steps.{FaultsRise}
+use Rattle.growth_laws.proofs.Steps.{FaultsRise, reshapes_more}
 use Rattle.raid_rack.specs.declared.arrays.Arrays.{Arrays}
-use Rattle.raid_rack.specs.Growing.{CannotAdd, CannotLay}
+use Rattle.raid_rack.specs.Growing.{CannotAdd, CannotLay, LaysSlice, ReshapesWith}
 use Rattle.raid_rack.specs.RaidRack.{IsFit, raid_by}
 
 -- another slice than the one that is added
@@ -99,6 +100,15 @@ laid_slice t u x v place n at first sectors (Ok is) at_is adds ok long few low =
       omega (arith, own, here, long);
 }
 
+pub lays_slice : {R E : Type 0} (s r : SliceRack R) (place n at first sectors start length : ℕ) (result : Result (Unit {0}) E) → at ≡ member_slice place n → first ≡ start → sectors ≡ length
+    → OnOk result (Adds (tables s) (tables r) at first sectors) → OnErr result (tables r ≡ tables s) → below_of r ≡ below_of s → LaysSlice place n start length s r
+lays_slice s r place n at first sectors start length (Err e) at_is first_is long adds err below = (below, inl err)
+lays_slice s r place n at first sectors start length (Ok is) at_is first_is long adds err below = (
+  below,
+  inr (subst (λ d. Adds (tables s) (tables r) d start length) at_is
+      (subst (λ k. Adds (tables s) (tables r) at k length) first_is (subst (Adds (tables s) (tables r) at first) long adds))),
+)
+
 -- and where it is refused it can't be laid
 pub cannot_lay : (t : Slices) (x : RackView) (v : Raid) (place n at first sectors : ℕ) (result : Result (Unit {0}) SliceFault) → at ≡ member_slice place n
     → first ≡ first_in (views_of v) n → sectors ≡ slice_length (v.arrays n)
@@ -141,3 +151,18 @@ cannot_before t u x y place n first sectors same stays (inr (inr overlaps)) = in
 -- no disk's faults fall where none of the rack below falls
 pub faults_rise : (t u : Slices) (x y : RackView) → SameRack x y → ((p : ℕ) → disk_at u p ≡ disk_at t p) → FaultsRise (slices_of t x) (slices_of u y)
 faults_rise t u x y stays seats d = subst (λ k. x.faults (disk_of t d) ≤ k) (sym (same_faults t u y seats d)) (stays.faults (disk_of t d))
+
+-- ---- a step that a joining member takes part in
+
+-- it is refused for less
+pub with_more : {R : Type 0} (seen : R → RackView) (change : Raid → Change) (Lacks More : Raid → Raid → Type 0) (n place : ℕ) (v w : Raid) (s r : SliceRack R) (answered : Bool)
+    → ((mid z : Raid) → Lacks mid z → More mid z) → ReshapesWith seen change Lacks n place v w s r answered → ReshapesWith seen change More n place v w s r answered
+with_more seen change Lacks More n place v w s r answered more makes = record {
+  laid = makes.laid;
+  last = makes.last;
+  lays = makes.lays;
+  step = λ settled.
+      reshapes_more change Lacks More n v w (slices_of (tables makes.laid) (seen (below_of makes.laid))) (slices_of (tables makes.last) (seen (below_of makes.last))) answered more
+      (makes.step settled);
+  drops = makes.drops;
+}

@@ -20,11 +20,15 @@ use Rattle.raid_laws.specs.Raid.{Raid}
 use Rattle.raid_laws.specs.Settling.{IsSuperOf}
 use Rattle.raid_laws.proofs.Over.{or_parts}
 use Rattle.transition_laws.specs.Changes.{changed, makes}
-use Rattle.growth_laws.specs.Growing.{GrowsBy, Lacks, is_due, is_ended, lacks_places}
+use Rattle.transition_laws.specs.Losses.{IsRunOf, MakesLosses}
+use Rattle.transition_laws.specs.Making.{FitsMake}
+use Rattle.growth_laws.specs.Growing.{AnyValues, GrowsBy, Lacks, MakesTurn, is_due, is_ended, lacks_places}
 use Rattle.growth_laws.specs.Losses.{LosesBook}
+use Rattle.growth_laws.specs.Stating.{CommitsState}
 use Rattle.growth_laws.specs.NewArrays.{new_size, new_view, reaching}
 use Rattle.growth_laws.proofs.Made.{MayCome, made_heeded, made_longer, made_set, made_state}
-use Rattle.growth_laws.proofs.OpenedNew.{CanMake, can_make, new_may_come, new_room}
+use Rattle.growth_laws.proofs.MadeTurn.{made_turn}
+use Rattle.growth_laws.proofs.OpenedNew.{CanMake, can_make, new_may_come, new_room, new_unzeroed}
 use Rattle.growth_laws.proofs.Recorded.{recorded_grows}
 use Rattle.growth_laws.proofs.Stating.{supers_of}
 use Rattle.raid_rack.specs.declared.arrays.Arrays.{Arrays}
@@ -150,3 +154,11 @@ module _ (a : Arrays) (height : ℕ) (x : RackView) (is : IsMaking a height x) w
           ap (λ (u : View). u.truth.events)
           (sym (ap (λ (u : Raid). u.arrays n) whole) ∙ ap (λ (b : Bool). if b then next else v.arrays n) (ne_eqb n a.state.made (λ same. omega (arith, low, same)))))
           same commit mended
+
+      -- this is all that it makes of the book
+      pub make_contents : (c d : Arrays) (y w : RackView) → CommitsState (raid_by (record a { state = t; all = all; log = log })) (raid_by c) log.added x y
+          → ((u : Raid) → IsRunOf u (raid_by c) → MakesLosses u (raid_by c) (raid_by d) y w) → FitsMake a.state a.state.made (new_view seconds (raid_by a) height) x
+          → MakesTurn (makes (new_view seconds (raid_by a) height)) true AnyValues (raid_by a) (raid_by d) x w
+      make_contents c d y w commits losses fits =
+          made_turn (raid_by a) (raid_by c) (new_view seconds (raid_by a) height) log.added x y is.running.set is.heeded comes (new_unzeroed (raid_by a) height seconds making_may) made.supers
+          (subst (λ (u : Raid). CommitsState u (raid_by c) log.added x y) (sym whole) commits) fits (raid_by d) w losses

@@ -1,8 +1,9 @@
 -- The code that gives a young array to the volume, as a change of the book by a commit.
-use Rattle.std.proofs.Common.{◌≡◌, ℕ, true, false, if◌then◌else◌, List, get_or, length, set, refl, sym, ap, subst, ◌∙◌, inl, inr, eq-eqb, ne_eqb, arith}
+use Rattle.std.proofs.Common.{◌≡◌, ℕ, true, false, if◌then◌else◌, List, [], get_or, length, set, refl, sym, ap, subst, ◌∙◌, inl, inr, eq-eqb, ne_eqb, arith}
 use Rattle.std.proofs.lemmas.Bool.{both_ways, cases_eq}
 use Rattle.arrayvec.specs.ArrayVec.{ArrayVec}
 use Rattle.rack.specs.Seen.{RackView, SameRack}
+use Rattle.rack.specs.Targets.{Target}
 use Rattle.pool_state.specs.declared.contents.State.{State}
 use Rattle.pool_state.specs.declared.contents.Work.TheVariants.{Ready}
 use Rattle.array_image.specs.States.{is_current}
@@ -14,10 +15,14 @@ use Rattle.raid_laws.specs.Moves.{AreCaused, IsHeeded, IsSet, Mends, RaisesBy}
 use Rattle.raid_laws.specs.Raid.{Raid}
 use Rattle.raid_laws.proofs.Over.{or_parts}
 use Rattle.transition_laws.specs.Changes.{changed, readied}
-use Rattle.growth_laws.specs.Growing.{Grows, Lacks, change_of, is_ended, lacks}
+use Rattle.transition_laws.specs.Losses.{IsRunOf, MakesLosses}
+use Rattle.transition_laws.specs.Readying.{FitsReady}
+use Rattle.growth_laws.specs.Growing.{AnyValues, Grows, Lacks, MakesTurn, change_of, is_ended, lacks}
 use Rattle.growth_laws.specs.Losses.{LosesBook}
+use Rattle.growth_laws.specs.Stating.{CommitsState}
 use Rattle.growth_laws.proofs.Losing.{as_long}
 use Rattle.growth_laws.proofs.Readied.{MayReady, readied_events, readied_heeded, readied_sectors, readied_set, readied_state}
+use Rattle.growth_laws.proofs.ReadyTurn.{ready_turn}
 use Rattle.growth_laws.proofs.Recorded.{recorded_grows}
 use Rattle.raid_rack.specs.declared.arrays.Arrays.{Arrays}
 use Rattle.raid_rack.specs.RaidRack.{IsRunning, no_array, raid_by}
@@ -95,3 +100,12 @@ module _ (a : Arrays) (n : ℕ) (x : RackView) (is : IsReadying a n x) (t : Stat
   ready_raises b c same commit mended =
       committed_raises (raid_by a) (record a { state = t; all = all; log = log }) b c (let more = ap (λ (s : State). s.made) has.state in omega (arith, more)) has.number
       (ap (λ (s : State). s.epoch) has.state) (λ k low. ap (λ (u : View). u.truth.events) (each k) ∙ readied_events (raid_by a) k) same commit mended
+
+  -- this is all that it makes of the book
+  pub ready_contents : (b c : Arrays) (y z : RackView) → CommitsState (raid_by (record a { state = t; all = all; log = log })) (raid_by b) log.added x y → log.added ≡ []
+      → ((d : Raid) → IsRunOf d (raid_by b) → MakesLosses d (raid_by b) (raid_by c) y z) → FitsReady (raid_by a) n x → MakesTurn readied true AnyValues (raid_by a) (raid_by c) x z
+  ready_contents b c y z commits none losses =
+      ready_turn (raid_by a) (raid_by b) n x y is.running.set is.heeded is.may
+      (subst (λ (xs : List Target). CommitsState (changed readied (raid_by a)) (raid_by b) xs x y) none
+      (subst (λ (u : Raid). CommitsState u (raid_by b) log.added x y) (sym whole) commits))
+      (raid_by c) z losses

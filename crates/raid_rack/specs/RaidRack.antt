@@ -102,6 +102,10 @@ is_written written n = unwrap_or (slice_get written n) false
 abbrev pub written_in : {R : Type 0} → RaidRack R → ℕ → Bool
 written_in rack = is_written rack.written
 
+-- what slices show
+abbrev pub slices_by : {R : Type 0} → (R → RackView) → SliceRack R → RackView
+slices_by seen slices = slices_of (tables slices) (seen (below_of slices))
+
 -- what its slices show
 abbrev pub slices_seen : {R : Type 0} → (R → RackView) → RaidRack R → RackView
 slices_seen seen rack = slices_of (tables (slices_in rack)) (seen (below_of (slices_in rack)))

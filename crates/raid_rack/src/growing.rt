@@ -7,7 +7,7 @@ ghost use Rattle.array_image.specs.Supers.{is_reshaping};
 ghost use Rattle.reshape_laws.specs.Reshapes.{lacks_joined, lacks_two};
 ghost use Rattle.raid_laws.specs.Moves.{IsHeeded, RaisesBy};
 ghost use Rattle.growth_laws.specs.Growing as spec;
-ghost use Rattle.growth_laws.specs.Growing.{Grows, Lacks, MakesReshape, MovesRows};
+ghost use Rattle.growth_laws.specs.Growing.{CleansAndReshapes, CleansBefore, Grows, IsFitToGrow, Lacks, MakesReshape, MovesRows};
 ghost use Rattle.raid_rack.specs.RaidRack.{IsRunning, raid_by};
 
 use crate::arrays::{Arrays, RaidRack};
@@ -172,6 +172,7 @@ impl Arrays {
         requires heeded { IsHeeded (raid_by self.old) }
         requires due { spec.is_due (raid_by self.old) (TakeOver number) ≡ true }
         ensures grows { Grows (TakeOver number) (Lacks (TakeOver number)) (raid_by self.old) (raid_by self.new) (S.seen rack.old) (S.seen rack.new) result }
+        ensures contents { CleansAndReshapes S.seen (spec.change_of (TakeOver number)) (Lacks (TakeOver number)) number (raid_by self.old) (raid_by self.new) (S.seen rack.old) (S.seen rack.new) result }
         ensures raises { RaisesBy 36 (raid_by self.old) (raid_by self.new) }
         ensures running { IsRunning self.new (S.seen rack.new) }
         ensures runs { S.runs rack.old rack.new }
@@ -190,7 +191,7 @@ impl Arrays {
     }
 
     /// Begins the reshape of an array that was cleaned, to which the drive of a place joins, by one commit of superblocks. Where the place
-    /// isn't missing, its slice is there. Whoever goes is marked.
+    /// isn't missing, its slice is there. Nothing is called where the array lacks two members with the place. Whoever goes is marked.
     fn begin_array<S: Rack>(&mut self, rack: &mut S, number: u32, place: u32) -> bool
         requires running { IsRunning self.old (S.seen rack.old) }
         requires heeded { IsHeeded (raid_by self.old) }
@@ -198,19 +199,23 @@ impl Arrays {
         requires clean { spec.is_clean ((raid_by self.old).arrays number) ≡ true }
         requires slice { spec.HasJoiningSlice (raid_by self.old) number place (S.seen rack.old) }
         ensures grows { Grows (Begin number place) (Lacks (Begin number place)) (raid_by self.old) (raid_by self.new) (S.seen rack.old) (S.seen rack.new) result }
+        ensures contents { spec.HasSettledSlice (raid_by self.old) number place (S.seen rack.old)
+            → MakesReshape (spec.change_of (Begin number place)) (Lacks (Begin number place)) number (raid_by self.old) (raid_by self.new) (S.seen rack.old) (S.seen rack.new) result }
         ensures raises { RaisesBy 18 (raid_by self.old) (raid_by self.new) }
         ensures running { IsRunning self.new (S.seen rack.new) }
         ensures runs { S.runs rack.old rack.new }
     {
         let on = current_places(&self.state);
-        let lacked = lacks_with(&self.all[number as usize], &on, place);
+        if lacks_with(&self.all[number as usize], &on, place) {
+            return false;
+        }
         let drive = drive_id(&self.state, place);
         self.log.clear();
         let array = &mut self.all[number as usize];
         let _ = begin(array, rack, &mut self.log, &on, place, &drive);
         let _places = array.went();
         self.mend(rack);
-        !lacked && !self.lacks(number)
+        !self.lacks(number)
     }
 
     /// Moves the next rows of a reshape, by one commit, and answers how many: at most so many, and at least one. Whoever goes is marked. It
@@ -262,8 +267,9 @@ impl<R: Rack> RaidRack<R> {
     ghost use Rattle.array_core.specs.Seats.{seat_of};
     ghost use Rattle.slice_rack.specs.SliceRack.{below_of, tables};
     ghost use Rattle.slice_rack.specs.Slices.{seat_of as disk_at};
-    ghost use Rattle.raid_rack.specs.RaidRack.{IsFit, SliceRuns, arrays_in, raid_in, refused_in, slices_in, slices_seen, written_in};
-    ghost use Rattle.raid_rack.specs.Growing.{CannotLay};
+    ghost use Rattle.raid_rack.specs.RaidRack.{IsFit, SliceRuns, arrays_in, raid_in, raid_seen, refused_in, slices_by, slices_in, slices_seen, written_in};
+    ghost use Rattle.raid_rack.specs.Growing.{CannotLay, LaysMember, LaysSlice, ReshapesWith};
+    ghost use Rattle.transition_laws.specs.Growth.{KeepsOldSectors};
 
     /// Makes RAID-5 of a mirror, durably. No value moves. It is refused where the array is no mirror, is young or has rows left to resync, and
     /// then nothing changes; else where it can't be done once the losses of this call are marked.
@@ -272,6 +278,8 @@ impl<R: Rack> RaidRack<R> {
         ensures idle { spec.is_due (raid_in self.old) (TakeOver array) ≡ false → (is_ok result ≡ false) × (self.new ≡ self.old) }
         ensures grows { spec.is_due (raid_in self.old) (TakeOver array) ≡ true
             → Grows (TakeOver array) (Lacks (TakeOver array)) (raid_in self.old) (raid_in self.new) (slices_seen R.seen self.old) (slices_seen R.seen self.new) (is_ok result) }
+        ensures contents { spec.is_due (raid_in self.old) (TakeOver array) ≡ true
+            → CleansAndReshapes (slices_by R.seen) (spec.change_of (TakeOver array)) (Lacks (TakeOver array)) array (raid_in self.old) (raid_in self.new) (slices_seen R.seen self.old) (slices_seen R.seen self.new) (is_ok result) }
         ensures named { IfErr result (λ e. e.array ≡ array) }
         ensures fit { IsFit (arrays_in self.new) (slices_seen R.seen self.new) }
         ensures raises { RaisesBy 36 (raid_in self.old) (raid_in self.new) }
@@ -299,6 +307,7 @@ impl<R: Rack> RaidRack<R> {
         ensures idle { spec.is_due (raid_in self.old) (Reshape array) ≡ false → (is_ok result ≡ false) × (self.new ≡ self.old) }
         ensures grows { spec.is_due (raid_in self.old) (Reshape array) ≡ true
             → MovesRows array most (raid_in self.old) (raid_in self.new) (slices_seen R.seen self.old) (slices_seen R.seen self.new) result }
+        ensures old { IsFitToGrow (raid_in self.old) array → KeepsOldSectors (raid_in self.old).state.joined (raid_seen R.seen self.old) (raid_seen R.seen self.new) }
         ensures named { IfErr result (λ e. e.array ≡ array) }
         ensures fit { IsFit (arrays_in self.new) (slices_seen R.seen self.new) }
         ensures raises { RaisesBy 18 (raid_in self.old) (raid_in self.new) }
@@ -321,6 +330,7 @@ impl<R: Rack> RaidRack<R> {
             → Grows (Reshape array) (Lacks (Reshape array)) (raid_in self.old) (raid_in self.new) (slices_seen R.seen self.old) (slices_seen R.seen self.new) (is_ok result) }
         ensures contents { spec.is_due (raid_in self.old) (Reshape array) ≡ true
             → MakesReshape (spec.change_of (Reshape array)) (Lacks (Reshape array)) array (raid_in self.old) (raid_in self.new) (slices_seen R.seen self.old) (slices_seen R.seen self.new) (is_ok result) }
+        ensures old { IsFitToGrow (raid_in self.old) array → KeepsOldSectors (raid_in self.old).state.joined (raid_seen R.seen self.old) (raid_seen R.seen self.new) }
         ensures named { IfErr result (λ e. e.array ≡ array) }
         ensures fit { IsFit (arrays_in self.new) (slices_seen R.seen self.new) }
         ensures raises { RaisesBy 18 (raid_in self.old) (raid_in self.new) }
@@ -343,6 +353,7 @@ impl<R: Rack> RaidRack<R> {
             → Grows (Finish array) (Lacks (Finish array)) (raid_in self.old) (raid_in self.new) (slices_seen R.seen self.old) (slices_seen R.seen self.new) (is_ok result) }
         ensures contents { spec.is_due (raid_in self.old) (Finish array) ≡ true
             → MakesReshape (spec.change_of (Finish array)) (Lacks (Finish array)) array (raid_in self.old) (raid_in self.new) (slices_seen R.seen self.old) (slices_seen R.seen self.new) (is_ok result) }
+        ensures old { IsFitToGrow (raid_in self.old) array → KeepsOldSectors (raid_in self.old).state.joined (raid_seen R.seen self.old) (raid_seen R.seen self.new) }
         ensures named { IfErr result (λ e. e.array ≡ array) }
         ensures fit { IsFit (arrays_in self.new) (slices_seen R.seen self.new) }
         ensures raises { RaisesBy 18 (raid_in self.old) (raid_in self.new) }
@@ -370,6 +381,10 @@ impl<R: Rack> RaidRack<R> {
         ensures grows { spec.is_due (raid_in self.old) (Begin array place) ≡ true
             → Grows (Begin array place) (λ mid w. Lacks (Begin array place) mid w ⊎ CannotLay (tables (slices_in self.old)) (R.seen (below_of (slices_in self.old))) mid place array)
             (raid_in self.old) (raid_in self.new) (slices_seen R.seen self.old) (slices_seen R.seen self.new) (is_ok result) }
+        ensures contents { spec.is_due (raid_in self.old) (Begin array place) ≡ true
+            → CleansBefore (slices_by R.seen) array (raid_in self.old) (slices_seen R.seen self.old)
+            (λ mid at. ReshapesWith R.seen (spec.change_of (Begin array place)) (λ mid w. Lacks (Begin array place) mid w ⊎ CannotLay (tables (slices_in self.old)) (R.seen (below_of (slices_in self.old))) mid place array)
+            array place mid (raid_in self.new) at (slices_in self.new) (is_ok result)) }
         ensures named { IfErr result (λ e. e.array ≡ array) }
         ensures fit { IsFit (arrays_in self.new) (slices_seen R.seen self.new) }
         ensures raises { RaisesBy 36 (raid_in self.old) (raid_in self.new) }
@@ -402,6 +417,8 @@ impl<R: Rack> RaidRack<R> {
         requires clean { spec.is_clean ((raid_in self.old).arrays array) ≡ true }
         ensures grows { Grows (Begin array place) (λ mid w. Lacks (Begin array place) mid w ⊎ CannotLay (tables (slices_in self.old)) (R.seen (below_of (slices_in self.old))) mid place array)
             (raid_in self.old) (raid_in self.new) (slices_seen R.seen self.old) (slices_seen R.seen self.new) result }
+        ensures contents { ReshapesWith R.seen (spec.change_of (Begin array place)) (λ mid w. Lacks (Begin array place) mid w ⊎ CannotLay (tables (slices_in self.old)) (R.seen (below_of (slices_in self.old))) mid place array)
+            array place (raid_in self.old) (raid_in self.new) (slices_in self.old) (slices_in self.new) result }
         ensures fit { IsFit (arrays_in self.new) (slices_seen R.seen self.new) }
         ensures raises { RaisesBy 18 (raid_in self.old) (raid_in self.new) }
         ensures refused { (n : ℕ) → refused_in self.new n ≡ refused_in self.old n }
@@ -425,6 +442,7 @@ impl<R: Rack> RaidRack<R> {
         requires array { array < (raid_in self.old).state.made }
         requires place { place < length (raid_in self.old).state.drives.items }
         requires apart { seat_of ((raid_in self.old).arrays array) place ≡ None }
+        ensures lays { LaysMember (raid_in self.old) place array (slices_in self.old) (slices_in self.new) }
         ensures laid { result ≡ true → spec.HasJoiningSlice (raid_in self.old) array place (slices_seen R.seen self.new) }
         ensures cannot { result ≡ false → CannotLay (tables (slices_in self.old)) (R.seen (below_of (slices_in self.old))) (raid_in self.old) place array }
         ensures arrays { arrays_in self.new ≡ arrays_in self.old }
@@ -450,6 +468,7 @@ impl<R: Rack> RaidRack<R> {
         requires fit { IsFit (arrays_in self.old) (slices_seen R.seen self.old) }
         requires array { array < (raid_in self.old).state.made }
         requires place { place < 16 }
+        ensures drops { LaysSlice place array 0 0 (slices_in self.old) (slices_in self.new) }
         ensures arrays { arrays_in self.new ≡ arrays_in self.old }
         ensures refused { (n : ℕ) → refused_in self.new n ≡ refused_in self.old n }
         ensures written { (n : ℕ) → written_in self.new n ≡ written_in self.old n }

@@ -100,11 +100,15 @@
 //! **What contents hold of the book.** The mending of losses says what it makes of each book that the run has, whose losses aren't marked in it yet:
 //! changes that mark places and write superblocks anew, and none where nobody went (`MakesLosses` of transition_laws). A row of a reshape
 //! and its end make the change of their work, where it is done, and losses after it (`MakesReshape` of growth_laws); so do the end of a plan
-//! (`MakesTurn`) and, inside the rack, the cleaning of an array, whose superblocks are written one after the other (`MakesClean`). At each
+//! and the readiness of a young array (`MakesTurn`) and, inside the rack, the cleaning of an array, whose superblocks are written one after the
+//! other (`MakesClean`), and the commit that makes an array. At each
 //! moment of such a call a stop leaves contents that hold the book before the change or after it, but for losses, and each promised sector
 //! has one of the values that it had; after it the run stands by the last book. It is said of a run that stands by its book before the call,
-//! and of a reshape where the truth has the fields that a pool writes and values past the array's end are zeros. A takeover, a reshape's
-//! begin, a new array, its zeros and its readiness don't say it yet.
+//! and of a reshape where the truth has the fields that a pool writes and values past the array's end are zeros; of readiness where the
+//! array's superblocks say its truth and no reshape of it has begun (`FitsReady`), of a new array where its slices hold rows that agree
+//! (`FitsMake`). A takeover is such a call behind a cleaning (`CleansAndReshapes`), and so is a reshape's begin, over slices with that of
+//! the joining member, where this slice is settled (`CleansBefore`, `ReshapesWith`). The zeros of a new array and the whole call that makes
+//! one don't say it yet. Rows of a reshape and its end also keep what the arrays of the volume held, where these are told (`KeepsOldSectors`).
 //!
 //! **For a whole call.** Parts of a call in a row are one (`moves_then`, `brings_then`); a read, a sync or a settling of one array is
 //! a part for all (`moves_read`), and so are a write (`write_brings`), losses that are noted and heeded, and the commit that marks

@@ -1,4 +1,4 @@
-//! A young array: it is made, zeroed row by row, and gets ready for the volume.
+//! A young array: it is made, its rows are zeroed, and it gets ready for the volume.
 
 ghost use Rattle.std.specs.Prelude.{◌≡◌, ◌≢◌, ◌⊎◌, ◌<◌, ◌≤◌, false, ◌+◌, ◌*◌, ◌^◌, ◌||◌, not, nat_le, count_by, ℕ, All, true, is_ok, length, IfErr};
 ghost use Rattle.array_image.specs.SoundArray.{first_unsynced};
@@ -11,8 +11,10 @@ ghost use Rattle.sync_laws.specs.Rows.{lacks_two};
 ghost use Rattle.pool_state.specs.declared.contents.Work.TheVariants.{Zero, Ready, Make};
 ghost use Rattle.raid_laws.specs.Moves.{IsHeeded, RaisesBy};
 ghost use Rattle.growth_laws.specs.Growing as spec;
-ghost use Rattle.growth_laws.specs.Growing.{Grows, GrowsBy, Lacks};
-ghost use Rattle.transition_laws.specs.Changes.{makes};
+ghost use Rattle.growth_laws.specs.Growing.{AnyValues, Grows, GrowsBy, Lacks, MakesTurn, ZeroesNext};
+ghost use Rattle.transition_laws.specs.Changes.{makes, readied};
+ghost use Rattle.transition_laws.specs.Making.{FitsMake};
+ghost use Rattle.transition_laws.specs.Readying.{FitsReady};
 ghost use Rattle.growth_laws.specs.NewArrays as new;
 ghost use Rattle.raid_laws.specs.NewDrive.{first_in};
 ghost use Rattle.raid_rack.specs.RaidRack.{IsRunning, raid_by};
@@ -23,9 +25,9 @@ use crate::growing::{MOST_SECTORS, drive_id};
 use crate::losses::{add_copies, note_gone};
 use crate::marks::{current_places, push_unless, raised};
 use crate::new_drive::{BACKUP_SECTORS, DATA_SECTOR, RAID_KIND, entry_of, first_in};
-use crate::works::{CHUNK_SECTORS, Stuck};
+use crate::works::{CHUNK_SECTORS, Stuck, answered};
 use array_core::{Array, Found};
-use array_sync::zero_row;
+use array_sync::zero_rows;
 use arrayvec::ArrayVec;
 use gpt_table::{TableFault, change_entry, read_table};
 use new_array::new_super;
@@ -151,12 +153,27 @@ impl Arrays {
         array.is_young() && first_unzeroed(array) >= array.rows()
     }
 
-    /// Zeroes the next row of a young array, by one commit. Whoever goes is marked.
-    fn zero_array<S: Rack>(&mut self, rack: &mut S, number: u32) -> bool
+    /// Whether rows of a young array can't be zeroed from this one on: nobody is left, numbers are used up, or two members lack it.
+    fn lacks_from(&self, number: u32, row: u64) -> bool
+        requires count { length self.now.all.items ≡ self.now.state.made }
+        requires few { length self.now.state.drives.items ≤ 16 }
+        requires heeded { IsHeeded (raid_by self.now) }
+        requires number { number < self.now.state.made }
+        requires row { row < rows_of ((raid_by self.now).arrays number) }
+        ensures { result ≡ (spec.is_ended (raid_by self.now) || lacks_two ((raid_by self.now).arrays number) row) }
+    {
+        self.is_ended() || lacks_two_in(&self.all[number as usize], row)
+    }
+
+    /// Zeroes the next rows of a young array, by one commit, and answers how many: at most so many, and at least one. Whoever goes is marked. It
+    /// is refused exactly where two members lack the first of them after that, nobody is left or numbers are used up.
+    fn zero_array<S: Rack>(&mut self, rack: &mut S, number: u32, most: u64) -> Result<u64, Stuck>
         requires running { IsRunning self.old (S.seen rack.old) }
         requires heeded { IsHeeded (raid_by self.old) }
         requires due { spec.is_due (raid_by self.old) (Zero number) ≡ true }
-        ensures grows { Grows (Zero number) (Lacks (Zero number)) (raid_by self.old) (raid_by self.new) (S.seen rack.old) (S.seen rack.new) result }
+        requires some { 0 < most }
+        ensures grows { ZeroesNext number most (raid_by self.old) (raid_by self.new) (S.seen rack.old) (S.seen rack.new) result }
+        ensures named { IfErr result (λ e. e.array ≡ number) }
         ensures raises { RaisesBy 18 (raid_by self.old) (raid_by self.new) }
         ensures running { IsRunning self.new (S.seen rack.new) }
         ensures runs { S.runs rack.old rack.new }
@@ -165,10 +182,10 @@ impl Arrays {
         let unzeroed = first_unzeroed(&self.all[number as usize]);
         self.log.clear();
         let array = &mut self.all[number as usize];
-        let _ = zero_row(array, rack, &mut self.log, &on);
+        let zeroed = zero_rows(array, rack, &mut self.log, &on, most);
         let _places = array.went();
         self.mend(rack);
-        !self.is_ended() && !lacks_two_in(&self.all[number as usize], unzeroed)
+        answered(zeroed, self.lacks_from(number, unzeroed), number)
     }
 
     /// Gives a young array that is zeroed to the volume, by one commit of the state. Whoever goes is marked. Its zeros are durable: each was
@@ -179,6 +196,7 @@ impl Arrays {
         requires due { spec.is_due (raid_by self.old) (Ready number) ≡ true }
         requires some { spec.lacks (raid_by self.old) number ≡ false }
         ensures grows { Grows (Ready number) (Lacks (Ready number)) (raid_by self.old) (raid_by self.new) (S.seen rack.old) (S.seen rack.new) true }
+        ensures contents { FitsReady (raid_by self.old) number (S.seen rack.old) → MakesTurn readied true AnyValues (raid_by self.old) (raid_by self.new) (S.seen rack.old) (S.seen rack.new) }
         ensures raises { RaisesBy 18 (raid_by self.old) (raid_by self.new) }
         ensures running { IsRunning self.new (S.seen rack.new) }
         ensures runs { S.runs rack.old rack.new }
@@ -201,6 +219,7 @@ impl Arrays {
     ghost use Rattle.raid_laws.specs.Moves.{AreCaused};
     ghost use Rattle.raid_laws.specs.Settling.{IsSuperOf};
     ghost use Rattle.growth_laws.specs.Losses.{LosesBook};
+    ghost use Rattle.growth_laws.specs.Stating.{CommitsState};
 
     /// Where the layers of all arrays end, in extents of a drive.
     fn top(&self) -> u64
@@ -311,6 +330,7 @@ impl Arrays {
         ensures state { self.new.state ≡ self.old.state }
         ensures loses { LosesBook (raid_by self.old) (raid_by self.new) }
         ensures caused { AreCaused (raid_by self.old) (raid_by self.new) (S.seen rack.old) (S.seen rack.new) }
+        ensures commits { CommitsState (raid_by self.old) (raid_by self.new) self.old.log.added (S.seen rack.old) (S.seen rack.new) }
         ensures stays { SameRack (S.seen rack.old) (S.seen rack.new) }
         ensures raises { RaisesBy 1 (raid_by self.old) (raid_by self.new) }
         ensures running { IsRunning self.new (S.seen rack.new) }
@@ -333,6 +353,8 @@ impl Arrays {
             → 2048 + new.new_size (raid_by self.old) height ≤ (S.seen rack.old).sectors (member_slice p self.old.state.made) }
         ensures grows { GrowsBy (λ mid. makes (new.new_view seconds mid height)) (Lacks (Make self.old.state.made height))
             (raid_by self.old) (raid_by self.new) (S.seen rack.old) (S.seen rack.new) result }
+        ensures contents { FitsMake self.old.state self.old.state.made (new.new_view seconds (raid_by self.old) height) (S.seen rack.old)
+            → MakesTurn (makes (new.new_view seconds (raid_by self.old) height)) true AnyValues (raid_by self.old) (raid_by self.new) (S.seen rack.old) (S.seen rack.new) }
         ensures raises { RaisesBy 18 (raid_by self.old) (raid_by self.new) }
         ensures running { IsRunning self.new (S.seen rack.new) }
         ensures runs { S.runs rack.old rack.new }
@@ -361,8 +383,30 @@ impl<R: Rack> RaidRack<R> {
     ghost use Rattle.raid_rack.specs.RaidRack.{IsFit, SliceRuns, arrays_in, raid_in, refused_in, slices_in, slices_seen, written_in};
     ghost use Rattle.raid_rack.specs.Growing.{CannotAdd, CannotEnter, CannotMake, KeepsOtherSlices};
 
-    /// Zeroes the next row of a young array, durably. It is refused where the array is none or has no such row, and then nothing changes; else
-    /// exactly where nobody is left, numbers are used up or two members lack the row once the losses of this call are marked.
+    /// Zeroes the next rows of a young array, durably, and answers how many: as many as one commit takes, at least one and at most so many. It
+    /// is refused where the array isn't young or has no such row, and then nothing changes; else exactly where nobody is left, numbers are used
+    /// up or two members lack the first of the rows once the losses of this call are marked.
+    pub fn zero_rows(&mut self, array: u32, most: u64) -> Result<u64, Stuck>
+        requires fit { IsFit (arrays_in self.old) (slices_seen R.seen self.old) }
+        requires some { 0 < most }
+        ensures idle { spec.is_due (raid_in self.old) (Zero array) ≡ false → (is_ok result ≡ false) × (self.new ≡ self.old) }
+        ensures grows { spec.is_due (raid_in self.old) (Zero array) ≡ true
+            → ZeroesNext array most (raid_in self.old) (raid_in self.new) (slices_seen R.seen self.old) (slices_seen R.seen self.new) result }
+        ensures named { IfErr result (λ e. e.array ≡ array) }
+        ensures fit { IsFit (arrays_in self.new) (slices_seen R.seen self.new) }
+        ensures raises { RaisesBy 18 (raid_in self.old) (raid_in self.new) }
+        ensures refused { (n : ℕ) → refused_in self.new n ≡ refused_in self.old n }
+        ensures written { (n : ℕ) → (n ≡ array → ⊥) → written_in self.new n ≡ written_in self.old n }
+        ensures runs { SliceRuns R.seen R.runs (slices_in self.old) (slices_in self.new) }
+    {
+        if !self.arrays.may_zero(array) {
+            return Err(Stuck { array });
+        }
+        note_written(&mut self.written, array);
+        self.arrays.zero_array(&mut self.slices, array, most)
+    }
+
+    /// Zeroes the next row of a young array, as `zero_rows` does.
     pub fn zero(&mut self, array: u32) -> Result<(), Stuck>
         requires fit { IsFit (arrays_in self.old) (slices_seen R.seen self.old) }
         ensures idle { spec.is_due (raid_in self.old) (Zero array) ≡ false → (is_ok result ≡ false) × (self.new ≡ self.old) }
@@ -375,14 +419,9 @@ impl<R: Rack> RaidRack<R> {
         ensures written { (n : ℕ) → (n ≡ array → ⊥) → written_in self.new n ≡ written_in self.old n }
         ensures runs { SliceRuns R.seen R.runs (slices_in self.old) (slices_in self.new) }
     {
-        if !self.arrays.may_zero(array) {
-            return Err(Stuck { array });
-        }
-        note_written(&mut self.written, array);
-        if self.arrays.zero_array(&mut self.slices, array) {
-            Ok(())
-        } else {
-            Err(Stuck { array })
+        match self.zero_rows(array, 1) {
+            Ok(_) => Ok(()),
+            Err(stuck) => Err(stuck),
         }
     }
 
@@ -394,6 +433,9 @@ impl<R: Rack> RaidRack<R> {
         ensures stuck { (spec.is_due (raid_in self.old) (Ready array) ≡ true) × (is_ok result ≡ false) → (self.new ≡ self.old) × (spec.lacks (raid_in self.old) array ≡ true) }
         ensures grows { is_ok result ≡ true
             → Grows (Ready array) (Lacks (Ready array)) (raid_in self.old) (raid_in self.new) (slices_seen R.seen self.old) (slices_seen R.seen self.new) true }
+        ensures contents { is_ok result ≡ true
+            → FitsReady (raid_in self.old) array (slices_seen R.seen self.old)
+            → MakesTurn readied true AnyValues (raid_in self.old) (raid_in self.new) (slices_seen R.seen self.old) (slices_seen R.seen self.new) }
         ensures named { IfErr result (λ e. e.array ≡ array) }
         ensures fit { IsFit (arrays_in self.new) (slices_seen R.seen self.new) }
         ensures raises { RaisesBy 18 (raid_in self.old) (raid_in self.new) }

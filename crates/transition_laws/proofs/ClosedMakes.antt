@@ -65,5 +65,6 @@ module _ (v : Raid) (on gone : List ℕ) (l : LogView) (f : ℕ → View) (b c :
   pub close_makes : (vals : ℕ → ℕ → Values) → Makes (plan_ends ∷ []) v v (closed_raid v (next_number l.number) f) vals vals b c
   close_makes vals =
       committing_makes plan_ends v v.number v.arrays on gone l f b c closing_committing vals
-      (stages_closed v v (closed_raid v (next_number l.number) f) vals l.added b c (λ q current. heeded_gone v commit.heeded q)
-      (λ n place u few. closing_none v on gone l f b c commit (member_slice place n) u (λ p named disk first. absurd (omega (arith, few, disk)))))
+      (λ p suits.
+      stages_closed v v (closed_raid v (next_number l.number) f) vals l.added b c (λ q current. heeded_gone v commit.heeded q)
+      (λ n place u few. closing_none v on gone l f b c commit (member_slice place n) u (λ q named disk first. absurd (omega (arith, few, disk)))) p)

@@ -32,7 +32,7 @@ use Rattle.transition_laws.specs.Changes.{Change, changed}
 use Rattle.raid_laws.specs.Frames.{frame_of}
 use Rattle.raid_laws.specs.Since.{AreEach, KeepsEach}
 use Rattle.transition_laws.specs.Holds.{HoldsBook, HoldsMembers, IsFrom, IsPromised, IsSameArrayAs, is_sector, moved_to, has_sector, Promise, RestsArrays, spent_at, Stands, StandsArray}
-use Rattle.transition_laws.specs.Makes.{Makes, OwnsCopies}
+use Rattle.transition_laws.specs.Makes.{Makes, OwnsCopies, Suits}
 use Rattle.raid_laws.specs.Moves.{AreMarked}
 use Rattle.raid_laws.specs.Raid.{gone_in, is_failed, Raid}
 use Rattle.transition_laws.specs.Stages.{Commits, Stages, StagesArray}
@@ -41,7 +41,7 @@ use Rattle.raid_laws.proofs.Marking.{alike_agree, alike_state, closed_after, com
 use Rattle.raid_laws.proofs.Own.{says_same}
 use Rattle.transition_laws.proofs.Shown.{spent_other, spent_same, leaves_both, members_of, rests_same, shape_with, shows_same, stands_shape, stands_state}
 
-lowered_none : (shape : Shape) → lowered (λ p. false) shape ≡ shape
+pub lowered_none : (shape : Shape) → lowered (λ p. false) shape ≡ shape
 lowered_none shape = ap (λ (ms : List Member). record shape { members = ms }) (none shape.members)
   where
     none : (ms : List Member) → map (lower (λ p. false)) ms ≡ ms
@@ -51,11 +51,10 @@ lowered_none shape = ap (λ (ms : List Member). record shape { members = ms }) (
 is_left_on : (named lost : Bool) → named ≡ true → lost ≡ false → (named && not lost) ≡ true
 is_left_on named lost is none = and_from named (not lost) is (ap not none)
 
-module _ (x : Change) (d v w : Raid) (vals : ℕ → ℕ → Values) (l : LogView) (on lost : List ℕ) (a b : RackView)
-    (commit : Commits x d v w l on lost a b) (p : Promise) (stages : Stages x d v w p vals l.added a b) (promised : IsPromised p w) (owned : OwnsCopies p (changed x d).state) (stands : Stands d v p vals a) where
-  abbrev t : State
-  t = (changed x d).state
+-- ---- the call of the commit
 
+module _ (x : Change) (d v w : Raid) (vals : ℕ → ℕ → Values) (l : LogView) (on lost : List ℕ) (a b : RackView)
+    (commit : Commits x d v w l on lost a b) (p : Promise) (promised : IsPromised p w) (stands : Stands d v p vals a) where
   made_later : (n : ℕ) → n < d.state.made → n < w.state.made
   made_later n low = subst (λ (s : State). n < s.made) (sym commit.state) (let more = commit.more in omega (arith, low, more))
 
@@ -74,8 +73,8 @@ module _ (x : Change) (d v w : Raid) (vals : ℕ → ℕ → Values) (l : LogVie
   live : (e u : ℕ) (y : List ℕ) → look l.added e u ≡ Some y → IsLive a a e u
   live = commit.live stands.slices kept.logs
 
-  call : MarksCall d.state (changed x d).state (gone_in v) l on lost a b
-  call = record {
+  pub commit_called : MarksCall d.state (changed x d).state (gone_in v) l on lost a b
+  commit_called = record {
     commit = commit.call;
     takes = commit.takes;
     brings = commit.brings rooms.1;
@@ -92,6 +91,25 @@ module _ (x : Change) (d v w : Raid) (vals : ℕ → ℕ → Values) (l : LogVie
     later = commit.later rooms.1;
     own = commit.own;
   }
+
+-- ---- what it makes
+
+module _ (x : Change) (d v w : Raid) (vals : ℕ → ℕ → Values) (l : LogView) (on lost : List ℕ) (a b : RackView)
+    (commit : Commits x d v w l on lost a b) (p : Promise) (stages : Stages x d v w p vals l.added a b) (promised : IsPromised p w) (owned : OwnsCopies p (changed x d).state) (stands : Stands d v p vals a) where
+  abbrev t : State
+  t = (changed x d).state
+
+  later : (n : ℕ) → n < d.state.made → n < w.state.made
+  later n low = made_later x d v w vals l on lost a b commit p promised stands n low
+
+  room : d.state.epoch < 2 ^ 63 - 1
+  room = (rooms x d v w vals l on lost a b commit p promised stands).1
+
+  log : LogInvariant d.state l.number (gone_in v) a
+  log = kept x d v w vals l on lost a b commit p promised stands
+
+  call : MarksCall d.state (changed x d).state (gone_in v) l on lost a b
+  call = commit_called x d v w vals l on lost a b commit p promised stands
 
   stage : (n : ℕ) → p.live n ≡ true → n < d.state.made → StagesArray d.state (changed x d).state (d.arrays n) ((changed x d).arrays n) v p n (vals n) l.added a
   stage n is low = stages.old promised stands n is low
@@ -132,8 +150,8 @@ module _ (x : Change) (d v w : Raid) (vals : ℕ → ℕ → Values) (l : LogVie
         | inr new ↦
             let state =
             alike_state r (put a.sectors l.added before) new
-            ∙ joined_state d.state (changed x d).state l.number (gone_in v) on commit.takes l.added a before one.0 kept.logs kept.copies (commit.brings rooms.1) (stands_of before picks)
-            (kept.few one.0 one.1) (kept.there one.0 one.1 one.2) one.1 one.2 one.3 in
+            ∙ joined_state d.state (changed x d).state l.number (gone_in v) on commit.takes l.added a before call.place log.logs log.copies (commit.brings room) (stands_of before picks)
+            (log.few call.place call.was) (log.there call.place call.was call.left) call.was call.left call.now in
             elim says [
               | inl log ↦ absurd (apart (some_same d.state t (sym log.is_state ∙ state)))
               | inr log ↦ inr (record {
@@ -145,10 +163,10 @@ module _ (x : Change) (d v w : Raid) (vals : ℕ → ℕ → Values) (l : LogVie
       ]
     where
       apart : d.state ≡ t → ⊥
-      apart same = let up = commit.later rooms.1 in let e = ap (λ (s : State). s.epoch) same in omega (arith, up, e)
+      apart same = let up = commit.later room in let e = ap (λ (s : State). s.epoch) same in omega (arith, up, e)
 
   since : KeepsEach (IsFrom p.origin) a b
-  since = commit_each (IsFrom p.origin) d.state (changed x d).state (gone_in v) l on lost a b call owned kept.logs stands.since
+  since = commit_each (IsFrom p.origin) d.state (changed x d).state (gone_in v) l on lost a b call owned log.logs stands.since
 
   pub stops : a.traced → Leaves a b (λ c. IsInside a.sectors c → HoldsBook d p vals a.sectors c ⊎ HoldsBook (changed x d) p vals a.sectors c)
   stops traced =
@@ -159,7 +177,7 @@ module _ (x : Change) (d v w : Raid) (vals : ℕ → ℕ → Values) (l : LogVie
       (λ c both inside. moment c (both.1 inside) (both.0.1 inside) inside (both.0.0 (λ place u out. inside (log_slice place) u out)))
       (leaves_both (λ c. First c × Second c) Third
       (leaves_both First Second (commit.call.stops traced call.ready call.decides)
-      ((logs_made d.state (changed x d).state (gone_in v) l on lost a b call commit.drives kept stands.copies).0 traced))
+      ((logs_made d.state (changed x d).state (gone_in v) l on lost a b call commit.drives log stands.copies).0 traced))
       (since.leaves traced))
 
   -- ---- after it
@@ -234,7 +252,7 @@ module _ (x : Change) (d v w : Raid) (vals : ℕ → ℕ → Values) (l : LogVie
         → value_by (lowered (names lost) (shape_of (v.arrays n))) (current_in b.held) n y ≡ value_by (shape_of (v.arrays n)) (current_in b.held) n y
     value y alive =
         lost_value (names lost) (shape_of (v.arrays n)) n (v.arrays n).resync (current_in b.held) y (laid_out (v.arrays n) (commit.is_array n low)) whole.even whole.sized
-        (unspent_then (v.arrays n) (w.arrays n) (names lost) losing y (promised.covers n is (made_later n low) y (spent_other p n (w.arrays n) ((changed x d).arrays n) sectors y ∙ alive)))
+        (unspent_then (v.arrays n) (w.arrays n) (names lost) losing y (promised.covers n is (later n low) y (spent_other p n (w.arrays n) ((changed x d).arrays n) sectors y ∙ alive)))
 
     members : HoldsMembers n (shape_of ((changed x d).arrays n)) (shape_of (w.arrays n)) (w.arrays n).resync (may_vary (w.arrays n)) (vals n) (spent_at p n ((changed x d).arrays n)) b
     members =
@@ -292,9 +310,9 @@ module _ (x : Change) (d v w : Raid) (vals : ℕ → ℕ → Values) (l : LogVie
     one = let low = stands.one in let more = commit.more in omega (arith, low, more);
     log = subst (λ k. LogInvariant (changed x d).state k (gone_in w) b) (sym commit.number_after)
         (subst (λ g. LogInvariant (changed x d).state (next_number l.number) g b) (λ i q. sym (commit.gone p.one stands.one q) i)
-        (joined_after d.state (changed x d).state (gone_in v) l on commit.takes lost a b commit.call kept (commit.brings rooms.1) commit.are_left call.ready call.decides));
-    someone = (one.0, one.3, commit.gone p.one stands.one one.0 ∙ ap₂ (λ (g : Bool) (k : Bool). (g && not (names commit.takes one.0)) || k) one.2 one.4);
-    copies = copies_made d.state (changed x d).state (gone_in v) l on lost a b call kept;
+        (joined_after d.state (changed x d).state (gone_in v) l on commit.takes lost a b commit.call log (commit.brings room) commit.are_left call.ready call.decides));
+    someone = (call.place, call.now, commit.gone p.one stands.one call.place ∙ ap₂ (λ (g : Bool) (k : Bool). (g && not (names commit.takes call.place)) || k) call.left call.stays);
+    copies = copies_made d.state (changed x d).state (gone_in v) l on lost a b call log;
     since = since.holds;
     same = commit.state;
     images = images;
@@ -312,12 +330,12 @@ module _ (x : Change) (d v w : Raid) (vals : ℕ → ℕ → Values) (l : LogVie
   }
 
 pub commit_makes : (x : Change) (d v w : Raid) (vals : ℕ → ℕ → Values) (l : LogView) (on lost : List ℕ) (a b : RackView)
-    → Commits x d v w l on lost a b → ((p : Promise) → Stages x d v w p vals l.added a b) → Makes (x ∷ []) d v w vals vals a b
+    → Commits x d v w l on lost a b → ((p : Promise) → Suits p (x ∷ []) d → Stages x d v w p vals l.added a b) → Makes (x ∷ []) d v w vals vals a b
 commit_makes x d v w vals l on lost a b commit stages = record {
   due = (commit.due, tt);
   stays = commit.call.stays;
   back = commit.back;
   grows = λ n y u may. may;
-  stops = λ p suits promised stands traced. stops x d v w vals l on lost a b commit p (stages p) promised suits.owned.0 stands traced;
-  after = λ p suits promised stands. after x d v w vals l on lost a b commit p (stages p) promised suits.owned.0 stands;
+  stops = λ p suits promised stands traced. stops x d v w vals l on lost a b commit p (stages p suits) promised suits.owned.0 stands traced;
+  after = λ p suits promised stands. after x d v w vals l on lost a b commit p (stages p suits) promised suits.owned.0 stands;
 }

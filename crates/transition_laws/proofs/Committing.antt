@@ -17,7 +17,7 @@ use Rattle.array_model.proofs.Losses.{IsLosing}
 use Rattle.array_core.specs.Seats.{gone as without}
 use Rattle.transition_laws.specs.Changes.{Change, changed, is_due}
 use Rattle.transition_laws.specs.Holds.{Promise, spent_at}
-use Rattle.transition_laws.specs.Makes.{Makes}
+use Rattle.transition_laws.specs.Makes.{Makes, Suits}
 use Rattle.raid_laws.specs.Marking.{NoData}
 use Rattle.raid_laws.specs.Moves.{AreMarked, IsSet}
 use Rattle.raid_laws.specs.Raid.{AreLive, gone_in, Raid}
@@ -200,7 +200,7 @@ module _ (x : Change) (v : Raid) (book_number : ℕ) (g : ℕ → View) (on gone
   }
 
   pub committing_makes : (vals : ℕ → ℕ → Values)
-      → ((p : Promise) → Stages x (book_with v book_number g) v (run_after v (changed x (book_with v book_number g)).state (next_number l.number) f) p vals l.added b c)
+      → ((p : Promise) → Suits p (x ∷ []) (book_with v book_number g) → Stages x (book_with v book_number g) v (run_after v (changed x (book_with v book_number g)).state (next_number l.number) f) p vals l.added b c)
       → Makes (x ∷ []) (book_with v book_number g) v (run_after v (changed x (book_with v book_number g)).state (next_number l.number) f) vals vals b c
   committing_makes vals stages =
       commit_makes x (book_with v book_number g) v (run_after v (changed x (book_with v book_number g)).state (next_number l.number) f) vals l on gone b c commits stages

@@ -3,6 +3,8 @@ pub mod Standing
 pub mod CommitMakes
 pub mod MoreArrays
 pub mod Committing
+pub mod TruthShown
+pub mod SettledEven
 pub mod TurnMakes
 pub mod ReadMakes
 pub mod NotedMakes
@@ -12,6 +14,7 @@ pub mod StepMakes
 pub mod SteppedMakes
 pub mod WriteMakes
 pub mod Follows
+pub mod Tracked
 pub mod MomentsOf
 pub mod Closed
 pub mod ClosedMakes
@@ -20,9 +23,14 @@ pub mod Rewritten
 pub mod MarkedMakes
 pub mod RunsOf
 pub mod OwnBook
+pub mod AnyOrigin
+pub mod LongerBooks
+pub mod OldSectors
 pub mod OverMakes
 pub mod LossesMade
 pub mod Readied
+pub mod ReadyMakes
+pub mod MadeMakes
 pub mod ReshapeSectors
 pub mod ReshapeHolds
 pub mod RenewMakes

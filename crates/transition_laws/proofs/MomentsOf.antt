@@ -10,22 +10,19 @@ use Rattle.pool_state.specs.declared.contents.State.{State}
 use Rattle.array_image.specs.Arrays.{Shape, replayed, shape_in}
 use Rattle.array_image.specs.States.{is_current, state_in}
 use Rattle.array_image.specs.Supers.{truth_in}
-use Rattle.array_image.specs.Left.{NothingPending, IsInside, IsLeft, Picks}
-use Rattle.log_laws.specs.Kept.{LogInvariant}
-use Rattle.log_laws.proofs.HeldCopies.{kept_holds}
+use Rattle.array_image.specs.Left.{IsInside, IsLeft}
 use Rattle.array_model.specs.ArrayCalls.{IncludesSpent}
-use Rattle.array_model.specs.View.{may_vary, shape_of, spent_in}
+use Rattle.array_model.specs.View.{shape_of, spent_in}
 use Rattle.raid_laws.specs.Book.{after_same, after_then, OnlyMarksSince}
 use Rattle.transition_laws.specs.Changes.{AreKeeping, by, Change, changed}
 use Rattle.raid_laws.specs.Frames.{frame_of, HasFrame}
-use Rattle.transition_laws.specs.Holds.{begun, HoldsBook, HoldsMembers, IsFrom, IsPromised, IsSameArrayAs, Promise, RestsArray, ShowsArray, Stands, StandsArray}
+use Rattle.transition_laws.specs.Holds.{begun, HoldsBook, IsFrom, IsPromised, IsSameArrayAs, Promise, ShowsArray, Stands}
 use Rattle.array_core.specs.Superblocks.{is_settled}
 use Rattle.array_core.specs.Contents.{lacking_in}
 use Rattle.raid_laws.specs.Logs.{LogsBetween}
 use Rattle.transition_laws.specs.Makes.{AreOwned, IsFree, Makes, Suits}
 use Rattle.raid_laws.specs.Runs.{IsBetween, CrashInvariant}
-use Rattle.raid_laws.specs.Raid.{AreLive, gone_in, held_in, is_failed, IsTracked, Raid, spent_of, InvariantInCall, StopsInside}
-use Rattle.raid_laws.specs.Laws.{stood_left}
+use Rattle.raid_laws.specs.Raid.{AreLive, held_in, is_failed, IsTracked, Raid, spent_of, InvariantInCall, StopsInside}
 use Rattle.raid_laws.specs.Reach.{KeepsReach, KeepsReachOn, ReachBetween}
 use Rattle.raid_laws.specs.Rows.{KeepsLacking, KeepsRows, LackingFrom, LeavesFrom, LeavesLacking, LeavesRows}
 use Rattle.raid_laws.specs.Since.{AreSince, HoldsSince, KeepsSince}
@@ -33,11 +30,11 @@ use Rattle.transition_laws.proofs.Follows.{along_follows, Follows, follows_chang
 use Rattle.raid_laws.proofs.Frames.{says_frame, view_frame}
 use Rattle.array_core.proofs.Stripped.{some_same}
 use Rattle.raid_laws.proofs.Marking.{brings_since}
-use Rattle.raid_laws.proofs.Noted.{kept_marked}
 use Rattle.raid_laws.proofs.Since.{kept_since}
 use Rattle.raid_laws.specs.Moves.{AreMarked, IsHeeded, IsSet}
 use Rattle.raid_laws.proofs.Over.{or_from, or_parts}
 use Rattle.transition_laws.proofs.Standing.{stood_of}
+use Rattle.transition_laws.proofs.Tracked.{tracked_stands}
 use Rattle.raid_laws.proofs.Whole.{heeded_gone, stood_own}
 use Rattle.transition_laws.proofs.Shown.{stands_book}
 
@@ -131,10 +128,6 @@ owned_by p base (x ∷ xs) v keeping origin after =
       owned_by p base xs (changed x v) keeping.1 origin next,
     )
 
-none_gone : (v : Raid) → (someone : (p : ℕ) → is_current v.state p ≡ true → gone_in v p ≡ false) → (x : RackView) (s : State) (number : ℕ)
-    → LogInvariant v.state v.number (λ p. false) x → LogInvariant v.state v.number (gone_in v) x
-none_gone v none x s number kept = kept_marked v.state v.number (λ p. false) (gone_in v) x (λ p current. refl) kept
-
 module _ (xs : List Change) (v w : Raid) (a b : RackView) (called : IsCalled xs v w a b)
     (n : ℕ) (told : IsTracked v a n) (goes : is_failed w n ≡ false) (spent : ℕ → Bool) (covered : Covered v w n spent) (kept lacks : Bool) (base : State)
     (free : IsFree (promise_of n spent kept lacks base) xs) (after_base : OnlyMarksSince base v.state) (since : HoldsSince base a)
@@ -154,63 +147,20 @@ module _ (xs : List Change) (v w : Raid) (a b : RackView) (called : IsCalled xs 
   low_before = called.low_before n goes
 
   -- an array that is told stands by the book
-  stood : InvariantInCall v.state (shape_of (v.arrays n)) (held_in v a n) (spent_of v n) (λ place. false) v a n
-  stood = told.stood (called.still n goes)
-
-  shown : (c : Image) → Picks a c → RestsArray v.state (v.arrays n) (promise_of n spent kept lacks base) n (held_in v a n) (replayed a.sectors c)
-  shown c picks =
-      let r : Image = replayed a.sectors c in
-      let left : IsLeft a r = (c, picks, λ d t. refl) in
-      let s = v.state in
-      let at = stood_left s (shape_of (v.arrays n)) (held_in v a n) (spent_of v n) (λ place. false) v a n c stood picks in
-      let own_truth : (u : Super) → truth_in s r n ≡ Some u → truth_in s r (v.arrays n).number ≡ Some u = λ u is. subst (λ k. truth_in s r k ≡ Some u) (sym stood.number) is in
-      record {
-        shows = record {
-          says = record { shape_is = at.1.shape_is; value = λ y alive. at.1.value y (covered y alive).0; is_sound = at.1.is_sound };
-          rows = λ old is u truth. (kept_rows is).images r left s u at.0 truth;
-          lacks = λ old is lacking u truth. (lacking_rows is).images r left s (shape_of (v.arrays n)) u at.0 at.1.shape_is lacking truth;
-        };
-        truth = λ u is. stood.holds.truth r left u (own_truth u is);
-        mark = λ marked u is. stood.holds.mark marked r left u (own_truth u is);
-        alone = λ place current other. stood.holds.alone r left place current other;
-      }
-
   stands : Stands v v (promise_of n spent kept lacks base) (held_in v a) a
-  stands = record {
-    few = stood.few;
+  stands = tracked_stands v (promise_of n spent kept lacks base) (held_in v a) a (record {
+    marked = called.before;
+    few = λ k is low. own (λ j. j < 16) k is (let low = called.low n goes in let few = called.few in omega (arith, low, few));
+    live = eq-eqb n n refl;
     one = low_before;
-    log = none_gone v called.before a v.state v.number stood.log;
-    someone = (stood.someone.0, stood.someone.1, called.before stood.someone.0 stood.someone.1);
-    copies = kept_holds v.state v.number a stood.log;
+    goes = λ k is low. own (λ j. is_failed v j ≡ false) k is (called.still n goes);
+    tracked = λ k is low. own (λ j. IsTracked v a j) k is told;
+    covers = λ k y is low alive. own (λ j. spent_of v j y ≡ false) k is (covered y alive).0;
+    values = λ k y is low alive. refl;
     since = since;
-    same = refl;
-    images = λ c picks k is low. own (λ j. RestsArray v.state (v.arrays j) (promise_of n spent kept lacks base) j (held_in v a j) (replayed a.sectors c)) k is (shown c picks);
-    arrays = λ k is low. own (λ j. StandsArray (v.arrays j) (v.arrays j) j (held_in v a j) spent a) k is (record {
-      number = stood.number;
-      book_number = stood.number;
-      few = let low = called.low n goes in let few = called.few in omega (arith, low, few);
-      written = stood.written;
-      members = subst (λ k. HoldsMembers k (shape_of (v.arrays n)) (shape_of (v.arrays n)) (v.arrays n).resync (may_vary (v.arrays n)) (held_in v a n) spent a) stood.number (
-          let held = stood.holds.shape in record {
-            open_slices = held.open_slices;
-            open_left = held.open_left;
-            still = held.still;
-            within = λ y alive. held.within y (covered y alive).0;
-            current = λ y alive. held.current y (covered y alive).0;
-            sized = held.sized;
-            even = held.even;
-            settled = held.settled;
-          });
-      closed = λ none. subst (λ k. NothingPending k a) stood.number (stood.holds.closed none);
-      truth = record { fields = refl; events = omega arith };
-      mark = λ is. is;
-      roles = refl;
-      disks = refl;
-      sectors = λ y. refl;
-    });
-    alike = λ marked k is low. record { shape = refl; frame = refl; resync = refl; young = refl };
-    slices = told.slices (called.still n goes);
-  }
+    rows = λ k is low wanted. own (λ j. LeavesRows v a j) k is (kept_rows wanted);
+    lacks = λ k is low wanted. own (λ j. LeavesLacking v a j) k is (lacking_rows wanted);
+  })
 
   owned : AreOwned (promise_of n spent kept lacks base) xs v
   owned = owned_by (promise_of n spent kept lacks base) base xs v called.keeping refl after_base

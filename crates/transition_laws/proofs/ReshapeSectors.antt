@@ -14,7 +14,6 @@ use Rattle.array_model.specs.declared.Seat.{Seat}
 use Rattle.array_model.specs.View.{IsArray, sectors_of, shape_of, spent_in, View}
 use Rattle.raid_laws.proofs.Seated.{or_last}
 use Rattle.reshape_laws.specs.Ahead.{ahead_by, begun, finished, taken_over}
-use Rattle.reshape_laws.proofs.Finishing.{no_mirror}
 use Rattle.pool_state.specs.declared.contents.State.{State}
 use Rattle.transition_laws.specs.Changes.{Maintains}
 use Rattle.transition_laws.specs.Holds.{has_sector, moved_to}
@@ -37,14 +36,10 @@ laid : (u : View) → is_reshaping u.truth ≡ false → sectors_of u ≡ capaci
 laid u is = ap (λ (b : Bool). capacity (if b then parity (u.truth.raid_disks - 1) else final_layout u.truth) u.truth.size) is
 
 -- a mirror of two becomes RAID-5
-pub taken_sectors : (v : View) (events : ℕ) → IsArray v → v.young ≡ false → is_reshaping v.truth ≡ false → is_mirror v.truth ≡ true → (y : ℕ)
+pub taken_sectors : (v : View) (events : ℕ) → v.truth.raid_disks ≡ 2 → v.young ≡ false → is_reshaping v.truth ≡ false → is_mirror v.truth ≡ true → (y : ℕ)
     → has_sector v y ≡ has_sector (taken_over v events) y
-taken_sectors v events is_array young not_reshaping mirrored y =
+taken_sectors v events two young not_reshaping mirrored y =
     let next = taken_over v events in
-    let two : v.truth.raid_disks ≡ 2 =
-    let most : v.truth.raid_disks ≤ 2 = subst_most is_array.most in
-    let least = is_array.least in
-    omega (arith, most, least) in
     let size : sectors_of next ≡ v.truth.size = laid next not_reshaping ∙ ap (λ k. (k - 1) * v.truth.size) two ∙ one v.truth.size in
     steady v v.truth.size 0 young (laid v not_reshaping ∙ ap (λ (b : Bool). capacity (if b then mirror v.truth.raid_disks else parity v.truth.raid_disks) v.truth.size) mirrored)
     (unmoved v not_reshaping) y
@@ -53,8 +48,12 @@ taken_sectors v events is_array young not_reshaping mirrored y =
     one : (n : ℕ) → 1 * n ≡ n
     one n = grind arith
 
-    subst_most : v.truth.raid_disks ≤ (if is_mirror v.truth then 2 else 16) → v.truth.raid_disks ≤ 2
-    subst_most most = subst (λ (b : Bool). v.truth.raid_disks ≤ (if b then 2 else 16)) mirrored most
+-- it has two members
+pub mirror_two : (v : View) → IsArray v → is_mirror v.truth ≡ true → v.truth.raid_disks ≡ 2
+mirror_two v is_array mirrored =
+    let most : v.truth.raid_disks ≤ 2 = subst (λ (b : Bool). v.truth.raid_disks ≤ (if b then 2 else 16)) mirrored is_array.most in
+    let least = is_array.least in
+    omega (arith, most, least)
 
 -- a reshape begins with a member more
 pub begun_sectors : (v : View) (events place : ℕ) (seat : Seat) (device : Id) → v.young ≡ false → is_reshaping v.truth ≡ false → is_mirror v.truth ≡ false → (y : ℕ)
@@ -83,16 +82,16 @@ ahead_sectors v many events young y has =
     wider false m n more is = lt-ltb y n (let low = ltb-true y m is in omega (arith, low, more))
 
 -- it ends once all rows are moved
-pub finished_sectors : (v : View) (events : ℕ) → IsArray v → v.young ≡ false → is_reshaping v.truth ≡ true
+pub finished_sectors : (v : View) (events : ℕ) → is_mirror v.truth ≡ false → v.young ≡ false → is_reshaping v.truth ≡ true
     → v.truth.reshape_position ≡ (v.truth.raid_disks - 1) * v.truth.size → (y : ℕ) → has_sector v y ≡ has_sector (finished v events) y
-finished_sectors v events is_array young reshaping whole y =
+finished_sectors v events striped young reshaping whole y =
     let next = finished v events in
     let few = (v.truth.raid_disks - 1 - 1) * v.truth.size in
     let many = (v.truth.raid_disks - 1) * v.truth.size in
     let was : sectors_of v ≡ few = ap (λ (b : Bool). capacity (if b then parity (v.truth.raid_disks - 1) else final_layout v.truth) v.truth.size) reshaping in
     let moved : moved_to v.truth ≡ many = ap (λ (b : Bool). if b then v.truth.reshape_position else 0) reshaping ∙ whole in
     let now : sectors_of next ≡ many =
-    ap (λ (b : Bool). capacity (if b then mirror v.truth.raid_disks else parity v.truth.raid_disks) v.truth.size) (no_mirror v is_array reshaping) in
+    ap (λ (b : Bool). capacity (if b then mirror v.truth.raid_disks else parity v.truth.raid_disks) v.truth.size) striped in
     steady v few many young was moved y ∙ joined few many (mul-le-mul_right v.truth.size (omega arith)) ∙ sym (steady next many 0 young now refl y)
   where
     joined : (few many : ℕ) → few ≤ many → (nat_lt y few || nat_lt y many) ≡ (nat_lt y many || nat_lt y 0)

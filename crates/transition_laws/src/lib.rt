@@ -4,12 +4,13 @@
 //! **What it defines.** A `Change` of the book and the book `changed` by it (`specs/Changes.antt`); contents that hold a book, a run that
 //! stands by it, and what is promised of values (`HoldsBook`, `Stands`, `Promise`: `specs/Holds.antt`); `Makes xs d v w ..`, calls that make
 //! the changes xs of the book d, between the runs v and w (`specs/Makes.antt`); what a commit owes that makes one (`specs/Stages.antt`); a run of a book
-//! in which whoever went isn't marked yet, and calls that mark losses alone (`IsRunOf`, `MakesLosses`: `specs/Losses.antt`); and what a reshape asks for
-//! (`specs/Reshaping.antt`).
+//! in which whoever went isn't marked yet, and calls that mark losses alone (`IsRunOf`, `MakesLosses`: `specs/Losses.antt`); and what a reshape, an
+//! array that is made and one that gets ready ask for (`specs/Reshaping.antt`, `specs/Making.antt`, `specs/Readying.antt`).
 //!
 //! **What its lemmas say.** Calls in a row make their changes in a row (`makes_then`, `specs/Makes.antt`). A commit whose targets stage a
-//! change makes it (`commit_makes`), whoever goes in it (`committing_makes`): the plan's end, the marking of losses, an array that gets
-//! ready (`close_makes`, `mark_makes`, `stages_readied`). A call of one array that shows it as it was or as it will be makes that change
+//! change makes it (`commit_makes`), whoever goes in it (`committing_makes`): the plan's end, the marking of losses, an array that is made
+//! and one that gets ready (`close_makes`, `mark_makes`, `made_makes`, `ready_makes`). A run that stands has all rows of a young array agree, those that
+//! are left to zero too, since none of them is left to resync: so an array is made on slices that hold such rows, as zeros are. A call of one array that shows it as it was or as it will be makes that change
 //! (`turn_makes`): a step of maintenance or of a reshape, a cleaning, and a write (`step_makes`, `stepped_makes`, `renew_makes`,
 //! `write_makes`). Calls that write nothing, calls that leave an array's values and superblocks, and losses that are noted, settled and
 //! heeded, make none (`read_one_makes`, `idle_makes`, `undone_makes`, `noted_makes`, `settle_makes`, `heeded_makes`). Each turn of the

@@ -84,6 +84,11 @@ returns-clause-loses g c =
     let at = goal.at.returns-clause-loses g c in
     (committed g at.After-note_gone (stated g at.After-add_copies)).loses
 
+pub returns-clause-commits : goal.returns-clause-commits
+returns-clause-commits g c =
+    let at = goal.at.returns-clause-commits g c in
+    (committed g at.After-note_gone (stated g at.After-add_copies)).commits
+
 pub returns-clause-caused : goal.returns-clause-caused
 returns-clause-caused g c =
     let at = goal.at.returns-clause-caused g c in

@@ -11,7 +11,7 @@ use Rattle.growth_laws.proofs.Layers.{make_parts, set_extent, some_drive}
 use Rattle.growth_laws.proofs.Made.{made_state}
 use Rattle.growth_laws.proofs.Reached.{some_extent}
 use Rattle.raid_rack.specs.RaidRack.{raid_by}
-use Rattle.raid_rack.proofs.MadeArray.{HasMade, IsMaking, make_grows, make_raises, making_heeded, making_left, making_running, making_supers}
+use Rattle.raid_rack.proofs.MadeArray.{HasMade, IsMaking, make_contents, make_grows, make_raises, making_heeded, making_left, making_running, making_supers}
 use Rattle.raid_rack.proofs.arrays.Arrays.make_array.Given.{Over}
 use Rattle.raid_rack.proofs.arrays.Arrays.make_array.Goals as goal
 use Rattle.raid_rack.proofs.arrays.Arrays.make_array.Goals.{After-push}
@@ -118,3 +118,12 @@ returns-clause-raises g c =
 
 pub returns-clause-runs : goal.returns-clause-runs
 returns-clause-runs g c = g.met.S.Rack.runs_then _ _ _ c.commit_state.ensures.runs c.mend.ensures.runs
+
+pub returns-clause-contents : goal.returns-clause-contents
+returns-clause-contents g c =
+    let at = (goal.at.returns-clause-contents g c).After-push in
+    let a = c.args.self.now in
+    make_contents a c.args.height (g.S.Rack.seen c.args.rack.now) (making g at) c.args.seconds (is_array g at) _ c.push.new.self c.stage_own.new.log
+    (has_made g at _ (state_is a.state c.raised-self.result c.raised-self.ensures))
+    c.commit_state.new.self c.mend.new.self (g.S.Rack.seen c.commit_state.new.rack) (g.S.Rack.seen c.mend.new.rack)
+    c.commit_state.ensures.commits c.mend.ensures.losses

@@ -7,7 +7,7 @@ use Rattle.array_core.specs.Seats.{ready}
 use Rattle.log_laws.specs.View.{LogView}
 use Rattle.growth_laws.proofs.Readied.{may_ready}
 use Rattle.raid_rack.specs.RaidRack.{no_array, raid_by}
-use Rattle.raid_rack.proofs.Readied.{HasReadied, IsReadying, ready_grows, ready_raises, readying_heeded, readying_left, readying_running}
+use Rattle.raid_rack.proofs.Readied.{HasReadied, IsReadying, ready_contents, ready_grows, ready_raises, readying_heeded, readying_left, readying_running}
 use Rattle.raid_rack.proofs.Steps.{items_set, same_element}
 use Rattle.raid_rack.proofs.arrays.Arrays.ready_array.Given.{Over}
 use Rattle.raid_rack.proofs.arrays.Arrays.ready_array.Goals as goal
@@ -86,3 +86,11 @@ returns-clause-raises g c =
 
 pub returns-clause-runs : goal.returns-clause-runs
 returns-clause-runs g c = g.met.S.Rack.runs_then _ _ _ c.commit_state.ensures.runs c.mend.ensures.runs
+
+pub returns-clause-contents : goal.returns-clause-contents
+returns-clause-contents g c =
+    let at = (goal.at.returns-clause-contents g c).After-clear in
+    ready_contents c.args.self.now c.args.number (g.S.Rack.seen c.args.rack.now) (readying g at) _
+    (with_items c.args.self.now.all (slice_set c.deref_mut.result.now c.args.number c.ready.new.self)) c.clear.new.self (has_readied g at)
+    c.commit_state.new.self c.mend.new.self (g.S.Rack.seen c.commit_state.new.rack) (g.S.Rack.seen c.mend.new.rack)
+    c.commit_state.ensures.commits (ap (λ (l : LogView). l.added) c.clear.ensures) c.mend.ensures.losses

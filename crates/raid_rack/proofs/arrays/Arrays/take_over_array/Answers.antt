@@ -1,4 +1,4 @@
-use Rattle.std.proofs.Common.{◌≡◌, ◌<◌, ◌-◌, ◌^◌, ◌==◌, ◌&&◌, Bool, true, false, not, is_ok, slice_set, refl, ap, sym, subst, ◌∙◌, inl, inr, eqb-true, arith}
+use Rattle.std.proofs.Common.{◌≡◌, ◌<◌, ◌-◌, ◌^◌, ◌==◌, ◌&&◌, Bool, true, false, not, get_or, is_ok, slice_set, refl, ap, sym, subst, ◌∙◌, inl, inr, eqb-true, arith}
 use Rattle.std.proofs.lemmas.Bool.{and_parts}
 use Rattle.arrayvec.specs.ArrayVec.{with_items}
 use Rattle.rack.specs.Joins.{stays_then}
@@ -7,15 +7,17 @@ use Rattle.md_super.specs.Profile.{is_mirror}
 use Rattle.array_core.specs.Superblocks.{raised}
 use Rattle.array_model.specs.View.{View, rows_of}
 use Rattle.pool_state.specs.declared.contents.Work.TheVariants.{TakeOver}
+use Rattle.raid_laws.proofs.Whole.{heeded_gone}
 use Rattle.reshape_laws.specs.Ahead.{taken_over}
 use Rattle.reshape_laws.specs.Reshapes.{lacks_two}
 use Rattle.growth_laws.specs.Growing.{Lacks, change_of, is_clean, is_due, is_synced}
 use Rattle.growth_laws.proofs.Becoming.{synced_parts}
 use Rattle.growth_laws.proofs.Due.{may_take_over, taken}
 use Rattle.growth_laws.proofs.Losing.{moves_caused, moves_lose}
-use Rattle.growth_laws.proofs.Steps.{grows_behind, grows_nothing}
+use Rattle.growth_laws.proofs.ReshapeBegins.{is_taking, taken_keeps, taken_turn}
+use Rattle.growth_laws.proofs.Steps.{grows_behind, grows_nothing, reshapes_nothing}
 use Rattle.raid_rack.specs.RaidRack.{no_array, raid_by}
-use Rattle.raid_rack.proofs.Grown.{called_own, grows_answered, has_called, logs_there, not_clean, step_events}
+use Rattle.raid_rack.proofs.Grown.{called_own, grows_answered, has_called, logs_there, not_clean, reshape_answered, reshape_call, step_events}
 use Rattle.raid_rack.proofs.RaisedCalls.{raises_call}
 use Rattle.raid_rack.proofs.Raises.{raises_then}
 use Rattle.raid_rack.proofs.Resynced.{answered_refused, step_later, step_raise}
@@ -158,3 +160,66 @@ returns-clause-raises g c =
 pub returns-clause-runs : goal.returns-clause-runs
 returns-clause-runs g c =
     g.met.S.Rack.runs_then _ _ _ c.clean_array.ensures.runs (g.met.S.Rack.runs_then _ _ _ c.take_over.ensures.runs c.mend.ensures.runs)
+
+pub returns-then-not-may_take_over-clause-contents : goal.returns-then-not-may_take_over-clause-contents
+returns-then-not-may_take_over-clause-contents g c =
+    let b = c.clean_array.new.self in
+    let n = c.args.number in
+    let v = raid_by c.args.self.now in
+    let w = raid_by b in
+    let y = g.S.Rack.seen c.clean_array.new.rack in
+    let e = c.clean_array.ensures in
+    let low = subst (λ k. n < k) (sym e.cleans.moves.book.same.made) (synced_parts v n (and_parts (is_synced v n) (is_mirror (v.arrays n).truth) c.requires.due).0).low in
+    let count = e.running.count in
+    record {
+      mid = w;
+      at = c.clean_array.new.rack;
+      loses = moves_lose v w (g.S.Rack.seen c.args.rack.now) y e.cleans.moves;
+      cleans = e.contents;
+      marked = λ p current. heeded_gone w e.cleans.heeded p;
+      step = reshapes_nothing (change_of (TakeOver n)) (Lacks (TakeOver n)) n w y e.running.set e.cleans.heeded
+          (inl (elim c.then-not-may_take_over.branch [
+            | then-not-may_take_over-via-then-not-may_take_over k ↦ ap (λ (is : Bool). is && is_clean (w.arrays n)) (sym c.may_take_over.ensures ∙ k.if-not-may_take_over.true)
+            | then-not-may_take_over-via-else-not-may_take_over+then-not-is_clean k ↦
+                not_clean (is_due w (TakeOver n)) (is_clean (w.arrays n))
+                (sym (ap is_clean (k.index-deref-number.is ∙ same_element k.deref.result.now b.all.items n _ no_array k.deref.ensures.0 (omega (arith, count, low))))
+                ∙ sym k.is_clean.ensures ∙ k.if-not-is_clean.true)
+          ]));
+    }
+
+pub returns-clause-contents : goal.returns-clause-contents
+returns-clause-contents g c =
+    let a = c.clean_array.new.self in
+    let n = c.args.number in
+    let v = raid_by a in
+    let x = g.S.Rack.seen c.clean_array.new.rack in
+    let y = g.S.Rack.seen c.take_over.new.rack in
+    let z = g.S.Rack.seen c.mend.new.rack in
+    let e = c.clean_array.ensures in
+    let due = sym c.may_take_over.ensures ∙ c.if-not-may_take_over.false in
+    let low = (synced_parts v n (and_parts (is_synced v n) (is_mirror (v.arrays n).truth) due).0).low in
+    let count = e.running.count in
+    let one = c.index-deref-number.is ∙ same_element c.deref.result.now a.all.items n _ no_array c.deref.ensures.0 (omega (arith, count, low)) in
+    let clean : is_clean (v.arrays n) ≡ true = sym (ap is_clean one) ∙ sym c.is_clean.ensures ∙ c.if-not-is_clean.false in
+    let does = may_take_over v x n e.running.set e.cleans.heeded due clean in
+    let is = is_taking v x n e.running.set due clean in
+    let on = c.current_places-on.result.items in
+    let all = with_items a.all (slice_set c.deref_mut.result.now n c.take_over.new.array) in
+    let all_is = items_set a.all c.deref_mut.result.now n c.take_over.new.array c.deref_mut.ensures.value in
+    let call =
+    reshape_call (λ u. taken_over u (raised u.truth.events)) a all c.take_over.new.log x y n c.clear.new.self.number _ c.take_over.new.array on (is_ok c.take_over.result) e.running e.cleans.heeded
+    is.rest does.becomes (taken_keeps v x n e.running.set is)
+    (same_element c.deref_mut.result.now a.all.items n _ no_array c.deref_mut.ensures.value (omega (arith, count, low))) all_is
+    (ap (λ (l : LogView). l.number) c.clear.ensures) (step_later c.clear.new.self c.take_over.new.log c.take_over.ensures.log)
+    c.current_places-on.ensures c.went-places.ensures.few c.take_over.ensures.goes c.take_over.ensures.reshapes in
+    record {
+      mid = v;
+      at = c.clean_array.new.rack;
+      loses = moves_lose (raid_by c.args.self.now) v (g.S.Rack.seen c.args.rack.now) x e.cleans.moves;
+      cleans = e.contents;
+      marked = λ p current. heeded_gone v e.cleans.heeded p;
+      step = reshape_answered (change_of (TakeOver n)) (Lacks (TakeOver n)) a c.mend.new.self all c.take_over.new.log x y z n (taken v n) c.take_over.new.array on (is_ok c.take_over.result) _ call refl
+          (called_own a all n c.take_over.new.array count low all_is) (answered_refused (lacks_two c.take_over.new.array) _ c.take_over.result c.take_over.ensures.refused)
+          c.mend.ensures.mends does.longer (ap not c.lacks.ensures) inr
+          (taken_turn v (λ k. get_or all.items k no_array) c.take_over.new.log.number n x y on (is_ok c.take_over.result) call is (raid_by c.mend.new.self) z c.mend.ensures.losses);
+    }

@@ -1,4 +1,4 @@
-use Rattle.std.proofs.Common.{◌⊎◌, ◌<◌, ◌&&◌, Bool, true, false, ap, sym, subst, ◌∙◌, inl, inr, arith}
+use Rattle.std.proofs.Common.{◌⊎◌, ◌<◌, ◌&&◌, Bool, true, false, refl, ap, sym, subst, ◌∙◌, inl, inr, arith}
 use Rattle.array_core.proofs.LogWrites.{goes_then}
 use Rattle.pool_state.specs.declared.contents.Work.TheVariants.{Begin}
 use Rattle.slice_rack.specs.SliceRack.{below_of, tables}
@@ -6,14 +6,15 @@ use Rattle.slice_rack.specs.Sliced.{slices_of}
 use Rattle.slice_rack.specs.Slices.{seat_of as disk_at}
 use Rattle.raid_laws.specs.NewDrive.{first_in, slice_length}
 use Rattle.raid_laws.specs.Raid.{Raid}
+use Rattle.raid_laws.proofs.Whole.{heeded_gone}
 use Rattle.growth_laws.specs.Growing.{Grows, Lacks, change_of, is_clean, is_due, views_of}
 use Rattle.growth_laws.proofs.Due.{begin_parts}
 use Rattle.growth_laws.proofs.Losing.{moves_caused, moves_lose}
-use Rattle.growth_laws.proofs.Steps.{grows_behind, grows_nothing}
-use Rattle.raid_rack.specs.Growing.{CannotLay}
+use Rattle.growth_laws.proofs.Steps.{grows_behind, grows_nothing, reshapes_nothing}
+use Rattle.raid_rack.specs.Growing.{CannotLay, ReshapesWith}
 use Rattle.raid_rack.specs.RaidRack.{no_array, raid_by, raid_in, slices_seen}
 use Rattle.raid_rack.proofs.Grown.{not_clean}
-use Rattle.raid_rack.proofs.Laid.{cannot_before, faults_rise, goes_same, runs_goes, runs_stay}
+use Rattle.raid_rack.proofs.Laid.{cannot_before, faults_rise, goes_same, runs_goes, runs_stay, with_more}
 use Rattle.raid_rack.proofs.Raises.{raises_more, raises_then}
 use Rattle.raid_rack.proofs.Steps.{same_element}
 use Rattle.raid_rack.proofs.arrays.RaidRack.begin.Goals.{then-not-may_begin-2-via-then-not-may_begin-2, then-not-may_begin-2-via-else-not-may_begin-2+then-not-is_clean}
@@ -156,3 +157,103 @@ returns-then-not-may_begin-2-clause-goes g c =
 
 pub returns-then-not-may_begin-clause-goes : goal.returns-then-not-may_begin-clause-goes
 returns-then-not-may_begin-clause-goes g c = goes_same _ c.requires.fit.running.set.fit.0
+
+pub returns-then-not-may_begin-2-clause-contents : goal.returns-then-not-may_begin-2-clause-contents
+returns-then-not-may_begin-2-clause-contents g c due =
+    let b = c.clean_array.new.self in
+    let n = c.args.array in
+    let place = c.args.place in
+    let v = raid_in c.args.self.now in
+    let w = raid_by b in
+    let y = slices_of (tables c.clean_array.new.rack) (g.R.Rack.seen (below_of c.clean_array.new.rack)) in
+    let e = c.clean_array.ensures in
+    let low = subst (λ k. n < k) (sym e.cleans.moves.book.same.made) (begin_parts v n place due).synced.low in
+    let count = e.running.count in
+    let L : Raid → Raid → Type 0 =
+    λ mid w. Lacks (Begin n place) mid w ⊎ CannotLay (tables c.args.self.now.slices) (g.R.Rack.seen (below_of c.args.self.now.slices)) mid place n in
+    record {
+      mid = w;
+      at = c.clean_array.new.rack;
+      loses = moves_lose v w (slices_seen g.R.Rack.seen c.args.self.now) y e.cleans.moves;
+      cleans = e.contents;
+      marked = λ p current. heeded_gone w e.cleans.heeded p;
+      step = record {
+        laid = c.clean_array.new.rack;
+        last = c.clean_array.new.rack;
+        lays = (refl, inl refl);
+        step = λ settled.
+            reshapes_nothing (change_of (Begin n place)) L n w y e.running.set e.cleans.heeded
+            (inl (inl (elim c.then-not-may_begin-2.branch [
+              | then-not-may_begin-2-via-then-not-may_begin-2 k ↦ ap (λ (is : Bool). is && is_clean (w.arrays n)) (sym c.may_begin-2.ensures ∙ k.if-not-may_begin-2.true)
+              | then-not-may_begin-2-via-else-not-may_begin-2+then-not-is_clean k ↦
+                  not_clean (is_due w (Begin n place)) (is_clean (w.arrays n))
+                  (sym (ap is_clean (k.index-deref-array.is ∙ same_element k.deref.result.now b.all.items n _ no_array k.deref.ensures.0 (omega (arith, count, low))))
+                  ∙ sym k.is_clean.ensures ∙ k.if-not-is_clean.true)
+            ])));
+        drops = (refl, inl refl);
+      };
+    }
+
+pub returns-then-join_member-clause-contents : goal.returns-then-join_member-clause-contents
+returns-then-join_member-clause-contents g c due =
+    let n = c.args.array in
+    let place = c.args.place in
+    let seen = g.R.Rack.seen in
+    let u = raid_by c.clean_array.new.self in
+    let w = raid_in c.join_member.new.self in
+    let t = tables c.args.self.now.slices in
+    let t1 = tables c.clean_array.new.rack in
+    let e = c.clean_array.ensures in
+    let stays = runs_stay t t1 (seen (below_of c.args.self.now.slices)) (seen (below_of c.clean_array.new.rack)) _ e.runs c.requires.fit.running.set.fit in
+    let L : Raid → Raid → Type 0 =
+    λ mid w. Lacks (Begin n place) mid w ⊎ CannotLay (tables c.args.self.now.slices) (g.R.Rack.seen (below_of c.args.self.now.slices)) mid place n in
+    let L1 : Raid → Raid → Type 0 =
+    λ mid w. Lacks (Begin n place) mid w ⊎ CannotLay (tables c.clean_array.new.rack) (g.R.Rack.seen (below_of c.clean_array.new.rack)) mid place n in
+    record {
+      mid = u;
+      at = c.clean_array.new.rack;
+      loses = moves_lose (raid_in c.args.self.now) u (slices_seen seen c.args.self.now) (slices_of t1 (seen (below_of c.clean_array.new.rack))) e.cleans.moves;
+      cleans = e.contents;
+      marked = λ p current. heeded_gone u e.cleans.heeded p;
+      step = with_more seen (change_of (Begin n place)) L1 L n place u w c.clean_array.new.rack c.join_member.new.self.slices true
+          (λ mid z is. elim is [
+            | inl lacks ↦ inl lacks
+            | inr cannot ↦
+                inr (cannot_before t t1 (seen (below_of c.args.self.now.slices)) (seen (below_of c.clean_array.new.rack)) place n (first_in (views_of mid) n) (slice_length (mid.arrays n)) e.runs.tables stays
+                cannot)
+          ])
+          (subst (λ (answered : Bool). ReshapesWith seen (change_of (Begin n place)) L1 n place u w c.clean_array.new.rack c.join_member.new.self.slices answered) c.if-join_member.true
+          c.join_member.ensures.contents);
+    }
+
+pub returns-else-join_member-clause-contents : goal.returns-else-join_member-clause-contents
+returns-else-join_member-clause-contents g c due =
+    let n = c.args.array in
+    let place = c.args.place in
+    let seen = g.R.Rack.seen in
+    let u = raid_by c.clean_array.new.self in
+    let w = raid_in c.join_member.new.self in
+    let t = tables c.args.self.now.slices in
+    let t1 = tables c.clean_array.new.rack in
+    let e = c.clean_array.ensures in
+    let stays = runs_stay t t1 (seen (below_of c.args.self.now.slices)) (seen (below_of c.clean_array.new.rack)) _ e.runs c.requires.fit.running.set.fit in
+    let L : Raid → Raid → Type 0 =
+    λ mid w. Lacks (Begin n place) mid w ⊎ CannotLay (tables c.args.self.now.slices) (g.R.Rack.seen (below_of c.args.self.now.slices)) mid place n in
+    let L1 : Raid → Raid → Type 0 =
+    λ mid w. Lacks (Begin n place) mid w ⊎ CannotLay (tables c.clean_array.new.rack) (g.R.Rack.seen (below_of c.clean_array.new.rack)) mid place n in
+    record {
+      mid = u;
+      at = c.clean_array.new.rack;
+      loses = moves_lose (raid_in c.args.self.now) u (slices_seen seen c.args.self.now) (slices_of t1 (seen (below_of c.clean_array.new.rack))) e.cleans.moves;
+      cleans = e.contents;
+      marked = λ p current. heeded_gone u e.cleans.heeded p;
+      step = with_more seen (change_of (Begin n place)) L1 L n place u w c.clean_array.new.rack c.join_member.new.self.slices false
+          (λ mid z is. elim is [
+            | inl lacks ↦ inl lacks
+            | inr cannot ↦
+                inr (cannot_before t t1 (seen (below_of c.args.self.now.slices)) (seen (below_of c.clean_array.new.rack)) place n (first_in (views_of mid) n) (slice_length (mid.arrays n)) e.runs.tables stays
+                cannot)
+          ])
+          (subst (λ (answered : Bool). ReshapesWith seen (change_of (Begin n place)) L1 n place u w c.clean_array.new.rack c.join_member.new.self.slices answered) c.if-join_member.false
+          c.join_member.ensures.contents);
+    }

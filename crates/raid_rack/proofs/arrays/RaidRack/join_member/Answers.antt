@@ -1,14 +1,15 @@
-use Rattle.std.proofs.Common.{◌⊎◌, false, ap, sym, subst, ◌∙◌, inl, inr, arith}
+use Rattle.std.proofs.Common.{◌⊎◌, false, refl, ap, sym, subst, ◌∙◌, inl, inr, arith}
 use Rattle.pool_state.specs.declared.contents.Work.TheVariants.{Begin}
 use Rattle.array_core.specs.Pool.{Goes}
 use Rattle.slice_rack.specs.SliceRack.{below_of, tables}
 use Rattle.slice_rack.specs.Sliced.{slices_of}
 use Rattle.slice_rack.specs.Slices.{seat_of as disk_at}
+use Rattle.raid_laws.specs.Moves.{IsSet}
 use Rattle.raid_laws.specs.Raid.{Raid}
-use Rattle.growth_laws.specs.Growing.{Grows, Lacks, change_of}
+use Rattle.growth_laws.specs.Growing.{Grows, HasSettledSlice, Lacks, MakesReshape, change_of}
 use Rattle.growth_laws.proofs.Due.{begin_parts}
 use Rattle.growth_laws.proofs.Losing.{loses_nothing}
-use Rattle.growth_laws.proofs.Steps.{caused_nothing, grows_nothing, grows_over}
+use Rattle.growth_laws.proofs.Steps.{caused_nothing, grows_nothing, grows_over, reshapes_more, reshapes_nothing}
 use Rattle.raid_rack.specs.Growing.{CannotLay}
 use Rattle.raid_rack.specs.RaidRack.{raid_by, raid_in, slices_seen}
 use Rattle.raid_rack.proofs.Laid.{runs_goes, same_faults}
@@ -75,3 +76,45 @@ returns-clause-goes g c =
     c.lay_member.ensures.fit.running.set.fit in
     subst (λ r. Goes (seen (below_of c.args.self.now.slices)) (seen r)) (sym c.drop_member.ensures.below)
     (subst (λ r. Goes (seen r) (seen after)) c.lay_member.ensures.below ran)
+
+pub returns-then-not-lay_member-clause-contents : goal.returns-then-not-lay_member-clause-contents
+returns-then-not-lay_member-clause-contents g c =
+    let n = c.args.array in
+    let place = c.args.place in
+    let v = raid_in c.args.self.now in
+    let y = slices_seen g.R.Rack.seen c.lay_member.new.self in
+    let L : Raid → Raid → Type 0 =
+    λ mid w. Lacks (Begin n place) mid w ⊎ CannotLay (tables c.args.self.now.slices) (g.R.Rack.seen (below_of c.args.self.now.slices)) mid place n in
+    record {
+      laid = c.lay_member.new.self.slices;
+      last = c.lay_member.new.self.slices;
+      lays = c.lay_member.ensures.lays;
+      step = λ settled.
+          subst (λ k. MakesReshape (change_of (Begin n place)) L n v (raid_by k) y y false) (sym c.lay_member.ensures.arrays)
+          (reshapes_nothing (change_of (Begin n place)) L n v y (subst (λ k. IsSet (raid_by k) y) c.lay_member.ensures.arrays c.lay_member.ensures.fit.running.set) c.requires.fit.heeded
+          (inr (c.lay_member.ensures.cannot c.if-not-lay_member.true)));
+      drops = (refl, inl refl);
+    }
+
+pub returns-clause-contents : goal.returns-clause-contents
+returns-clause-contents g c =
+    let n = c.args.array in
+    let place = c.args.place in
+    let v = raid_in c.args.self.now in
+    let seen = g.R.Rack.seen in
+    let y = slices_seen seen c.lay_member.new.self in
+    let z = slices_of (tables c.begin_array-begun.new.rack) (seen (below_of c.begin_array-begun.new.rack)) in
+    let L : Raid → Raid → Type 0 =
+    λ mid w. Lacks (Begin n place) mid w ⊎ CannotLay (tables c.args.self.now.slices) (g.R.Rack.seen (below_of c.args.self.now.slices)) mid place n in
+    record {
+      laid = c.lay_member.new.self.slices;
+      last = c.begin_array-begun.new.rack;
+      lays = c.lay_member.ensures.lays;
+      step = λ settled.
+          subst (λ k. MakesReshape (change_of (Begin n place)) L n (raid_by k) (raid_in c.drop_member.new.self) y z c.begin_array-begun.result) c.lay_member.ensures.arrays
+          (subst (λ k. MakesReshape (change_of (Begin n place)) L n (raid_by c.lay_member.new.self.arrays) (raid_by k) y z c.begin_array-begun.result) (sym c.drop_member.ensures.arrays)
+          (reshapes_more (change_of (Begin n place)) (Lacks (Begin n place)) L n (raid_by c.lay_member.new.self.arrays) (raid_by c.begin_array-begun.new.self) y z c.begin_array-begun.result
+          (λ mid w is. inl is)
+          (c.begin_array-begun.ensures.contents (subst (λ k. HasSettledSlice (raid_by k) n place y) (sym c.lay_member.ensures.arrays) settled))));
+      drops = c.drop_member.ensures.drops;
+    }

@@ -1,0 +1,154 @@
+-- A work of a growth keeps the sectors that arrays have, and what they hold, where it makes its change of the book between losses.
+use Rattle.std.proofs.Common.{◌≡◌, ℕ, ◌+◌, ◌^◌, ◌<◌, ◌≤◌, ◌&&◌, Bool, true, false, not, nat_le, if◌then◌else◌, List, ◌∷◌, ◌++◌, length, sym, ap, subst, ◌∙◌, inl, inr, le-ltb, leb-true, ap₂, bit_and, ◌==◌, int_eq, pos, ◌-◌, ◌*◌}
+use Rattle.std.proofs.lemmas.Bool.{and_from, and_parts, both_ways, cases_lt}
+use Rattle.std.proofs.lemmas.Option.{slice_get_past}
+use Rattle.std.specs.List.{list_all}
+use Rattle.std.specs.Option.{option_map_or}
+use Rattle.rack.specs.Values.{only, Values}
+use Rattle.rack.specs.Seen.{RackView}
+use Rattle.md_super.specs.Profile.{is_mirror}
+use Rattle.parity.specs.Xor.{zeros}
+use Rattle.pool_state.specs.declared.contents.State.{State}
+use Rattle.pool_state.specs.Valid.{has_arrays, has_epoch, has_places, is_drive, is_extent, is_valid}
+use Rattle.array_image.specs.States.{is_current}
+use Rattle.array_image.specs.Supers.{is_reshaping}
+use Rattle.array_model.specs.View.{IsArray, IsSameArray, sectors_of, View}
+use Rattle.array_core.specs.Superblocks.{settled}
+use Rattle.sync_laws.specs.Steps.{if_done}
+use Rattle.reshape_laws.specs.Ahead.{ahead_by, finished, taken_over}
+use Rattle.raid_laws.specs.Moves.{AreCaused, IsHeeded, IsSet}
+use Rattle.raid_laws.specs.Raid.{gone_in, held_in, is_failed, IsWritten, Raid, StopsInside}
+use Rattle.raid_laws.proofs.Frames.{geometry_frame}
+use Rattle.raid_laws.proofs.Over.{someone_left}
+use Rattle.transition_laws.specs.Changes.{Change, steps}
+use Rattle.transition_laws.specs.Growth.{AreReady}
+use Rattle.transition_laws.specs.Holds.{has_sector}
+use Rattle.transition_laws.specs.Reshaping.{FitsReshape}
+use Rattle.transition_laws.proofs.LongerBooks.{AllKeepOld, KeepsOld, losses_keep, old_joined, step_keeps}
+use Rattle.transition_laws.proofs.OldSectors.{IsGrowing, old_values}
+use Rattle.transition_laws.proofs.ReshapeSectors.{ahead_sectors, finished_sectors, mirror_two, taken_sectors}
+use Rattle.transition_laws.proofs.SettledMakes.{settled_sectors}
+use Rattle.transition_laws.proofs.SteppedMakes.{framed_sectors}
+use Rattle.reshape_laws.proofs.Finishing.{no_mirror}
+use Rattle.growth_laws.specs.Growing.{MakesTurn, whole_position}
+
+-- ---- a state that lists a drive has no more arrays of the volume than arrays
+
+arrays_joined : (s : State) (place : ℕ) → is_valid s place ≡ true → s.joined ≤ s.made
+arrays_joined s place is =
+    let one = and_parts (is_extent s.extent) (has_places s place && (has_arrays s && (list_all is_drive s.drives.items && has_epoch s))) is in
+    let two = and_parts (has_places s place) (has_arrays s && (list_all is_drive s.drives.items && has_epoch s)) one.1 in
+    let three = and_parts (has_arrays s) (list_all is_drive s.drives.items && has_epoch s) two.1 in
+    let four = and_parts (nat_le 1 s.made && nat_le s.made 16) (nat_le 1 s.joined && (nat_le s.joined s.made && nat_le s.made (s.joined + 1))) three.0 in
+    let five = and_parts (nat_le 1 s.joined) (nat_le s.joined s.made && nat_le s.made (s.joined + 1)) four.1 in
+    leb-true s.joined s.made (and_parts (nat_le s.joined s.made) (nat_le s.made (s.joined + 1)) five.1).0
+
+current_listed : (s : State) (p : ℕ) → is_current s p ≡ true → p < length s.drives.items
+current_listed s p current = elim (cases_lt p (length s.drives.items)) [
+  | inl below ↦ below
+  | inr past ↦ absurd (both_ways (is_current s p) (ap (λ o. option_map_or (λ drive. not drive.missing) o false) (slice_get_past s.drives.items p past)) current)
+]
+
+joined_low : (v w : Raid) (a b : RackView) → IsSet v a → AreCaused v w a b → (n : ℕ) → is_failed w n ≡ false → v.state.joined ≤ v.state.made
+joined_low v w a b set caused n goes =
+    let some = someone_left w n goes in
+    let left = caused.left some.0 (and_from (is_current w.state some.0) (not (gone_in w some.0)) some.1 (ap not some.2)) in
+    let current = (and_parts (is_current v.state some.0) (not (gone_in v some.0)) left).0 in
+    arrays_joined v.state some.0 (set.valid some.0 (current_listed v.state some.0 current))
+
+-- ---- changes of one array, by the book behind losses
+
+-- an array that has lost members alone has the sectors that it had
+lost_sectors : (u w : View) → IsSameArray u w → u.young ≡ false → (y : ℕ) → has_sector u y ≡ has_sector w y
+lost_sectors u w same young y =
+    let geometry = same.geometry in
+    framed_sectors u w (geometry_frame u.truth w.truth geometry)
+    (ap₂ (λ features position. if bit_and features 4 == 4 then position else 0) geometry.features geometry.position) young (same.young ∙ young) y
+
+-- Array n of v has become `mid` by losses, and a step makes `next` of that.
+module _ (v : Raid) (n k : ℕ) (mid : View) (is_array : IsArray (v.arrays n)) (young : (v.arrays n).young ≡ false) (same : IsSameArray (v.arrays n) mid) where
+  small : mid.truth.size < 2 ^ 48
+  small = subst (λ size. size < 2 ^ 48) (sym same.geometry.size) is_array.small
+
+  behind : (next : View) → next.truth.size < 2 ^ 48 → ((y : ℕ) → has_sector mid y ≡ true → has_sector next y ≡ true) → KeepsOld v k (steps n next)
+  behind next low longer =
+      step_keeps v k n next (λ other. low)
+      (λ other y has. longer y (sym (lost_sectors (v.arrays n) mid same young y) ∙ subst (λ j. has_sector (v.arrays j) y ≡ true) other has))
+
+  reshaping_same : is_reshaping mid.truth ≡ is_reshaping (v.arrays n).truth
+  reshaping_same = ap (λ features. bit_and features 4 == 4) same.geometry.features
+
+  mirror_same : is_mirror mid.truth ≡ is_mirror (v.arrays n).truth
+  mirror_same = ap (λ level. int_eq level (pos 1)) same.geometry.level
+
+  -- rows are moved
+  pub moves_keep : (rows events : ℕ) → KeepsOld v k (steps n (ahead_by mid rows events))
+  moves_keep rows events = behind (ahead_by mid rows events) small (ahead_sectors mid rows events (same.young ∙ young))
+
+  -- a reshape ends that has moved all
+  pub finish_keeps : (events : ℕ) → is_reshaping (v.arrays n).truth ≡ true → (v.arrays n).truth.reshape_position ≡ whole_position (v.arrays n) → KeepsOld v k (steps n (finished mid events))
+  finish_keeps events reshaping whole =
+      behind (finished mid events) small
+      (λ y has.
+      sym (finished_sectors mid events (mirror_same ∙ no_mirror (v.arrays n) is_array reshaping) (same.young ∙ young) (reshaping_same ∙ reshaping)
+      (same.geometry.position ∙ whole ∙ ap₂ (λ disks size. (disks - 1) * size) (sym same.geometry.disks) (sym same.geometry.size)) y)
+      ∙ has)
+
+  -- a mirror becomes RAID-5
+  pub takeover_keeps : (events : ℕ) → is_reshaping (v.arrays n).truth ≡ false → is_mirror (v.arrays n).truth ≡ true → KeepsOld v k (steps n (taken_over mid events))
+  takeover_keeps events not_reshaping mirrored =
+      behind (taken_over mid events) small
+      (λ y has.
+      sym (taken_sectors mid events (same.geometry.disks ∙ mirror_two (v.arrays n) is_array mirrored) (same.young ∙ young) (reshaping_same ∙ not_reshaping) (mirror_same ∙ mirrored) y)
+      ∙ has)
+
+  -- an array is cleaned
+  pub clean_keeps : KeepsOld v k (steps n (settled mid))
+  clean_keeps = behind (settled mid) small (λ y has. settled_sectors mid small y ∙ has)
+
+-- ---- values that fit
+
+-- those that arrays hold fit a step of a reshape
+pub old_fit : (v : Raid) (x : RackView) (n : ℕ) → IsWritten (v.arrays n) → FitsReshape v n (old_values v x)
+old_fit v x n written = record {
+  written = written;
+  zeros_past = λ y past. ap (λ (t : Bool). (if t then held_in v x n y else only (zeros 512)).current) (le-ltb y (sectors_of (v.arrays n)) past);
+}
+
+-- ---- calls
+
+-- the lists of a call's changes
+abbrev pub made_changes : List Change → Change → Bool → List Change → List Change
+made_changes before change is_done after = before ++ if_done is_done after (change ∷ after)
+
+-- what a call has that changes the book between losses
+pub record IsTurning (v w : Raid) (a b : RackView) : Type 0 where
+  pub before : IsHeeded v
+  pub after : IsHeeded w
+  pub began : IsSet v a
+  pub set : IsSet w b
+  pub inside : StopsInside b
+  pub caused : AreCaused v w a b
+  pub made : v.state.made ≤ w.state.made
+  pub joined : v.state.joined ≤ w.state.joined
+
+pub turn_grows : (change : Change) (is_done : Bool) (Fits : (ℕ → ℕ → Values) → Type 0) (v w : Raid) (a b : RackView) → (turn : MakesTurn change is_done Fits v w a b)
+    → Fits (old_values v a) → ((n : ℕ) → n < v.state.joined → KeepsOld v n change) → IsTurning v w a b → AreReady v
+    → IsGrowing (made_changes turn.before change is_done turn.after) v w a b
+turn_grows change is_done Fits v w a b turn fits keeps call ready = record {
+  makes = turn.makes (old_values v a) fits;
+  old = λ n low. old_joined v n turn.before (if_done is_done turn.after (change ∷ turn.after)) (losses_keep v n turn.before turn.losses_before) (rest n low is_done);
+  before = call.before;
+  after = call.after;
+  began = call.began;
+  set = call.set;
+  inside = call.inside;
+  made = call.made;
+  joined = call.joined;
+  joined_made = joined_low v w a b call.began call.caused;
+  ready = ready;
+}
+  where
+    rest : (n : ℕ) → n < v.state.joined → (d : Bool) → AllKeepOld v n (if_done d turn.after (change ∷ turn.after))
+    rest n low true = (keeps n low, losses_keep v n turn.after turn.losses_after)
+    rest n low false = losses_keep v n turn.after turn.losses_after

@@ -1,0 +1,78 @@
+-- Works of a growth keep what the arrays of the volume held in the sectors that they had.
+use Rattle.std.proofs.Common.{◌≡◌, ℕ, ◌≤◌, ◌<◌, ◌&&◌, Bool, true, false, is_ok, Result, refl, sym, subst, ◌∙◌, arith, ap}
+use Rattle.std.proofs.lemmas.Bool.{and_parts}
+use Rattle.rack.specs.Seen.{IsPick, RackView}
+use Rattle.rack.specs.Joins.{keeps_same, leaves_same}
+use Rattle.rack.specs.Values.{MayLeave, Values}
+use Rattle.array_model.specs.View.{IsSameArray, View}
+use Rattle.sync_laws.specs.Steps.{if_done}
+use Rattle.raid_laws.specs.Moves.{AreCaused}
+use Rattle.raid_laws.specs.Raid.{Raid, raid_of, StopsInside}
+use Rattle.transition_laws.specs.Changes.{Change, changed, steps}
+use Rattle.transition_laws.specs.Growth.{AreReady, KeepsOldSectors}
+use Rattle.transition_laws.proofs.LongerBooks.{KeepsOld}
+use Rattle.transition_laws.proofs.OldSectors.{keeps_old, old_values}
+use Rattle.pool_state.specs.declared.contents.Work.TheVariants.{Finish, Reshape}
+use Rattle.array_core.specs.Superblocks.{raised}
+use Rattle.reshape_laws.specs.Ahead.{ahead_by, finished}
+use Rattle.growth_laws.specs.Growing.{IsFitToGrow, Lacks, MakesReshape, MakesTurn, MovesRows, change_of, is_due, is_synced, moves}
+use Rattle.growth_laws.proofs.Becoming.{synced_parts}
+use Rattle.growth_laws.proofs.KeepsOld.{finish_keeps, made_changes, moves_keep, old_fit, turn_grows}
+use Rattle.growth_laws.proofs.ReshapeDue.{is_moved}
+use Rattle.raid_rack.specs.declared.arrays.Arrays.{Arrays}
+use Rattle.raid_rack.specs.RaidRack.{IsFit, raid_by}
+
+-- nothing is called
+pub old_same : (count : ℕ) (x : RackView) → KeepsOldSectors count x x
+old_same count x = record {
+  told = λ d low told. told;
+  spent = λ d t low inside alive. alive;
+  held = λ d t low told inside alive. keeps_same (x.held d t);
+  stops = λ traced d t low told inside alive. leaves_same x (λ c. MayLeave (x.held d t) (c d t));
+}
+
+-- a change between losses
+pub turned_old : {r q : ℕ → ℕ} (change : Change) (is_done : Bool) (Fits : (ℕ → ℕ → Values) → Type 0) (a b : Arrays) (x y : RackView) → IsFit a x → IsFit b y → StopsInside y
+    → AreCaused (raid_by a) (raid_by b) x y → a.state.made ≤ b.state.made → a.state.joined ≤ b.state.joined → MakesTurn change is_done Fits (raid_by a) (raid_by b) x y
+    → Fits (old_values (raid_by a) x) → ((n : ℕ) → n < a.state.joined → KeepsOld (raid_by a) n change) → AreReady (raid_by a)
+    → KeepsOldSectors a.state.joined (raid_of (IsFit a x) r (raid_by a) x) (raid_of (IsFit b y) q (raid_by b) y)
+turned_old change is_done Fits a b x y fit after inside caused made joined turn fits keeps ready =
+    keeps_old (made_changes turn.before change is_done turn.after) (raid_by a) (raid_by b) x y
+    (turn_grows change is_done Fits (raid_by a) (raid_by b) x y turn fits keeps
+    (record { before = fit.heeded; after = after.heeded; began = fit.running.set; set = after.running.set; inside = inside; caused = caused; made = made; joined = joined }) ready)
+
+-- a step of a reshape, by the array before its commit
+pub reshaped_old : {r q : ℕ → ℕ} (change : Raid → Change) (Lacking : Raid → Raid → Type 0) (n : ℕ) (step : View → View) (a b : Arrays) (x y : RackView) (answered : Bool) → IsFit a x → IsFit b y
+    → StopsInside y → ((v : Raid) → change v ≡ steps n (step (v.arrays n))) → ((mid : View) (k : ℕ) → IsSameArray ((raid_by a).arrays n) mid → KeepsOld (raid_by a) k (steps n (step mid)))
+    → n < a.state.made → MakesReshape change Lacking n (raid_by a) (raid_by b) x y answered → IsFitToGrow (raid_by a) n
+    → KeepsOldSectors a.state.joined (raid_of (IsFit a x) r (raid_by a) x) (raid_of (IsFit b y) q (raid_by b) y)
+reshaped_old {r = r} {q = q} change Lacking n step a b x y answered fit after inside change_is keeps low makes ready =
+    let turns = makes.grows.turns in
+    let mid = turns.mid in
+    turned_old {r = r} {q = q} (change mid) turns.is_done (λ vals. _) a b x y fit after inside makes.grows.caused makes.grows.longer.made
+    (let same = joined turns.is_done turns.after.marks.same.joined in omega (arith, same)) makes.contents (old_fit (raid_by a) x n ready.written)
+    (λ k inside. subst (λ z. KeepsOld (raid_by a) k z) (sym (change_is mid)) (keeps (mid.arrays n) k (turns.before.arrays n low).same)) ready.ready
+  where
+    joined : (d : Bool) → b.state.joined ≡ (if_done d makes.grows.turns.mid (changed (change makes.grows.turns.mid) makes.grows.turns.mid)).state.joined → b.state.joined ≡ a.state.joined
+    joined true is = is ∙ ap (λ z. (changed z makes.grows.turns.mid).state.joined) (change_is makes.grows.turns.mid) ∙ makes.grows.turns.before.marks.same.joined
+    joined false is = is ∙ makes.grows.turns.before.marks.same.joined
+
+-- ---- the works of a growth
+
+-- next rows are moved
+pub moved_old : {r q : ℕ → ℕ} {E : Type 0} (n most : ℕ) (a b : Arrays) (x y : RackView) (result : Result ℕ E) → IsFit a x → IsFit b y → StopsInside y → is_due (raid_by a) (Reshape n) ≡ true
+    → MovesRows n most (raid_by a) (raid_by b) x y result → IsFitToGrow (raid_by a) n → KeepsOldSectors a.state.joined (raid_of (IsFit a x) r (raid_by a) x) (raid_of (IsFit b y) q (raid_by b) y)
+moved_old {r = r} {q = q} n most a b x y result fit after inside due does ready =
+    let is = synced_parts (raid_by a) n (and_parts (is_synced (raid_by a) n) _ due).0 in
+    reshaped_old {r = r} {q = q} (moves n does.rows) (Lacks (Reshape n)) n (λ mid. ahead_by mid does.rows (raised mid.truth.events)) a b x y (is_ok result) fit after inside (λ v. refl)
+    (λ mid k same. moves_keep (raid_by a) n k mid (fit.running.set.arrays n is.low).is_array is.grown same does.rows (raised mid.truth.events)) is.low does.steps ready
+
+-- a reshape ends
+pub finished_old : {r q : ℕ → ℕ} (n : ℕ) (a b : Arrays) (x y : RackView) (answered : Bool) → IsFit a x → IsFit b y → StopsInside y → is_due (raid_by a) (Finish n) ≡ true
+    → MakesReshape (change_of (Finish n)) (Lacks (Finish n)) n (raid_by a) (raid_by b) x y answered → IsFitToGrow (raid_by a) n
+    → KeepsOldSectors a.state.joined (raid_of (IsFit a x) r (raid_by a) x) (raid_of (IsFit b y) q (raid_by b) y)
+finished_old {r = r} {q = q} n a b x y answered fit after inside due makes ready =
+    let is = is_moved (raid_by a) x n fit.running.set fit.heeded due in
+    reshaped_old {r = r} {q = q} (change_of (Finish n)) (Lacks (Finish n)) n (λ mid. finished mid (raised mid.truth.events)) a b x y answered fit after inside (λ v. refl)
+    (λ mid k same.
+    finish_keeps (raid_by a) n k mid (fit.running.set.arrays n is.rest.low).is_array is.rest.grown same (raised mid.truth.events) is.reshaping is.whole) is.rest.low makes ready
