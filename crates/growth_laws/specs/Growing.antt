@@ -218,7 +218,7 @@ MovesRows n most v w a b result = DoesRows (λ rows. MakesReshape (moves n rows)
 
 -- ---- what arrays keep in it
 
--- What a work on array n is asked for where values are spoken of: no array of the volume is young, and the array's truth has the fields that a pool writes.
-pub record IsFitToGrow (v : Raid) (n : ℕ) : Type 0 where
+-- What a work is asked for where values are spoken of: no array of the volume is young, and each array's truth has the fields that a pool writes.
+pub record IsFitToGrow (v : Raid) : Type 0 where
   pub ready : AreReady v
-  pub written : IsWritten (v.arrays n)
+  pub written : (n : ℕ) → n < v.state.made → IsWritten (v.arrays n)

@@ -44,13 +44,13 @@ turned_old change is_done Fits a b x y fit after inside caused made joined turn 
 -- a step of a reshape, by the array before its commit
 pub reshaped_old : {r q : ℕ → ℕ} (change : Raid → Change) (Lacking : Raid → Raid → Type 0) (n : ℕ) (step : View → View) (a b : Arrays) (x y : RackView) (answered : Bool) → IsFit a x → IsFit b y
     → StopsInside y → ((v : Raid) → change v ≡ steps n (step (v.arrays n))) → ((mid : View) (k : ℕ) → IsSameArray ((raid_by a).arrays n) mid → KeepsOld (raid_by a) k (steps n (step mid)))
-    → n < a.state.made → MakesReshape change Lacking n (raid_by a) (raid_by b) x y answered → IsFitToGrow (raid_by a) n
+    → n < a.state.made → MakesReshape change Lacking n (raid_by a) (raid_by b) x y answered → IsFitToGrow (raid_by a)
     → KeepsOldSectors a.state.joined (raid_of (IsFit a x) r (raid_by a) x) (raid_of (IsFit b y) q (raid_by b) y)
 reshaped_old {r = r} {q = q} change Lacking n step a b x y answered fit after inside change_is keeps low makes ready =
     let turns = makes.grows.turns in
     let mid = turns.mid in
     turned_old {r = r} {q = q} (change mid) turns.is_done (λ vals. _) a b x y fit after inside makes.grows.caused makes.grows.longer.made
-    (let same = joined turns.is_done turns.after.marks.same.joined in omega (arith, same)) makes.contents (old_fit (raid_by a) x n ready.written)
+    (let same = joined turns.is_done turns.after.marks.same.joined in omega (arith, same)) makes.contents (old_fit (raid_by a) x n (ready.written n low))
     (λ k inside. subst (λ z. KeepsOld (raid_by a) k z) (sym (change_is mid)) (keeps (mid.arrays n) k (turns.before.arrays n low).same)) ready.ready
   where
     joined : (d : Bool) → b.state.joined ≡ (if_done d makes.grows.turns.mid (changed (change makes.grows.turns.mid) makes.grows.turns.mid)).state.joined → b.state.joined ≡ a.state.joined
@@ -61,7 +61,7 @@ reshaped_old {r = r} {q = q} change Lacking n step a b x y answered fit after in
 
 -- next rows are moved
 pub moved_old : {r q : ℕ → ℕ} {E : Type 0} (n most : ℕ) (a b : Arrays) (x y : RackView) (result : Result ℕ E) → IsFit a x → IsFit b y → StopsInside y → is_due (raid_by a) (Reshape n) ≡ true
-    → MovesRows n most (raid_by a) (raid_by b) x y result → IsFitToGrow (raid_by a) n → KeepsOldSectors a.state.joined (raid_of (IsFit a x) r (raid_by a) x) (raid_of (IsFit b y) q (raid_by b) y)
+    → MovesRows n most (raid_by a) (raid_by b) x y result → IsFitToGrow (raid_by a) → KeepsOldSectors a.state.joined (raid_of (IsFit a x) r (raid_by a) x) (raid_of (IsFit b y) q (raid_by b) y)
 moved_old {r = r} {q = q} n most a b x y result fit after inside due does ready =
     let is = synced_parts (raid_by a) n (and_parts (is_synced (raid_by a) n) _ due).0 in
     reshaped_old {r = r} {q = q} (moves n does.rows) (Lacks (Reshape n)) n (λ mid. ahead_by mid does.rows (raised mid.truth.events)) a b x y (is_ok result) fit after inside (λ v. refl)
@@ -69,7 +69,7 @@ moved_old {r = r} {q = q} n most a b x y result fit after inside due does ready 
 
 -- a reshape ends
 pub finished_old : {r q : ℕ → ℕ} (n : ℕ) (a b : Arrays) (x y : RackView) (answered : Bool) → IsFit a x → IsFit b y → StopsInside y → is_due (raid_by a) (Finish n) ≡ true
-    → MakesReshape (change_of (Finish n)) (Lacks (Finish n)) n (raid_by a) (raid_by b) x y answered → IsFitToGrow (raid_by a) n
+    → MakesReshape (change_of (Finish n)) (Lacks (Finish n)) n (raid_by a) (raid_by b) x y answered → IsFitToGrow (raid_by a)
     → KeepsOldSectors a.state.joined (raid_of (IsFit a x) r (raid_by a) x) (raid_of (IsFit b y) q (raid_by b) y)
 finished_old {r = r} {q = q} n a b x y answered fit after inside due makes ready =
     let is = is_moved (raid_by a) x n fit.running.set fit.heeded due in

@@ -307,7 +307,7 @@ impl<R: Rack> RaidRack<R> {
         ensures idle { spec.is_due (raid_in self.old) (Reshape array) ≡ false → (is_ok result ≡ false) × (self.new ≡ self.old) }
         ensures grows { spec.is_due (raid_in self.old) (Reshape array) ≡ true
             → MovesRows array most (raid_in self.old) (raid_in self.new) (slices_seen R.seen self.old) (slices_seen R.seen self.new) result }
-        ensures old { IsFitToGrow (raid_in self.old) array → KeepsOldSectors (raid_in self.old).state.joined (raid_seen R.seen self.old) (raid_seen R.seen self.new) }
+        ensures old { IsFitToGrow (raid_in self.old) → KeepsOldSectors (raid_in self.old).state.joined (raid_seen R.seen self.old) (raid_seen R.seen self.new) }
         ensures named { IfErr result (λ e. e.array ≡ array) }
         ensures fit { IsFit (arrays_in self.new) (slices_seen R.seen self.new) }
         ensures raises { RaisesBy 18 (raid_in self.old) (raid_in self.new) }
@@ -330,7 +330,7 @@ impl<R: Rack> RaidRack<R> {
             → Grows (Reshape array) (Lacks (Reshape array)) (raid_in self.old) (raid_in self.new) (slices_seen R.seen self.old) (slices_seen R.seen self.new) (is_ok result) }
         ensures contents { spec.is_due (raid_in self.old) (Reshape array) ≡ true
             → MakesReshape (spec.change_of (Reshape array)) (Lacks (Reshape array)) array (raid_in self.old) (raid_in self.new) (slices_seen R.seen self.old) (slices_seen R.seen self.new) (is_ok result) }
-        ensures old { IsFitToGrow (raid_in self.old) array → KeepsOldSectors (raid_in self.old).state.joined (raid_seen R.seen self.old) (raid_seen R.seen self.new) }
+        ensures old { IsFitToGrow (raid_in self.old) → KeepsOldSectors (raid_in self.old).state.joined (raid_seen R.seen self.old) (raid_seen R.seen self.new) }
         ensures named { IfErr result (λ e. e.array ≡ array) }
         ensures fit { IsFit (arrays_in self.new) (slices_seen R.seen self.new) }
         ensures raises { RaisesBy 18 (raid_in self.old) (raid_in self.new) }
@@ -353,7 +353,7 @@ impl<R: Rack> RaidRack<R> {
             → Grows (Finish array) (Lacks (Finish array)) (raid_in self.old) (raid_in self.new) (slices_seen R.seen self.old) (slices_seen R.seen self.new) (is_ok result) }
         ensures contents { spec.is_due (raid_in self.old) (Finish array) ≡ true
             → MakesReshape (spec.change_of (Finish array)) (Lacks (Finish array)) array (raid_in self.old) (raid_in self.new) (slices_seen R.seen self.old) (slices_seen R.seen self.new) (is_ok result) }
-        ensures old { IsFitToGrow (raid_in self.old) array → KeepsOldSectors (raid_in self.old).state.joined (raid_seen R.seen self.old) (raid_seen R.seen self.new) }
+        ensures old { IsFitToGrow (raid_in self.old) → KeepsOldSectors (raid_in self.old).state.joined (raid_seen R.seen self.old) (raid_seen R.seen self.new) }
         ensures named { IfErr result (λ e. e.array ≡ array) }
         ensures fit { IsFit (arrays_in self.new) (slices_seen R.seen self.new) }
         ensures raises { RaisesBy 18 (raid_in self.old) (raid_in self.new) }
