@@ -105,5 +105,9 @@ fn a_stop_leaves_each_held_value(rt: HostRuntime) -> Result<(), Fail> {
         let found = sectors_at(&rt, rt.alloc(), &bay, moment, pick)?;
         assert_eq!(rt; found, [[third; 512], [fifth; 512]], "after {moment}");
     }
+    let held = [3, 5, 0].map(|sector| bay.held_at(0, sector));
+    assert_eq!(rt; held, [3, 2, 1]);
+    assert_eq!(rt; sync(&rt, &mut bay, 0), Ok(()));
+    assert_eq!(rt; bay.held_at(0, 3), 1);
     Ok(())
 }

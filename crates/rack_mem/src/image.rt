@@ -1,6 +1,6 @@
 //! Images: what a stop at a moment leaves.
 
-ghost use Rattle.std.specs.Prelude.{◌≡◌, ◌≤◌, ◌<◌, ◌+◌, ◌-◌, ◌^◌, ℕ, length, IfOk, slice_get, Some};
+ghost use Rattle.std.specs.Prelude.{◌≡◌, ◌≤◌, ◌<◌, ◌+◌, ◌-◌, ◌^◌, ℕ, length, min, IfOk, slice_get, Some};
 ghost use Rattle.rack.specs.Values.{all_of};
 ghost use Rattle.rack_mem.specs.Memory.{values_of, number_of};
 ghost use Rattle.rack_mem.specs.History.{after_effect};
@@ -61,6 +61,15 @@ impl MemBay {
             }
         }
         count
+    }
+
+    /// How many values a stop now may leave in a sector: those written since its disk's last sync, and the one before them. `u32::MAX`
+    /// stands for that many or more.
+    pub fn held_at(&self, disk: u32, sector: u64) -> u32
+        ensures { result ≡ min (length (values_of (memory self.now) disk sector (length (memory self.now).calls)).older + 1) (2 ^ 32 - 1) }
+    {
+        let older = self.older_count(disk, sector, self.calls() as usize);
+        (older as u64 + 1).min(u64::from(u32::MAX)) as u32
     }
 
     // The value of a sector after the first calls that comes so many before the current one.
