@@ -1,5 +1,5 @@
 -- The cleaning of an array, where its superblocks are written, and losses after it.
-use Rattle.std.proofs.Common.{◌≡◌, ◌⊎◌, ℕ, ◌<◌, true, false, ◌||◌, [], ◌∷◌, refl, sym, ap, subst, ◌∙◌, inl, inr, arith}
+use Rattle.std.proofs.Common.{◌≡◌, ◌⊎◌, ℕ, ◌<◌, true, false, ◌∷◌, refl, sym, ap, subst, ◌∙◌, inl, inr, arith, ◌||◌, []}
 use Rattle.std.proofs.lemmas.Bool.{both_ways, cases_eq}
 use Rattle.rack.specs.Values.{Values}
 use Rattle.rack.specs.Seen.{RackView}
@@ -32,7 +32,7 @@ use Rattle.transition_laws.proofs.ReadMakes.{keeps_noted, read_log, read_one_mak
 use Rattle.transition_laws.proofs.RunsOf.{run_loses, run_of_itself}
 use Rattle.transition_laws.proofs.SettledMakes.{settled_sectors}
 use Rattle.transition_laws.proofs.Shown.{spent_other}
-use Rattle.growth_laws.specs.Growing.{AnyValues, MakesClean}
+use Rattle.growth_laws.specs.Growing.{MakesClean}
 use Rattle.growth_laws.proofs.Steps.{notes_views, stepped_other, stepped_own}
 use Rattle.growth_laws.proofs.Turning.{turn_then}
 
@@ -66,6 +66,12 @@ module _ (v : Raid) (f : ℕ → View) (m : ℕ) (a b : RackView) (set : IsSet v
           shape = λ are. (marked_before v f m a b set one.views are, sym (one.loses.shape are));
           kept = λ p promised stands. read_log v v (called v f v.number) a b set.lasting done.reads refl (more_gone v f m a b set one.views) stands.log;
           holds = λ p promised stands spent covers. (call.cleans (vals m) spent covers (may p promised vals stands)).holds;
+          is_array = (set.arrays m low).is_array;
+          synced = f m;
+          notes = as_before;
+          same_shape = refl;
+          same_went = refl;
+          same_zeroed = λ young. refl;
           goes = λ n there goes. over_still v (called v f v.number) still n there goes;
           someone = λ n goes. someone_left (called v f v.number) n goes;
           spares = one.views.spent;
@@ -87,8 +93,8 @@ module _ (v : Raid) (f : ℕ → View) (m : ℕ) (a b : RackView) (set : IsSet v
     noted =
         same_view_then (settled (v.arrays m)) (settled call.view.synced) (f m) (settled_notes (v.arrays m) call.view.synced a b call.view.notes).same now.notes.same
 
-    written_makes : (vals : ℕ → ℕ → Values) → Makes (steps m (settled (v.arrays m)) ∷ []) v v (called v f v.number) vals vals a b
-    written_makes vals =
+    written_makes : (v.arrays m).young ≡ false → (vals : ℕ → ℕ → Values) → Makes (steps m (settled (v.arrays m)) ∷ []) v v (called v f v.number) vals vals a b
+    written_makes grown vals =
         renew_makes m (settled (v.arrays m)) v (called v f v.number) vals a b
         (record {
           few = let there = low in let most = set.most in omega (arith, there, most);
@@ -118,6 +124,7 @@ module _ (v : Raid) (f : ℕ → View) (m : ℕ) (a b : RackView) (set : IsSet v
               kept_more v.state v.number (λ q. false) (gone_in (called v f v.number)) b (λ q none. absurd (both_ways false refl none))
               (call.kept (subst (λ g. LogInvariant v.state v.number g a) (λ i q. heeded_gone v call.heeded q i) stands.log));
           number = (set.arrays m low).number;
+          grown = grown;
           renewed = settled_renewed (v.arrays m) (set.arrays m low).is_array;
           noted = noted;
           written = one.views.written;
@@ -199,6 +206,6 @@ module _ (v : Raid) (f : ℕ → View) (m : ℕ) (a b : RackView) (set : IsSet v
           )
       of (inr now) = (
         true,
-        turn_then (steps m (settled (v.arrays m))) AnyValues v (called v f v.number) w a b c (λ vals fits. written_makes v f m a b set call (one_written now) now vals)
+        turn_then (steps m (settled (v.arrays m))) (λ vals. (v.arrays m).young ≡ false) v (called v f v.number) w a b c (λ vals grown. written_makes v f m a b set call (one_written now) now grown vals)
             (losses (changed (steps m (settled (v.arrays m))) v) (written_run v f m a b set call (one_written now) now)),
       )

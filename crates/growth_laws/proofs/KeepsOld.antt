@@ -1,5 +1,5 @@
 -- A work of a growth keeps the sectors that arrays have, and what they hold, where it makes its change of the book between losses.
-use Rattle.std.proofs.Common.{◌≡◌, ℕ, ◌+◌, ◌^◌, ◌<◌, ◌≤◌, ◌&&◌, Bool, true, false, not, nat_le, if◌then◌else◌, List, ◌∷◌, ◌++◌, length, sym, ap, subst, ◌∙◌, inl, inr, le-ltb, leb-true, ap₂, bit_and, ◌==◌, int_eq, pos, ◌-◌, ◌*◌}
+use Rattle.std.proofs.Common.{refl, ◌≡◌, ℕ, ◌+◌, ◌^◌, ◌<◌, ◌≤◌, ◌&&◌, Bool, true, false, not, nat_le, if◌then◌else◌, List, ◌∷◌, ◌++◌, length, sym, ap, subst, ◌∙◌, inl, inr, le-ltb, leb-true, ap₂, bit_and, ◌==◌, int_eq, pos, ◌-◌, ◌*◌}
 use Rattle.std.proofs.lemmas.Bool.{and_from, and_parts, both_ways, cases_lt}
 use Rattle.std.proofs.lemmas.Option.{slice_get_past}
 use Rattle.std.specs.List.{list_all}
@@ -70,9 +70,9 @@ module _ (v : Raid) (n k : ℕ) (mid : View) (is_array : IsArray (v.arrays n)) (
   small : mid.truth.size < 2 ^ 48
   small = subst (λ size. size < 2 ^ 48) (sym same.geometry.size) is_array.small
 
-  behind : (next : View) → next.truth.size < 2 ^ 48 → ((y : ℕ) → has_sector mid y ≡ true → has_sector next y ≡ true) → KeepsOld v k (steps n next)
-  behind next low longer =
-      step_keeps v k n next (λ other. low)
+  behind : (next : View) → next.truth.size < 2 ^ 48 → next.young ≡ mid.young → ((y : ℕ) → has_sector mid y ≡ true → has_sector next y ≡ true) → KeepsOld v k (steps n next)
+  behind next low grown longer =
+      step_keeps v k n next (λ other. low) (λ other. grown ∙ same.young ∙ young)
       (λ other y has. longer y (sym (lost_sectors (v.arrays n) mid same young y) ∙ subst (λ j. has_sector (v.arrays j) y ≡ true) other has))
 
   reshaping_same : is_reshaping mid.truth ≡ is_reshaping (v.arrays n).truth
@@ -83,12 +83,12 @@ module _ (v : Raid) (n k : ℕ) (mid : View) (is_array : IsArray (v.arrays n)) (
 
   -- rows are moved
   pub moves_keep : (rows events : ℕ) → KeepsOld v k (steps n (ahead_by mid rows events))
-  moves_keep rows events = behind (ahead_by mid rows events) small (ahead_sectors mid rows events (same.young ∙ young))
+  moves_keep rows events = behind (ahead_by mid rows events) small refl (ahead_sectors mid rows events (same.young ∙ young))
 
   -- a reshape ends that has moved all
   pub finish_keeps : (events : ℕ) → is_reshaping (v.arrays n).truth ≡ true → (v.arrays n).truth.reshape_position ≡ whole_position (v.arrays n) → KeepsOld v k (steps n (finished mid events))
   finish_keeps events reshaping whole =
-      behind (finished mid events) small
+      behind (finished mid events) small refl
       (λ y has.
       sym (finished_sectors mid events (mirror_same ∙ no_mirror (v.arrays n) is_array reshaping) (same.young ∙ young) (reshaping_same ∙ reshaping)
       (same.geometry.position ∙ whole ∙ ap₂ (λ disks size. (disks - 1) * size) (sym same.geometry.disks) (sym same.geometry.size)) y)
@@ -97,14 +97,14 @@ module _ (v : Raid) (n k : ℕ) (mid : View) (is_array : IsArray (v.arrays n)) (
   -- a mirror becomes RAID-5
   pub takeover_keeps : (events : ℕ) → is_reshaping (v.arrays n).truth ≡ false → is_mirror (v.arrays n).truth ≡ true → KeepsOld v k (steps n (taken_over mid events))
   takeover_keeps events not_reshaping mirrored =
-      behind (taken_over mid events) small
+      behind (taken_over mid events) small refl
       (λ y has.
       sym (taken_sectors mid events (same.geometry.disks ∙ mirror_two (v.arrays n) is_array mirrored) (same.young ∙ young) (reshaping_same ∙ not_reshaping) (mirror_same ∙ mirrored) y)
       ∙ has)
 
   -- an array is cleaned
   pub clean_keeps : KeepsOld v k (steps n (settled mid))
-  clean_keeps = behind (settled mid) small (λ y has. settled_sectors mid small y ∙ has)
+  clean_keeps = behind (settled mid) small refl (λ y has. settled_sectors mid small y ∙ has)
 
 -- ---- values that fit
 

@@ -5,8 +5,6 @@ use Rattle.std.proofs.lemmas.Map.Views.{any-filter_same}
 use Rattle.std.specs.List.{list_any, range_with_len}
 use Rattle.rack.specs.Seen.{IsLive, RackView}
 use Rattle.rack.specs.Targets.{look, Target}
-use Rattle.array_image.specs.Arrays.{Shape}
-use Rattle.array_image.specs.Held.{IsSynced}
 use Rattle.array_image.specs.Places.{log_slice, member_slice, place_of, super_sector}
 use Rattle.array_image.specs.States.{is_current}
 use Rattle.array_model.specs.declared.Seat.{Seat}
@@ -39,7 +37,7 @@ use Rattle.transition_laws.specs.Losses.{IsRunOf, MakesLosses}
 use Rattle.transition_laws.specs.Makes.{Makes}
 use Rattle.transition_laws.specs.Making.{FitsMake}
 use Rattle.transition_laws.proofs.Committing.{commits, IsCommitting, run_after}
-use Rattle.transition_laws.proofs.MadeMakes.{IsComing, made_makes, unzeroed, with_made}
+use Rattle.transition_laws.proofs.MadeMakes.{IsComing, made_makes, with_made}
 use Rattle.transition_laws.proofs.RunsOf.{run_loses, run_of_itself}
 use Rattle.growth_laws.specs.Growing.{AnyValues, MakesTurn}
 use Rattle.growth_laws.specs.Stating.{CommitsState}
@@ -53,10 +51,6 @@ seat_left [] some = absurd (omega (arith, some))
 seat_left (Whole ∷ seats) some = (0, omega arith, refl)
 seat_left (Rebuilding to ∷ seats) some = (0, omega arith, refl)
 seat_left (Missing ∷ seats) some = let rest = seat_left seats some in (suc rest.0, omega (arith, rest.1), rest.2)
-
-same_shape : (next : View) → shape_of (unzeroed next) ≡ shape_of next
-unfolding shape_of
-same_shape next = refl
 
 module _ (v w : Raid) (next : View) (supers : List Target) (b c : RackView) (set : IsSet v b) (heeded : IsHeeded v) (may : MayCome v next b) (fresh : IsUnzeroed next)
     (adds : AddsSupersOf next [] supers) (commit : CommitsState (changed (makes next) v) w supers b c) (fits : FitsMake v.state v.state.made next b) where
@@ -264,12 +258,7 @@ module _ (v w : Raid) (next : View) (supers : List Target) (b c : RackView) (set
       let parts = supers_of (changed (makes next) v) v.state.made supers (omega arith) (subst IsArray (sym own_view) is_array) (subst (λ (u : View). AddsSupersOf u [] supers) (sym own_view) adds) in
       record { set = next_set; heeded = next_heeded; takes_are = commit.on_is; only = parts.0; apart = parts.1; copies = commit.copies }
 
-  state : IsStateOf (unzeroed next) (with_made v.state)
-  state =
-      let is = subst (λ (u : View). IsStateOf u (with_made v.state)) own_view (state_of (changed (makes next) v) b v.state.made next_set next_heeded (omega arith)) in
-      record { set = is.set; profile = is.profile; events = is.events; events_end = is.events_end; row = is.row; roles = is.roles; marks = is.marks }
-
-  staged : 0 < present next.seats → IsStaged v.state (with_made v.state) (gone_in v) (unzeroed next) commit.log.added b v.state.made
+  staged : 0 < present next.seats → IsStaged v.state (with_made v.state) (gone_in v) next commit.log.added b v.state.made
   staged some =
       let member = seat_left next.seats some in
       record {
@@ -278,7 +267,7 @@ module _ (v w : Raid) (next : View) (supers : List Target) (b c : RackView) (set
         seats = is_array.seats;
         devices = is_array.devices;
         placed = λ k inside. place_few next k is_array inside;
-        state = state;
+        state = subst (λ (u : View). IsStateOf u (with_made v.state)) own_view (state_of (changed (makes next) v) b v.state.made next_set next_heeded (omega arith));
         marks = record { current = left; pool = refl; extent = refl; drives = refl };
         before = [];
         added = supers;
@@ -301,7 +290,7 @@ module _ (v w : Raid) (next : View) (supers : List Target) (b c : RackView) (set
         rows = may.seated.is_of_pool.rows;
         written = fits.written;
         unsynced = let none = fresh.none in omega (arith, none);
-        settled = subst (λ (sh : Shape). IsSynced sh v.state.made b.held) (sym (same_shape next)) fits.synced;
+        settled = fits.synced;
         unmarked = may.unmarked;
       }
 

@@ -1,5 +1,5 @@
 -- A takeover, and the begin of a reshape: what they leave of the array, and what it holds then.
-use Rattle.std.proofs.Common.{◌+◌, ◌≡◌, ℕ, ◌<◌, ◌≤◌, Bool, true, false, ◌||◌, nat_lt, List, length, refl, sym, ap, subst, ◌∙◌, le-ltb, ltb-true, if◌then◌else◌, arith}
+use Rattle.std.proofs.Common.{◌+◌, ◌≡◌, ℕ, ◌<◌, ◌≤◌, Bool, true, false, nat_lt, List, length, refl, sym, ap, subst, ◌∙◌, le-ltb, ltb-true, if◌then◌else◌, arith, ◌||◌}
 use Rattle.std.proofs.lemmas.Bool.{and_parts}
 use Rattle.rack.specs.Values.{IsSingle}
 use Rattle.rack.specs.Seen.{RackView}
@@ -64,6 +64,7 @@ taken_keeps v x n set is =
       some = λ left. left;
       marked = refl;
       resync = refl;
+      young = refl;
       unsynced = refl;
       events = (raised_low u.truth.events pool.events pool.events_end).0;
       written = λ written. taken_written u events seated.is_array is.still u.number written;
@@ -78,7 +79,7 @@ pub taken_turn : (v : Raid) (f : ℕ → View) (number n : ℕ) (a b : RackView)
 taken_turn v f number n a b on answered call is w c losses =
     reshape_then v f (taken v n) number n a b on answered call w c (FitsReshape v n) (λ vals fits. fits.written)
     (λ vals fits p stands live.
-    holds_next n (taken v n) v p vals a stands live is.rest.low
+    holds_next n (taken v n) v p vals a stands live is.rest.low is.rest.grown
     (taken_sectors (v.arrays n) (raised (v.arrays n).truth.events) (mirror_two (v.arrays n) (call.set.arrays n is.rest.low).is_array is.mirrored) is.rest.grown is.still is.mirrored))
     losses
 
@@ -125,6 +126,7 @@ begun_keeps v x n place is =
       some = λ left. is.some;
       marked = refl;
       resync = refl;
+      young = refl;
       unsynced = refl;
       events = (raised_low u.truth.events pool.events pool.events_end).0;
       written = joined_written v.state n u place drive x j;
@@ -141,6 +143,6 @@ begun_turn v f number n place a b on answered call is w c losses =
     let device : Id = record { 0 = member_id (drive_id v.state place).0 u.number } in
     reshape_then v f (begun_on place v n) number n a b on answered call w c (FitsReshape v n) (λ vals fits. fits.written)
     (λ vals fits p stands live.
-    holds_next n (begun_on place v n) v p vals a stands live is.rest.low
+    holds_next n (begun_on place v n) v p vals a stands live is.rest.low is.rest.grown
     (begun_sectors u (raised u.truth.events) place (joining_seat (current_places v.state) place) device is.rest.grown is.joining.still (no_mirror_now u is.joining.raid5)))
     losses

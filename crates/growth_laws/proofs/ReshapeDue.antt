@@ -1,5 +1,5 @@
 -- A row that is due, and the end of a reshape: what they leave of the array, and what it holds then.
-use Rattle.std.proofs.Common.{◌+◌, ◌≡◌, ℕ, ◌<◌, ◌≤◌, Bool, true, false, ◌==◌, ◌||◌, nat_lt, List, refl, sym, ap, ◌∙◌, le-ltb, ltb-true, eqb-true, if◌then◌else◌}
+use Rattle.std.proofs.Common.{◌+◌, ◌≡◌, ℕ, ◌<◌, ◌≤◌, Bool, true, false, ◌==◌, nat_lt, List, refl, sym, ap, ◌∙◌, le-ltb, ltb-true, eqb-true, if◌then◌else◌, ◌||◌}
 use Rattle.std.proofs.lemmas.Bool.{and_parts}
 use Rattle.rack.specs.Seen.{RackView}
 use Rattle.pool_state.specs.declared.contents.Work.TheVariants.{Finish, Reshape}
@@ -65,6 +65,7 @@ moved_keeps v x n rows set is some left =
       some = λ left. left;
       marked = refl;
       resync = refl;
+      young = refl;
       unsynced = refl;
       events = (raised_low u.truth.events pool.events pool.events_end).0;
       written = λ written. ahead_written u rows events seated.is_array is.reshaping left u.number written;
@@ -115,6 +116,7 @@ ended_keeps v x n set is =
       some = λ left. left;
       marked = refl;
       resync = refl;
+      young = refl;
       unsynced = refl;
       events = (raised_low u.truth.events pool.events pool.events_end).0;
       written = λ written. finished_written u events seated.is_array u.number written;
@@ -129,6 +131,6 @@ pub ended_turn : (v : Raid) (f : ℕ → View) (number n : ℕ) (a b : RackView)
 ended_turn v f number n a b on answered call is w c losses =
     reshape_then v f (ended v n) number n a b on answered call w c (FitsReshape v n) (λ vals fits. fits.written)
     (λ vals fits p stands live.
-    holds_next n (ended v n) v p vals a stands live is.rest.low
+    holds_next n (ended v n) v p vals a stands live is.rest.low is.rest.grown
     (finished_sectors (v.arrays n) (raised (v.arrays n).truth.events) (no_mirror (v.arrays n) (call.set.arrays n is.rest.low).is_array is.reshaping) is.rest.grown is.reshaping is.whole))
     losses

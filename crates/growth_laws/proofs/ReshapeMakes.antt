@@ -1,5 +1,5 @@
 -- A step of a reshape in a call of all arrays makes its change of the book.
-use Rattle.std.proofs.Common.{◌≡◌, ℕ, ◌+◌, ◌<◌, ◌≤◌, Bool, true, false, ◌==◌, ◌&&◌, ◌||◌, not, List, [], length, refl, sym, ap, subst, ◌∙◌, inl, inr, ne_eqb, arith}
+use Rattle.std.proofs.Common.{◌≡◌, ℕ, ◌+◌, ◌<◌, ◌≤◌, Bool, true, false, ◌==◌, ◌&&◌, not, List, length, refl, sym, ap, subst, ◌∙◌, inl, inr, ne_eqb, arith, ◌||◌, []}
 use Rattle.std.proofs.lemmas.Bool.{and_parts, both_ways, cases_eq, cases_lt}
 use Rattle.rack.specs.Values.{IsSingle, Values}
 use Rattle.rack.specs.Seen.{RackView}
@@ -55,6 +55,7 @@ pub record KeepsMembers (u next : View) (a : RackView) : Type 0 where
   pub some : 0 < present next.seats → 0 < present u.seats
   pub marked : next.marked ≡ u.marked
   pub resync : next.resync ≡ u.resync
+  pub young : next.young ≡ u.young
   pub unsynced : first_unsynced next.truth ≡ first_unsynced u.truth
   pub events : u.truth.events ≤ next.truth.events
   pub written : IsWritten u → IsWritten next
@@ -201,6 +202,7 @@ module _ (v : Raid) (f : ℕ → View) (next : View) (number m : ℕ) (a b : Rac
       becomes = λ p promised stands. reshapes_become v.state (v.arrays m) next (f m) v.number number on answered (vals m) a b call.reshapes is (allowed written still p promised vals stands);
       gone = λ kept.
           kept_more v.state number (has_gone (f m)) (gone_in (called v f number)) b (λ q went. gone_from (called v f number) q m (call.few q went) low went) kept;
+      grown = call.keeps.young ∙ call.rest.grown;
       number = (call.set.arrays m low).number;
       next_number = call.may.seated.number;
       unmarked = call.keeps.marked ∙ call.rest.unmarked;
@@ -287,6 +289,7 @@ module _ (v : Raid) (f : ℕ → View) (next : View) (number m : ℕ) (a b : Rac
           kept_more v.state number (has_gone (f m)) (gone_in (called v f number)) b (λ q went. gone_from (called v f number) q m (call.few q went) low went)
           (call.reshapes.kept v.state (allowed written still_before p promised vals stands));
       number = (call.set.arrays m low).number;
+      grown = call.rest.grown;
       noted = as_before.same;
       written = views_before.views.written;
       lost = λ are. record {

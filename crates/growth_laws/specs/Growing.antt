@@ -1,5 +1,5 @@
 -- The works of a growth: when each is due, what it changes, and what a call of it does to the book.
-use Rattle.std.specs.Prelude.{◌≡◌, ◌⊎◌, ℕ, ◌+◌, ◌-◌, ◌*◌, ◌<◌, ◌≤◌, ◌^◌, Bool, true, false, ◌==◌, ◌&&◌, ◌||◌, not, nat_le, nat_lt, List, ◌∷◌, ◌++◌, is_none, length, Result, count_by, sum_by}
+use Rattle.std.specs.Prelude.{◌≡◌, ◌⊎◌, ℕ, ◌+◌, ◌-◌, ◌*◌, ◌<◌, ◌≤◌, ◌^◌, Bool, true, false, ◌==◌, ◌&&◌, not, nat_le, nat_lt, List, ◌∷◌, ◌++◌, is_none, length, Result, count_by, sum_by, ◌||◌}
 use Rattle.std.specs.List.{range_with_len}
 use Rattle.rack.specs.Seen.{RackView}
 use Rattle.rack.specs.Values.{IsSingle, Values}
@@ -189,9 +189,10 @@ pub record MakesTurn (change : Change) (is_done : Bool) (Fits : (ℕ → ℕ →
 abbrev pub AnyValues : (ℕ → ℕ → Values) → Type 0
 AnyValues vals = Unit {0}
 
--- Array n's superblocks are written one after the other, with one more event and the rows that are left in it, or nothing is; and losses after it.
+-- Array n's superblocks are written one after the other, with one more event and the rows that are left in it, or nothing is; and losses after it. Of contents
+-- it is said where the array isn't young.
 abbrev pub MakesClean : ℕ → Raid → Raid → RackView → RackView → Type 0
-MakesClean n v w a b = (is_done : Bool) × MakesTurn (steps n (settled (v.arrays n))) is_done AnyValues v w a b
+MakesClean n v w a b = (is_done : Bool) × MakesTurn (steps n (settled (v.arrays n))) is_done (λ vals. (v.arrays n).young ≡ false) v w a b
 
 -- A step of array n's reshape, with what contents hold in its call: the change is made, by the book before its commit.
 pub record MakesReshape (change : Raid → Change) (Lacks : Raid → Raid → Type 0) (n : ℕ) (v w : Raid) (a b : RackView) (answered : Bool) : Type 0 where

@@ -1,5 +1,7 @@
 -- A commit that stages one change of the book makes it.
-use Rattle.std.proofs.Common.{◌≡◌, ◌⊎◌, ℕ, ◌+◌, ◌-◌, ◌^◌, ◌<◌, Bool, true, false, ◌&&◌, ◌||◌, not, List, [], ◌∷◌, map, length, Some, refl, sym, ap, ap₂, subst, ◌∙◌, inl, inr, arith}
+use Rattle.array_image.specs.Even.{AreEven}
+use Rattle.transition_laws.proofs.ArraysFor.{shape_for, same_rows, single_lowered, array_for, losing_for, covers_for, IsLaid, laid_of}
+use Rattle.std.proofs.Common.{◌≡◌, ◌⊎◌, ℕ, ◌+◌, ◌-◌, ◌^◌, ◌<◌, Bool, true, false, ◌&&◌, not, List, ◌∷◌, map, length, Some, refl, sym, ap, ap₂, subst, ◌∙◌, inl, inr, arith, ◌||◌, []}
 use Rattle.std.proofs.lemmas.Bool.{and_from, cases_lt}
 use Rattle.rack.specs.Values.{Values}
 use Rattle.rack.specs.Seen.{Image, IsLive, RackView}
@@ -9,7 +11,7 @@ use Rattle.rack.specs.Targets.{look, put}
 use Rattle.md_super.specs.declared.superblock.Super.{Super}
 use Rattle.pool_state.specs.declared.contents.State.{State}
 use Rattle.array_image.specs.Arrays.{Member, replayed, Shape, value_by}
-use Rattle.array_image.specs.Held.{current_in}
+use Rattle.array_image.specs.Held.{current_in, IsSynced, Among}
 use Rattle.array_image.specs.Left.{IsInside, IsLeft, LogsInside, Picks}
 use Rattle.array_image.specs.Marks.{lower, lowered}
 use Rattle.array_image.specs.Places.{data_sector, log_slice, member_slice}
@@ -31,7 +33,7 @@ use Rattle.array_model.proofs.Spared.{lost_value}
 use Rattle.transition_laws.specs.Changes.{Change, changed}
 use Rattle.raid_laws.specs.Frames.{frame_of}
 use Rattle.raid_laws.specs.Since.{AreEach, KeepsEach}
-use Rattle.transition_laws.specs.Holds.{HoldsBook, HoldsMembers, IsFrom, IsPromised, IsSameArrayAs, is_sector, moved_to, has_sector, Promise, RestsArrays, spent_at, Stands, StandsArray}
+use Rattle.transition_laws.specs.Holds.{HoldsBook, HoldsMembers, IsFrom, IsPromised, IsSameArrayAs, is_sector, moved_to, has_sector, Promise, RestsArrays, spent_at, Stands, StandsArray, rows_for, view_for}
 use Rattle.transition_laws.specs.Makes.{Makes, OwnsCopies, Suits}
 use Rattle.raid_laws.specs.Moves.{AreMarked}
 use Rattle.raid_laws.specs.Raid.{gone_in, is_failed, Raid}
@@ -194,9 +196,9 @@ module _ (x : Change) (d v w : Raid) (vals : ℕ → ℕ → Values) (l : LogVie
     durable : Shape
     durable = shape_of (d.arrays n)
 
-    held : ShapeInvariant d.state n (shape_of (d.arrays n)) (shape_of (v.arrays n)) (v.arrays n).resync (may_vary (v.arrays n)) (vals n) (spent_at p n ((changed x d).arrays n)) a
+    held : ShapeInvariant d.state n (shape_of (d.arrays n)) (shape_of (v.arrays n)) (rows_for p (v.arrays n)) (may_vary (v.arrays n)) (vals n) (spent_at p n ((changed x d).arrays n)) a
     held =
-        subst (λ (spent : ℕ → Bool). ShapeInvariant d.state n (shape_of (d.arrays n)) (shape_of (v.arrays n)) (v.arrays n).resync (may_vary (v.arrays n)) (vals n) spent a)
+        subst (λ (spent : ℕ → Bool). ShapeInvariant d.state n (shape_of (d.arrays n)) (shape_of (v.arrays n)) (rows_for p (v.arrays n)) (may_vary (v.arrays n)) (vals n) spent a)
         (spent_same p n (d.arrays n) ((changed x d).arrays n) (λ y. sym ((stands.arrays n is low).sectors y) ∙ (stage n is low).sectors y)) (stands_shape d v p vals a stands n is low)
 
     -- no member's data is written
@@ -213,13 +215,13 @@ module _ (x : Change) (d v w : Raid) (vals : ℕ → ℕ → Values) (l : LogVie
         (images left.0 left.1 n is (let more = commit.more in omega (arith, low, more))).shows.says
 
     -- the array as it holds before whoever went is noted
-    whole : ShapeInvariant (changed x d).state n (shape_of ((changed x d).arrays n)) (shape_of (v.arrays n)) (v.arrays n).resync (may_vary (v.arrays n)) (vals n) (spent_at p n ((changed x d).arrays n)) b
+    whole : ShapeInvariant (changed x d).state n (shape_of ((changed x d).arrays n)) (shape_of (v.arrays n)) (rows_for p (v.arrays n)) (may_vary (v.arrays n)) (vals n) (spent_at p n ((changed x d).arrays n)) b
     whole = elim (stage n is low).shape [
       | inl same ↦
           let left = keeps (shape_of (v.arrays n)) held.open_left in
           let all = keeps (shape_of (d.arrays n)) held.open_slices in
-          shape_with (changed x d).state n (shape_of ((changed x d).arrays n)) (shape_of (v.arrays n)) (v.arrays n).resync (may_vary (v.arrays n)) (vals n) (spent_at p n ((changed x d).arrays n)) b
-          (subst (λ (shape : Shape). HoldsMembers n shape (shape_of (v.arrays n)) (v.arrays n).resync (may_vary (v.arrays n)) (vals n) (spent_at p n ((changed x d).arrays n)) b) (sym same)
+          shape_with (changed x d).state n (shape_of ((changed x d).arrays n)) (shape_of (v.arrays n)) (rows_for p (v.arrays n)) (may_vary (v.arrays n)) (vals n) (spent_at p n ((changed x d).arrays n)) b
+          (subst (λ (shape : Shape). HoldsMembers n shape (shape_of (v.arrays n)) (rows_for p (v.arrays n)) (may_vary (v.arrays n)) (vals n) (spent_at p n ((changed x d).arrays n)) b) (sym same)
           (record {
             open_slices = open_after commit.lasting commit.call.stays (shape_of (d.arrays n)) n held.open_slices;
             open_left = open_after commit.lasting commit.call.stays (shape_of (v.arrays n)) n held.open_left;
@@ -227,7 +229,7 @@ module _ (x : Change) (d v w : Raid) (vals : ℕ → ℕ → Values) (l : LogVie
             within = λ y alive u now source. held.within y alive u (held_kept a.held b.held (shape_of (d.arrays n)) n y all u now) source;
             current = λ y alive. same_value a.held b.held (shape_of (v.arrays n)) n y left ∙ held.current y alive;
             sized = λ m sector among counts. ap length (left m sector among counts).current ∙ held.sized m sector among counts;
-            even = even_kept a.held b.held (shape_of (v.arrays n)) n (v.arrays n).resync left held.even;
+            even = even_kept a.held b.held (shape_of (v.arrays n)) n (rows_for p (v.arrays n)) left held.even;
             settled = λ steady. settled_kept a.held b.held (shape_of (v.arrays n)) n left (held.settled steady);
           }))
           says
@@ -235,8 +237,8 @@ module _ (x : Change) (d v w : Raid) (vals : ℕ → ℕ → Values) (l : LogVie
           let noted = shape_of (v.arrays n) in
           let say : (r : Image) → IsLeft b r → ImageShowsArray (changed x d).state n (shape_of (v.arrays n)) (vals n) (spent_at p n ((changed x d).arrays n)) r =
           λ r left. subst (λ (shape : Shape). ImageShowsArray (changed x d).state n shape (vals n) (spent_at p n ((changed x d).arrays n)) r) settled.0 (says r left) in
-          subst (λ (shape : Shape). ShapeInvariant (changed x d).state n shape (shape_of (v.arrays n)) (v.arrays n).resync (may_vary (v.arrays n)) (vals n) (spent_at p n ((changed x d).arrays n)) b) (sym settled.0)
-          (marked_holds (changed x d).state n (shape_of (v.arrays n)) (v.arrays n).resync (may_vary (v.arrays n)) (vals n) (spent_at p n ((changed x d).arrays n)) a b (data_of held) settled.1 commit.lasting commit.call.stays
+          subst (λ (shape : Shape). ShapeInvariant (changed x d).state n shape (shape_of (v.arrays n)) (rows_for p (v.arrays n)) (may_vary (v.arrays n)) (vals n) (spent_at p n ((changed x d).arrays n)) b) (sym settled.0)
+          (marked_holds (changed x d).state n (shape_of (v.arrays n)) (rows_for p (v.arrays n)) (may_vary (v.arrays n)) (vals n) (spent_at p n ((changed x d).arrays n)) a b (data_of held) settled.1 commit.lasting commit.call.stays
           (keeps (shape_of (v.arrays n)) held.open_left) (λ c picks m sector among counts. still c picks m.place sector)
           (λ r left. ((say r left).shape_is, (say r left).is_sound)))
     ]
@@ -251,18 +253,26 @@ module _ (x : Change) (d v w : Raid) (vals : ℕ → ℕ → Values) (l : LogVie
     value : (y : ℕ) → spent_at p n ((changed x d).arrays n) y ≡ false
         → value_by (lowered (names lost) (shape_of (v.arrays n))) (current_in b.held) n y ≡ value_by (shape_of (v.arrays n)) (current_in b.held) n y
     value y alive =
-        lost_value (names lost) (shape_of (v.arrays n)) n (v.arrays n).resync (current_in b.held) y (laid_out (v.arrays n) (commit.is_array n low)) whole.even whole.sized
-        (unspent_then (v.arrays n) (w.arrays n) (names lost) losing y (promised.covers n is (later n low) y (spent_other p n (w.arrays n) ((changed x d).arrays n) sectors y ∙ alive)))
+        let u = view_for p (v.arrays n) in
+        let shape = shape_for p (v.arrays n) in
+        subst (λ (sh : Shape). value_by (lowered (names lost) sh) (current_in b.held) n y ≡ value_by sh (current_in b.held) n y) shape
+        (lost_value (names lost) (shape_of u) n (rows_for p (v.arrays n)) (current_in b.held) y (laid_out u (array_for p (v.arrays n) (commit.is_array n low)))
+        (subst (λ (sh : Shape). AreEven sh n (rows_for p (v.arrays n)) (current_in b.held)) (sym shape) whole.even)
+        (λ m sector among. whole.sized m sector (subst (λ (sh : Shape). Among m sh.members) shape among))
+        (unspent_then u (view_for p (w.arrays n)) (names lost) (losing_for p (v.arrays n) (w.arrays n) (names lost) losing (commit.young n low)) y
+        (covers_for p n (w.arrays n) (spent_at p n ((changed x d).arrays n)) (subst IsLaid (sym losing.truth) (laid_of (v.arrays n) (commit.is_array n low)))
+        (λ z now. spent_other p n (w.arrays n) ((changed x d).arrays n) sectors z ∙ now)
+        (λ z now. promised.covers n is (later n low) z (spent_other p n (w.arrays n) ((changed x d).arrays n) sectors z ∙ now)) y alive)))
 
-    members : HoldsMembers n (shape_of ((changed x d).arrays n)) (shape_of (w.arrays n)) (w.arrays n).resync (may_vary (w.arrays n)) (vals n) (spent_at p n ((changed x d).arrays n)) b
+    members : HoldsMembers n (shape_of ((changed x d).arrays n)) (shape_of (w.arrays n)) (rows_for p (w.arrays n)) (may_vary (w.arrays n)) (vals n) (spent_at p n ((changed x d).arrays n)) b
     members =
         let next = shape_of ((changed x d).arrays n) in
         let u = v.arrays n in
         let noted =
-        members_of (changed x d).state n next (lowered (names lost) (shape_of u)) u.resync (may_vary u) (vals n) (spent_at p n ((changed x d).arrays n)) b
-        (noted_holds (changed x d).state n next (shape_of u) u.resync (may_vary u) (vals n) (spent_at p n ((changed x d).arrays n)) (spent_at p n ((changed x d).arrays n)) b (names lost) whole (λ y alive. alive) value) in
-        subst (λ k. HoldsMembers n (shape_of ((changed x d).arrays n)) (shape_of (w.arrays n)) k (may_vary (w.arrays n)) (vals n) (spent_at p n ((changed x d).arrays n)) b) (sym losing.resync)
-        (subst (λ (shape : Shape). HoldsMembers n (shape_of ((changed x d).arrays n)) shape (v.arrays n).resync (may_vary (w.arrays n)) (vals n) (spent_at p n ((changed x d).arrays n)) b) (sym losing.shape)
+        members_of (changed x d).state n next (lowered (names lost) (shape_of u)) (rows_for p u) (may_vary u) (vals n) (spent_at p n ((changed x d).arrays n)) b
+        (noted_holds (changed x d).state n next (shape_of u) (rows_for p u) (may_vary u) (vals n) (spent_at p n ((changed x d).arrays n)) (spent_at p n ((changed x d).arrays n)) b (names lost) whole (λ y alive. alive) value) in
+        subst (λ k. HoldsMembers n (shape_of ((changed x d).arrays n)) (shape_of (w.arrays n)) k (may_vary (w.arrays n)) (vals n) (spent_at p n ((changed x d).arrays n)) b) (sym (same_rows p (v.arrays n) (w.arrays n) (ap first_unsynced losing.truth) losing.resync (commit.young n low)))
+        (subst (λ (shape : Shape). HoldsMembers n (shape_of ((changed x d).arrays n)) shape (rows_for p (v.arrays n)) (may_vary (w.arrays n)) (vals n) (spent_at p n ((changed x d).arrays n)) b) (sym losing.shape)
         (record {
           open_slices = noted.open_slices;
           open_left = noted.open_left;
@@ -274,7 +284,7 @@ module _ (x : Change) (d v w : Raid) (vals : ℕ → ℕ → Values) (l : LogVie
           settled = λ steady. noted.settled (losing.vary steady);
         }))
 
-    array_after : StandsArray ((changed x d).arrays n) (w.arrays n) n (vals n) (spent_at p n ((changed x d).arrays n)) b
+    array_after : StandsArray ((changed x d).arrays n) (w.arrays n) n (vals n) p b
     array_after =
         let at = stands.arrays n is low in
         let now = stage n is low in
@@ -284,6 +294,11 @@ module _ (x : Change) (d v w : Raid) (vals : ℕ → ℕ → Values) (l : LogVie
           few = at.few;
           written = subst (λ k. IsWrittenSuper k (w.arrays n).truth) (sym losing.number) (subst (IsWrittenSuper (v.arrays n).number) (sym losing.truth) at.written);
           members = members;
+          single = λ young.
+              let left = (stands_shape d v p vals a stands n is low).open_left in
+              subst (λ (sh : Shape). IsSynced sh n b.held) (sym losing.shape)
+              (single_lowered (names lost) (shape_of (v.arrays n)) n b.held
+              (settled_kept a.held b.held (shape_of (v.arrays n)) n (keeps (shape_of (v.arrays n)) left) (at.single (ap (λ y. p.growing && y) (sym (commit.young n low)) ∙ young))));
           closed = λ none. closed_after d.state (changed x d).state (gone_in v) l on lost a b n call (commit.fresh n low none);
           truth = subst (IsEarlier ((changed x d).arrays n).truth) (sym losing.truth) now.truth;
           mark = λ marked. now.mark (losing.marked marked);

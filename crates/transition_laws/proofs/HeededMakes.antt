@@ -1,5 +1,6 @@
 -- Once whoever went is marked, nobody counts as gone: no change of the book is made.
-use Rattle.std.proofs.Common.{◌≡◌, ℕ, ◌<◌, ◌≤◌, true, false, not, [], sym, ap, subst, ◌∙◌, arith}
+use Rattle.array_image.specs.Held.{IsSynced}
+use Rattle.std.proofs.Common.{◌≡◌, ℕ, ◌<◌, ◌≤◌, true, false, not, sym, ap, subst, ◌∙◌, arith, []}
 use Rattle.std.proofs.lemmas.Bool.{and_from, and_parts}
 use Rattle.rack.specs.Values.{Values}
 use Rattle.rack.specs.Seen.{RackView}
@@ -16,7 +17,7 @@ use Rattle.raid_laws.specs.Moves.{AreMarked}
 use Rattle.raid_laws.specs.Raid.{gone_in, Raid}
 use Rattle.raid_laws.proofs.Noted.{heeded_shape, idle_now, kept_marked, with_arrays}
 use Rattle.raid_laws.proofs.Over.{someone_left}
-use Rattle.transition_laws.specs.Holds.{HoldsBook, HoldsMembers, IsPromised, IsSameArrayAs, Promise, spent_at, Stands, StandsArray}
+use Rattle.transition_laws.specs.Holds.{HoldsBook, HoldsMembers, IsPromised, IsSameArrayAs, Promise, spent_at, Stands, StandsArray, rows_for}
 use Rattle.transition_laws.specs.Makes.{Makes}
 use Rattle.transition_laws.proofs.MoreArrays.{GoesOn, over_before}
 
@@ -53,17 +54,18 @@ module _ (d v : Raid) (f : ℕ → View) (x : RackView) (fit : x.fit) (arrays : 
     }
 
     module _ (stands : Stands d v p vals x) where
-      array : (n : ℕ) → p.live n ≡ true → n < d.state.made → StandsArray (d.arrays n) (f n) n (vals n) (spent_at p n (d.arrays n)) x
+      array : (n : ℕ) → p.live n ≡ true → n < d.state.made → StandsArray (d.arrays n) (f n) n (vals n) p x
       array n live below =
           let at = stands.arrays n live below in
-          subst (λ u. StandsArray (d.arrays n) u n (vals n) (spent_at p n (d.arrays n)) x) (sym (arrays n (low_here n below)))
+          subst (λ u. StandsArray (d.arrays n) u n (vals n) p x) (sym (arrays n (low_here n below)))
           (record {
             number = at.number;
             book_number = at.book_number;
             few = at.few;
             written = at.written;
-            members = subst (λ (shape : Shape). HoldsMembers n (shape_of (d.arrays n)) shape (v.arrays n).resync (may_vary (v.arrays n)) (vals n) (spent_at p n (d.arrays n)) x)
+            members = subst (λ (shape : Shape). HoldsMembers n (shape_of (d.arrays n)) shape (rows_for p (v.arrays n)) (may_vary (v.arrays n)) (vals n) (spent_at p n (d.arrays n)) x)
                 (sym (heeded_shape (v.arrays n))) at.members;
+            single = λ young. subst (λ (shape : Shape). IsSynced shape n x.held) (sym (heeded_shape (v.arrays n))) (at.single young);
             closed = λ none c picks place t. idle_now d.state v.number (gone_in v) x stands.log left_by_book c picks (member_slice place n) t;
             truth = at.truth;
             mark = at.mark;

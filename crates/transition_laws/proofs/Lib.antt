@@ -1,4 +1,5 @@
 pub mod Shown
+pub mod ArraysFor
 pub mod Standing
 pub mod CommitMakes
 pub mod MoreArrays

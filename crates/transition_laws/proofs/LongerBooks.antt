@@ -1,5 +1,5 @@
 -- Books that changes lead over, of which an array has the sectors that it had: it may get longer.
-use Rattle.std.proofs.Common.{◌≡◌, ℕ, ◌^◌, ◌<◌, ◌==◌, Bool, true, false, if◌then◌else◌, List, [], ◌∷◌, ◌++◌, refl, ◌∙◌, inl, inr, eqb-true}
+use Rattle.std.proofs.Common.{◌≡◌, ℕ, ◌^◌, ◌<◌, ◌==◌, Bool, true, false, if◌then◌else◌, List, ◌∷◌, ◌++◌, refl, ◌∙◌, inl, inr, eqb-true, []}
 use Rattle.std.proofs.lemmas.Bool.{and_parts, and_from}
 use Rattle.array_model.specs.View.{View}
 use Rattle.array_core.specs.Seats.{ready}
@@ -9,10 +9,11 @@ use Rattle.transition_laws.specs.Holds.{has_sector}
 use Rattle.transition_laws.specs.Losses.{AreLosses, is_loss}
 use Rattle.transition_laws.proofs.SettledMakes.{settled_sectors}
 
--- Array n of a book u has the sectors that v's had.
+-- Array n of a book u has the sectors that v's had, and isn't young.
 pub record HasOldSectors (v : Raid) (n : ℕ) (u : Raid) : Type 0 where
   pub made : n < u.state.made
   pub small : (u.arrays n).truth.size < 2 ^ 48
+  pub young : (u.arrays n).young ≡ false
   pub sectors : (y : ℕ) → has_sector (v.arrays n) y ≡ true → has_sector (u.arrays n) y ≡ true
 
 -- a change leads from such a book to such a one
@@ -48,6 +49,7 @@ loss_keeps v n (enlists place units plan joining) is u old = absurd is
 loss_keeps v n (failed lost events) is u old = record {
   made = old.made;
   small = old.small;
+  young = old.young;
   sectors = λ y has. settled_sectors (u.arrays n) old.small y ∙ old.sectors y has;
 }
 loss_keeps v n (wrote m) is u old = absurd is
@@ -58,10 +60,11 @@ losses_keep v n (x ∷ xs) are = (loss_keeps v n x are.0, losses_keep v n xs are
 
 -- ---- a change of one array
 
-pub step_keeps : (v : Raid) (n m : ℕ) (next : View) → (n ≡ m → next.truth.size < 2 ^ 48) → (n ≡ m → (y : ℕ) → has_sector (v.arrays n) y ≡ true → has_sector next y ≡ true) → KeepsOld v n (steps m next)
-step_keeps v n m next small longer u old = record {
+pub step_keeps : (v : Raid) (n m : ℕ) (next : View) → (n ≡ m → next.truth.size < 2 ^ 48) → (n ≡ m → next.young ≡ false) → (n ≡ m → (y : ℕ) → has_sector (v.arrays n) y ≡ true → has_sector next y ≡ true) → KeepsOld v n (steps m next)
+step_keeps v n m next small young longer u old = record {
   made = old.made;
   small = of_view (λ w. w.truth.size < 2 ^ 48) small old.small;
+  young = of_view (λ w. w.young ≡ false) young old.young;
   sectors = λ y has. of_view (λ w. has_sector w y ≡ true) (λ same. longer same y has) (old.sectors y has);
 }
   where
@@ -77,6 +80,7 @@ pub ready_keeps : (v : Raid) (n : ℕ) → KeepsOld v n readied
 ready_keeps v n u old = record {
   made = old.made;
   small = of_view (n == u.state.joined) (λ w. w.truth.size < 2 ^ 48) old.small old.small;
+  young = of_view (n == u.state.joined) (λ w. w.young ≡ false) refl old.young;
   sectors = λ y has. of_view (n == u.state.joined) (λ w. has_sector w y ≡ true) (grown y (u.arrays n).young (old.sectors y has)) (old.sectors y has);
 }
   where
@@ -89,4 +93,4 @@ ready_keeps v n u old = record {
 
 -- the plan ends
 pub close_keeps : (v : Raid) (n : ℕ) → KeepsOld v n closed
-close_keeps v n u old = record { made = old.made; small = old.small; sectors = old.sectors }
+close_keeps v n u old = record { made = old.made; small = old.small; young = old.young; sectors = old.sectors }

@@ -1,5 +1,6 @@
 -- What the mending of losses makes of a book: each turn of it, turns in a row, and the heeding after them.
-use Rattle.std.proofs.Common.{◌≡◌, ℕ, ◌<◌, Bool, true, false, ◌&&◌, not, List, [], ◌∷◌, ◌++◌, None, refl, sym, ap, ap₂, subst, ◌∙◌, arith}
+use Rattle.transition_laws.proofs.ArraysFor.{restates_for}
+use Rattle.std.proofs.Common.{◌≡◌, ℕ, ◌<◌, Bool, true, false, ◌&&◌, not, List, ◌∷◌, ◌++◌, None, refl, sym, ap, ap₂, subst, ◌∙◌, arith, []}
 use Rattle.std.proofs.lemmas.Bool.{both_ways}
 use Rattle.rack.specs.Values.{Values}
 use Rattle.rack.specs.Seen.{Image, RackView}
@@ -29,7 +30,7 @@ use Rattle.raid_laws.proofs.Committed.{after_further, IsCommit, raid_after}
 use Rattle.raid_laws.proofs.Losing.{only_gone, only_heeded}
 use Rattle.raid_laws.proofs.Noted.{with_arrays}
 use Rattle.raid_laws.proofs.Over.{member_left, someone_left}
-use Rattle.raid_laws.proofs.Restated.{IsStaged, restates_by}
+use Rattle.raid_laws.proofs.Restated.{IsStaged}
 use Rattle.raid_laws.proofs.Staged.{staged_array}
 use Rattle.transition_laws.specs.Changes.{by, by_joined, Change, failed}
 use Rattle.transition_laws.specs.Holds.{HoldsBook, IsPromised, Promise, Stands}
@@ -95,7 +96,7 @@ module _ (u v : Raid) (book_number : ℕ) (g : ℕ → View) (lost on gone : Lis
         record {
           few = at.few;
           number = at.book_number;
-          restates = restates_by v.state (state_after v lost) (gone_in v) (v.arrays n) l.added b n settled alone held.open_left held.even;
+          restates = restates_for p v.state (state_after v lost) (gone_in v) (v.arrays n) l.added b n settled alone held.open_left held.even;
           settled = settled.settled;
           unmarked = settled.unmarked;
           shape = marked_shape (book_with v book_number g) v lost b commit.marking.set run commit.marking.lost_is commit.marking.noted n low (v.arrays n).truth.events;

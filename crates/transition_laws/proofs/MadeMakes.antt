@@ -1,5 +1,6 @@
 -- The commit that makes a young array: what shows a book shows it with one array more, of which no sector is promised yet.
-use Rattle.std.proofs.Common.{◌≡◌, ℕ, ◌+◌, ◌<◌, Bool, true, false, ◌&&◌, ◌||◌, not, nat_lt, if◌then◌else◌, List, [], ◌∷◌, length, Some, None, refl, sym, ap, subst, ◌∙◌, inl, inr, eq-eqb, ne_eqb, le-ltb, arith}
+use Rattle.transition_laws.proofs.ArraysFor.{single_lowered, restates_for}
+use Rattle.std.proofs.Common.{◌≡◌, ℕ, ◌+◌, ◌<◌, Bool, true, false, ◌&&◌, not, nat_lt, if◌then◌else◌, List, ◌∷◌, length, Some, None, refl, sym, ap, subst, ◌∙◌, inl, inr, eq-eqb, ne_eqb, le-ltb, arith, ◌||◌, []}
 use Rattle.std.proofs.lemmas.Bool.{both_ways, cases_Bool}
 use Rattle.rack.specs.Values.{Values}
 use Rattle.rack.specs.Seen.{Image, RackView}
@@ -8,7 +9,7 @@ use Rattle.md_super.specs.declared.superblock.Super.{Super}
 use Rattle.pool_state.specs.declared.contents.State.{State}
 use Rattle.raid_map.specs.LeftSymmetric.{row_at}
 use Rattle.array_image.specs.Arrays.{first_layout, Member, replayed, Shape, shape_by, shape_in}
-use Rattle.array_image.specs.Held.{Among, current_in}
+use Rattle.array_image.specs.Held.{Among, IsSynced}
 use Rattle.array_image.specs.Left.{Picks}
 use Rattle.array_image.specs.Marks.{lowered}
 use Rattle.array_image.specs.Places.{member_slice, super_sector}
@@ -19,8 +20,8 @@ use Rattle.array_image.specs.Supers.{super_in, truth_in}
 use Rattle.array_image.proofs.Marked.{among_lowered}
 use Rattle.array_model.specs.Says.{IsOpen, HasNoOthers}
 use Rattle.array_model.specs.View.{IsArray, may_vary, present, shape_of, View}
-use Rattle.array_model.proofs.Keeping.{even_kept, KeepsData, open_after, settled_kept}
-use Rattle.array_model.proofs.Losses.{even_noted, IsLosing}
+use Rattle.array_model.proofs.Keeping.{KeepsData, open_after, settled_kept}
+use Rattle.array_model.proofs.Losses.{IsLosing}
 use Rattle.array_core.specs.Seats.{gone as without}
 use Rattle.log_laws.specs.View.{LogView, names}
 use Rattle.log_laws.proofs.Kept.{put_none}
@@ -30,10 +31,10 @@ use Rattle.raid_laws.specs.Moves.{AreMarked}
 use Rattle.raid_laws.specs.Raid.{AreLive, gone_in, Raid}
 use Rattle.raid_laws.proofs.Marking.{closed_after, data_kept, MarksCall, still_after}
 use Rattle.raid_laws.proofs.Over.{member_left}
-use Rattle.raid_laws.proofs.Restated.{IsStaged, restates_by}
+use Rattle.raid_laws.proofs.Restated.{IsStaged}
 use Rattle.raid_laws.proofs.Seated.{gone_fewer, gone_losing, names_joined, none_listed}
 use Rattle.transition_laws.specs.Changes.{changed, makes}
-use Rattle.transition_laws.specs.Holds.{has_sector, HoldsMembers, IsPromised, IsSameArrayAs, moved_to, Promise, RestsArray, spent_at, Stands, StandsArray}
+use Rattle.transition_laws.specs.Holds.{has_sector, HoldsMembers, IsPromised, IsSameArrayAs, moved_to, Promise, RestsArray, spent_at, Stands, StandsArray, rows_for}
 use Rattle.transition_laws.specs.Makes.{Makes, Suits}
 use Rattle.transition_laws.specs.Making.{FitsMake}
 use Rattle.transition_laws.specs.Stages.{Commits, Stages, StagesArray, StagesNew}
@@ -87,10 +88,6 @@ rests_made s u p n vals r shows =
 
 -- ---- the new one
 
--- as one of which no row agrees
-abbrev pub unzeroed : View → View
-unzeroed next = record next { resync = 0 }
-
 -- A young array that comes by a commit with its superblocks: none of its rows is zeroed.
 pub record IsComing (v w : Raid) (next : View) (gone : List ℕ) (xs : List Target) (a : RackView) : Type 0 where
   pub few : v.state.made < 16
@@ -104,13 +101,9 @@ pub record IsComing (v w : Raid) (next : View) (gone : List ℕ) (xs : List Targ
   pub after : w.arrays v.state.made ≡ without gone next
   pub called : (q : ℕ) → names gone q ≡ true → q < 16
   pub heeded : (q : ℕ) → is_current v.state q ≡ true → gone_in v q ≡ false
-  pub staged : 0 < present next.seats → IsStaged v.state (with_made v.state) (gone_in v) (unzeroed next) xs a v.state.made
+  pub staged : 0 < present next.seats → IsStaged v.state (with_made v.state) (gone_in v) next xs a v.state.made
   pub others : (n place u : ℕ) → n < v.state.made → look xs (member_slice place n) u ≡ None
   pub fits : FitsMake v.state v.state.made next a
-
-same_shape : (next : View) → shape_of (unzeroed next) ≡ shape_of next
-unfolding shape_of
-same_shape next = refl
 
 and_none : (a b : Bool) → b ≡ false → (a && b) ≡ false
 and_none true b is = is
@@ -122,7 +115,7 @@ module _ (v w : Raid) (next : View) (l : LogView) (on gone : List ℕ) (vals : �
   N = v.state.made
 
   -- a member of it is left
-  staged : IsStaged v.state (with_made v.state) (gone_in v) (unzeroed next) l.added a v.state.made
+  staged : IsStaged v.state (with_made v.state) (gone_in v) next l.added a v.state.made
   staged =
       coming.staged
       (let some = member_left w v.state.made (promised.goes v.state.made live (subst (λ (s : State). v.state.made < s.made) (sym commit.state) (omega arith))) in
@@ -132,6 +125,10 @@ module _ (v w : Raid) (next : View) (l : LogView) (on gone : List ℕ) (vals : �
 
   growing : p.growing ≡ true
   growing = elim suits.growing [ inl is ↦ is | inr keeping ↦ absurd keeping.0 ]
+
+  -- none of its rows is zeroed
+  none_zeroed : rows_for p next ≡ 0
+  none_zeroed = (λ i. if growing i && coming.young i then first_unsynced next.truth else next.resync) ∙ coming.none
 
   -- it has no sector yet
   spent : (y : ℕ) → spent_at p v.state.made next y ≡ true
@@ -147,7 +144,7 @@ module _ (v w : Raid) (next : View) (l : LogView) (on gone : List ℕ) (vals : �
   alive_none y alive = absurd (both_ways (spent_at p v.state.made next y) alive (spent y))
 
   -- no other current place has a superblock of it
-  alone : (c : Image) → Picks a c → HasNoOthers (unzeroed next) (with_made v.state) (put a.sectors l.added c)
+  alone : (c : Image) → Picks a c → HasNoOthers next (with_made v.state) (put a.sectors l.added c)
   alone c picks place current other =
       let d = member_slice place next.number in
       let unwritten : look l.added d super_sector ≡ None = subst (λ k. look l.added (member_slice place k) super_sector ≡ None) (sym coming.number) (staged.no_other place other) in
@@ -159,16 +156,15 @@ module _ (v w : Raid) (next : View) (l : LogView) (on gone : List ℕ) (vals : �
   open_before : IsOpen (shape_of next) v.state.made a
   open_before = coming.is_open stands.slices
 
-  restates : Restates (with_made v.state) (shape_of (unzeroed next)) false (unzeroed next) l.added a v.state.made
+  restates : Restates (with_made v.state) (shape_of next) false next l.added a v.state.made
   restates =
-      restates_by v.state (with_made v.state) (gone_in v) (unzeroed next) l.added a v.state.made staged alone
-      (subst (λ (sh : Shape). IsOpen sh v.state.made a) (sym (same_shape next)) open_before) (λ y inside row counts. absurd (omega (arith, row)))
+      restates_for p v.state (with_made v.state) (gone_in v) next l.added a v.state.made staged alone open_before (λ y inside row counts. absurd (omega (arith, row, none_zeroed)))
 
   shows : (c : Image) → Picks a c → RestsArray (with_made v.state) next p v.state.made (vals v.state.made) (put a.sectors l.added c)
   shows c picks = record {
     shows = record {
       says = record {
-        shape_is = restates.shape_is c picks ∙ ap Some (same_shape next);
+        shape_is = restates.shape_is c picks;
         value = λ y alive. alive_none y alive;
         is_sound = λ t is. restates.sound c picks t is;
       };
@@ -199,7 +195,7 @@ module _ (v w : Raid) (next : View) (l : LogView) (on gone : List ℕ) (vals : �
   among : (m : Member) (sector : ℕ) → Among m (lowered (names gone) (shape_of next)).members → sector < m.reach → Among m (shape_of next).members
   among m sector is counts = among_lowered (names gone) sector (shape_of next).members m is counts
 
-  members : HoldsMembers v.state.made (shape_of next) (lowered (names gone) (shape_of next)) next.resync (may_vary (without gone next)) (vals v.state.made) (spent_at p v.state.made next) b
+  members : HoldsMembers v.state.made (shape_of next) (lowered (names gone) (shape_of next)) (rows_for p next) (may_vary (without gone next)) (vals v.state.made) (spent_at p v.state.made next) b
   members =
       let synced = settled_kept a.held b.held (shape_of next) v.state.made keeps coming.fits.synced in
       record {
@@ -209,7 +205,7 @@ module _ (v w : Raid) (next : View) (l : LogView) (on gone : List ℕ) (vals : �
         within = λ y alive. alive_none y alive;
         current = λ y alive. alive_none y alive;
         sized = λ m sector is counts. ap length (keeps m sector (among m sector is counts) counts).current ∙ coming.fits.sized m sector (among m sector is counts) counts;
-        even = even_noted (names gone) (shape_of next) v.state.made next.resync (current_in b.held) (even_kept a.held b.held (shape_of next) v.state.made next.resync keeps coming.fits.even);
+        even = λ y inside row. absurd (omega (arith, row, none_zeroed));
         settled = λ steady m sector is counts. synced m sector (among m sector is counts) counts;
       }
 
@@ -225,13 +221,16 @@ module _ (v w : Raid) (next : View) (l : LogView) (on gone : List ℕ) (vals : �
       or_last true d is = refl
       or_last false d is = is
 
-  stands_new : StandsArray next (without gone next) v.state.made (vals v.state.made) (spent_at p v.state.made next) b
+  stands_new : StandsArray next (without gone next) v.state.made (vals v.state.made) p b
   stands_new = record {
     number = coming.number;
     book_number = coming.number;
     few = coming.few;
     written = coming.fits.written;
-    members = subst (λ (sh : Shape). HoldsMembers v.state.made (shape_of next) sh next.resync (may_vary (without gone next)) (vals v.state.made) (spent_at p v.state.made next) b) (sym losing.shape) members;
+    members = subst (λ (sh : Shape). HoldsMembers v.state.made (shape_of next) sh (rows_for p next) (may_vary (without gone next)) (vals v.state.made) (spent_at p v.state.made next) b) (sym losing.shape) members;
+    single = λ young.
+        subst (λ (sh : Shape). IsSynced sh v.state.made b.held) (sym losing.shape)
+        (single_lowered (names gone) (shape_of next) v.state.made b.held (settled_kept a.held b.held (shape_of next) v.state.made keeps coming.fits.synced));
     closed = λ none. closed_after v.state (with_made v.state) (gone_in v) l on gone a b v.state.made call (nobody none);
     truth = record { fields = refl; events = omega arith };
     mark = λ marked. marked;
@@ -254,8 +253,8 @@ module _ (v w : Raid) (next : View) (l : LogView) (on gone : List ℕ) (vals : �
     few = coming.few;
     number = ap (λ (u : View). u.number) own ∙ coming.number;
     shows = λ c picks. subst (λ (u : View). RestsArray (with_made v.state) u p v.state.made (vals v.state.made) (put a.sectors l.added c)) (sym own) (shows c picks);
-    stands = subst (λ (u : View). StandsArray u (w.arrays v.state.made) v.state.made (vals v.state.made) (spent_at p v.state.made u) b) (sym own)
-        (subst (λ (z : View). StandsArray next z v.state.made (vals v.state.made) (spent_at p v.state.made next) b) (sym coming.after) stands_new);
+    stands = subst (λ (u : View). StandsArray u (w.arrays v.state.made) v.state.made (vals v.state.made) p b) (sym own)
+        (subst (λ (z : View). StandsArray next z v.state.made (vals v.state.made) p b) (sym coming.after) stands_new);
     same = λ are. subst (λ (u : View). IsSameArrayAs u (w.arrays v.state.made)) (sym own) (subst (IsSameArrayAs next) (sym coming.after) (same_new are));
   }
 

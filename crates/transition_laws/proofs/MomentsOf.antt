@@ -1,5 +1,5 @@
 -- What raid_laws says of calls follows where they make changes of the book.
-use Rattle.std.proofs.Common.{◌≡◌, ℕ, ◌<◌, ◌≤◌, Bool, true, false, ◌==◌, List, [], ◌∷◌, Some, refl, sym, ap, subst, ◌∙◌, eq-eqb, eqb-true, arith, inr}
+use Rattle.std.proofs.Common.{◌≡◌, ℕ, ◌<◌, ◌≤◌, Bool, true, false, ◌==◌, List, ◌∷◌, Some, refl, sym, ap, subst, ◌∙◌, eq-eqb, eqb-true, arith, inr, []}
 use Rattle.std.proofs.lemmas.Bool.{both_ways}
 use Rattle.rack.specs.Values.{Values}
 use Rattle.rack.specs.Seen.{Image, RackView}
@@ -154,6 +154,7 @@ module _ (xs : List Change) (v w : Raid) (a b : RackView) (called : IsCalled xs 
     live = eq-eqb n n refl;
     one = low_before;
     goes = λ k is low. own (λ j. is_failed v j ≡ false) k is (called.still n goes);
+    grown = λ k is low. refl;
     tracked = λ k is low. own (λ j. IsTracked v a j) k is told;
     covers = λ k y is low alive. own (λ j. spent_of v j y ≡ false) k is (covered y alive).0;
     values = λ k y is low alive. refl;
@@ -320,7 +321,7 @@ told_of xs v w a b called n told = record {
       (subst (λ (s : State). InvariantInCall s (shape_of (w.arrays n)) vals (spent_of w n) (λ place. false) w b n) (sym now.same)
       (subst (λ (s : Shape). InvariantInCall e.state s vals (spent_of w n) (λ place. false) w b n) (sym shape)
       (subst (λ g. InvariantInCall e.state (shape_of (e.arrays n)) vals (spent_of w n) g w b n) (λ i q. heeded_gone w called.heeded q i)
-      (stood_of e w p called.vals b now n live made ready))));
+      (stood_of e w p called.vals b now n live made refl ready))));
   slices = λ goes.
       let began = kept_since v.state v.number a (told.stood (called.still n goes)).log in
       let now =

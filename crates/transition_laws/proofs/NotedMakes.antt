@@ -1,30 +1,31 @@
 -- Places that went in some array are noted in all: no change of the book is made.
-use Rattle.std.proofs.Common.{◌≡◌, ℕ, ◌<◌, ◌≤◌, true, ◌&&◌, ◌||◌, not, List, [], sym, ap, subst, ◌∙◌, arith}
+use Rattle.array_image.specs.Arrays.{Shape}
+use Rattle.transition_laws.proofs.ArraysFor.{array_for, losing_for, covers_for, IsLaid, laid_of, members_for, single_lowered}
+use Rattle.std.proofs.Common.{◌≡◌, ℕ, ◌<◌, ◌≤◌, true, ◌&&◌, List, sym, ap, subst, ◌∙◌, arith, ◌||◌, []}
 use Rattle.std.proofs.lemmas.Bool.{both_ways}
 use Rattle.rack.specs.Values.{Values}
 use Rattle.rack.specs.Seen.{RackView}
 use Rattle.rack.specs.Joins.{leaves_same, stays_same}
 use Rattle.md_super.specs.declared.superblock.Super.{Super}
 use Rattle.pool_state.specs.declared.contents.State.{State}
-use Rattle.array_image.specs.Held.{current_in}
+use Rattle.array_image.specs.Held.{IsSynced}
 use Rattle.array_image.specs.Left.{NothingPending, IsInside}
 use Rattle.array_image.specs.States.{is_current}
 use Rattle.log_laws.specs.View.{names}
 use Rattle.log_laws.proofs.KeptAfter.{kept_more}
-use Rattle.array_model.specs.Says.{ShapeInvariant, IsEarlier}
-use Rattle.array_model.specs.View.{may_vary, present, shape_of, View}
-use Rattle.array_model.proofs.Losses.{IsLosing, losing_holds}
-use Rattle.array_model.proofs.Noting.{laid_out, unspent_then}
-use Rattle.array_model.proofs.Spared.{lost_value}
+use Rattle.array_model.specs.Says.{IsEarlier}
+use Rattle.array_model.specs.View.{present, shape_of, View}
+use Rattle.array_model.proofs.Losses.{IsLosing}
+use Rattle.array_model.proofs.Noting.{holds_lost}
 use Rattle.raid_laws.specs.Moves.{IsSet}
 use Rattle.raid_laws.specs.Raid.{gone_in, IsWritten, Raid}
 use Rattle.raid_laws.proofs.Noted.{gone_from, IsNoting, losing_spent, noted_before, noted_more, noted_went, with_arrays}
 use Rattle.raid_laws.proofs.Over.{someone_left}
 use Rattle.raid_laws.proofs.Seated.{gone_fewer, gone_losing, or_last}
-use Rattle.transition_laws.specs.Holds.{has_sector, HoldsBook, IsPromised, Promise, spent_at, Stands, StandsArray}
+use Rattle.transition_laws.specs.Holds.{has_sector, HoldsBook, IsPromised, Promise, spent_at, Stands, StandsArray, view_for}
 use Rattle.transition_laws.specs.Makes.{Makes}
 use Rattle.transition_laws.proofs.MoreArrays.{GoesOn, over_before}
-use Rattle.transition_laws.proofs.Shown.{members_of}
+use Rattle.transition_laws.proofs.Shown.{spent_other}
 use Rattle.transition_laws.proofs.Standing.{holds_of}
 
 module _ (lost : List ℕ) (d v : Raid) (f : ℕ → View) (x : RackView) (set : IsSet v x) (noting : IsNoting lost v f) (same : v.state ≡ d.state)
@@ -52,6 +53,9 @@ module _ (lost : List ℕ) (d v : Raid) (f : ℕ → View) (x : RackView) (set :
   sectors : (n : ℕ) → n < v.state.made → (y : ℕ) → has_sector (f n) y ≡ has_sector (v.arrays n) y
   sectors n low y = ap (λ (u : View). has_sector u y) (noting.arrays n low)
 
+  young : (n : ℕ) → n < v.state.made → (f n).young ≡ (v.arrays n).young
+  young n low = ap (λ (u : View). u.young) (noting.arrays n low)
+
   low_here : (n : ℕ) → n < d.state.made → n < v.state.made
   low_here n low = subst (λ (s : State). n < s.made) (sym same) low
 
@@ -66,29 +70,30 @@ module _ (lost : List ℕ) (d v : Raid) (f : ℕ → View) (x : RackView) (set :
     }
 
     module _ (stands : Stands d v p vals x) where
-      array : (n : ℕ) → p.live n ≡ true → n < d.state.made → StandsArray (d.arrays n) (f n) n (vals n) (spent_at p n (d.arrays n)) x
+      array : (n : ℕ) → p.live n ≡ true → n < d.state.made → StandsArray (d.arrays n) (f n) n (vals n) p x
       array n live below =
           let low = low_here n below in
           let at = stands.arrays n live below in
           let is = losing n low in
           let was = holds_of d v p vals x stands n live below in
           let alike : (y : ℕ) → has_sector (f n) y ≡ has_sector (d.arrays n) y = λ y. sectors n low y ∙ at.sectors y in
+          let own : (y : ℕ) → spent_at p n (f n) y ≡ spent_at p n (d.arrays n) y = λ y. spent_other p n (f n) (d.arrays n) alike y in
           let number : (f n).number ≡ n = is.number ∙ at.number in
           let after =
-          losing_holds d.state (shape_of (d.arrays n)) (v.arrays n) (f n) (vals n) (spent_at p n (d.arrays n)) x (names lost) is
-          (λ y alive.
-          lost_value (names lost) (shape_of (v.arrays n)) (v.arrays n).number (v.arrays n).resync (current_in x.held) y (laid_out (v.arrays n) (set.arrays n low).is_array) was.shape.even
-          was.shape.sized
-          (unspent_then (v.arrays n) (f n) (names lost) is y
-          (promised.covers n live low y (ap (λ has. (p.growing && not has) || p.spent n y) (alike y) ∙ alive))))
+          holds_lost (view_for p (v.arrays n)) (view_for p (f n)) (names lost) x (array_for p (v.arrays n) (set.arrays n low).is_array)
+          (losing_for p (v.arrays n) (f n) (names lost) is (young n low)) d.state (shape_of (d.arrays n)) (vals n) (spent_at p n (d.arrays n))
+          (covers_for p n (f n) (spent_at p n (d.arrays n)) (subst IsLaid (sym is.truth) (laid_of (v.arrays n) (set.arrays n low).is_array)) (λ y alive. own y ∙ alive)
+          (λ y alive. promised.covers n live low y (own y ∙ alive)))
           was in
           record {
             number = number;
             book_number = at.book_number;
             few = at.few;
             written = subst IsWritten (sym (noting.arrays n low)) at.written;
-            members = members_of d.state n (shape_of (d.arrays n)) (shape_of (f n)) (f n).resync (may_vary (f n)) (vals n) (spent_at p n (d.arrays n)) x
-                (subst (λ k. ShapeInvariant d.state k (shape_of (d.arrays n)) (shape_of (f n)) (f n).resync (may_vary (f n)) (vals n) (spent_at p n (d.arrays n)) x) number after.shape);
+            members = members_for d.state (shape_of (d.arrays n)) p (f n) n (vals n) (spent_at p n (d.arrays n)) x number after;
+            single = λ is_young.
+                subst (λ (sh : Shape). IsSynced sh n x.held) (sym is.shape)
+                (single_lowered (names lost) (shape_of (v.arrays n)) n x.held (at.single (ap (λ y. p.growing && y) (sym (young n low)) ∙ is_young)));
             closed = λ none. subst (λ k. NothingPending k x) number (after.closed none);
             truth = subst (IsEarlier (d.arrays n).truth) (sym is.truth) at.truth;
             mark = λ marked. at.mark (is.marked marked);

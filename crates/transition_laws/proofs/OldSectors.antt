@@ -1,5 +1,5 @@
 -- Calls that change the book keep the arrays of the volume tracked, and what these hold in the sectors that they had.
-use Rattle.std.proofs.Common.{◌≡◌, ℕ, ◌<◌, ◌≤◌, ◌==◌, ◌&&◌, ◌||◌, not, Bool, true, false, nat_lt, if◌then◌else◌, List, refl, sym, ap, subst, inl, inr, arith, eq-eqb, eqb-true, lt-ltb}
+use Rattle.std.proofs.Common.{◌≡◌, ℕ, ◌<◌, ◌≤◌, ◌==◌, ◌&&◌, not, Bool, true, false, nat_lt, if◌then◌else◌, List, refl, sym, ap, subst, inl, inr, arith, eq-eqb, eqb-true, lt-ltb, ◌∙◌, ◌||◌}
 use Rattle.std.proofs.lemmas.Bool.{both_ways, cases_Bool}
 use Rattle.rack.specs.Values.{Keeps, MayLeave, only, Values}
 use Rattle.rack.specs.Seen.{RackView}
@@ -152,7 +152,7 @@ module _ (xs : List Change) (v w : Raid) (a b : RackView) (calls : IsGrowing xs 
   live = eq-eqb n n refl
 
   old : HasOldSectors v n v
-  old = record { made = low; small = (calls.began.arrays n low).is_array.small; sectors = λ y has. has }
+  old = record { made = low; small = (calls.began.arrays n low).is_array.small; young = calls.ready n ready; sectors = λ y has. has }
 
   end : HasOldSectors v n (by xs v)
   end = last_old v n xs v (calls.old n ready) old
@@ -177,6 +177,7 @@ module _ (xs : List Change) (v w : Raid) (a b : RackView) (calls : IsGrowing xs 
     live = live;
     one = low;
     goes = λ k is low. early.goes k is low;
+    grown = λ k is low. own (λ j. (v.arrays j).young ≡ false) k is (calls.ready n ready);
     tracked = λ k is low. own (λ j. IsTracked v a j) k is told;
     covers = λ k y is low alive. or_from (is_failed v k) (spent_in (v.arrays k) y) (early.goes k is low) (early.covers k is low y alive);
     values = λ k y is low alive. own (λ j. spent_at p j (v.arrays j) y ≡ false → vals j y ≡ held_in v a j y) k is
@@ -200,7 +201,7 @@ module _ (xs : List Change) (v w : Raid) (a b : RackView) (calls : IsGrowing xs 
       subst (λ (s : State). InvariantInCall s (shape_of (w.arrays n)) (vals n) (spent_at p n (e.arrays n)) (λ place. false) w b n) (sym now.same)
       (subst (λ (s : Shape). InvariantInCall e.state s (vals n) (spent_at p n (e.arrays n)) (λ place. false) w b n) (sym ((now.alike (λ q current. heeded_gone w calls.after q) n live end.made).shape))
       (subst (λ g. InvariantInCall e.state (shape_of (e.arrays n)) (vals n) (spent_at p n (e.arrays n)) g w b n) (λ i q. heeded_gone w calls.after q i)
-      (stood_of e w p vals b now n live end.made joined)))
+      (stood_of e w p vals b now n live end.made ((now.alike (λ q current. heeded_gone w calls.after q) n live end.made).young ∙ end.young) joined)))
 
   source : IsTracked v a n → IsSourced (w.arrays n) (spent_of w n) b
   source told =

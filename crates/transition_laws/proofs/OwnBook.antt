@@ -14,12 +14,12 @@ use Rattle.array_model.specs.View.{may_vary, shape_of}
 use Rattle.array_core.specs.Contents.{lacking_in}
 use Rattle.raid_laws.specs.Moves.{AreMarked}
 use Rattle.raid_laws.specs.Raid.{AreLive, gone_in, Raid}
-use Rattle.transition_laws.specs.Holds.{HoldsMembers, IsSameArrayAs, Promise, RestsArray, spent_at, Stands, StandsArray}
+use Rattle.transition_laws.specs.Holds.{HoldsMembers, IsSameArrayAs, Promise, RestsArray, spent_at, Stands, StandsArray, rows_for}
 use Rattle.transition_laws.proofs.Shown.{spent_same}
 use Rattle.transition_laws.proofs.Standing.{earlier_then}
 
 module _ (d v : Raid) (p : Promise) (vals : ℕ → ℕ → Values) (x : RackView) (stands : Stands d v p vals x) (marked : AreMarked v) (n : ℕ) (live : p.live n ≡ true) (low : n < d.state.made) where
-  at : StandsArray (d.arrays n) (v.arrays n) n (vals n) (spent_at p n (d.arrays n)) x
+  at : StandsArray (d.arrays n) (v.arrays n) n (vals n) p x
   at = stands.arrays n live low
 
   alike : IsSameArrayAs (d.arrays n) (v.arrays n)
@@ -50,15 +50,16 @@ module _ (d v : Raid) (p : Promise) (vals : ℕ → ℕ → Values) (x : RackVie
             (λ k inside here. other k (subst (λ m. k < m) (sym at.disks) inside) (ap (λ roles. unwrap_or (place_with roles k) 16) at.roles ∙ here)));
       }
 
-  array : StandsArray (v.arrays n) (v.arrays n) n (vals n) (spent_at p n (v.arrays n)) x
+  array : StandsArray (v.arrays n) (v.arrays n) n (vals n) p x
   array = record {
     number = at.number;
     book_number = at.number;
     few = at.few;
     written = at.written;
     members =
-        subst (λ (unspent : ℕ → Bool). HoldsMembers n (shape_of (v.arrays n)) (shape_of (v.arrays n)) (v.arrays n).resync (may_vary (v.arrays n)) (vals n) unspent x) spent
-        (subst (λ (shape : Shape). HoldsMembers n shape (shape_of (v.arrays n)) (v.arrays n).resync (may_vary (v.arrays n)) (vals n) (spent_at p n (d.arrays n)) x) (sym alike.shape) at.members);
+        subst (λ (unspent : ℕ → Bool). HoldsMembers n (shape_of (v.arrays n)) (shape_of (v.arrays n)) (rows_for p (v.arrays n)) (may_vary (v.arrays n)) (vals n) unspent x) spent
+        (subst (λ (shape : Shape). HoldsMembers n shape (shape_of (v.arrays n)) (rows_for p (v.arrays n)) (may_vary (v.arrays n)) (vals n) (spent_at p n (d.arrays n)) x) (sym alike.shape) at.members);
+    single = at.single;
     closed = at.closed;
     truth = record { fields = refl; events = omega arith };
     mark = λ is. is;

@@ -1,11 +1,15 @@
 -- Calls that write nothing make no change of the book, whoever goes in them.
-use Rattle.std.proofs.Common.{◌≡◌, ℕ, ◌<◌, Bool, true, false, [], refl, sym, ap, subst, ◌∙◌, inl, inr, arith}
+use Rattle.array_image.specs.Places.{member_slice, data_sector}
+use Rattle.array_model.proofs.Noting.{shape_noted, read_acts}
+use Rattle.array_image.specs.Spent.{spent_by}
+use Rattle.array_image.specs.Held.{IsSynced}
+use Rattle.std.proofs.Common.{◌≡◌, ℕ, ◌<◌, Bool, true, false, refl, sym, ap, subst, ◌∙◌, inl, inr, arith, ◌&&◌, ◌+◌, []}
 use Rattle.rack.specs.Values.{Values}
 use Rattle.pool_state.specs.declared.contents.State.{State}
 use Rattle.rack.specs.Seen.{IsPick, RackView}
 use Rattle.rack.specs.Joins.{leaves_weaker}
 use Rattle.rack.specs.Sequences.{OnlyReads}
-use Rattle.array_image.specs.Arrays.{replayed}
+use Rattle.array_image.specs.Arrays.{replayed, Shape}
 use Rattle.array_image.specs.Left.{NothingPending, IsInside}
 use Rattle.array_image.specs.SoundArray.{first_unsynced}
 use Rattle.array_image.specs.States.{is_current}
@@ -14,20 +18,22 @@ use Rattle.log_laws.proofs.HeldCopies.{holds_keeps}
 use Rattle.log_laws.proofs.KeptAfter.{kept_keeps, kept_more}
 use Rattle.md_super.specs.declared.superblock.Super.{Super}
 use Rattle.array_model.specs.ArrayCalls.{IncludesSpent}
-use Rattle.array_model.specs.Members.{IsSameButSeats}
-use Rattle.array_model.specs.Says.{ArrayInvariant, ShapeInvariant, IsEarlier}
-use Rattle.array_model.specs.View.{may_vary, shape_of, spent_in, View}
+use Rattle.array_model.specs.Members.{IsSameButSeats, Notes}
+use Rattle.array_model.specs.Says.{ArrayInvariant, IsEarlier, IsOpen}
+use Rattle.array_model.specs.View.{may_vary, shape_of, spent_in, View, IsArray}
 use Rattle.raid_laws.specs.Frames.{frame_of}
-use Rattle.array_model.proofs.Keeping.{keeping_calls, left_before, pick_before}
-use Rattle.transition_laws.specs.Holds.{has_sector, HoldsBook, IsFrom, IsPromised, IsSameArrayAs, is_sector, moved_to, Promise, RestsArrays, spent_at, Stands, StandsArray}
+use Rattle.array_model.proofs.Keeping.{keeping_calls, left_before, pick_before, settled_kept}
+use Rattle.transition_laws.specs.Holds.{has_sector, HoldsBook, IsFrom, IsPromised, IsSameArrayAs, is_sector, moved_to, Promise, RestsArrays, spent_at, Stands, StandsArray, HoldsMembers, view_for, rows_for}
 use Rattle.transition_laws.specs.Makes.{Makes, Suits}
 use Rattle.raid_laws.specs.Moves.{AreMarked}
 use Rattle.raid_laws.specs.Raid.{gone_in, is_failed, IsWritten, Raid}
 use Rattle.raid_laws.proofs.Noted.{live_later}
-use Rattle.transition_laws.proofs.Shown.{members_of, spent_other, stands_book}
-use Rattle.transition_laws.proofs.Standing.{earlier_then, holds_of}
-use Rattle.std.proofs.lemmas.Bool.{cases_eq}
+use Rattle.transition_laws.proofs.Shown.{spent_other, stands_book}
+use Rattle.transition_laws.proofs.ArraysFor.{array_for, covers_for, IsLaid, laid_of, members_for, notes_for, same_rows, settled_members, single_lowered, whole_for}
+use Rattle.transition_laws.proofs.Standing.{earlier_then, holds_grown, holds_of}
+use Rattle.std.proofs.lemmas.Bool.{cases_eq, cases_Bool, and_parts}
 use Rattle.raid_laws.proofs.Since.{each_read}
+use Rattle.log_laws.proofs.Kept.{live_on}
 
 -- the run afterwards: places may have gone, and arrays are as it has noted them
 pub record Reads (d v w : Raid) (vals : ℕ → ℕ → Values) (a b : RackView) : Type 0 where
@@ -37,7 +43,7 @@ pub record Reads (d v w : Raid) (vals : ℕ → ℕ → Values) (a b : RackView)
   pub kept : (p : Promise) → IsPromised p w → Stands d v p vals a → LogInvariant d.state w.number (gone_in w) b
   pub back : (p : Promise) → Suits p [] d → IsPromised p w → IsPromised p v
   pub someone : (n : ℕ) → is_failed w n ≡ false → (q : ℕ) × (is_current d.state q ≡ true) × (gone_in w q ≡ false)
-  pub arrays : (p : Promise) → IsPromised p w → Stands d v p vals a → (n : ℕ) → p.live n ≡ true → n < d.state.made → StandsArray (d.arrays n) (w.arrays n) n (vals n) (spent_at p n (d.arrays n)) b
+  pub arrays : (p : Promise) → IsPromised p w → Stands d v p vals a → (n : ℕ) → p.live n ≡ true → n < d.state.made → StandsArray (d.arrays n) (w.arrays n) n (vals n) p b
   pub alike : (p : Promise) → IsPromised p w → Stands d v p vals a → AreMarked w → (n : ℕ) → p.live n ≡ true → n < d.state.made → IsSameArrayAs (d.arrays n) (w.arrays n)
 
 pub read_makes : (d v w : Raid) (vals : ℕ → ℕ → Values) (a b : RackView) → Reads d v w vals a b → Makes [] d v w vals vals a b
@@ -114,9 +120,17 @@ pub record ReadsOne (m : ℕ) (d v w : Raid) (vals : ℕ → ℕ → Values) (a 
   pub written : IsWritten (v.arrays m) → IsWritten (w.arrays m)
   pub shape : AreMarked w → AreMarked v × (shape_of (w.arrays m) ≡ shape_of (v.arrays m))
   pub kept : (p : Promise) → IsPromised p w → Stands d v p vals a → LogInvariant d.state w.number (gone_in w) b
+  -- an array that isn't young
   pub holds :
       (p : Promise) → IsPromised p w → Stands d v p vals a → (spent : ℕ → Bool) → IncludesSpent (w.arrays m) spent
       → ArrayInvariant d.state (shape_of (d.arrays m)) (v.arrays m) (vals m) spent a → ArrayInvariant d.state (shape_of (d.arrays m)) (w.arrays m) (vals m) spent b
+  -- and a young one: whoever went is noted, and its superblocks may be another truth's that leaves the same rows
+  pub is_array : IsArray (v.arrays m)
+  pub synced : View
+  pub notes : Notes (v.arrays m) synced a b
+  pub same_shape : shape_of (w.arrays m) ≡ shape_of synced
+  pub same_went : (w.arrays m).went ≡ synced.went
+  pub same_zeroed : synced.young ≡ true → first_unsynced (w.arrays m).truth ≡ first_unsynced synced.truth
   pub goes : (n : ℕ) → n < v.state.made → is_failed w n ≡ false → is_failed v n ≡ false
   pub someone : (n : ℕ) → is_failed w n ≡ false → (q : ℕ) × (is_current d.state q ≡ true) × (gone_in w q ≡ false)
   -- what was spent stays so
@@ -154,42 +168,106 @@ module _ (m : ℕ) (d v w : Raid) (vals : ℕ → ℕ → Values) (a b : RackVie
       low_after : (n : ℕ) → n < d.state.made → n < w.state.made
       low_after n low = subst (λ (s : State). n < s.made) (sym (call.state ∙ stands.same)) low
 
-      own_array : p.live m ≡ true → m < d.state.made → StandsArray (d.arrays m) (w.arrays m) m (vals m) (spent_at p m (d.arrays m)) b
+      -- no value comes to members' sectors
+      single_read : (n : ℕ) (shape : Shape) → IsOpen shape n a → IsSynced shape n a.held → IsSynced shape n b.held
+      single_read n shape is_open single =
+          settled_kept a.held b.held shape n
+          (λ k sector among counts. call.reads.keeps.held (member_slice k.place n) (data_sector + sector) (live_on call.lasting call.reads.stays (is_open k sector among counts))) single
+
+      module _ (live : p.live m ≡ true) (low : m < d.state.made) where
+        abbrev durable : Shape
+        durable = shape_of (d.arrays m)
+
+        abbrev spent : ℕ → Bool
+        spent = spent_at p m (d.arrays m)
+
+        own_number : (w.arrays m).number ≡ m
+        own_number = call.noted.number ∙ (stands.arrays m live low).number
+
+        book_sectors : (y : ℕ) → has_sector (w.arrays m) y ≡ has_sector (d.arrays m) y
+        book_sectors y = own_sectors y ∙ (stands.arrays m live low).sectors y
+
+        covers : IncludesSpent (w.arrays m) spent
+        covers y alive = promised.covers m live (low_after m low) y (spent_other p m (w.arrays m) (d.arrays m) book_sectors y ∙ alive)
+
+        own_single : (p.growing && (v.arrays m).young) ≡ true → IsSynced (shape_of (w.arrays m)) m b.held
+        own_single young =
+            let at = stands.arrays m live low in
+            subst (λ (sh : Shape). IsSynced sh m b.held) (sym (call.same_shape ∙ shape_noted (v.arrays m) call.synced a b call.notes))
+            (single_lowered call.notes.lost (shape_of (v.arrays m)) m b.held (single_read m (shape_of (v.arrays m)) at.members.open_left (at.single young)))
+
+        -- of a young array that its sectors alone are promised of
+        young_holds : (p.growing && (v.arrays m).young) ≡ true → ArrayInvariant d.state durable (view_for p call.synced) (vals m) spent b
+        young_holds young =
+            let notes = call.notes in
+            let zeroed = call.same_zeroed (notes.same.young ∙ (and_parts p.growing (v.arrays m).young young).1) in
+            let alike : (y : ℕ) → spent y ≡ false → spent_at p m call.synced y ≡ false =
+            λ y alive.
+            spent_other p m call.synced (v.arrays m) (λ z. (keeps_noted (v.arrays m) call.synced notes.same).sectors z) y
+            ∙ spent_other p m (v.arrays m) (d.arrays m) (stands.arrays m live low).sectors y ∙ alive in
+            let own : IncludesSpent call.synced spent =
+            λ y alive.
+            ap (λ (r : ℕ). spent_by (shape_of call.synced) r y) (notes.same.resync ∙ sym call.noted.resync)
+            ∙ subst (λ (sh : Shape). spent_by sh (w.arrays m).resync y ≡ false) call.same_shape (covers y alive) in
+            (read_acts a b (view_for p (v.arrays m)) (view_for p call.synced) call.lasting call.reads (array_for p (v.arrays m) call.is_array) (notes_for p (v.arrays m) call.synced a b notes)
+            d.state durable (vals m) spent
+            (covers_for p m call.synced spent (subst IsLaid (sym notes.same.truth) (laid_of (v.arrays m) call.is_array)) alike own)).holds
+            (holds_of d v p vals a stands m live low)
+
+        own_members : HoldsMembers m durable (shape_of (w.arrays m)) (rows_for p (w.arrays m)) (may_vary (w.arrays m)) (vals m) spent b
+        own_members = elim (cases_Bool (p.growing && (v.arrays m).young)) [
+          | inr old ↦
+              members_for d.state durable p (w.arrays m) m (vals m) spent b own_number
+              (subst (λ u. ArrayInvariant d.state durable u (vals m) spent b) (sym (whole_for p (w.arrays m) (ap (λ y. p.growing && y) call.noted.young ∙ old)))
+              (call.holds p promised stands spent covers (holds_grown d v p vals a stands m live low old)))
+          | inl young ↦
+              let z = call.synced in
+              let held = members_for d.state durable p z m (vals m) spent b (call.notes.same.number ∙ (stands.arrays m live low).number) (young_holds young) in
+              let both = and_parts p.growing (v.arrays m).young young in
+              let rows : rows_for p (w.arrays m) ≡ rows_for p z =
+              same_rows p z (w.arrays m) (call.same_zeroed (call.notes.same.young ∙ both.1)) (call.noted.resync ∙ sym call.notes.same.resync) (call.noted.young ∙ sym call.notes.same.young) in
+              subst (λ (r : ℕ). HoldsMembers m durable (shape_of (w.arrays m)) r (may_vary (w.arrays m)) (vals m) spent b) (sym rows)
+              (settled_members m durable (shape_of (w.arrays m)) (rows_for p z) (may_vary z) (may_vary (w.arrays m)) (vals m) spent b (own_single young)
+              (subst (λ (sh : Shape). HoldsMembers m durable sh (rows_for p z) (may_vary z) (vals m) spent b) (sym call.same_shape) held))
+        ]
+
+        own_closed : (w.arrays m).went ≡ [] → NothingPending m b
+        own_closed none = elim (cases_Bool (p.growing && (v.arrays m).young)) [
+          | inr old ↦ subst (λ k. NothingPending k b) own_number ((call.holds p promised stands spent covers (holds_grown d v p vals a stands m live low old)).closed none)
+          | inl young ↦ subst (λ k. NothingPending k b) (call.notes.same.number ∙ (stands.arrays m live low).number) ((young_holds young).closed (sym call.same_went ∙ none))
+        ]
+
+      own_array : p.live m ≡ true → m < d.state.made → StandsArray (d.arrays m) (w.arrays m) m (vals m) p b
       own_array live low =
           let at = stands.arrays m live low in
-          let sectors : (y : ℕ) → has_sector (w.arrays m) y ≡ has_sector (d.arrays m) y = λ y. own_sectors y ∙ at.sectors y in
-          let number : (w.arrays m).number ≡ m = call.noted.number ∙ at.number in
-          let after =
-          call.holds p promised stands (spent_at p m (d.arrays m))
-          (λ y alive. promised.covers m live (low_after m low) y (spent_other p m (w.arrays m) (d.arrays m) sectors y ∙ alive)) (holds_of d v p vals a stands m live low) in
           record {
-            number = number;
+            number = own_number live low;
             book_number = at.book_number;
             few = at.few;
             written = call.written at.written;
-            members = members_of d.state m (shape_of (d.arrays m)) (shape_of (w.arrays m)) (w.arrays m).resync (may_vary (w.arrays m)) (vals m) (spent_at p m (d.arrays m)) b
-                (subst (λ k. ShapeInvariant d.state k (shape_of (d.arrays m)) (shape_of (w.arrays m)) (w.arrays m).resync (may_vary (w.arrays m)) (vals m) (spent_at p m (d.arrays m)) b) number after.shape);
-            closed = λ none. subst (λ k. NothingPending k b) number (after.closed none);
+            members = own_members live low;
+            single = λ young. own_single live low (ap (λ y. p.growing && y) (sym call.noted.young) ∙ young);
+            closed = own_closed live low;
             truth = earlier_then (d.arrays m).truth (v.arrays m).truth (w.arrays m).truth at.truth call.noted.truth;
             mark = λ marked. at.mark (call.noted.mark marked);
             roles = call.noted.roles ∙ at.roles;
             disks = call.noted.disks ∙ at.disks;
-            sectors = sectors;
+            sectors = book_sectors live low;
           }
 
-      other_array : (n : ℕ) → p.live n ≡ true → n < d.state.made → StandsArray (d.arrays n) (v.arrays n) n (vals n) (spent_at p n (d.arrays n)) b
+      other_array : (n : ℕ) → p.live n ≡ true → n < d.state.made → StandsArray (d.arrays n) (v.arrays n) n (vals n) p b
       other_array n live low =
           let at = stands.arrays n live low in
           let after =
-          (keeping_calls a b call.lasting call.reads.stays call.reads.keeps d.state (shape_of (d.arrays n)) (v.arrays n) (vals n) (spent_at p n (d.arrays n))).holds
+          (keeping_calls a b call.lasting call.reads.stays call.reads.keeps d.state (shape_of (d.arrays n)) (view_for p (v.arrays n)) (vals n) (spent_at p n (d.arrays n))).holds
           (holds_of d v p vals a stands n live low) in
           record {
             number = at.number;
             book_number = at.book_number;
             few = at.few;
             written = at.written;
-            members = members_of d.state n (shape_of (d.arrays n)) (shape_of (v.arrays n)) (v.arrays n).resync (may_vary (v.arrays n)) (vals n) (spent_at p n (d.arrays n)) b
-                (subst (λ k. ShapeInvariant d.state k (shape_of (d.arrays n)) (shape_of (v.arrays n)) (v.arrays n).resync (may_vary (v.arrays n)) (vals n) (spent_at p n (d.arrays n)) b) at.number after.shape);
+            members = members_for d.state (shape_of (d.arrays n)) p (v.arrays n) n (vals n) (spent_at p n (d.arrays n)) b at.number after;
+            single = λ young. single_read n (shape_of (v.arrays n)) at.members.open_left (at.single young);
             closed = λ none. subst (λ k. NothingPending k b) at.number (after.closed none);
             truth = at.truth;
             mark = at.mark;
@@ -198,9 +276,9 @@ module _ (m : ℕ) (d v w : Raid) (vals : ℕ → ℕ → Values) (a b : RackVie
             sectors = at.sectors;
           }
 
-      arrays : (n : ℕ) → p.live n ≡ true → n < d.state.made → StandsArray (d.arrays n) (w.arrays n) n (vals n) (spent_at p n (d.arrays n)) b
+      arrays : (n : ℕ) → p.live n ≡ true → n < d.state.made → StandsArray (d.arrays n) (w.arrays n) n (vals n) p b
       arrays n live low =
-          each (λ k z. p.live k ≡ true → k < d.state.made → StandsArray (d.arrays k) z k (vals k) (spent_at p k (d.arrays k)) b) own_array n
+          each (λ k z. p.live k ≡ true → k < d.state.made → StandsArray (d.arrays k) z k (vals k) p b) own_array n
           (λ apart live low. other_array n live low) live low
 
       alike : AreMarked w → (n : ℕ) → p.live n ≡ true → n < d.state.made → IsSameArrayAs (d.arrays n) (w.arrays n)

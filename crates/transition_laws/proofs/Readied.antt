@@ -1,5 +1,6 @@
 -- The last array is ready for the volume: what shows a book shows it so.
-use Rattle.std.proofs.Common.{◌≡◌, ◌⊎◌, ℕ, ◌/◌, ◌<◌, ◌≤◌, true, false, List, Some, None, refl, sym, ap, subst, ◌∙◌, inl, inr, arith}
+use Rattle.transition_laws.proofs.ArraysFor.{grown_for}
+use Rattle.std.proofs.Common.{◌≡◌, ◌⊎◌, ℕ, ◌/◌, ◌<◌, ◌≤◌, true, false, List, Some, None, refl, sym, ap, subst, ◌∙◌, inl, inr, arith, Bool, if◌then◌else◌}
 use Rattle.rack.specs.Values.{Values}
 use Rattle.rack.specs.Seen.{Image, RackView}
 use Rattle.rack.specs.Targets.{look, put, Target}
@@ -74,6 +75,7 @@ pub record HasAllRows (u : View) : Type 0 where
   pub is_array : IsArray u
   pub steady : is_reshaping u.truth ≡ false
   pub unmarked : u.marked ≡ false
+  pub grown : u.young ≡ false
   pub rows : rows_of u ≤ u.resync
 
 -- what contents leave of its rows is no more than it has
@@ -99,7 +101,9 @@ stages_readied v w vals xs a b p same ready none others = record {
             subst (λ (sh : Shape). AreEven sh n (first_unsynced t) (put a.sectors xs c)) (some_same (shape_of u) shape (sym shows.shows.says.shape_is ∙ shape_is))
             (subst (λ k. AreEven (shape_of u) k (first_unsynced t) (put a.sectors xs c)) at.number
             (settled_even u (vals n) (spent_at p n u) a c (put a.sectors xs c) (first_unsynced t) all.is_array all.steady all.unmarked
-            (subst (λ k. HoldsMembers k (shape_of u) (shape_of u) u.resync (may_vary u) (vals n) (spent_at p n u) a) (sym at.number) at.members) picks
+            (subst (λ k. HoldsMembers k (shape_of u) (shape_of u) u.resync (may_vary u) (vals n) (spent_at p n u) a) (sym at.number)
+            (subst (λ rows. HoldsMembers n (shape_of u) (shape_of u) rows (may_vary u) (vals n) (spent_at p n u) a)
+            (ap (λ (b : Bool). if b then first_unsynced u.truth else u.resync) (grown_for p u all.grown)) at.members)) picks
             (λ place k. subst (λ m. put a.sectors xs c (member_slice place m) k ≡ replayed a.sectors c (member_slice place m) k) (sym at.number) (agree c picks place k))
             (let rows = all.rows in omega (arith, few, rows))))
       ] in

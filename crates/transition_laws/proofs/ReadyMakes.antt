@@ -1,6 +1,8 @@
 -- The commit by which a young array is the volume's makes that change of the book: the run has the array no longer young before it, in memory alone.
-use Rattle.std.proofs.Common.{◌≡◌, ◌⊎◌, ℕ, ◌+◌, ◌-◌, ◌<◌, ◌≤◌, Bool, true, false, ◌==◌, ◌&&◌, ◌||◌, not, nat_lt, if◌then◌else◌, List, [], ◌∷◌, Some, None, refl, sym, ap, ap₂, subst, ◌∙◌, inl, inr, eq-eqb, ne_eqb, le-ltb, lt-ltb, arith}
-use Rattle.std.proofs.lemmas.Bool.{and_parts, both_ways, cases_Bool, cases_eq, cases_lt}
+use Rattle.array_image.specs.Held.{IsSynced}
+use Rattle.transition_laws.proofs.ArraysFor.{fewer_rows, grown_for}
+use Rattle.std.proofs.Common.{◌≡◌, ◌⊎◌, ℕ, ◌+◌, ◌-◌, ◌<◌, ◌≤◌, Bool, true, false, ◌==◌, ◌&&◌, not, nat_lt, if◌then◌else◌, List, ◌∷◌, Some, None, refl, sym, ap, ap₂, subst, ◌∙◌, inl, inr, eq-eqb, ne_eqb, le-ltb, lt-ltb, arith, ◌||◌, []}
+use Rattle.std.proofs.lemmas.Bool.{and_parts, both_ways, cases_Bool, cases_eq, cases_lt, and_from}
 use Rattle.std.specs.List.{list_all}
 use Rattle.rack.specs.Values.{Values}
 use Rattle.rack.specs.Seen.{Image, RackView}
@@ -28,7 +30,7 @@ use Rattle.raid_laws.specs.Moves.{IsHeeded, IsMarkedWhole, IsSeated, IsSet}
 use Rattle.raid_laws.specs.Raid.{gone_in, Raid}
 use Rattle.raid_laws.proofs.Whole.{heeded_gone, heeded_whole}
 use Rattle.transition_laws.specs.Changes.{changed, readied, with_ready}
-use Rattle.transition_laws.specs.Holds.{has_sector, HoldsBook, HoldsMembers, Promise, RestsArray, ShowsArray, Stands, StandsArray, spent_at}
+use Rattle.transition_laws.specs.Holds.{has_sector, HoldsBook, HoldsMembers, Promise, RestsArray, ShowsArray, Stands, StandsArray, spent_at, rows_for}
 use Rattle.transition_laws.specs.Makes.{HoldsAlong, Makes, Suits}
 use Rattle.transition_laws.specs.Readying.{FitsReady}
 use Rattle.transition_laws.proofs.Committing.{committing_makes, IsCommitting, run_after}
@@ -224,6 +226,7 @@ module _ (v : Raid) (x : RackView) (is : IsReadying v x) where
             is_array = seated.is_array;
             steady = at_joined (λ k z. is_reshaping z.truth ≡ false) n same fits.steady;
             unmarked = unmarked n same low;
+            grown = ap (λ (u : View). u.young) (own_view v n same);
             rows = omega (arith, rows, some);
           })
       | inr apart ↦ inl (below n low apart)
@@ -241,6 +244,24 @@ module _ (v : Raid) (x : RackView) (is : IsReadying v x) where
 
       shape : shape_of ((readying v).arrays n) ≡ shape_of (v.arrays n)
       shape = kept_shape (v.arrays n) ((readying v).arrays n).young
+
+      -- no more rows than are zeroed
+      rows : rows_for p ((readying v).arrays n) ≤ rows_for p (v.arrays n)
+      rows = elim (cases_eq n v.state.joined) [
+        | inl same ↦
+            let u = v.arrays n in
+            let own : rows_for p ((readying v).arrays n) ≡ u.resync =
+            ap (λ (b : Bool). if b then first_unsynced u.truth else u.resync) (grown_for p ((readying v).arrays n) (ap (λ (z : View). z.young) (own_view v n same))) in
+            let all = at_joined (λ k z. rows_of z ≤ first_unsynced z.truth) n same is.rows in
+            let most = (is_array n low).synced in
+            let many = either u (p.growing && u.young) (omega (arith, all, most)) in
+            omega (arith, own, many)
+        | inr apart ↦ let same = ap (rows_for p) (other_view v n apart) in omega (arith, same)
+      ]
+        where
+          either : (u : View) (b : Bool) → u.resync ≤ first_unsynced u.truth → u.resync ≤ (if b then first_unsynced u.truth else u.resync)
+          either u true less = less
+          either u false less = omega arith
 
       -- each image says that all rows are zeroed
       unsynced : n ≡ v.state.joined → (c : Image) → Picks x c → (t : Super) → truth_in v.state (replayed x.sectors c) n ≡ Some t → (v.arrays n).resync ≤ first_unsynced t
@@ -276,7 +297,7 @@ module _ (v : Raid) (x : RackView) (is : IsReadying v x) where
             alone = was.alone;
           }
 
-      array : StandsArray ((readying v).arrays n) ((readying v).arrays n) n (vals n) (spent_at p n ((readying v).arrays n)) x
+      array : StandsArray ((readying v).arrays n) ((readying v).arrays n) n (vals n) p x
       array =
           let was = stands.arrays n live low in
           record {
@@ -285,8 +306,14 @@ module _ (v : Raid) (x : RackView) (is : IsReadying v x) where
             few = was.few;
             written = was.written;
             members =
-                subst (λ (unspent : ℕ → Bool). HoldsMembers n (shape_of ((readying v).arrays n)) (shape_of ((readying v).arrays n)) (v.arrays n).resync (may_vary (v.arrays n)) (vals n) unspent x) (sym spent)
-                (subst (λ (sh : Shape). HoldsMembers n sh sh (v.arrays n).resync (may_vary (v.arrays n)) (vals n) (spent_at p n (v.arrays n)) x) (sym shape) was.members);
+                fewer_rows n (shape_of ((readying v).arrays n)) (shape_of ((readying v).arrays n)) (rows_for p (v.arrays n)) (rows_for p ((readying v).arrays n)) (may_vary (v.arrays n)) (vals n)
+                (spent_at p n ((readying v).arrays n)) x rows
+                (subst (λ (unspent : ℕ → Bool). HoldsMembers n (shape_of ((readying v).arrays n)) (shape_of ((readying v).arrays n)) (rows_for p (v.arrays n)) (may_vary (v.arrays n)) (vals n) unspent x) (sym spent)
+                (subst (λ (sh : Shape). HoldsMembers n sh sh (rows_for p (v.arrays n)) (may_vary (v.arrays n)) (vals n) (spent_at p n (v.arrays n)) x) (sym shape) was.members));
+            single = λ young.
+                let parts = and_parts p.growing ((readying v).arrays n).young young in
+                subst (λ (sh : Shape). IsSynced sh n x.held) (sym shape)
+                (was.single (and_from p.growing (v.arrays n).young parts.0 (and_parts (v.arrays n).young (not (n == v.state.joined)) parts.1).0));
             closed = was.closed;
             truth = was.truth;
             mark = was.mark;

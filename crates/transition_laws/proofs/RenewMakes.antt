@@ -1,5 +1,6 @@
 -- A call of one array that leaves its values, and has its superblocks as they were or anew, one after the other: it makes that change of the book, or none.
-use Rattle.std.proofs.Common.{◌≡◌, ℕ, ◌+◌, ◌-◌, ◌^◌, ◌<◌, ◌≤◌, Bool, true, false, nat_lt, if◌then◌else◌, List, [], ◌∷◌, None, unwrap_or, refl, sym, ap, subst, ◌∙◌, inl, inr, arith}
+use Rattle.transition_laws.proofs.ArraysFor.{grown_for, members_grown}
+use Rattle.std.proofs.Common.{◌≡◌, ℕ, ◌+◌, ◌-◌, ◌^◌, ◌<◌, ◌≤◌, Bool, true, false, nat_lt, if◌then◌else◌, List, ◌∷◌, None, unwrap_or, refl, sym, ap, subst, ◌∙◌, inl, inr, arith, ◌&&◌, []}
 use Rattle.std.proofs.lemmas.Bool.{both_ways, cases_Bool}
 use Rattle.rack.specs.Values.{Values}
 use Rattle.rack.specs.Seen.{Image, RackView}
@@ -16,7 +17,7 @@ use Rattle.array_image.proofs.Frames.{super_of_sector, truth_by_supers}
 use Rattle.log_laws.specs.Kept.{LogInvariant}
 use Rattle.array_model.specs.ArrayCalls.{IncludesSpent, Keeping, KeepsSupers, ImageInCall}
 use Rattle.array_model.specs.Members.{IsSameButSeats}
-use Rattle.array_model.specs.Says.{ArrayInvariant, ShapeInvariant, IsEarlier, ImageShowsArray}
+use Rattle.array_model.specs.Says.{ArrayInvariant, IsEarlier, ImageShowsArray}
 use Rattle.array_model.specs.View.{IsArray, may_vary, shape_of, View}
 use Rattle.array_model.proofs.Moves.{CallRefines as CallMoves}
 use Rattle.array_core.specs.Contents.{lacking_in}
@@ -27,12 +28,12 @@ use Rattle.raid_laws.proofs.Rows.{left_rows}
 use Rattle.raid_laws.specs.Frames.{frame_of}
 use Rattle.raid_laws.specs.Moves.{AreMarked}
 use Rattle.raid_laws.specs.Raid.{gone_in, is_failed, IsWritten, Raid}
-use Rattle.transition_laws.specs.Holds.{has_sector, HoldsMembers, IsPromised, IsSameArrayAs, is_sector, moved_to, Promise, RestsArray, ShowsArray, spent_at, Stands, StandsArray}
+use Rattle.transition_laws.specs.Holds.{has_sector, HoldsMembers, IsPromised, IsSameArrayAs, is_sector, moved_to, Promise, RestsArray, ShowsArray, spent_at, Stands, StandsArray, rows_for}
 use Rattle.transition_laws.specs.Makes.{Makes}
-use Rattle.transition_laws.proofs.Shown.{leaves_both, members_of, rests_same, spent_other, spent_same}
+use Rattle.transition_laws.proofs.Shown.{leaves_both, rests_same, spent_other, spent_same}
 use Rattle.transition_laws.proofs.SettledMakes.{settled_sectors}
 use Rattle.transition_laws.specs.Changes.{Change, steps}
-use Rattle.transition_laws.proofs.Standing.{earlier_then, holds_of}
+use Rattle.transition_laws.proofs.Standing.{earlier_then, holds_grown}
 use Rattle.transition_laws.proofs.TurnMakes.{act_makes, turn_makes, Turning, TurnsOne}
 use Rattle.rack.specs.Seen.{SameRack}
 
@@ -66,6 +67,7 @@ pub record RenewsOne (m : ℕ) (next : View) (v w : Raid) (vals : ℕ → ℕ �
       (ArrayInvariant v.state (shape_of (v.arrays m)) (v.arrays m) (vals m) spent a) a b
   pub kept : (p : Promise) → IsPromised p w → Stands v v p vals a → LogInvariant v.state w.number (gone_in w) b
   pub number : (v.arrays m).number ≡ m
+  pub grown : (v.arrays m).young ≡ false
   pub renewed : IsRenewed (v.arrays m) next
   pub noted : IsSameButSeats next (w.arrays m)
   pub written : IsWritten (v.arrays m) → IsWritten (w.arrays m)
@@ -85,6 +87,9 @@ raised_by n = by (nat_lt n (2 ^ 63 - 1))
 module _ (m : ℕ) (next : View) (v w : Raid) (vals : ℕ → ℕ → Values) (a b : RackView) (call : RenewsOne m next v w vals a b) (p : Promise) (promised : IsPromised p w) (stands : Stands v v p vals a) where
   number_after : (w.arrays m).number ≡ m
   number_after = call.noted.number ∙ call.renewed.number ∙ call.number
+
+  grown_after : (p.growing && (w.arrays m).young) ≡ false
+  grown_after = grown_for p (w.arrays m) (call.noted.young ∙ call.renewed.young ∙ call.grown)
 
   book_number : next.number ≡ m
   book_number = call.renewed.number ∙ call.number
@@ -142,7 +147,7 @@ module _ (m : ℕ) (next : View) (v w : Raid) (vals : ℕ → ℕ → Values) (a
         promised.covers m live (subst (λ (s : State). m < s.made) (sym call.same) call.low) y (spent_other p m (w.arrays m) (v.arrays m) sectors_after y ∙ alive)
 
     holds : ArrayInvariant v.state (shape_of (v.arrays m)) (v.arrays m) (vals m) (spent_at p m (v.arrays m)) a
-    holds = holds_of v v p vals a stands m live call.low
+    holds = holds_grown v v p vals a stands m live call.low (grown_for p (v.arrays m) call.grown)
 
     after : ArrayInvariant v.state (shape_of (v.arrays m)) (w.arrays m) (vals m) (spent_at p m (v.arrays m)) b
     after = (moves (spent_at p m (v.arrays m)) covers).holds holds
@@ -204,7 +209,7 @@ module _ (m : ℕ) (next : View) (v w : Raid) (vals : ℕ → ℕ → Values) (a
               (λ k low here. other k (subst (λ (u : Super). k < u.raid_disks) call.noted.truth low) (ap (λ (u : Super). unwrap_or (place_with u.roles.items k) 16) (sym call.noted.truth) ∙ here)));
         }
 
-    array : StandsArray next (w.arrays m) m (vals m) (spent_at p m next) b
+    array : StandsArray next (w.arrays m) m (vals m) p b
     array =
         let was = stands.arrays m live call.low in
         record {
@@ -213,11 +218,11 @@ module _ (m : ℕ) (next : View) (v w : Raid) (vals : ℕ → ℕ → Values) (a
           few = call.few;
           written = call.written was.written;
           members =
-              subst (λ (spent : ℕ → Bool). HoldsMembers m (shape_of next) (shape_of (w.arrays m)) (w.arrays m).resync (may_vary (w.arrays m)) (vals m) spent b)
+              subst (λ (spent : ℕ → Bool). HoldsMembers m (shape_of next) (shape_of (w.arrays m)) (rows_for p (w.arrays m)) (may_vary (w.arrays m)) (vals m) spent b)
               (sym (spent_same p m next (v.arrays m) sectors))
-              (subst (λ (shape : Shape). HoldsMembers m shape (shape_of (w.arrays m)) (w.arrays m).resync (may_vary (w.arrays m)) (vals m) (spent_at p m (v.arrays m)) b) (sym call.renewed.shape)
-              (members_of v.state m (shape_of (v.arrays m)) (shape_of (w.arrays m)) (w.arrays m).resync (may_vary (w.arrays m)) (vals m) (spent_at p m (v.arrays m)) b
-              (subst (λ k. ShapeInvariant v.state k (shape_of (v.arrays m)) (shape_of (w.arrays m)) (w.arrays m).resync (may_vary (w.arrays m)) (vals m) (spent_at p m (v.arrays m)) b) number_after after.shape)));
+              (subst (λ (shape : Shape). HoldsMembers m shape (shape_of (w.arrays m)) (rows_for p (w.arrays m)) (may_vary (w.arrays m)) (vals m) (spent_at p m (v.arrays m)) b) (sym call.renewed.shape)
+              (members_grown v.state (shape_of (v.arrays m)) p (w.arrays m) m (vals m) (spent_at p m (v.arrays m)) b number_after grown_after after));
+          single = λ young. absurd (both_ways (p.growing && (w.arrays m).young) grown_after young);
           closed = λ none. subst (λ k. NothingPending k b) number_after (after.closed none);
           truth = subst (IsEarlier next.truth) (sym call.noted.truth) (record { fields = refl; events = omega arith });
           mark = λ marked. absurd (both_ways (w.arrays m).marked (call.noted.marked ∙ call.renewed.unmarked) marked);

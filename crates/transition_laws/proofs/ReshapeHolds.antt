@@ -1,5 +1,6 @@
 -- What an array in a reshape holds past its end: zeros, as far as rows aren't moved. So it holds the sectors that come with the next row.
-use Rattle.std.proofs.Common.{◌≡◌, ◌⊎◌, ℕ, ◌-◌, ◌*◌, ◌<◌, ◌≤◌, Bool, true, false, ◌&&◌, ◌||◌, not, nat_lt, if◌then◌else◌, List, refl, sym, ap, ap₂, subst, ◌∙◌, inl, inr, le-ltb, ltb-false, arith}
+use Rattle.transition_laws.proofs.ArraysFor.{grown_for}
+use Rattle.std.proofs.Common.{◌≡◌, ◌⊎◌, ℕ, ◌-◌, ◌*◌, ◌<◌, ◌≤◌, Bool, true, false, ◌&&◌, not, nat_lt, if◌then◌else◌, List, refl, sym, ap, ap₂, subst, ◌∙◌, inl, inr, le-ltb, ltb-false, arith, ◌||◌}
 use Rattle.std.specs.Option.{option_map_or}
 use Rattle.std.proofs.lemmas.Bool.{cases_Bool}
 use Rattle.rack.specs.Values.{MayLeave, only, Values}
@@ -21,7 +22,7 @@ use Rattle.raid_laws.specs.Raid.{Raid}
 use Rattle.raid_laws.proofs.Over.{or_parts}
 use Rattle.transition_laws.specs.Holds.{has_sector, moved_to, Promise, spent_at, Stands}
 use Rattle.transition_laws.proofs.ReshapeSectors.{steady}
-use Rattle.transition_laws.proofs.Standing.{holds_of}
+use Rattle.transition_laws.proofs.Standing.{holds_grown}
 use Rattle.transition_laws.proofs.StepMakes.{unspent_parts}
 
 module _ (v : View) (is_array : IsArray v) (reshaping : is_reshaping v.truth ≡ true) (low : (m : Member) → Among m (shape_of v).members → m.reach ≤ v.truth.size) where
@@ -110,7 +111,7 @@ pub ahead_holds : (v : Raid) (m many events : ℕ) (p : Promise) (vals : ℕ →
     → ArrayInvariant v.state (shape_of (v.arrays m)) (v.arrays m) (vals m) (spent_at p m (ahead_by (v.arrays m) many events)) a
 ahead_holds v m many events p vals a stands live low is_array reshaping young reach zeroed =
     holds_past (v.arrays m) is_array reshaping reach v.state (vals m) (spent_at p m (v.arrays m)) (spent_at p m (ahead_by (v.arrays m) many events)) a
-    (λ y alive. of y (unspent_parts p.growing (has_sector (ahead_by (v.arrays m) many events) y) (p.spent m y) alive)) (holds_of v v p vals a stands m live low)
+    (λ y alive. of y (unspent_parts p.growing (has_sector (ahead_by (v.arrays m) many events) y) (p.spent m y) alive)) (holds_grown v v p vals a stands m live low (grown_for p (v.arrays m) young))
   where
     moved : moved_to (v.arrays m).truth ≡ (v.arrays m).truth.reshape_position
     moved = ap (λ (b : Bool). if b then (v.arrays m).truth.reshape_position else 0) reshaping

@@ -1,6 +1,7 @@
 -- Arrays that are settled one after the other make no change of the book.
-use Rattle.std.proofs.Common.{◌≡◌, ℕ, ◌+◌, ◌-◌, ◌*◌, ◌/◌, ◌^◌, ◌<◌, ◌≤◌, Bool, true, false, ◌&&◌, ◌||◌, not, nat_lt, if◌then◌else◌, [], refl, sym, ap, subst, ◌∙◌, inl, inr, le-ltb, arith}
-use Rattle.std.proofs.lemmas.Bool.{both_ways, cases_eq}
+use Rattle.md_super.specs.declared.superblock.Super.{Super}
+use Rattle.std.proofs.Common.{◌≡◌, ℕ, ◌+◌, ◌-◌, ◌*◌, ◌/◌, ◌^◌, ◌<◌, ◌≤◌, Bool, true, false, ◌&&◌, not, nat_lt, if◌then◌else◌, refl, sym, ap, subst, ◌∙◌, inl, inr, le-ltb, arith, ◌||◌, []}
+use Rattle.std.proofs.lemmas.Bool.{both_ways, cases_eq, cases_Bool}
 use Rattle.rack.specs.Values.{Values}
 use Rattle.rack.specs.Seen.{RackView}
 use Rattle.rack.specs.Joins.{leaves_same, stays_same}
@@ -34,7 +35,7 @@ use Rattle.transition_laws.specs.Losses.{SettlesBook}
 use Rattle.transition_laws.specs.Makes.{Makes, makes_then, Suits}
 use Rattle.transition_laws.proofs.ReadMakes.{KeepsArray, read_log, read_one_makes}
 use Rattle.transition_laws.proofs.Shown.{spent_other, stands_shape}
-use Rattle.transition_laws.proofs.Standing.{holds_of}
+use Rattle.transition_laws.proofs.Standing.{holds_grown}
 
 -- ---- an array that is settled
 
@@ -95,6 +96,10 @@ keeps_settled s u z w is_array later same is =
       sectors = λ y. ap (λ (k : View). has_sector k y) whole ∙ settled_sectors u size y;
     }
 
+again : (u : View) → shape_of (settled u) ≡ shape_of u
+unfolding shape_of
+again u = refl
+
 -- ---- a settling
 
 module _ (v : Raid) (f : ℕ → View) (m : ℕ) (b c : RackView) (set : IsSet v b) (call : ReadsArray v f m b c) (settles : Settles (v.arrays m) (f m) b c)
@@ -112,6 +117,14 @@ module _ (v : Raid) (f : ℕ → View) (m : ℕ) (b c : RackView) (set : IsSet v
         shape = λ are. (marked_before v f m b c set call.views are, sym (call.loses.shape are));
         kept = λ p promised stands. read_log d v (with_arrays v f) b c set.lasting call.reads refl (more_gone v f m b c set call.views) stands.log;
         holds = λ p promised stands spent covers. (syncs d.state (shape_of (d.arrays m)) (vals m) spent covers).acts.holds;
+        is_array = (set.arrays m call.views.low).is_array;
+        synced = settles.synced;
+        notes = settles.notes;
+        same_shape = ap shape_of settles.truth ∙ again settles.synced;
+        same_went = ap (λ (u : View). u.went) settles.truth;
+        same_zeroed = λ young.
+            ap (λ (u : View). first_unsynced u.truth) settles.truth
+            ∙ zeroed_again settles.synced (subst (λ (t : Super). t.size < 2 ^ 48) (sym settles.notes.same.truth) (set.arrays m call.views.low).is_array.small) young;
         goes = λ n low goes. over_still v (with_arrays v f) (further v f m b c set call.views v.number (omega arith)) n low goes;
         someone = λ n goes.
             let left = someone_left (with_arrays v f) n goes in
@@ -157,8 +170,14 @@ settles_book_more v w f m a b c state before set call settles syncs = record {
             let covers : IncludesSpent (f m) (spent_at p m (d.arrays m)) =
             λ y alive. promised.covers m live_m call.views.low y (spent_other p m (f m) (d.arrays m) (last.arrays m live_m low_m).sectors y ∙ alive) in
             subst (λ k. IsSynced (shape_of (f k)) k c.held) (sym is)
-            (subst (λ k. IsSynced (shape_of (f m)) k c.held) call.views.seated.number
-            ((syncs d.state (shape_of (d.arrays m)) (vals m) (spent_at p m (d.arrays m)) covers).settled (holds_of d w p vals b stood m live_m low_m)))
+            (elim (cases_Bool (p.growing && (f m).young)) [
+              | inl young ↦ (last.arrays m live_m low_m).single young
+              | inr old ↦
+                  let same_young : (f m).young ≡ (w.arrays m).young = ap (λ (u : View). u.young) settles.truth ∙ settles.notes.same.young in
+                  subst (λ k. IsSynced (shape_of (f m)) k c.held) call.views.seated.number
+                  ((syncs d.state (shape_of (d.arrays m)) (vals m) (spent_at p m (d.arrays m)) covers).settled
+                  (holds_grown d w p vals b stood m live_m low_m (ap (λ y. p.growing && y) (sym same_young) ∙ old)))
+            ])
         | inr other ↦
             let open_left = (stands_shape d w p vals b stood n live low).open_left in
             subst (λ (u : View). IsSynced (shape_of u) n c.held) (sym (call.views.others n other))

@@ -1,5 +1,5 @@
 -- Contents that show a book go by their own slices; a run that stands, as calls of an array see it.
-use Rattle.std.proofs.Common.{◌≡◌, ℕ, ◌<◌, Bool, true, Some, sym, subst, ap, ◌∙◌, ◌&&◌, ◌||◌, not}
+use Rattle.std.proofs.Common.{◌≡◌, ℕ, ◌<◌, Bool, true, Some, sym, subst, ap, ◌∙◌, ◌&&◌, not, ◌||◌}
 use Rattle.rack.specs.Values.{Values}
 use Rattle.rack.specs.Seen.{Image, RackView}
 use Rattle.rack.specs.Moments.{Leaves}
@@ -15,7 +15,7 @@ use Rattle.log_laws.proofs.HeldCopies.{kept_says}
 use Rattle.log_laws.proofs.Kept.{kept_replayed, stands_of}
 use Rattle.array_model.specs.Says.{ShapeInvariant, ImageShowsArray}
 use Rattle.array_model.specs.View.{may_vary, shape_of, View}
-use Rattle.transition_laws.specs.Holds.{has_sector, HoldsBook, HoldsMembers, Promise, RestsArray, ShowsArray, Stands, spent_at}
+use Rattle.transition_laws.specs.Holds.{has_sector, HoldsBook, HoldsMembers, Promise, RestsArray, rows_for, ShowsArray, Stands, spent_at}
 use Rattle.raid_laws.specs.Raid.{gone_in, Raid}
 use Rattle.raid_laws.proofs.Own.{says_same}
 
@@ -100,9 +100,9 @@ stands_says d v p vals x stands n live low r left =
     says_same d.state n (shape_of (d.arrays n)) (vals n) (spent_at p n (d.arrays n)) r (replayed x.sectors left.0) (λ place t. left.2 _ t) (stands.images left.0 left.1 n live low).shows.says
 
 pub stands_shape : (d v : Raid) (p : Promise) (vals : ℕ → ℕ → Values) (x : RackView) → Stands d v p vals x → (n : ℕ) → p.live n ≡ true → n < d.state.made
-    → ShapeInvariant d.state n (shape_of (d.arrays n)) (shape_of (v.arrays n)) (v.arrays n).resync (may_vary (v.arrays n)) (vals n) (spent_at p n (d.arrays n)) x
+    → ShapeInvariant d.state n (shape_of (d.arrays n)) (shape_of (v.arrays n)) (rows_for p (v.arrays n)) (may_vary (v.arrays n)) (vals n) (spent_at p n (d.arrays n)) x
 stands_shape d v p vals x stands n live low =
-    shape_with d.state n (shape_of (d.arrays n)) (shape_of (v.arrays n)) (v.arrays n).resync (may_vary (v.arrays n)) (vals n) (spent_at p n (d.arrays n)) x
+    shape_with d.state n (shape_of (d.arrays n)) (shape_of (v.arrays n)) (rows_for p (v.arrays n)) (may_vary (v.arrays n)) (vals n) (spent_at p n (d.arrays n)) x
     (stands.arrays n live low).members (stands_says d v p vals x stands n live low)
 
 -- ---- moments

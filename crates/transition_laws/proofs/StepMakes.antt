@@ -1,5 +1,6 @@
 -- A step of one array by one commit, of maintenance or of a reshape, makes that change of the book.
-use Rattle.std.proofs.Common.{◌≡◌, ◌⊎◌, ℕ, ◌<◌, ◌≤◌, Bool, true, false, List, [], ◌∷◌, None, Some, unwrap_or, refl, sym, ap, ap₂, subst, ◌∙◌, inl, inr, arith, ◌&&◌, ◌||◌, not}
+use Rattle.transition_laws.proofs.ArraysFor.{grown_for, members_grown}
+use Rattle.std.proofs.Common.{◌≡◌, ◌⊎◌, ℕ, ◌<◌, ◌≤◌, Bool, true, false, List, ◌∷◌, None, Some, unwrap_or, refl, sym, ap, ap₂, subst, ◌∙◌, inl, inr, arith, ◌&&◌, not, [], ◌||◌}
 use Rattle.std.proofs.lemmas.Bool.{both_ways, cases_Bool, cases_eq}
 use Rattle.rack.specs.Values.{Values}
 use Rattle.rack.specs.Seen.{Image, RackView, SameRack}
@@ -14,8 +15,8 @@ use Rattle.array_image.specs.Supers.{super_in, truth_in}
 use Rattle.array_image.proofs.Frames.{super_of_sector, truth_by_supers}
 use Rattle.log_laws.specs.Kept.{LogInvariant}
 use Rattle.array_model.specs.ArrayCalls.{IncludesSpent, HasFields, KeepsSupers, StepRefines}
-use Rattle.array_model.specs.Says.{ArrayInvariant, ShapeInvariant, IsEarlier, ImageShowsArray}
-use Rattle.array_model.specs.View.{has_gone, may_vary, shape_of, spent_in, View}
+use Rattle.array_model.specs.Says.{ArrayInvariant, IsEarlier, ImageShowsArray}
+use Rattle.array_model.specs.View.{has_gone, shape_of, spent_in, View}
 use Rattle.array_model.proofs.Moves.{CallRefines as CallMoves}
 use Rattle.sync_laws.specs.Steps.{if_done, MayStep, Steps}
 use Rattle.reshape_laws.specs.Reshapes.{MayReshape, Reshapes}
@@ -26,8 +27,8 @@ use Rattle.transition_laws.specs.Makes.{Makes, Suits}
 use Rattle.raid_laws.specs.Moves.{AreMarked}
 use Rattle.raid_laws.specs.Raid.{gone_in, is_failed, IsWritten, Raid}
 use Rattle.raid_laws.proofs.Marking.{earlier_same}
-use Rattle.transition_laws.proofs.Shown.{members_of, shows_same, spent_other, spent_same}
-use Rattle.transition_laws.proofs.Standing.{holds_of}
+use Rattle.transition_laws.proofs.Shown.{shows_same, spent_other, spent_same}
+use Rattle.transition_laws.proofs.Standing.{holds_grown}
 use Rattle.transition_laws.proofs.TurnMakes.{turn_makes, Turning}
 
 -- contents say the array as it was, or as the step makes it
@@ -77,7 +78,8 @@ pub record StepsOnce (m : ℕ) (next : View) (v w : Raid) (vals : ℕ → ℕ �
   -- the step
   pub becomes : (p : Promise) → IsPromised p w → Stands v v p vals a → Becomes v.state (v.arrays m) next (w.arrays m) w.number (vals m) a b
   pub gone : LogInvariant v.state w.number (has_gone (w.arrays m)) b → LogInvariant v.state w.number (gone_in w) b
-  -- the array once it is done
+  -- the array once it is done, which isn't young
+  pub grown : next.young ≡ false
   pub number : (v.arrays m).number ≡ m
   pub next_number : next.number ≡ m
   pub unmarked : next.marked ≡ false
@@ -98,10 +100,10 @@ pub record StepsOnce (m : ℕ) (next : View) (v w : Raid) (vals : ℕ → ℕ �
       → ArrayInvariant v.state (shape_of (v.arrays m)) (v.arrays m) (vals m) (spent_at p m next) a
 
 -- as it does where it gets none
-pub holds_next : (m : ℕ) (next : View) (v : Raid) (p : Promise) (vals : ℕ → ℕ → Values) (a : RackView) → Stands v v p vals a → p.live m ≡ true → m < v.state.made
+pub holds_next : (m : ℕ) (next : View) (v : Raid) (p : Promise) (vals : ℕ → ℕ → Values) (a : RackView) → Stands v v p vals a → p.live m ≡ true → m < v.state.made → (v.arrays m).young ≡ false
     → ((y : ℕ) → has_sector (v.arrays m) y ≡ has_sector next y) → ArrayInvariant v.state (shape_of (v.arrays m)) (v.arrays m) (vals m) (spent_at p m next) a
-holds_next m next v p vals a stands live low same =
-    subst (λ spent. ArrayInvariant v.state (shape_of (v.arrays m)) (v.arrays m) (vals m) spent a) (spent_same p m (v.arrays m) next same) (holds_of v v p vals a stands m live low)
+holds_next m next v p vals a stands live low old same =
+    subst (λ spent. ArrayInvariant v.state (shape_of (v.arrays m)) (v.arrays m) (vals m) spent a) (spent_same p m (v.arrays m) next same) (holds_grown v v p vals a stands m live low (grown_for p (v.arrays m) old))
 
 -- what is spent by an array with more sectors is spent by one with fewer
 spent_more : (growing spent was now : Bool) → (was ≡ true → now ≡ true) → ((growing && not was) || spent) ≡ false → ((growing && not now) || spent) ≡ false
@@ -229,7 +231,7 @@ module _ (m : ℕ) (next : View) (v w : Raid) (vals : ℕ → ℕ → Values) (a
               (λ k low here. other k (subst (λ (t : Super). k < t.raid_disks) call.truth low) (ap (λ (t : Super). unwrap_or (place_with t.roles.items k) 16) (sym call.truth) ∙ here)));
         }
 
-    array : StandsArray next (w.arrays m) m (vals m) (spent_at p m next) b
+    array : StandsArray next (w.arrays m) m (vals m) p b
     array =
         let was = stands.arrays m live call.low in
         record {
@@ -237,8 +239,8 @@ module _ (m : ℕ) (next : View) (v w : Raid) (vals : ℕ → ℕ → Values) (a
           book_number = call.next_number;
           few = call.few;
           written = call.written was.written;
-          members = members_of v.state m (shape_of next) (shape_of (w.arrays m)) (w.arrays m).resync (may_vary (w.arrays m)) (vals m) (spent_at p m next) b
-              (subst (λ k. ShapeInvariant v.state k (shape_of next) (shape_of (w.arrays m)) (w.arrays m).resync (may_vary (w.arrays m)) (vals m) (spent_at p m next) b) call.number_after after.shape);
+          members = members_grown v.state (shape_of next) p (w.arrays m) m (vals m) (spent_at p m next) b call.number_after (grown_for p (w.arrays m) (call.young ∙ call.grown)) after;
+          single = λ young. absurd (both_ways (p.growing && (w.arrays m).young) (grown_for p (w.arrays m) (call.young ∙ call.grown)) young);
           closed = λ none. subst (λ k. NothingPending k b) call.number_after (after.closed none);
           truth = subst (IsEarlier next.truth) (sym call.truth) (record { fields = refl; events = omega arith });
           mark = λ marked. absurd (both_ways (w.arrays m).marked call.unmarked_after marked);

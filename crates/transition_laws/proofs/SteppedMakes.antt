@@ -1,5 +1,5 @@
 -- A step of maintenance in a call of all arrays makes its change of the book.
-use Rattle.std.proofs.Common.{◌≡◌, ℕ, Bool, true, false, List, [], ◌∷◌, refl, sym, ap, ap₂, subst, ◌∙◌, arith}
+use Rattle.std.proofs.Common.{◌≡◌, ℕ, Bool, true, false, List, ◌∷◌, refl, sym, ap, ap₂, subst, ◌∙◌, arith, []}
 use Rattle.std.proofs.lemmas.Bool.{both_ways}
 use Rattle.rack.specs.Values.{Values}
 use Rattle.rack.specs.Seen.{RackView}
@@ -81,6 +81,7 @@ module _ (v : Raid) (f : ℕ → View) (next : View) (number m : ℕ) (a b : Rac
     gone = λ kept.
         kept_more v.state number (has_gone (f m)) (gone_in (called v f number)) b
         (λ q went. gone_from (called v f number) q m (call.few q went) call.low went) kept;
+    grown = young;
     number = (set.arrays m call.low).number;
     next_number = call.is_next.seated.number;
     unmarked = unmarked;
@@ -98,7 +99,7 @@ module _ (v : Raid) (f : ℕ → View) (next : View) (number m : ℕ) (a b : Rac
     };
     spares = λ y either alive. call.steps.spent (set.arrays m call.low).is_of_pool.rows y alive;
     sectors = λ y has. sym (same_sectors y) ∙ has;
-    holds = λ p promised stands live. holds_next m next v p vals a stands live call.low same_sectors;
+    holds = λ p promised stands live. holds_next m next v p vals a stands live call.low (sym call.young ∙ young) same_sectors;
   }
 
   pub stepped_makes : Makes (steps m next ∷ []) v v (called v f number) vals vals a b
@@ -138,6 +139,12 @@ module _ (v : Raid) (f : ℕ → View) (next : View) (number m : ℕ) (a b : Rac
         holds = λ p promised stands spent covers holds.
             subst (λ (d : Bool). ArrayInvariant v.state (if_done d (shape_of (v.arrays m)) (shape_of next)) (f m) (vals m) spent b) is
             ((call.steps.moving v.state (vals m) spent covers (step_allowed v f next number m a b on answered set call vals p promised stands)).holds holds);
+        is_array = (set.arrays m call.low).is_array;
+        synced = f m;
+        notes = noted_as_it_was;
+        same_shape = refl;
+        same_went = refl;
+        same_zeroed = λ young. refl;
         goes = λ n low goes. over_still v (called v f number) (further v f m a b set one number call.later) n low goes;
         someone = λ n goes. someone_left (called v f number) n goes;
         spares = λ y alive. call.steps.spent (set.arrays m call.low).is_of_pool.rows y alive;

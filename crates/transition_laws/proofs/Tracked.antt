@@ -1,5 +1,8 @@
 -- Arrays that are tracked stand by the book that has just them, with what they hold.
-use Rattle.std.proofs.Common.{◌≡◌, ℕ, ◌<◌, true, false, Some, refl, sym, ap, subst, ◌∙◌, arith}
+use Rattle.array_image.specs.Held.{current_in}
+use Rattle.array_image.specs.Even.{AreEven}
+use Rattle.std.proofs.lemmas.Bool.{both_ways}
+use Rattle.std.proofs.Common.{◌≡◌, ℕ, ◌<◌, true, false, Some, refl, sym, ap, subst, ◌∙◌, arith, ◌&&◌, Bool, if◌then◌else◌}
 use Rattle.rack.specs.Values.{Values, MayLeave}
 use Rattle.rack.specs.Seen.{Image, RackView}
 use Rattle.md_super.specs.declared.superblock.Super.{Super}
@@ -14,7 +17,8 @@ use Rattle.raid_laws.specs.Moves.{AreMarked}
 use Rattle.raid_laws.specs.Raid.{gone_in, held_in, InvariantInCall, is_failed, IsTracked, Raid, spent_of}
 use Rattle.raid_laws.specs.Rows.{LeavesLacking, LeavesRows}
 use Rattle.raid_laws.specs.Since.{HoldsEach}
-use Rattle.transition_laws.specs.Holds.{HoldsMembers, IsFrom, Promise, RestsArray, spent_at, Stands, StandsArray}
+use Rattle.transition_laws.specs.Holds.{HoldsMembers, IsFrom, Promise, RestsArray, spent_at, Stands, StandsArray, rows_for}
+use Rattle.array_image.specs.SoundArray.{first_unsynced}
 
 -- What a promise of such arrays asks for.
 pub record IsTrackedFor (v : Raid) (p : Promise) (vals : ℕ → ℕ → Values) (x : RackView) : Type 0 where
@@ -23,6 +27,8 @@ pub record IsTrackedFor (v : Raid) (p : Promise) (vals : ℕ → ℕ → Values)
   pub live : p.live p.one ≡ true
   pub one : p.one < v.state.made
   pub goes : (n : ℕ) → p.live n ≡ true → n < v.state.made → is_failed v n ≡ false
+  -- none of which sectors alone are promised is young
+  pub grown : (n : ℕ) → p.live n ≡ true → n < v.state.made → (p.growing && (v.arrays n).young) ≡ false
   pub tracked : (n : ℕ) → p.live n ≡ true → n < v.state.made → IsTracked v x n
   -- the values are those that are held, in the sectors of which something is promised
   pub covers : (n y : ℕ) → p.live n ≡ true → n < v.state.made → spent_at p n (v.arrays n) y ≡ false → spent_of v n y ≡ false
@@ -63,13 +69,14 @@ module _ (v : Raid) (p : Promise) (vals : ℕ → ℕ → Values) (x : RackView)
         alone = λ place current other. stood.holds.alone r left place current other;
       }
 
-  array : StandsArray (v.arrays n) (v.arrays n) n (vals n) (spent_at p n (v.arrays n)) x
+  array : StandsArray (v.arrays n) (v.arrays n) n (vals n) p x
   array = record {
     number = stood.number;
     book_number = stood.number;
     few = for.few n live low;
     written = stood.written;
-    members = subst (λ k. HoldsMembers k (shape_of (v.arrays n)) (shape_of (v.arrays n)) (v.arrays n).resync (may_vary (v.arrays n)) (vals n) (spent_at p n (v.arrays n)) x) stood.number (
+    single = λ young. absurd (both_ways (p.growing && (v.arrays n).young) (for.grown n live low) young);
+    members = subst (λ k. HoldsMembers k (shape_of (v.arrays n)) (shape_of (v.arrays n)) (rows_for p (v.arrays n)) (may_vary (v.arrays n)) (vals n) (spent_at p n (v.arrays n)) x) stood.number (
         let held = stood.holds.shape in record {
           open_slices = held.open_slices;
           open_left = held.open_left;
@@ -77,7 +84,7 @@ module _ (v : Raid) (p : Promise) (vals : ℕ → ℕ → Values) (x : RackView)
           within = λ y alive u may source. subst (λ (z : Values). MayLeave z u) (same y alive) (held.within y (covered y alive) u may source);
           current = λ y alive. held.current y (covered y alive) ∙ ap (λ (z : Values). z.current) (same y alive);
           sized = held.sized;
-          even = held.even;
+          even = subst (λ rows. AreEven (shape_of (v.arrays n)) (v.arrays n).number rows (current_in x.held)) (sym (ap (λ (b : Bool). if b then first_unsynced (v.arrays n).truth else (v.arrays n).resync) (for.grown n live low))) held.even;
           settled = held.settled;
         });
     closed = λ none. subst (λ k. NothingPending k x) stood.number (stood.holds.closed none);

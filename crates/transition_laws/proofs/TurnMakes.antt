@@ -1,5 +1,7 @@
 -- A call of one array that changes it makes that change of the book.
-use Rattle.std.proofs.Common.{◌≡◌, ◌⊎◌, ℕ, ◌<◌, Bool, true, false, ◌==◌, if◌then◌else◌, List, [], ◌∷◌, refl, sym, ap, subst, ◌∙◌, inl, inr, eq-eqb, eqb-true, ne_eqb}
+use Rattle.array_model.proofs.Keeping.{settled_kept}
+use Rattle.transition_laws.proofs.ArraysFor.{members_for}
+use Rattle.std.proofs.Common.{◌≡◌, ◌⊎◌, ℕ, ◌<◌, Bool, true, false, ◌==◌, if◌then◌else◌, List, ◌∷◌, refl, sym, ap, subst, ◌∙◌, inl, inr, eq-eqb, eqb-true, ne_eqb, ◌+◌, []}
 use Rattle.std.proofs.lemmas.Bool.{both_ways, cases_Bool, cases_eq}
 use Rattle.rack.specs.Values.{Values}
 use Rattle.rack.specs.Seen.{Image, RackView, SameRack}
@@ -8,25 +10,25 @@ use Rattle.rack.specs.Joins.{leaves_weaker}
 use Rattle.pool_state.specs.declared.contents.State.{State}
 use Rattle.array_image.specs.Arrays.{replayed}
 use Rattle.array_image.specs.Left.{PendingOnlyFor, NothingPending, IsInside, IsLeft, Picks}
-use Rattle.array_image.specs.Places.{member_slice}
+use Rattle.array_image.specs.Places.{member_slice, data_sector}
 use Rattle.array_image.specs.States.{is_current}
 use Rattle.array_image.proofs.Frames.{Agree}
 use Rattle.log_laws.specs.Kept.{LogInvariant}
 use Rattle.array_model.specs.ArrayCalls.{ImageInCall}
-use Rattle.array_model.specs.Says.{ShapeInvariant}
-use Rattle.array_model.specs.View.{may_vary, shape_of, View}
+use Rattle.array_model.specs.View.{shape_of, View}
 use Rattle.array_model.proofs.Moves.{CallRefines as CallMoves}
 use Rattle.array_model.proofs.Others.{apart_left, other_apart, other_holds_all}
 use Rattle.transition_laws.specs.Changes.{Change, changed, is_due, with_view}
-use Rattle.transition_laws.specs.Holds.{HoldsBook, IsFrom, IsPromised, IsSameArrayAs, Promise, RestsArray, ShowsArray, spent_at, Stands, StandsArray}
+use Rattle.transition_laws.specs.Holds.{HoldsBook, IsFrom, IsPromised, IsSameArrayAs, Promise, RestsArray, ShowsArray, spent_at, Stands, StandsArray, view_for}
 use Rattle.transition_laws.specs.Makes.{Grows, Makes, Suits}
 use Rattle.raid_laws.specs.Moves.{AreMarked}
 use Rattle.raid_laws.specs.Raid.{gone_in, is_failed, Raid}
 use Rattle.raid_laws.specs.Since.{AreEach, KeepsEach}
 use Rattle.raid_laws.proofs.Logs.{each_call, kept_calm, logs_call, turned}
 use Rattle.raid_laws.proofs.Noted.{live_later}
-use Rattle.transition_laws.proofs.Shown.{leaves_both, members_of, rests_same}
+use Rattle.transition_laws.proofs.Shown.{leaves_both, rests_same}
 use Rattle.transition_laws.proofs.Standing.{holds_of}
+use Rattle.log_laws.proofs.Kept.{live_on}
 
 -- What a call of array m, which makes `next` of it, owes: at each moment its slices show the array before it or after it, and then the run stands so.
 pub record Turning (m : ℕ) (next : View) (v w : Raid) (p : Promise) (now : ℕ → ℕ → Values) (a b : RackView) : Type 1 where
@@ -37,7 +39,7 @@ pub record Turning (m : ℕ) (next : View) (v w : Raid) (p : Promise) (now : ℕ
   pub kept : LogInvariant v.state w.number (gone_in w) b
   pub own : p.live m ≡ true → H × ((r : Image) → P r → ShowsArray v.state (v.arrays m) p m (now m) r ⊎ ShowsArray v.state next p m (now m) r)
   pub images : p.live m ≡ true → (r : Image) → IsLeft b r → RestsArray v.state next p m (now m) r
-  pub array : p.live m ≡ true → StandsArray next (w.arrays m) m (now m) (spent_at p m next) b
+  pub array : p.live m ≡ true → StandsArray next (w.arrays m) m (now m) p b
   pub alike : p.live m ≡ true → AreMarked w → IsSameArrayAs next (w.arrays m)
 
 pub record TurnsOne (xs : List Change) (m : ℕ) (next : View) (v w : Raid) (vals now : ℕ → ℕ → Values) (a b : RackView) : Type 1 where
@@ -139,20 +141,25 @@ module _ (xs : List Change) (m : ℕ) (next : View) (v w : Raid) (vals now : ℕ
       (λ n apart live low.
       subst (λ z. X n z (w.arrays n)) (sym (other_view n apart)) (subst (X n (v.arrays n)) (sym (call.others n apart)) (other n live low apart)))
 
-  other_stands : (n : ℕ) → p.live n ≡ true → n < v.state.made → (n ≡ m → ⊥) → StandsArray (v.arrays n) (v.arrays n) n (now n) (spent_at p n (v.arrays n)) b
+  other_stands : (n : ℕ) → p.live n ≡ true → n < v.state.made → (n ≡ m → ⊥) → StandsArray (v.arrays n) (v.arrays n) n (now n) p b
   other_stands n live low apart =
       let was = stands.arrays n live low in
       let holds =
-      other_holds_all m (v.arrays n) call.few (subst (λ k. k < 16) (sym was.number) was.few) (λ is. apart (sym was.number ∙ is)) call.lasting call.stays turn.moves.apart calm
+      other_holds_all m (view_for p (v.arrays n)) call.few (subst (λ k. k < 16) (sym was.number) was.few) (λ is. apart (sym was.number ∙ is)) call.lasting call.stays turn.moves.apart calm
       (turn.moves.calm calm) v.state (shape_of (v.arrays n)) (vals n) (spent_at p n (v.arrays n)) (holds_of v v p vals a stands n live low) in
-      subst (λ z. StandsArray (v.arrays n) (v.arrays n) n z (spent_at p n (v.arrays n)) b) (sym (call.values n apart))
+      subst (λ z. StandsArray (v.arrays n) (v.arrays n) n z p b) (sym (call.values n apart))
       (record {
         number = was.number;
         book_number = was.number;
         few = was.few;
         written = was.written;
-        members = members_of v.state n (shape_of (v.arrays n)) (shape_of (v.arrays n)) (v.arrays n).resync (may_vary (v.arrays n)) (vals n) (spent_at p n (v.arrays n)) b
-            (subst (λ k. ShapeInvariant v.state k (shape_of (v.arrays n)) (shape_of (v.arrays n)) (v.arrays n).resync (may_vary (v.arrays n)) (vals n) (spent_at p n (v.arrays n)) b) was.number holds.shape);
+        members = members_for v.state (shape_of (v.arrays n)) p (v.arrays n) n (vals n) (spent_at p n (v.arrays n)) b was.number holds;
+        single = λ young.
+            settled_kept a.held b.held (shape_of (v.arrays n)) n
+            (λ k sector among counts.
+            turn.moves.apart (member_slice k.place n) (data_sector + sector) (live_on call.lasting call.stays (was.members.open_left k sector among counts))
+            (other_apart m n k.place (data_sector + sector) call.few was.few apart))
+            (was.single young);
         closed = λ none. subst (λ k. NothingPending k b) was.number (holds.closed none);
         truth = was.truth;
         mark = was.mark;
@@ -171,7 +178,7 @@ module _ (xs : List Change) (m : ℕ) (next : View) (v w : Raid) (vals now : ℕ
     since = since.holds;
     same = call.same;
     images = images_after;
-    arrays = each_stands (λ n u z. StandsArray u z n (now n) (spent_at p n u) b) turn.array other_stands;
+    arrays = each_stands (λ n u z. StandsArray u z n (now n) p b) turn.array other_stands;
     alike = λ marked.
         each_stands (λ n u z. IsSameArrayAs u z) (λ live. turn.alike live marked) (λ n live low apart. record { shape = refl; frame = refl; resync = refl; young = refl });
     slices = live_later v.state.made a b call.stays call.lasting stands.slices;

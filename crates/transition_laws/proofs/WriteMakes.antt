@@ -1,5 +1,6 @@
 -- A write of one array makes no change of the book, but what it promises of rows.
-use Rattle.std.proofs.Common.{◌≡◌, ℕ, ◌<◌, Bool, true, false, ◌==◌, [], ◌∷◌, None, Some, unwrap_or, refl, sym, ap, subst, ◌∙◌, inl, inr, eq-eqb, arith}
+use Rattle.transition_laws.proofs.ArraysFor.{grown_for, members_grown}
+use Rattle.std.proofs.Common.{◌≡◌, ℕ, ◌<◌, Bool, true, false, ◌==◌, ◌∷◌, None, Some, unwrap_or, refl, sym, ap, subst, ◌∙◌, inl, inr, eq-eqb, arith, ◌&&◌, []}
 use Rattle.std.proofs.lemmas.Bool.{both_ways, cases_Bool}
 use Rattle.rack.specs.Values.{Values}
 use Rattle.rack.specs.Seen.{Image, RackView, SameRack}
@@ -11,8 +12,8 @@ use Rattle.array_image.specs.States.{is_current}
 use Rattle.array_image.specs.Supers.{super_in, truth_in}
 use Rattle.log_laws.specs.Kept.{LogInvariant}
 use Rattle.array_model.specs.ArrayCalls.{ArrayCall, IncludesSpent}
-use Rattle.array_model.specs.Says.{ArrayInvariant, ShapeInvariant, IsEarlier, ImageShowsArray}
-use Rattle.array_model.specs.View.{may_vary, shape_of}
+use Rattle.array_model.specs.Says.{ArrayInvariant, IsEarlier, ImageShowsArray}
+use Rattle.array_model.specs.View.{shape_of}
 use Rattle.array_model.proofs.Moves.{CallRefines as CallMoves}
 use Rattle.array_core.specs.Contents.{lacking_in}
 use Rattle.transition_laws.specs.Changes.{wrote}
@@ -23,8 +24,8 @@ use Rattle.raid_laws.specs.Frames.{frame_of}
 use Rattle.raid_laws.specs.Moves.{AreMarked}
 use Rattle.raid_laws.specs.Raid.{gone_in, is_failed, IsWritten, Raid}
 use Rattle.raid_laws.proofs.Over.{or_parts}
-use Rattle.transition_laws.proofs.Shown.{members_of, spent_other}
-use Rattle.transition_laws.proofs.Standing.{holds_of}
+use Rattle.transition_laws.proofs.Shown.{spent_other}
+use Rattle.transition_laws.proofs.Standing.{holds_grown}
 use Rattle.transition_laws.proofs.TurnMakes.{same_view, turn_makes, Turning}
 
 -- A write of array m, where its superblocks have the run's mark already or need none: its truth stays.
@@ -46,6 +47,7 @@ pub record WritesOnce (m : ℕ) (v w : Raid) (vals now : ℕ → ℕ → Values)
       → ArrayCall v.state (v.arrays m) (w.arrays m) spent a b (shape_of (v.arrays m)) (vals m) (ImageShowsArray v.state (v.arrays m).number (shape_of (v.arrays m)) (now m) spent) (shape_of (v.arrays m)) (now m)
   pub kept : LogInvariant v.state v.number (gone_in v) a → LogInvariant v.state w.number (gone_in w) b
   pub number : (v.arrays m).number ≡ m
+  pub grown : (v.arrays m).young ≡ false
   pub number_after : (w.arrays m).number ≡ m
   pub truth : (w.arrays m).truth ≡ (v.arrays m).truth
   pub young : (w.arrays m).young ≡ (v.arrays m).young
@@ -67,6 +69,9 @@ module _ (m : ℕ) (v w : Raid) (vals now : ℕ → ℕ → Values) (a b : RackV
       subst (λ k. CallMoves k a b H (ImageShowsArray v.state (v.arrays m).number (shape_of (v.arrays m)) (now m) spent) Q) call.number
       (record { stays = acts.stays; leaves = acts.leaves; holds = acts.holds; apart = acts.apart; calm = acts.calm; bounded = acts.bounded })
 
+  grown_after : (p.growing && (w.arrays m).young) ≡ false
+  grown_after = grown_for p (w.arrays m) (call.young ∙ call.grown)
+
   unkept : p.kept m ≡ true → ⊥
   unkept is = both_ways (m == m) (or_parts (m == m) false (suits.free m is)).0 (eq-eqb m m refl)
 
@@ -82,7 +87,7 @@ module _ (m : ℕ) (v w : Raid) (vals now : ℕ → ℕ → Values) (a b : RackV
         promised.covers m live (subst (λ (s : State). m < s.made) (sym call.same) call.low) y (spent_other p m (w.arrays m) (v.arrays m) sectors y ∙ alive)
 
     after : ArrayInvariant v.state (shape_of (v.arrays m)) (w.arrays m) (now m) (spent_at p m (v.arrays m)) b
-    after = (moves (spent_at p m (v.arrays m)) covers).holds (holds_of v v p vals a stands m live call.low)
+    after = (moves (spent_at p m (v.arrays m)) covers).holds (holds_grown v v p vals a stands m live call.low (grown_for p (v.arrays m) call.grown))
 
     images : (r : Image) → IsLeft b r → RestsArray v.state (v.arrays m) p m (now m) r
     images r left =
@@ -97,7 +102,7 @@ module _ (m : ℕ) (v w : Raid) (vals now : ℕ → ℕ → Values) (a b : RackV
               (λ k low here. other k (subst (λ (u : Super). k < u.raid_disks) call.truth low) (ap (λ (u : Super). unwrap_or (place_with u.roles.items k) 16) (sym call.truth) ∙ here)));
         }
 
-    array : StandsArray (v.arrays m) (w.arrays m) m (now m) (spent_at p m (v.arrays m)) b
+    array : StandsArray (v.arrays m) (w.arrays m) m (now m) p b
     array =
         let was = stands.arrays m live call.low in
         record {
@@ -105,8 +110,8 @@ module _ (m : ℕ) (v w : Raid) (vals now : ℕ → ℕ → Values) (a b : RackV
           book_number = call.number;
           few = call.few;
           written = call.written was.written;
-          members = members_of v.state m (shape_of (v.arrays m)) (shape_of (w.arrays m)) (w.arrays m).resync (may_vary (w.arrays m)) (now m) (spent_at p m (v.arrays m)) b
-              (subst (λ k. ShapeInvariant v.state k (shape_of (v.arrays m)) (shape_of (w.arrays m)) (w.arrays m).resync (may_vary (w.arrays m)) (now m) (spent_at p m (v.arrays m)) b) call.number_after after.shape);
+          members = members_grown v.state (shape_of (v.arrays m)) p (w.arrays m) m (now m) (spent_at p m (v.arrays m)) b call.number_after grown_after after;
+          single = λ young. absurd (both_ways (p.growing && (w.arrays m).young) grown_after young);
           closed = λ none. subst (λ k. NothingPending k b) call.number_after (after.closed none);
           truth = subst (IsEarlier (v.arrays m).truth) (sym call.truth) (record { fields = refl; events = omega arith });
           mark = λ marked. sym call.mark ∙ marked;
@@ -123,7 +128,7 @@ module _ (m : ℕ) (v w : Raid) (vals now : ℕ → ℕ → Values) (a b : RackV
       P = ImageShowsArray v.state (v.arrays m).number (shape_of (v.arrays m)) (now m) (spent_at p m (v.arrays m));
       moves = moves (spent_at p m (v.arrays m)) (covers live);
       kept = call.kept stands.log;
-      own = λ is. (holds_of v v p vals a stands m is call.low, λ r says. inl (shows r (subst (λ k. ImageShowsArray v.state k (shape_of (v.arrays m)) (now m) (spent_at p m (v.arrays m)) r) call.number says)));
+      own = λ is. (holds_grown v v p vals a stands m is call.low (grown_for p (v.arrays m) call.grown), λ r says. inl (shows r (subst (λ k. ImageShowsArray v.state k (shape_of (v.arrays m)) (now m) (spent_at p m (v.arrays m)) r) call.number says)));
       images = images;
       array = array;
       alike = λ live marked. call.lost marked;

@@ -1,5 +1,5 @@
 -- Contents that hold the book of a pool, and a run that stands by it.
-use Rattle.std.proofs.Common.{◌≡◌, ℕ, ◌+◌, ◌<◌, ◌≤◌, Bool, true, false, List, [], length, Some, ◌&&◌, ◌||◌, not, nat_lt, if◌then◌else◌}
+use Rattle.std.proofs.Common.{◌≡◌, ℕ, ◌+◌, ◌<◌, ◌≤◌, Bool, true, false, List, length, Some, ◌&&◌, not, nat_lt, if◌then◌else◌, [], ◌||◌}
 use Rattle.rack.specs.Values.{Values, MayLeave}
 use Rattle.rack.specs.Seen.{Image, RackView}
 use Rattle.md_super.specs.declared.superblock.Super.{Super}
@@ -64,6 +64,14 @@ has_sector u y = is_sector (frame_of u.truth) (moved_to u.truth) u.young (first_
 abbrev pub spent_at : Promise → ℕ → View → ℕ → Bool
 spent_at p n u y = (p.growing && not (has_sector u y)) || p.spent n y
 
+-- How many rows of an array a promise has: of a young one, where of each book its arrays' sectors alone are promised, those that are zeroed.
+abbrev pub rows_for : Promise → View → ℕ
+rows_for p w = if p.growing && w.young then first_unsynced w.truth else w.resync
+
+-- The array as a promise has it: rows left to zero are rows left to resync.
+abbrev pub view_for : Promise → View → View
+view_for p w = record w { young = w.young && not p.growing; resync = rows_for p w }
+
 -- It can be kept until the run is this.
 pub record IsPromised (p : Promise) (w : Raid) : Type 0 where
   pub is_one : p.live p.one ≡ true
@@ -126,12 +134,14 @@ abbrev pub AreLeftBy : State → Raid → Type 0
 AreLeftBy s v = (place : ℕ) → is_current s place ≡ true → gone_in v place ≡ false
 
 -- array n of a run, w, whose images go by u
-pub record StandsArray (u w : View) (n : ℕ) (vals : ℕ → Values) (spent : ℕ → Bool) (x : RackView) : Type 0 where
+pub record StandsArray (u w : View) (n : ℕ) (vals : ℕ → Values) (p : Promise) (x : RackView) : Type 0 where
   pub number : w.number ≡ n
   pub book_number : u.number ≡ n
   pub few : n < 16
   pub written : IsWritten w
-  pub members : HoldsMembers n (shape_of u) (shape_of w) w.resync (may_vary w) vals spent x
+  pub members : HoldsMembers n (shape_of u) (shape_of w) (rows_for p w) (may_vary w) vals (spent_at p n u) x
+  -- where sectors of a young one are promised, its members' sectors have one value
+  pub single : (p.growing && w.young) ≡ true → IsSynced (shape_of w) n x.held
   pub closed : w.went ≡ [] → NothingPending n x
   -- the run's own truth is no earlier one
   pub truth : IsEarlier u.truth w.truth
@@ -150,7 +160,7 @@ pub record Stands (d v : Raid) (p : Promise) (vals : ℕ → ℕ → Values) (x 
   pub since : HoldsEach (IsFrom p.origin) x
   pub same : v.state ≡ d.state
   pub images : (c : Image) → Picks x c → RestsArrays d p vals (replayed x.sectors c)
-  pub arrays : (n : ℕ) → p.live n ≡ true → n < d.state.made → StandsArray (d.arrays n) (v.arrays n) n (vals n) (spent_at p n (d.arrays n)) x
+  pub arrays : (n : ℕ) → p.live n ≡ true → n < d.state.made → StandsArray (d.arrays n) (v.arrays n) n (vals n) p x
   -- where whoever went is marked, the run has the book's arrays
   pub alike : AreMarked v → (n : ℕ) → p.live n ≡ true → n < d.state.made → IsSameArrayAs (d.arrays n) (v.arrays n)
   pub slices : AreLive d.state.made x

@@ -1,5 +1,5 @@
 -- What a commit owes that makes one change of the book.
-use Rattle.std.proofs.Common.{◌≡◌, ◌⊎◌, ℕ, ◌-◌, ◌^◌, ◌<◌, ◌≤◌, true, false, List, [], ◌∷◌, Some}
+use Rattle.std.proofs.Common.{◌≡◌, ◌⊎◌, ℕ, ◌-◌, ◌^◌, ◌<◌, ◌≤◌, true, false, List, ◌∷◌, Some, []}
 use Rattle.rack.specs.Values.{Values}
 use Rattle.rack.specs.Seen.{Image, IsLive, RackView}
 use Rattle.rack.specs.Targets.{Target, look, put}
@@ -17,7 +17,7 @@ use Rattle.array_model.specs.View.{IsArray, shape_of, View}
 use Rattle.pool_state.specs.declared.contents.State.{State}
 use Rattle.array_model.proofs.Losses.{IsLosing}
 use Rattle.transition_laws.specs.Changes.{Change, changed, is_due}
-use Rattle.transition_laws.specs.Holds.{AreLeftBy, has_sector, IsPromised, IsSameArrayAs, Promise, RestsArray, Stands, StandsArray, spent_at}
+use Rattle.transition_laws.specs.Holds.{AreLeftBy, has_sector, IsPromised, IsSameArrayAs, Promise, RestsArray, Stands, StandsArray}
 use Rattle.transition_laws.specs.Makes.{Suits}
 use Rattle.raid_laws.specs.Marking.{NoData}
 use Rattle.raid_laws.specs.Moves.{AreMarked}
@@ -43,7 +43,7 @@ pub record StagesNew (x : Change) (d w : Raid) (p : Promise) (n : ℕ) (vals : �
   pub few : n < 16
   pub number : ((changed x d).arrays n).number ≡ n
   pub shows : (c : Image) → Picks a c → RestsArray (changed x d).state ((changed x d).arrays n) p n vals (put a.sectors xs c)
-  pub stands : StandsArray ((changed x d).arrays n) (w.arrays n) n vals (spent_at p n ((changed x d).arrays n)) b
+  pub stands : StandsArray ((changed x d).arrays n) (w.arrays n) n vals p b
   pub same : AreMarked w → IsSameArrayAs ((changed x d).arrays n) (w.arrays n)
 
 -- What a commit owes for a promise.

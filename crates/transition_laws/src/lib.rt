@@ -9,8 +9,9 @@
 //!
 //! **What its lemmas say.** Calls in a row make their changes in a row (`makes_then`, `specs/Makes.antt`). A commit whose targets stage a
 //! change makes it (`commit_makes`), whoever goes in it (`committing_makes`): the plan's end, the marking of losses, an array that is made
-//! and one that gets ready (`close_makes`, `mark_makes`, `made_makes`, `ready_makes`). A run that stands has all rows of a young array agree, those that
-//! are left to zero too, since none of them is left to resync: so an array is made on slices that hold such rows, as zeros are. A call of one array that shows it as it was or as it will be makes that change
+//! and one that gets ready (`close_makes`, `mark_makes`, `made_makes`, `ready_makes`). Where of each book its arrays' sectors
+//! alone are promised, rows of a young array that are left to zero need not agree: the promise has the array with these rows left to resync (`view_for`,
+//! `proofs/ArraysFor.antt`). A call of one array that shows it as it was or as it will be makes that change
 //! (`turn_makes`): a step of maintenance or of a reshape, a cleaning, and a write (`step_makes`, `stepped_makes`, `renew_makes`,
 //! `write_makes`). Calls that write nothing, calls that leave an array's values and superblocks, and losses that are noted, settled and
 //! heeded, make none (`read_one_makes`, `idle_makes`, `undone_makes`, `noted_makes`, `settle_makes`, `heeded_makes`). Each turn of the
