@@ -9,7 +9,7 @@ ghost use Rattle.raid_laws.specs.Moves.{IsHeeded, RaisesBy};
 ghost use Rattle.growth_laws.specs.Growing as spec;
 ghost use Rattle.growth_laws.specs.Growing.{CleansAndReshapes, CleansBefore, Grows, IsFitToGrow, Lacks, MakesReshape, MovesRows};
 ghost use Rattle.raid_laws.specs.Raid.{raid_of, StopsInside};
-ghost use Rattle.transition_laws.specs.Growth.{AreReady, KeepsOldSectors};
+ghost use Rattle.transition_laws.specs.Growth.{AreReady, GrowsByZeros, KeepsOldSectors};
 ghost use Rattle.raid_rack.specs.RaidRack.{IsFit, IsRunning, raid_by};
 
 use crate::arrays::{Arrays, RaidRack};
@@ -176,7 +176,8 @@ impl Arrays {
         ensures grows { Grows (TakeOver number) (Lacks (TakeOver number)) (raid_by self.old) (raid_by self.new) (S.seen rack.old) (S.seen rack.new) result }
         ensures contents { CleansAndReshapes S.seen (spec.change_of (TakeOver number)) (Lacks (TakeOver number)) number (raid_by self.old) (raid_by self.new) (S.seen rack.old) (S.seen rack.new) result }
         ensures old { (r q : ℕ → ℕ) → ((at : S) → StopsInside (S.seen at)) → AreReady (raid_by self.old)
-            → KeepsOldSectors self.old.state.joined (raid_of (IsFit self.old (S.seen rack.old)) r (raid_by self.old) (S.seen rack.old)) (raid_of (IsFit self.new (S.seen rack.new)) q (raid_by self.new) (S.seen rack.new)) }
+            → KeepsOldSectors self.old.state.joined (raid_of (IsFit self.old (S.seen rack.old)) r (raid_by self.old) (S.seen rack.old)) (raid_of (IsFit self.new (S.seen rack.new)) q (raid_by self.new) (S.seen rack.new))
+            × GrowsByZeros self.old.state.joined (raid_by self.old) (raid_by self.new) (S.seen rack.old) (S.seen rack.new) }
         ensures raises { RaisesBy 36 (raid_by self.old) (raid_by self.new) }
         ensures running { IsRunning self.new (S.seen rack.new) }
         ensures runs { S.runs rack.old rack.new }
@@ -284,6 +285,7 @@ impl<R: Rack> RaidRack<R> {
         ensures contents { spec.is_due (raid_in self.old) (TakeOver array) ≡ true
             → CleansAndReshapes (slices_by R.seen) (spec.change_of (TakeOver array)) (Lacks (TakeOver array)) array (raid_in self.old) (raid_in self.new) (slices_seen R.seen self.old) (slices_seen R.seen self.new) (is_ok result) }
         ensures old { AreReady (raid_in self.old) → KeepsOldSectors (raid_in self.old).state.joined (raid_seen R.seen self.old) (raid_seen R.seen self.new) }
+        ensures zeros { AreReady (raid_in self.old) → GrowsByZeros (raid_in self.old).state.joined (raid_in self.old) (raid_in self.new) (slices_seen R.seen self.old) (slices_seen R.seen self.new) }
         ensures named { IfErr result (λ e. e.array ≡ array) }
         ensures fit { IsFit (arrays_in self.new) (slices_seen R.seen self.new) }
         ensures raises { RaisesBy 36 (raid_in self.old) (raid_in self.new) }
@@ -312,6 +314,7 @@ impl<R: Rack> RaidRack<R> {
         ensures grows { spec.is_due (raid_in self.old) (Reshape array) ≡ true
             → MovesRows array most (raid_in self.old) (raid_in self.new) (slices_seen R.seen self.old) (slices_seen R.seen self.new) result }
         ensures old { IsFitToGrow (raid_in self.old) → KeepsOldSectors (raid_in self.old).state.joined (raid_seen R.seen self.old) (raid_seen R.seen self.new) }
+        ensures zeros { IsFitToGrow (raid_in self.old) → GrowsByZeros (raid_in self.old).state.joined (raid_in self.old) (raid_in self.new) (slices_seen R.seen self.old) (slices_seen R.seen self.new) }
         ensures named { IfErr result (λ e. e.array ≡ array) }
         ensures fit { IsFit (arrays_in self.new) (slices_seen R.seen self.new) }
         ensures raises { RaisesBy 18 (raid_in self.old) (raid_in self.new) }
@@ -335,6 +338,7 @@ impl<R: Rack> RaidRack<R> {
         ensures contents { spec.is_due (raid_in self.old) (Reshape array) ≡ true
             → MakesReshape (spec.change_of (Reshape array)) (Lacks (Reshape array)) array (raid_in self.old) (raid_in self.new) (slices_seen R.seen self.old) (slices_seen R.seen self.new) (is_ok result) }
         ensures old { IsFitToGrow (raid_in self.old) → KeepsOldSectors (raid_in self.old).state.joined (raid_seen R.seen self.old) (raid_seen R.seen self.new) }
+        ensures zeros { IsFitToGrow (raid_in self.old) → GrowsByZeros (raid_in self.old).state.joined (raid_in self.old) (raid_in self.new) (slices_seen R.seen self.old) (slices_seen R.seen self.new) }
         ensures named { IfErr result (λ e. e.array ≡ array) }
         ensures fit { IsFit (arrays_in self.new) (slices_seen R.seen self.new) }
         ensures raises { RaisesBy 18 (raid_in self.old) (raid_in self.new) }
@@ -358,6 +362,7 @@ impl<R: Rack> RaidRack<R> {
         ensures contents { spec.is_due (raid_in self.old) (Finish array) ≡ true
             → MakesReshape (spec.change_of (Finish array)) (Lacks (Finish array)) array (raid_in self.old) (raid_in self.new) (slices_seen R.seen self.old) (slices_seen R.seen self.new) (is_ok result) }
         ensures old { IsFitToGrow (raid_in self.old) → KeepsOldSectors (raid_in self.old).state.joined (raid_seen R.seen self.old) (raid_seen R.seen self.new) }
+        ensures zeros { IsFitToGrow (raid_in self.old) → GrowsByZeros (raid_in self.old).state.joined (raid_in self.old) (raid_in self.new) (slices_seen R.seen self.old) (slices_seen R.seen self.new) }
         ensures named { IfErr result (λ e. e.array ≡ array) }
         ensures fit { IsFit (arrays_in self.new) (slices_seen R.seen self.new) }
         ensures raises { RaisesBy 18 (raid_in self.old) (raid_in self.new) }
