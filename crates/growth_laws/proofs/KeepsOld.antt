@@ -1,5 +1,5 @@
 -- A work of a growth keeps the sectors that arrays have, and what they hold, where it makes its change of the book between losses.
-use Rattle.std.proofs.Common.{refl, ◌≡◌, ℕ, ◌+◌, ◌^◌, ◌<◌, ◌≤◌, ◌&&◌, Bool, true, false, not, nat_le, if◌then◌else◌, List, ◌∷◌, ◌++◌, length, sym, ap, subst, ◌∙◌, inl, inr, le-ltb, leb-true, ap₂, bit_and, ◌==◌, int_eq, pos, ◌-◌, ◌*◌}
+use Rattle.std.proofs.Common.{◌≡◌, ℕ, ◌+◌, ◌^◌, ◌<◌, ◌≤◌, ◌&&◌, Bool, true, false, not, nat_le, if◌then◌else◌, List, ◌∷◌, ◌++◌, length, refl, eqb-true, sym, ap, subst, ◌∙◌, inl, inr, le-ltb, leb-true, ap₂, bit_and, ◌==◌, int_eq, pos, ◌-◌, ◌*◌, arith}
 use Rattle.std.proofs.lemmas.Bool.{and_from, and_parts, both_ways, cases_lt}
 use Rattle.std.proofs.lemmas.Option.{slice_get_past}
 use Rattle.std.specs.List.{list_all}
@@ -17,15 +17,17 @@ use Rattle.array_core.specs.Superblocks.{settled}
 use Rattle.sync_laws.specs.Steps.{if_done}
 use Rattle.reshape_laws.specs.Ahead.{ahead_by, finished, taken_over}
 use Rattle.raid_laws.specs.Moves.{AreCaused, IsHeeded, IsSet}
-use Rattle.raid_laws.specs.Raid.{gone_in, held_in, is_failed, IsWritten, Raid, StopsInside}
+use Rattle.raid_laws.specs.Raid.{gone_in, held_in, is_failed, Raid, spent_of, StopsInside}
 use Rattle.raid_laws.proofs.Frames.{geometry_frame}
+use Rattle.raid_laws.proofs.Others.{place_listed}
 use Rattle.raid_laws.proofs.Over.{someone_left}
 use Rattle.transition_laws.specs.Changes.{Change, steps}
-use Rattle.transition_laws.specs.Growth.{AreReady}
+use Rattle.transition_laws.specs.Growth.{AreReady, GrowsByZeros, HasZerosFrom}
 use Rattle.transition_laws.specs.Holds.{has_sector}
-use Rattle.transition_laws.specs.Reshaping.{FitsReshape}
+use Rattle.transition_laws.specs.Reshaping.{FitsReshape, LeavesWholeRows}
 use Rattle.transition_laws.proofs.LongerBooks.{AllKeepOld, KeepsOld, losses_keep, old_joined, step_keeps}
 use Rattle.transition_laws.proofs.OldSectors.{IsGrowing, old_values}
+use Rattle.transition_laws.proofs.ZeroSectors.{grows_zeros, own_values}
 use Rattle.transition_laws.proofs.ReshapeSectors.{ahead_sectors, finished_sectors, mirror_two, taken_sectors}
 use Rattle.transition_laws.proofs.SettledMakes.{settled_sectors}
 use Rattle.transition_laws.proofs.SteppedMakes.{framed_sectors}
@@ -55,6 +57,14 @@ joined_low v w a b set caused n goes =
     let left = caused.left some.0 (and_from (is_current w.state some.0) (not (gone_in w some.0)) some.1 (ap not some.2)) in
     let current = (and_parts (is_current v.state some.0) (not (gone_in v some.0)) left).0 in
     arrays_joined v.state some.0 (set.valid some.0 (current_listed v.state some.0 current))
+
+-- a pool with an array has a drive
+pub joined_few : (v : Raid) (x : RackView) (n : ℕ) → IsSet v x → n < v.state.made → v.state.joined ≤ v.state.made
+joined_few v x n set low =
+    let seated = set.arrays n low in
+    let at = seated.is_array.placed 0 (let two = seated.is_array.least in omega (arith, two)) in
+    arrays_joined v.state at.0
+    (set.valid at.0 (place_listed (length v.state.drives.items) (v.arrays n).truth 0 at.0 seated.is_of_pool.roles (omega arith) at.1))
 
 -- ---- changes of one array, by the book behind losses
 
@@ -109,11 +119,30 @@ module _ (v : Raid) (n k : ℕ) (mid : View) (is_array : IsArray (v.arrays n)) (
 -- ---- values that fit
 
 -- those that arrays hold fit a step of a reshape
-pub old_fit : (v : Raid) (x : RackView) (n : ℕ) → IsWritten (v.arrays n) → FitsReshape v n (old_values v x)
-old_fit v x n written = record {
-  written = written;
+pub old_fit : (v : Raid) (x : RackView) (n : ℕ) → LeavesWholeRows (v.arrays n) → FitsReshape v n (old_values v x)
+old_fit v x n whole = record {
+  whole = whole;
   zeros_past = λ y past. ap (λ (t : Bool). (if t then held_in v x n y else only (zeros 512)).current) (le-ltb y (sectors_of (v.arrays n)) past);
 }
+
+-- and those of one array, which holds zeros past its end
+pub own_fit : (v : Raid) (x : RackView) (n m : ℕ) → LeavesWholeRows (v.arrays m) → HasZerosFrom v x n (sectors_of (v.arrays n)) → FitsReshape v m (own_values v x n)
+own_fit v x n m whole before = record { whole = whole; zeros_past = λ y past. of y past (m == n) refl }
+  where
+    has : (y : ℕ) → sectors_of (v.arrays n) ≤ y → (has own : Bool) → has_sector (v.arrays n) y ≡ has → spent_of v n y ≡ not own → (if has && own then held_in v x n y else only (zeros 512)).current ≡ zeros 512
+    has y past true true is alive = (before y past is alive).current
+    has y past true false is alive = refl
+    has y past false own is alive = refl
+
+    twice : (b : Bool) → b ≡ not (not b)
+    twice true = refl
+    twice false = refl
+
+    of : (y : ℕ) → sectors_of (v.arrays m) ≤ y → (b : Bool) → (m == n) ≡ b
+        → (if b && (has_sector (v.arrays n) y && not (spent_of v n y)) then held_in v x n y else only (zeros 512)).current ≡ zeros 512
+    of y past true is =
+        has y (subst (λ k. sectors_of (v.arrays k) ≤ y) (eqb-true m n is) past) (has_sector (v.arrays n) y) (not (spent_of v n y)) refl (twice (spent_of v n y))
+    of y past false is = refl
 
 -- ---- calls
 
@@ -152,3 +181,11 @@ turn_grows change is_done Fits v w a b turn fits keeps call ready = record {
     rest : (n : ℕ) → n < v.state.joined → (d : Bool) → AllKeepOld v n (if_done d turn.after (change ∷ turn.after))
     rest n low true = (keeps n low, losses_keep v n turn.after turn.losses_after)
     rest n low false = losses_keep v n turn.after turn.losses_after
+
+-- the sectors that arrays get by it hold zeros
+pub turn_zeros : (change : Change) (is_done : Bool) (Fits : (ℕ → ℕ → Values) → Type 0) (v w : Raid) (a b : RackView) → (turn : MakesTurn change is_done Fits v w a b)
+    → Fits (old_values v a) → ((n : ℕ) → HasZerosFrom v a n (sectors_of (v.arrays n)) → Fits (own_values v a n)) → ((n : ℕ) → n < v.state.joined → KeepsOld v n change) → IsTurning v w a b
+    → AreReady v → GrowsByZeros v.state.joined v w a b
+turn_zeros change is_done Fits v w a b turn fits own keeps call ready =
+    grows_zeros (made_changes turn.before change is_done turn.after) v w a b (turn_grows change is_done Fits v w a b turn fits keeps call ready)
+    (λ n before. turn.makes (own_values v a n) (own n before))

@@ -11,5 +11,6 @@
 //! drive at the next place of the list makes a valid state of one (`proofs/Listing.antt`), and the superblocks of a young array's members make an array
 //! that may come to the pool (`proofs/OpenedNew.antt`). Each step of a reshape, a cleaning, the end of a plan, the making of an array and its
 //! readiness make their change of the book, and the mending after them marks losses alone (`proofs/ReshapeBegins.antt`,
-//! `proofs/ReshapeDue.antt`, `proofs/CleanTurn.antt`, `proofs/Turning.antt`, `proofs/MadeTurn.antt`, `proofs/ReadyTurn.antt`).
+//! `proofs/ReshapeDue.antt`, `proofs/CleanTurn.antt`, `proofs/Turning.antt`, `proofs/MadeTurn.antt`, `proofs/ReadyTurn.antt`). Such steps keep what
+//! arrays held (`proofs/KeepsOld.antt`), and no work makes an array of the volume young (`proofs/FitToGrow.antt`).
 #![tactic(auto)]

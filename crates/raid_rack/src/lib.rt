@@ -104,11 +104,12 @@
 //! other (`MakesClean`), and the commit that makes an array. At each
 //! moment of such a call a stop leaves contents that hold the book before the change or after it, but for losses, and each promised sector
 //! has one of the values that it had; after it the run stands by the last book. It is said of a run that stands by its book before the call,
-//! and of a reshape where the truth has the fields that a pool writes and values past the array's end are zeros; of readiness where the
+//! and of a reshape where superblocks leave whole rows to resync and values past the array's end are zeros; of readiness where the
 //! array's superblocks say its truth and no reshape of it has begun (`FitsReady`), of a new array where sectors of its slices have one
 //! value each (`FitsMake`). A takeover is such a call behind a cleaning (`CleansAndReshapes`), and so is a reshape's begin, over slices with that of
 //! the joining member, where this slice is settled (`CleansBefore`, `ReshapesWith`). The zeros of a new array and the whole call that makes
-//! one don't say it yet. Rows of a reshape and its end also keep what the arrays of the volume held, where these are told (`KeepsOldSectors`).
+//! one don't say it yet. A takeover, rows of a reshape, its end and the readiness of a young array also keep what the arrays of the volume
+//! held, where these are told (`KeepsOldSectors`), and the sectors that these get hold zeros (`GrowsByZeros`).
 //!
 //! **For a whole call.** Parts of a call in a row are one (`moves_then`, `brings_then`); a read, a sync or a settling of one array is
 //! a part for all (`moves_read`), and so are a write (`write_brings`), losses that are noted and heeded, and the commit that marks

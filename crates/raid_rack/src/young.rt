@@ -380,7 +380,8 @@ impl<R: Rack> RaidRack<R> {
     ghost use Rattle.array_model.specs.View.{HasFault};
     ghost use Rattle.raid_laws.specs.Moves.{AreCaused};
     ghost use Rattle.growth_laws.specs.Losses.{LosesBook};
-    ghost use Rattle.raid_rack.specs.RaidRack.{IsFit, SliceRuns, arrays_in, raid_in, refused_in, slices_in, slices_seen, written_in};
+    ghost use Rattle.transition_laws.specs.Growth.{AreReady, GrowsByZeros, KeepsOldSectors};
+    ghost use Rattle.raid_rack.specs.RaidRack.{IsFit, SliceRuns, arrays_in, raid_in, raid_seen, refused_in, slices_in, slices_seen, written_in};
     ghost use Rattle.raid_rack.specs.Growing.{CannotAdd, CannotEnter, CannotMake, KeepsOtherSlices};
 
     /// Zeroes the next rows of a young array, durably, and answers how many: as many as one commit takes, at least one and at most so many. It
@@ -436,6 +437,10 @@ impl<R: Rack> RaidRack<R> {
         ensures contents { is_ok result ≡ true
             → FitsReady (raid_in self.old) array (slices_seen R.seen self.old)
             → MakesTurn readied true AnyValues (raid_in self.old) (raid_in self.new) (slices_seen R.seen self.old) (slices_seen R.seen self.new) }
+        ensures old { FitsReady (raid_in self.old) array (slices_seen R.seen self.old) → AreReady (raid_in self.old)
+            → KeepsOldSectors (raid_in self.old).state.joined (raid_seen R.seen self.old) (raid_seen R.seen self.new) }
+        ensures zeros { FitsReady (raid_in self.old) array (slices_seen R.seen self.old) → AreReady (raid_in self.old)
+            → GrowsByZeros (raid_in self.old).state.joined (raid_in self.old) (raid_in self.new) (slices_seen R.seen self.old) (slices_seen R.seen self.new) }
         ensures named { IfErr result (λ e. e.array ≡ array) }
         ensures fit { IsFit (arrays_in self.new) (slices_seen R.seen self.new) }
         ensures raises { RaisesBy 18 (raid_in self.old) (raid_in self.new) }

@@ -27,6 +27,8 @@ pub mod OwnBook
 pub mod AnyOrigin
 pub mod LongerBooks
 pub mod OldSectors
+pub mod OldThen
+pub mod ZeroSectors
 pub mod OverMakes
 pub mod LossesMade
 pub mod Readied

@@ -19,4 +19,6 @@
 //! stands by the book of just its arrays, so a call may follow (`stands_own`, `proofs/OwnBook.antt`). A reshape brings an array its sectors
 //! with the rows that it moves, as zeros (`proofs/ReshapeSectors.antt`, `proofs/ReshapeHolds.antt`). What `raid_laws` says of calls follows
 //! where changes leave drives and arrays as they are: `CrashInvariant` by `moments_of`, `KeepsRows` by `rows` (`proofs/MomentsOf.antt`).
+//! Where arrays get longer, those that are told keep what they held in the sectors that they had (`keeps_old`; of calls in a row `old_then`), and
+//! those that they get hold zeros (`grows_zeros`).
 #![tactic(auto)]
