@@ -9,7 +9,6 @@ pub mod Steps
 pub mod Live
 pub mod Resynced
 pub mod Rebuilt
-pub mod CloseParts
 pub mod Cleanings
 pub mod CleanImages
 pub mod Sent

@@ -130,4 +130,4 @@ restated_made a b c x y z lasting one kept = makes_kept (raid_by a) (raid_by b) 
 -- ---- the end of a plan
 
 pub closed_truths : (a b c : Arrays) (x y z : RackView) → HasClosed a b x y → KeepsTruths (raid_by b) (raid_by c) y z → KeepsTruths (raid_by a) (raid_by c) x z
-closed_truths a b c x y z one kept = truths_then (raid_by a) (raid_by b) (raid_by c) x y z one.brings.book.same.made one.truths kept
+closed_truths a b c x y z one kept = truths_then (raid_by a) (raid_by b) (raid_by c) x y z one.made one.truths kept

@@ -5,13 +5,13 @@ use Rattle.std.proofs.lemmas.Option.{slice_get_past}
 use Rattle.std.specs.Option.{option_map_or}
 use Rattle.std.specs.List.{list_all, list_any, range_with_len}
 use Rattle.arrayvec.specs.ArrayVec.{ArrayVec}
-use Rattle.rack.specs.Seen.{RackView}
+use Rattle.rack.specs.Seen.{RackView, SameRack}
 use Rattle.rack.specs.Joins.{keeps_same, leaves_same, stays_same}
 use Rattle.rack.specs.Targets.{Target, look}
 use Rattle.pool_state.specs.declared.contents.Plan.TheVariants.{Nothing}
 use Rattle.pool_state.specs.Valid.{is_valid}
 use Rattle.pool_state.specs.declared.contents.State.{State}
-use Rattle.array_image.specs.Places.{log_sectors, log_slice, slice_of}
+use Rattle.array_image.specs.Places.{log_sectors, log_slice, slice_of, super_sector}
 use Rattle.array_image.specs.Record.{are_apart, is_target}
 use Rattle.array_image.specs.States.{current_places, is_current}
 use Rattle.log_laws.specs.View.{LogView, next_number, names}
@@ -40,9 +40,13 @@ use Rattle.raid_laws.specs.Works.{ClosesPlan, Does, Resyncs, StepsOne, closed, i
 use Rattle.raid_rack.specs.declared.works.Stuck.{Stuck}
 use Rattle.raid_laws.proofs.Added.{names_current}
 use Rattle.raid_laws.proofs.Adding.{copies_apart, copies_from}
-use Rattle.raid_rack.proofs.CloseParts.{close_arrays, close_brings, close_truths}
+use Rattle.transition_laws.proofs.ClosedParts.{close_brings}
+use Rattle.array_core.specs.TruthHeld.{HoldTruth}
+use Rattle.array_core.proofs.TruthHeld.{hold_supers}
+use Rattle.raid_rack.proofs.Truths.{hold_gone}
+use Rattle.raid_laws.proofs.Losing.{only_gone}
 use Rattle.raid_laws.specs.Truths.{KeepsTruths}
-use Rattle.raid_laws.proofs.Closing.{IsClosing, after_closed, closed_raid, closing_cause, closing_left, seated_closed, valid_closed}
+use Rattle.raid_laws.proofs.Closing.{IsClosing, after_closed, closed_raid, closing_cause, closing_left, closing_none, closing_set, seated_closed, valid_closed}
 use Rattle.raid_laws.specs.Losing.{arrays_then, only_same}
 use Rattle.raid_rack.proofs.Mended.{each_get, each_sectors, on_named}
 use Rattle.raid_laws.proofs.Moving.{brings_then, caused_then}
@@ -183,7 +187,9 @@ emptied_brings v x set heeded nobody =
 
 -- what a commit without the plan makes of the arrays, or what is changed in this run alone
 pub record HasClosed (a b : Arrays) (x y : RackView) : Type 0 where
-  pub brings : ChangesData (raid_by a) (raid_by b) x y (λ n vals. vals)
+  pub stays : SameRack x y
+  pub made : b.state.made ≡ a.state.made
+  pub brings : is_plan a.state.plan ≡ true → ChangesData (raid_by a) (raid_by b) x y (λ n vals. vals)
   pub caused : AreCaused (raid_by a) (raid_by b) x y
   pub arrays : KeepsArrays (raid_by a) (raid_by b)
   pub plan : b.state.plan ≡ Nothing
@@ -207,7 +213,9 @@ closes_empty a t log on x running heeded t_is on_is empty number =
     let up = raised_up a.state.epoch in
     let epoch = ap (λ (s : State). s.epoch) t_is in
     record {
-      brings = subst (λ (w : Raid). ChangesData v w x x (λ n vals. vals)) whole brings;
+      stays = brings.stays;
+      made = ap (λ (s : State). s.made) t_is;
+      brings = λ due. subst (λ (w : Raid). ChangesData v w x x (λ n vals. vals)) whole brings;
       caused = subst (λ (w : Raid). AreCaused v w x x) whole (record {
         left = λ p is. absurd (both_ways (is_current v.state p) (nobody p) (and_parts (is_current v.state p) (not (gone_in v p)) is).0);
         cause = λ p was now. absurd (both_ways (is_current v.state p) (nobody p) (and_parts (is_current v.state p) (not (gone_in v p)) was).0);
@@ -243,6 +251,20 @@ closing_of a all t l on gone x y running heeded t_is on_is copies number call ea
   sectors = λ n. each_sectors (without gone) a.all.items all.items n (λ u. refl) each;
 }
 
+-- superblocks aren't among its targets
+close_truths : (v : Raid) (on gone : List ℕ) (l : LogView) (f : ℕ → View) (b c : RackView) → IsClosing v on gone l f b c
+    → KeepsTruths v (closed_raid v (next_number l.number) f) b c
+close_truths v on gone l f b c commit n low held =
+    let u = v.arrays n in
+    let is_array = (commit.set.arrays n low).is_array in
+    subst (λ (w : View). HoldTruth w c) (sym (commit.arrays n low))
+    (hold_gone u gone c is_array
+    (hold_supers u b c commit.set.lasting is_array.few commit.call.stays
+    (λ d own live.
+    commit.call.apart d super_sector live (λ part. own part.0)
+    (closing_none v on gone l f b c commit d super_sector (λ p named disk first. absurd (omega (arith, first)))))
+    held))
+
 pub has_closed : (a : Arrays) (all : ArrayVec View) (t : State) (log l : LogView) (on gone : List ℕ) (x y : RackView) → IsRunning a x
     → IsClosing (raid_by a) on gone l (λ n. get_or all.items n no_array) x y
     → t ≡ closed a.state → length all.items ≡ length a.all.items → log.number ≡ next_number l.number
@@ -250,7 +272,6 @@ pub has_closed : (a : Arrays) (all : ArrayVec View) (t : State) (log l : LogView
 has_closed a all t log l on gone x y running commit t_is count number =
     let v = raid_by a in
     let f : ℕ → View = λ n. get_or all.items n no_array in
-    let brings = close_brings v on gone l f x y commit in
     let back = sym t_is in
     let number_back = sym number in
     let whole : closed_raid v (next_number l.number) f ≡ raid_by (record a { state = t; all = all; log = log }) =
@@ -260,15 +281,19 @@ has_closed a all t log l on gone x y running commit t_is count number =
     let next = raised_up l.number in
     let same = commit.number in
     record {
-      brings = subst (λ (w : Raid). ChangesData v w x y (λ n vals. vals)) whole brings;
+      stays = commit.call.stays;
+      made = ap (λ (s : State). s.made) t_is;
+      brings = λ due.
+          subst (λ (w : Raid). ChangesData v w x y (λ n vals. vals)) whole
+          (close_brings v on gone l f x y commit (λ none. both_ways (is_plan v.state.plan) (ap is_plan none) due));
       caused = subst (λ (w : Raid). AreCaused v w x y) whole (record { left = closing_left v on gone l f x y commit; cause = closing_cause v on gone l f x y commit });
-      arrays = close_arrays v on gone l f x y commit;
+      arrays = λ n low. only_gone (v.arrays n) (f n) gone (commit.set.arrays n low).is_array (commit.arrays n low);
       truths = subst (λ (w : Raid). KeepsTruths v w x y) whole (close_truths v on gone l f x y commit);
       book = subst (λ (w : Raid). ClosesBook v w x y) whole (closing_book v on gone l f x y commit);
       plan = ap (λ (s : State). s.plan) t_is;
       running = record {
         count = count ∙ running.count ∙ sym (ap (λ (s : State). s.made) t_is);
-        set = subst (λ (w : Raid). IsSet w y) whole brings.set;
+        set = subst (λ (w : Raid). IsSet w y) whole (closing_set v on gone l f x y commit);
       };
       raises = record {
         number = omega (arith, number, next, same);
@@ -277,13 +302,14 @@ has_closed a all t log l on gone x y running commit t_is count number =
       };
     }
 
-pub closes_one : (a b c : Arrays) (x y z : RackView) → HasClosed a b x y → Mends (raid_by b) (raid_by c) y z → ClosesPlan (raid_by a) (raid_by c) x z
-closes_one a b c x y z one mends = record {
-  brings = brings_then (raid_by a) (raid_by b) (raid_by c) x y z (λ n vals. vals) one.brings mends.moves;
-  caused = caused_then (raid_by a) (raid_by b) (raid_by c) x y z one.brings.stays mends.moves.stays one.caused
+pub closes_one : (a b c : Arrays) (x y z : RackView) → HasClosed a b x y → Mends (raid_by b) (raid_by c) y z → is_plan a.state.plan ≡ true
+    → ClosesPlan (raid_by a) (raid_by c) x z
+closes_one a b c x y z one mends due = record {
+  brings = brings_then (raid_by a) (raid_by b) (raid_by c) x y z (λ n vals. vals) (one.brings due) mends.moves;
+  caused = caused_then (raid_by a) (raid_by b) (raid_by c) x y z one.stays mends.moves.stays one.caused
       (record { left = mends.moves.left; cause = mends.moves.cause });
   heeded = mends.heeded;
-  arrays = arrays_then (raid_by a) (raid_by b) (raid_by c) one.brings.book.same.made one.arrays mends.moves.arrays;
+  arrays = arrays_then (raid_by a) (raid_by b) (raid_by c) one.made one.arrays mends.moves.arrays;
   plan = mends.moves.plan ∙ one.plan;
 }
 
@@ -293,11 +319,11 @@ pub closes_turn : (a b c : Arrays) (x y z : RackView) → HasClosed a b x y → 
 closes_turn a b c x y z one losses due =
     turn_then plan_ends AnyValues (raid_by a) (raid_by b) (raid_by c) x y z (λ vals fits. one.book.makes due vals) (losses (changed plan_ends (raid_by a)) one.book.run)
 
-pub closes_alone : (a b : Arrays) (x y : RackView) → IsHeeded (raid_by b) → HasClosed a b x y → ClosesPlan (raid_by a) (raid_by b) x y
-closes_alone a b x y heeded one = record { brings = one.brings; caused = one.caused; heeded = heeded; arrays = one.arrays; plan = one.plan }
+pub closes_alone : (a b : Arrays) (x y : RackView) → IsHeeded (raid_by b) → HasClosed a b x y → is_plan a.state.plan ≡ true → ClosesPlan (raid_by a) (raid_by b) x y
+closes_alone a b x y heeded one due = record { brings = one.brings due; caused = one.caused; heeded = heeded; arrays = one.arrays; plan = one.plan }
 
 pub closes_raise : (a b c : Arrays) (x y : RackView) → HasClosed a b x y → RaisesBy 17 (raid_by b) (raid_by c) → RaisesBy 18 (raid_by a) (raid_by c)
-closes_raise a b c x y one two = raises_then 1 17 (raid_by a) (raid_by b) (raid_by c) one.brings.book.same.made one.raises two
+closes_raise a b c x y one two = raises_then 1 17 (raid_by a) (raid_by b) (raid_by c) one.made one.raises two
 
 -- the places that it is written on are valid ones of the state, and their log slices are there
 pub close_places : (a : Arrays) (t : State) (on : List ℕ) (j p : ℕ) (x : RackView) → IsRunning a x → IsHeeded (raid_by a) → t ≡ closed a.state

@@ -138,7 +138,7 @@ impl Arrays {
     fn end_plan<S: Rack>(&mut self, rack: &mut S)
         requires running { IsRunning self.old (S.seen rack.old) }
         requires heeded { IsHeeded (raid_by self.old) }
-        ensures closes { spec.ClosesPlan (raid_by self.old) (raid_by self.new) (S.seen rack.old) (S.seen rack.new) }
+        ensures closes { spec.is_plan (raid_by self.old).state.plan ≡ true → spec.ClosesPlan (raid_by self.old) (raid_by self.new) (S.seen rack.old) (S.seen rack.new) }
         ensures contents { spec.is_plan (raid_by self.old).state.plan ≡ true → MakesTurn closed true AnyValues (raid_by self.old) (raid_by self.new) (S.seen rack.old) (S.seen rack.new) }
         ensures raises { RaisesBy 18 (raid_by self.old) (raid_by self.new) }
         ensures truths { KeepsTruths (raid_by self.old) (raid_by self.new) (S.seen rack.old) (S.seen rack.new) }

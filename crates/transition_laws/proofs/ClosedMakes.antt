@@ -30,7 +30,7 @@ module _ (v : Raid) (on gone : List ℕ) (l : LogView) (f : ℕ → View) (b c :
   left : (q : ℕ) → is_current v.state q ≡ (is_current v.state q && not (gone_in v q))
   left q = sym (and_true (is_current v.state q)) ∙ ap (λ (g : Bool). is_current v.state q && not g) (sym (heeded_gone v commit.heeded q))
 
-  closing_committing : IsCommitting plan_ends v v.number v.arrays on gone l f b c
+  pub closing_committing : IsCommitting plan_ends v v.number v.arrays on gone l f b c
   closing_committing = record {
     due = due;
     set = commit.set;

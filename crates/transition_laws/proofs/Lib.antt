@@ -20,6 +20,7 @@ pub mod MomentsOf
 pub mod Closed
 pub mod ClosedMakes
 pub mod ClosedMoments
+pub mod ClosedParts
 pub mod Rewritten
 pub mod MarkedMakes
 pub mod RunsOf

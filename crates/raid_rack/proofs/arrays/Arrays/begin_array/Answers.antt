@@ -15,22 +15,16 @@ use Rattle.growth_laws.proofs.Losing.{loses_nothing}
 use Rattle.growth_laws.proofs.ReshapeBegins.{begun_keeps, begun_on, begun_turn, is_beginning}
 use Rattle.growth_laws.proofs.Steps.{caused_nothing, grows_nothing, reshapes_nothing}
 use Rattle.raid_rack.specs.RaidRack.{no_array, raid_by}
-use Rattle.raid_rack.proofs.Grown.{begun_reshapes, begun_view, called_own, grows_answered, has_called, logs_there, refused_after, reshape_answered, reshape_call, some_member, step_events}
+use Rattle.raid_rack.proofs.Grown.{HasCalled, begun_reshapes, begun_view, called_own, grows_answered, has_called, logs_there, refused_after, reshape_answered, reshape_call, some_member, step_events}
 use Rattle.raid_rack.proofs.RaisedCalls.{raises_call}
 use Rattle.raid_rack.proofs.Resynced.{step_later, step_raise}
 use Rattle.raid_rack.proofs.Steps.{items_set, same_element}
+use Rattle.raid_rack.proofs.arrays.Arrays.begin_array.Given.{Over}
+use Rattle.raid_rack.proofs.arrays.Arrays.begin_array.Goals.{After-begin}
 use Rattle.raid_rack.proofs.arrays.Arrays.begin_array.Goals as goal
 
 pub drive_id-drive-requires : goal.drive_id-drive-requires
-drive_id-drive-requires g c =
-    let a = c.args.self.now in
-    let n = c.args.number in
-    let place = c.args.place in
-    let x = g.S.Rack.seen c.args.rack.now in
-    let may = may_begin (raid_by a) x n place (drive_id a.state place) c.requires.running.set c.requires.heeded c.requires.due c.requires.clean c.requires.slice in
-    let low = may.becomes.low in
-    let count = c.requires.running.count in
-    (begin_parts (raid_by a) n place c.requires.due).listed
+drive_id-drive-requires g c = (begin_parts (raid_by c.args.self.now) c.args.number c.args.place c.requires.due).listed
 
 pub begin-requires-clause-slices : goal.begin-requires-clause-slices
 begin-requires-clause-slices g c =
@@ -55,9 +49,7 @@ begin-requires-clause-raid5 g c =
     let a = c.args.self.now in
     let n = c.args.number in
     let place = c.args.place in
-    let x = g.S.Rack.seen c.args.rack.now in
-    let may = may_begin (raid_by a) x n place (drive_id a.state place) c.requires.running.set c.requires.heeded c.requires.due c.requires.clean c.requires.slice in
-    let low = may.becomes.low in
+    let low = (begin_parts (raid_by a) n place c.requires.due).synced.low in
     let count = c.requires.running.count in
     let same = same_element c.deref_mut.result.now a.all.items n _ no_array c.deref_mut.ensures.value (omega (arith, count, low)) in
     subst (λ (u : View). is_raid5 u.truth ≡ true) (sym same) (begin_parts (raid_by a) n place c.requires.due).raid5
@@ -67,24 +59,15 @@ begin-requires-clause-still g c =
     let a = c.args.self.now in
     let n = c.args.number in
     let place = c.args.place in
-    let x = g.S.Rack.seen c.args.rack.now in
-    let may = may_begin (raid_by a) x n place (drive_id a.state place) c.requires.running.set c.requires.heeded c.requires.due c.requires.clean c.requires.slice in
-    let low = may.becomes.low in
+    let low = (begin_parts (raid_by a) n place c.requires.due).synced.low in
     let count = c.requires.running.count in
     let same = same_element c.deref_mut.result.now a.all.items n _ no_array c.deref_mut.ensures.value (omega (arith, count, low)) in
     subst (λ (u : View). is_reshaping u.truth ≡ false) (sym same) (begin_parts (raid_by a) n place c.requires.due).still
 
 pub begin-requires-clause-place : goal.begin-requires-clause-place
 begin-requires-clause-place g c =
-    let a = c.args.self.now in
-    let n = c.args.number in
-    let place = c.args.place in
-    let x = g.S.Rack.seen c.args.rack.now in
-    let may = may_begin (raid_by a) x n place (drive_id a.state place) c.requires.running.set c.requires.heeded c.requires.due c.requires.clean c.requires.slice in
-    let low = may.becomes.low in
-    let count = c.requires.running.count in
     let few = c.requires.running.set.few in
-    let listed = (begin_parts (raid_by a) n place c.requires.due).listed in
+    let listed = (begin_parts (raid_by c.args.self.now) c.args.number c.args.place c.requires.due).listed in
     omega (arith, few, listed)
 
 pub begin-requires-clause-joins : goal.begin-requires-clause-joins
@@ -92,15 +75,16 @@ begin-requires-clause-joins g c =
     let a = c.args.self.now in
     let n = c.args.number in
     let place = c.args.place in
-    let x = g.S.Rack.seen c.args.rack.now in
-    let may = may_begin (raid_by a) x n place (drive_id a.state place) c.requires.running.set c.requires.heeded c.requires.due c.requires.clean c.requires.slice in
-    let low = may.becomes.low in
+    let low = (begin_parts (raid_by a) n place c.requires.due).synced.low in
     let count = c.requires.running.count in
     let same = same_element c.deref_mut.result.now a.all.items n _ no_array c.deref_mut.ensures.value (omega (arith, count, low)) in
     subst (λ (u : View). seat_of u place ≡ None) (sym same) (begin_parts (raid_by a) n place c.requires.due).joins
 
-pub mend-requires : goal.mend-requires
-mend-requires g c =
+called : (g : Over) (c : After-begin g)
+    → HasCalled c.args.self.now (record c.args.self.now { all = with_items c.args.self.now.all (slice_set c.deref_mut.result.now c.args.number c.begin.new.array); log = c.begin.new.log })
+    (g.S.Rack.seen c.args.rack.now) (g.S.Rack.seen c.begin.new.rack) c.args.number
+    (joined ((raid_by c.args.self.now).arrays c.args.number) (current_places c.args.self.now.state) c.args.place (drive_id c.args.self.now.state c.args.place)) c.begin.ensures.reshapes.steps.is_done
+called g c =
     let a = c.args.self.now in
     let n = c.args.number in
     let place = c.args.place in
@@ -108,17 +92,17 @@ mend-requires g c =
     let may = may_begin (raid_by a) x n place (drive_id a.state place) c.requires.running.set c.requires.heeded c.requires.due c.requires.clean c.requires.slice in
     let low = may.becomes.low in
     let count = c.requires.running.count in
-    let same = same_element c.deref_mut.result.now a.all.items n _ no_array c.deref_mut.ensures.value (omega (arith, count, low)) in
-    let all = with_items a.all (slice_set c.deref_mut.result.now n c.begin.new.array) in
-    let all_is = items_set a.all c.deref_mut.result.now n c.begin.new.array c.deref_mut.ensures.value in
-    let called =
-    has_called (λ u. joined u (current_places a.state) place (drive_id a.state place)) a all c.begin.new.log x (g.S.Rack.seen c.begin.new.rack) n
-    c.clear.new.self.number _ c.begin.new.array c.begin.ensures.reshapes.steps.is_done c.requires.running c.requires.heeded same all_is
+    has_called (λ u. joined u (current_places a.state) place (drive_id a.state place)) a _ c.begin.new.log x (g.S.Rack.seen c.begin.new.rack) n
+    c.clear.new.self.number _ c.begin.new.array c.begin.ensures.reshapes.steps.is_done c.requires.running c.requires.heeded
+    (same_element c.deref_mut.result.now a.all.items n _ no_array c.deref_mut.ensures.value (omega (arith, count, low)))
+    (items_set a.all c.deref_mut.result.now n c.begin.new.array c.deref_mut.ensures.value)
     (ap (λ (l : LogView). l.number) c.clear.ensures) (step_later c.clear.new.self c.begin.new.log c.begin.ensures.log)
     may.becomes c.begin.ensures.goes.stays
     (begun_view _ c.begin.new.array c.current_places-on.result.items (current_places a.state) place c.drive_id-drive.result (drive_id a.state place) x (g.S.Rack.seen c.begin.new.rack)
-    c.begin.ensures.reshapes.steps.is_done c.current_places-on.ensures c.drive_id-drive.ensures c.begin.ensures.reshapes.steps.view) in
-    record { running = called.running }
+    c.begin.ensures.reshapes.steps.is_done c.current_places-on.ensures c.drive_id-drive.ensures c.begin.ensures.reshapes.steps.view)
+
+pub mend-requires : goal.mend-requires
+mend-requires g c = record { running = (called g (goal.at.mend-requires g c).After-begin).running }
 
 or_right : (b c : Bool) → c ≡ true → (b || c) ≡ true
 or_right true c is = refl
@@ -166,19 +150,12 @@ returns-clause-grows g c =
     let same = same_element c.deref_mut.result.now a.all.items n _ no_array c.deref_mut.ensures.value (omega (arith, count, low)) in
     let all = with_items a.all (slice_set c.deref_mut.result.now n c.begin.new.array) in
     let all_is = items_set a.all c.deref_mut.result.now n c.begin.new.array c.deref_mut.ensures.value in
-    let called =
-    has_called (λ u. joined u (current_places a.state) place (drive_id a.state place)) a all c.begin.new.log x (g.S.Rack.seen c.begin.new.rack) n
-    c.clear.new.self.number _ c.begin.new.array c.begin.ensures.reshapes.steps.is_done c.requires.running c.requires.heeded same all_is
-    (ap (λ (l : LogView). l.number) c.clear.ensures) (step_later c.clear.new.self c.begin.new.log c.begin.ensures.log)
-    may.becomes c.begin.ensures.goes.stays
-    (begun_view _ c.begin.new.array c.current_places-on.result.items (current_places a.state) place c.drive_id-drive.result (drive_id a.state place) x (g.S.Rack.seen c.begin.new.rack)
-    c.begin.ensures.reshapes.steps.is_done c.current_places-on.ensures c.drive_id-drive.ensures c.begin.ensures.reshapes.steps.view) in
     let element = c.index-deref-number.is ∙ same_element c.deref.result.now a.all.items n _ no_array c.deref.ensures.0 (omega (arith, count, low)) in
     let lacking : c.lacks_with.result ≡ lacks_joined ((raid_by a).arrays n) c.current_places-on.result.items place =
     c.lacks_with.ensures ∙ ap (λ (u : View). lacks_joined u c.current_places-on.result.items place) element in
     grows_answered (change_of (Begin n place)) (Lacks (Begin n place)) a (record a { all = all; log = c.begin.new.log }) c.mend.new.self x (g.S.Rack.seen c.begin.new.rack) (g.S.Rack.seen c.mend.new.rack) n
     (joined ((raid_by a).arrays n) (current_places a.state) place (drive_id a.state place)) c.begin.new.array c.begin.ensures.reshapes.steps.is_done (is_ok c.begin.result) _
-    refl low called (called_own a all n c.begin.new.array count low all_is) c.begin.ensures.reshapes.steps.answer
+    refl low (called g (goal.at.returns-clause-grows g c).After-begin) (called_own a all n c.begin.new.array count low all_is) c.begin.ensures.reshapes.steps.answer
     (refused_after _ (lacks_two c.begin.new.array) _ c.begin.result c.begin.ensures.refused
     (ap (λ (u : View). lacks_joined u c.current_places-on.result.items place) same ∙ sym lacking ∙ c.if-lacks_with.false))
     c.mend.ensures.mends may.longer (ap not c.lacks.ensures)
@@ -190,8 +167,7 @@ returns-clause-raises g c =
     let n = c.args.number in
     let place = c.args.place in
     let x = g.S.Rack.seen c.args.rack.now in
-    let may = may_begin (raid_by a) x n place (drive_id a.state place) c.requires.running.set c.requires.heeded c.requires.due c.requires.clean c.requires.slice in
-    let low = may.becomes.low in
+    let low = (begin_parts (raid_by a) n place c.requires.due).synced.low in
     let count = c.requires.running.count in
     let same = same_element c.deref_mut.result.now a.all.items n _ no_array c.deref_mut.ensures.value (omega (arith, count, low)) in
     raises_call 1 17 a c.mend.new.self (with_items a.all (slice_set c.deref_mut.result.now n c.begin.new.array)) c.begin.new.log n _ c.begin.new.array count low same

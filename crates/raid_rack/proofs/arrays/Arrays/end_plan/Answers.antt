@@ -14,14 +14,14 @@ use Rattle.transition_laws.proofs.LossesMade.{no_losses}
 use Rattle.raid_rack.proofs.arrays.Arrays.end_plan.Goals as goal
 
 pub returns-then-is_empty-clause-closes : goal.returns-then-is_empty-clause-closes
-returns-then-is_empty-clause-closes g c =
+returns-then-is_empty-clause-closes g c due =
     let a = c.args.self.now in
     let x = g.S.Rack.seen c.args.rack.now in
     let on = c.current_places-on.result.items in
     closes_alone a (record a { state = c.end_plan.new.state; log = c.clear.new.self }) x x
     (λ n low. c.requires.heeded n (subst (λ (s : State). n < s.made) c.end_plan.ensures low))
     (closes_empty a c.end_plan.new.state c.clear.new.self on x c.requires.running c.requires.heeded c.end_plan.ensures c.current_places-on.ensures
-    (eqb-true (length on) 0 (sym c.if-is_empty.ensures)) (ap (λ (l : LogView). l.number) c.clear.ensures))
+    (eqb-true (length on) 0 (sym c.if-is_empty.ensures)) (ap (λ (l : LogView). l.number) c.clear.ensures)) due
 
 pub returns-then-is_empty-clause-running : goal.returns-then-is_empty-clause-running
 returns-then-is_empty-clause-running g c =
@@ -87,7 +87,7 @@ mend-requires g c =
     record { running = one.running }
 
 pub returns-clause-closes : goal.returns-clause-closes
-returns-clause-closes g c =
+returns-clause-closes g c due =
     let a = c.args.self.now in
     let x = g.S.Rack.seen c.args.rack.now in
     let y = g.S.Rack.seen c.commit-gone.new.rack in
@@ -100,7 +100,7 @@ returns-clause-closes g c =
     (ap (λ (l : LogView). l.number) c.add_copies.ensures.log ∙ ap (λ (l : LogView). l.number) c.clear.ensures) c.commit-gone.ensures.commits after.0 in
     let one = has_closed a (with_items a.all c.note_gone.new.arrays) c.end_plan.new.state c.commit-gone.new.self c.add_copies.new.log on gone x y c.requires.running closing
     c.end_plan.ensures after.1 (ap (λ (l : LogView). l.number) c.commit-gone.ensures.log) in
-    closes_one a _ c.mend.new.self x y (g.S.Rack.seen c.mend.new.rack) one c.mend.ensures.mends
+    closes_one a _ c.mend.new.self x y (g.S.Rack.seen c.mend.new.rack) one c.mend.ensures.mends due
 
 pub returns-clause-raises : goal.returns-clause-raises
 returns-clause-raises g c =
