@@ -84,7 +84,7 @@ module _ (v : Raid) (on gone : List ℕ) (l : LogView) (f : ℕ → View) (b c :
           alone = λ place current other. stood.holds.alone r left place current other;
         }
 
-    array : StandsArray (v.arrays n) (v.arrays n) n vals spent b
+    array : StandsArray (v.arrays n) (v.arrays n) n vals (promise_of n spent kept lacks v.state) b
     array = record {
       number = stood.number;
       book_number = stood.number;
@@ -101,6 +101,7 @@ module _ (v : Raid) (on gone : List ℕ) (l : LogView) (f : ℕ → View) (b c :
             even = held.even;
             settled = held.settled;
           });
+      single = λ young. absurd (both_ways false refl young);
       closed = λ none. subst (λ k. NothingPending k b) stood.number (stood.holds.closed none);
       truth = record { fields = refl; events = omega arith };
       mark = λ is. is;
@@ -120,7 +121,7 @@ module _ (v : Raid) (on gone : List ℕ) (l : LogView) (f : ℕ → View) (b c :
       same = refl;
       images = λ i picks k is made.
           own (λ j. RestsArray v.state (v.arrays j) (promise_of n spent kept lacks v.state) j vals (replayed b.sectors i)) k is (rests i picks);
-      arrays = λ k is made. own (λ j. StandsArray (v.arrays j) (v.arrays j) j vals spent b) k is array;
+      arrays = λ k is made. own (λ j. StandsArray (v.arrays j) (v.arrays j) j vals (promise_of n spent kept lacks v.state) b) k is array;
       alike = λ marked k is made. record { shape = refl; frame = refl; resync = refl; young = refl };
       slices = amid.slices;
     }
@@ -196,7 +197,7 @@ module _ (v : Raid) (on gone : List ℕ) (l : LogView) (f : ℕ → View) (b c :
         });
     reach = reach_same (is_current (closed v.state)) (shape_of (v.arrays n));
     holds = λ given.
-        stood_of (changed plan_ends v) (closed_raid v (next_number l.number) f) (promise_of n spent false false v.state) (λ k. vals) c (after false false no_rows no_lacking) n live low stood.joined;
+        stood_of (changed plan_ends v) (closed_raid v (next_number l.number) f) (promise_of n spent false false v.state) (λ k. vals) c (after false false no_rows no_lacking) n live low refl stood.joined;
     logs = λ copies given.
         logs_commit v.state (closed v.state) (gone_in v) l on gone b c
         (commit_called plan_ends v v (closed_raid v (next_number l.number) f) (λ k. vals) l on gone b c

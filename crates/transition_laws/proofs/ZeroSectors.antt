@@ -20,7 +20,7 @@ use Rattle.transition_laws.specs.Growth.{AreReady, GrowsByZeros, HasZerosFrom, K
 use Rattle.transition_laws.specs.Holds.{has_sector, IsPromised, moved_to, Promise, spent_at, Stands, StandsArray}
 use Rattle.transition_laws.specs.Makes.{Makes, Suits}
 use Rattle.transition_laws.proofs.AnyOrigin.{any_origin, any_owned, from_any}
-use Rattle.transition_laws.proofs.LongerBooks.{last_old}
+use Rattle.transition_laws.proofs.LongerBooks.{HasOldSectors, last_old}
 use Rattle.transition_laws.proofs.OldSectors.{IsGrowing}
 use Rattle.transition_laws.proofs.ReshapeSectors.{steady}
 use Rattle.transition_laws.proofs.Standing.{stood_of}
@@ -86,6 +86,7 @@ module _ (xs : List Change) (v w : Raid) (a b : RackView) (calls : IsGrowing xs 
     live = live;
     one = low;
     goes = λ k is low. early.goes k is low;
+    grown = λ k is low. own (λ j. (v.arrays j).young ≡ false) k is (calls.ready n ready);
     tracked = λ k is low. own (λ j. IsTracked v a j) k is told;
     covers = λ k y is low alive. or_from (is_failed v k) (spent_in (v.arrays k) y) (early.goes k is low) (early.covers k is low y alive);
     values = λ k y is low alive. own (λ j. spent_at p j (v.arrays j) y ≡ false → vals j y ≡ held_in v a j y) k is (held y) alive;
@@ -97,10 +98,13 @@ module _ (xs : List Change) (v w : Raid) (a b : RackView) (calls : IsGrowing xs 
   after : Stands (by xs v) w p vals b
   after = makes.after p suits promised (tracked_stands v p vals a tracked)
 
-  there : n < (by xs v).state.made
-  there = (last_old v n xs v (calls.old n ready) (record { made = low; small = (calls.began.arrays n low).is_array.small; sectors = λ y has. has })).made
+  end : HasOldSectors v n (by xs v)
+  end = last_old v n xs v (calls.old n ready) (record { made = low; small = (calls.began.arrays n low).is_array.small; young = calls.ready n ready; sectors = λ y has. has })
 
-  array : StandsArray ((by xs v).arrays n) (w.arrays n) n (vals n) (spent_at p n ((by xs v).arrays n)) b
+  there : n < (by xs v).state.made
+  there = end.made
+
+  array : StandsArray ((by xs v).arrays n) (w.arrays n) n (vals n) p b
   array = after.arrays n live there
 
   stood : InvariantInCall w.state (shape_of (w.arrays n)) (vals n) (spent_at p n ((by xs v).arrays n)) (λ place. false) w b n
@@ -110,7 +114,7 @@ module _ (xs : List Change) (v w : Raid) (a b : RackView) (calls : IsGrowing xs 
       subst (λ (s : State). InvariantInCall s (shape_of (w.arrays n)) (vals n) (spent_at p n (e.arrays n)) (λ place. false) w b n) (sym after.same)
       (subst (λ (s : Shape). InvariantInCall e.state s (vals n) (spent_at p n (e.arrays n)) (λ place. false) w b n) (sym ((after.alike (λ q current. heeded_gone w calls.after q) n live there).shape))
       (subst (λ g. InvariantInCall e.state (shape_of (e.arrays n)) (vals n) (spent_at p n (e.arrays n)) g w b n) (λ i q. heeded_gone w calls.after q i)
-      (stood_of e w p vals b after n live there joined)))
+      (stood_of e w p vals b after n live there ((after.alike (λ q current. heeded_gone w calls.after q) n live there).young ∙ end.young) joined)))
 
   keeps : (y : ℕ) → has_sector (w.arrays n) y ≡ true → live_of w n y → Keeps (vals n y) (held_in w b n y)
   keeps y has alive =
