@@ -49,12 +49,14 @@ current_listed s p current = elim (cases_lt p (length s.drives.items)) [
   | inr past ↦ absurd (both_ways (is_current s p) (ap (λ o. option_map_or (λ drive. not drive.missing) o false) (slice_get_past s.drives.items p past)) current)
 ]
 
+pub joined_most : (v : Raid) (x : RackView) (p : ℕ) → IsSet v x → is_current v.state p ≡ true → v.state.joined ≤ v.state.made
+joined_most v x p set current = arrays_joined v.state p (set.valid p (current_listed v.state p current))
+
 joined_low : (v w : Raid) (a b : RackView) → IsSet v a → AreCaused v w a b → (n : ℕ) → is_failed w n ≡ false → v.state.joined ≤ v.state.made
 joined_low v w a b set caused n goes =
     let some = someone_left w n goes in
     let left = caused.left some.0 (and_from (is_current w.state some.0) (not (gone_in w some.0)) some.1 (ap not some.2)) in
-    let current = (and_parts (is_current v.state some.0) (not (gone_in v some.0)) left).0 in
-    arrays_joined v.state some.0 (set.valid some.0 (current_listed v.state some.0 current))
+    joined_most v a some.0 set (and_parts (is_current v.state some.0) (not (gone_in v some.0)) left).0
 
 -- ---- changes of one array, by the book behind losses
 

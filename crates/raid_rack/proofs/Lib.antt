@@ -54,3 +54,5 @@ pub mod TruthAgrees
 mod AddDrive
 mod Committed
 mod MadeArray
+pub mod LaidImages
+pub mod LaidOld
