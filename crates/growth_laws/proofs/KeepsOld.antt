@@ -17,13 +17,13 @@ use Rattle.array_core.specs.Superblocks.{settled}
 use Rattle.sync_laws.specs.Steps.{if_done}
 use Rattle.reshape_laws.specs.Ahead.{ahead_by, finished, taken_over}
 use Rattle.raid_laws.specs.Moves.{AreCaused, IsHeeded, IsSet}
-use Rattle.raid_laws.specs.Raid.{gone_in, held_in, is_failed, IsWritten, Raid, StopsInside}
+use Rattle.raid_laws.specs.Raid.{gone_in, held_in, is_failed, Raid, StopsInside}
 use Rattle.raid_laws.proofs.Frames.{geometry_frame}
 use Rattle.raid_laws.proofs.Over.{someone_left}
 use Rattle.transition_laws.specs.Changes.{Change, steps}
 use Rattle.transition_laws.specs.Growth.{AreReady}
 use Rattle.transition_laws.specs.Holds.{has_sector}
-use Rattle.transition_laws.specs.Reshaping.{FitsReshape}
+use Rattle.transition_laws.specs.Reshaping.{FitsReshape, LeavesWholeRows}
 use Rattle.transition_laws.proofs.LongerBooks.{AllKeepOld, KeepsOld, losses_keep, old_joined, step_keeps}
 use Rattle.transition_laws.proofs.OldSectors.{IsGrowing, old_values}
 use Rattle.transition_laws.proofs.ReshapeSectors.{ahead_sectors, finished_sectors, mirror_two, taken_sectors}
@@ -111,9 +111,9 @@ module _ (v : Raid) (n k : ℕ) (mid : View) (is_array : IsArray (v.arrays n)) (
 -- ---- values that fit
 
 -- those that arrays hold fit a step of a reshape
-pub old_fit : (v : Raid) (x : RackView) (n : ℕ) → IsWritten (v.arrays n) → FitsReshape v n (old_values v x)
-old_fit v x n written = record {
-  written = written;
+pub old_fit : (v : Raid) (x : RackView) (n : ℕ) → LeavesWholeRows (v.arrays n) → FitsReshape v n (old_values v x)
+old_fit v x n whole = record {
+  whole = whole;
   zeros_past = λ y past. ap (λ (t : Bool). (if t then held_in v x n y else only (zeros 512)).current) (le-ltb y (sectors_of (v.arrays n)) past);
 }
 

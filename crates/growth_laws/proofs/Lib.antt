@@ -20,5 +20,6 @@ pub mod Newcomer
 pub mod Layers
 pub mod OpenedNew
 pub mod KeepsOld
+pub mod FitToGrow
 pub mod ReadyTurn
 pub mod MadeTurn

@@ -76,7 +76,7 @@ pub taken_turn : (v : Raid) (f : ℕ → View) (number n : ℕ) (a b : RackView)
     → (w : Raid) (c : RackView) → ((d : Raid) → IsRunOf d (called v f number) → MakesLosses d (called v f number) w b c)
     → MakesTurn (steps n (taken v n)) call.reshapes.steps.is_done (FitsReshape v n) v w a c
 taken_turn v f number n a b on answered call is w c losses =
-    reshape_then v f (taken v n) number n a b on answered call w c (FitsReshape v n) (λ vals fits. fits.written)
+    reshape_then v f (taken v n) number n a b on answered call w c (FitsReshape v n) (λ vals fits. fits.whole)
     (λ vals fits p stands live.
     holds_next n (taken v n) v p vals a stands live is.rest.low
     (taken_sectors (v.arrays n) (raised (v.arrays n).truth.events) (mirror_two (v.arrays n) (call.set.arrays n is.rest.low).is_array is.mirrored) is.rest.grown is.still is.mirrored))
@@ -139,7 +139,7 @@ pub begun_turn : (v : Raid) (f : ℕ → View) (number n place : ℕ) (a b : Rac
 begun_turn v f number n place a b on answered call is w c losses =
     let u = v.arrays n in
     let device : Id = record { 0 = member_id (drive_id v.state place).0 u.number } in
-    reshape_then v f (begun_on place v n) number n a b on answered call w c (FitsReshape v n) (λ vals fits. fits.written)
+    reshape_then v f (begun_on place v n) number n a b on answered call w c (FitsReshape v n) (λ vals fits. fits.whole)
     (λ vals fits p stands live.
     holds_next n (begun_on place v n) v p vals a stands live is.rest.low
     (begun_sectors u (raised u.truth.events) place (joining_seat (current_places v.state) place) device is.rest.grown is.joining.still (no_mirror_now u is.joining.raid5)))

@@ -77,7 +77,7 @@ pub moved_turn : (v : Raid) (f : ℕ → View) (number n rows : ℕ) (a b : Rack
     → (w : Raid) (c : RackView) → ((d : Raid) → IsRunOf d (called v f number) → MakesLosses d (called v f number) w b c)
     → MakesTurn (steps n (moved rows v n)) call.reshapes.steps.is_done (FitsReshape v n) v w a c
 moved_turn v f number n rows a b on answered call is w c losses =
-    reshape_then v f (moved rows v n) number n a b on answered call w c (FitsReshape v n) (λ vals fits. fits.written)
+    reshape_then v f (moved rows v n) number n a b on answered call w c (FitsReshape v n) (λ vals fits. fits.whole)
     (λ vals fits p stands live.
     let seated = call.set.arrays n is.rest.low in
     ahead_holds v n rows (raised (v.arrays n).truth.events) p vals a stands live is.rest.low seated.is_array is.reshaping is.rest.grown (reach_low (v.arrays n) seated.is_of_pool.rows) fits.zeros_past)
@@ -127,7 +127,7 @@ pub ended_turn : (v : Raid) (f : ℕ → View) (number n : ℕ) (a b : RackView)
     → (w : Raid) (c : RackView) → ((d : Raid) → IsRunOf d (called v f number) → MakesLosses d (called v f number) w b c)
     → MakesTurn (steps n (ended v n)) call.reshapes.steps.is_done (FitsReshape v n) v w a c
 ended_turn v f number n a b on answered call is w c losses =
-    reshape_then v f (ended v n) number n a b on answered call w c (FitsReshape v n) (λ vals fits. fits.written)
+    reshape_then v f (ended v n) number n a b on answered call w c (FitsReshape v n) (λ vals fits. fits.whole)
     (λ vals fits p stands live.
     holds_next n (ended v n) v p vals a stands live is.rest.low
     (finished_sectors (v.arrays n) (raised (v.arrays n).truth.events) (no_mirror (v.arrays n) (call.set.arrays n is.rest.low).is_array is.reshaping) is.rest.grown is.reshaping is.whole))

@@ -36,6 +36,7 @@ use Rattle.transition_laws.specs.Changes.{changed, Maintains, steps}
 use Rattle.transition_laws.specs.Holds.{has_sector, IsPromised, Promise, spent_at, Stands}
 use Rattle.transition_laws.specs.Losses.{IsRunOf, MakesLosses}
 use Rattle.transition_laws.specs.Makes.{makes_then}
+use Rattle.transition_laws.specs.Reshaping.{LeavesWholeRows}
 use Rattle.transition_laws.proofs.ReadMakes.{keeps_noted}
 use Rattle.transition_laws.proofs.RunsOf.{run_loses, run_of_itself}
 use Rattle.transition_laws.proofs.Shown.{spent_other}
@@ -110,9 +111,9 @@ module _ (v : Raid) (f : ℕ → View) (next : View) (number m : ℕ) (a b : Rac
   low = call.may.low
 
   -- what the step needs of the pool, where not all is over after it
-  allowed : IsWritten (v.arrays m) → ((n : ℕ) → n < v.state.made → is_failed (called v f number) n ≡ false → is_failed v n ≡ false) → (p : Promise) → IsPromised p (called v f number) → (vals : ℕ → ℕ → Values) → Stands v v p vals a
+  allowed : LeavesWholeRows (v.arrays m) → ((n : ℕ) → n < v.state.made → is_failed (called v f number) n ≡ false → is_failed v n ≡ false) → (p : Promise) → IsPromised p (called v f number) → (vals : ℕ → ℕ → Values) → Stands v v p vals a
       → MayReshape v.state (v.arrays m) next (f m) v.number on a
-  allowed written still p promised vals stands =
+  allowed whole still p promised vals stands =
       let goes = promised.goes p.one promised.is_one stands.one in
       let before = still p.one stands.one goes in
       let some = someone_left (called v f number) p.one goes in
@@ -133,7 +134,7 @@ module _ (v : Raid) (f : ℕ → View) (next : View) (number m : ℕ) (a b : Rac
             (opened v.state v.state.made m next a call.may.seated stands.slices low);
         joining = call.keeps.joining;
         unmarked = call.rest.unmarked;
-        whole = written.resync;
+        whole = whole;
       }
     where
       and_true : (c : Bool) → (c && true) ≡ c
@@ -185,10 +186,10 @@ module _ (v : Raid) (f : ℕ → View) (next : View) (number m : ℕ) (a b : Rac
     unspent : (y : ℕ) → spent_in (f m) y ≡ false → spent_in next y ≡ false
     unspent y alive = subst (λ (u : View). spent_in u y ≡ false) (stepped_own v m next) (views.views.spent y alive)
 
-    pub reshape_once : (vals : ℕ → ℕ → Values) → IsWritten (v.arrays m) → ((p : Promise) → IsPromised p (called v f number) → Stands v v p vals a → p.live m ≡ true
+    pub reshape_once : (vals : ℕ → ℕ → Values) → LeavesWholeRows (v.arrays m) → ((p : Promise) → IsPromised p (called v f number) → Stands v v p vals a → p.live m ≡ true
         → ArrayInvariant v.state (shape_of (v.arrays m)) (v.arrays m) (vals m) (spent_at p m next) a)
         → StepsOnce m next v (called v f number) vals a b
-    reshape_once vals written holds = record {
+    reshape_once vals whole holds = record {
       few = let there = low in let most = call.set.most in omega (arith, there, most);
       low = low;
       lasting = call.set.lasting;
@@ -198,7 +199,7 @@ module _ (v : Raid) (f : ℕ → View) (next : View) (number m : ℕ) (a b : Rac
       same = refl;
       goes = still;
       someone = λ n goes. someone_left (called v f number) n goes;
-      becomes = λ p promised stands. reshapes_become v.state (v.arrays m) next (f m) v.number number on answered (vals m) a b call.reshapes is (allowed written still p promised vals stands);
+      becomes = λ p promised stands. reshapes_become v.state (v.arrays m) next (f m) v.number number on answered (vals m) a b call.reshapes is (allowed whole still p promised vals stands);
       gone = λ kept.
           kept_more v.state number (has_gone (f m)) (gone_in (called v f number)) b (λ q went. gone_from (called v f number) q m (call.few q went) low went) kept;
       number = (call.set.arrays m low).number;
@@ -257,8 +258,8 @@ module _ (v : Raid) (f : ℕ → View) (next : View) (number m : ℕ) (a b : Rac
     still_before : (n : ℕ) → n < v.state.made → is_failed (called v f number) n ≡ false → is_failed v n ≡ false
     still_before n there goes = over_still v (called v f number) further_before n there goes
 
-    pub reshape_undone : (vals : ℕ → ℕ → Values) → IsWritten (v.arrays m) → RenewsOne m (v.arrays m) v (called v f number) vals a b
-    reshape_undone vals written = record {
+    pub reshape_undone : (vals : ℕ → ℕ → Values) → LeavesWholeRows (v.arrays m) → RenewsOne m (v.arrays m) v (called v f number) vals a b
+    reshape_undone vals whole = record {
       few = let there = low in let most = call.set.most in omega (arith, there, most);
       low = low;
       lasting = call.set.lasting;
@@ -278,14 +279,14 @@ module _ (v : Raid) (f : ℕ → View) (next : View) (number m : ℕ) (a b : Rac
         ];
       };
       someone = λ n goes. someone_left (called v f number) n goes;
-      acts = λ p promised stands spent covers. call.reshapes.undone is v.state (vals m) spent covers (allowed written still_before p promised vals stands);
+      acts = λ p promised stands spent covers. call.reshapes.undone is v.state (vals m) spent covers (allowed whole still_before p promised vals stands);
       truths = λ p promised stands spent covers.
           supers_truths v.state (v.arrays m).number (λ t. array_fields t ≡ array_fields (v.arrays m).truth)
           (ArrayInvariant v.state (shape_of (v.arrays m)) (v.arrays m) (vals m) spent a) a b (call.reshapes.kept_supers is);
       renewed = same_renewed (v.arrays m) call.rest.unmarked (let rows = call.rest.rows in omega (arith, rows));
       kept = λ p promised stands.
           kept_more v.state number (has_gone (f m)) (gone_in (called v f number)) b (λ q went. gone_from (called v f number) q m (call.few q went) low went)
-          (call.reshapes.kept v.state (allowed written still_before p promised vals stands));
+          (call.reshapes.kept v.state (allowed whole still_before p promised vals stands));
       number = (call.set.arrays m low).number;
       noted = as_before.same;
       written = views_before.views.written;
@@ -308,16 +309,16 @@ module _ (v : Raid) (f : ℕ → View) (next : View) (number m : ℕ) (a b : Rac
 
   -- ---- and the mending after it
 
-  pub reshape_then : (w : Raid) (c : RackView) (Fits : (ℕ → ℕ → Values) → Type 0) → ((vals : ℕ → ℕ → Values) → Fits vals → IsWritten (v.arrays m))
+  pub reshape_then : (w : Raid) (c : RackView) (Fits : (ℕ → ℕ → Values) → Type 0) → ((vals : ℕ → ℕ → Values) → Fits vals → LeavesWholeRows (v.arrays m))
       → ((vals : ℕ → ℕ → Values) → Fits vals → (p : Promise) → Stands v v p vals a → p.live m ≡ true → ArrayInvariant v.state (shape_of (v.arrays m)) (v.arrays m) (vals m) (spent_at p m next) a)
       → ((d : Raid) → IsRunOf d (called v f number) → MakesLosses d (called v f number) w b c)
       → MakesTurn (steps m next) call.reshapes.steps.is_done Fits v w a c
-  reshape_then w c Fits written holds losses = of call.reshapes.steps.is_done refl
+  reshape_then w c Fits whole holds losses = of call.reshapes.steps.is_done refl
     where
       of : (d : Bool) → call.reshapes.steps.is_done ≡ d → MakesTurn (steps m next) d Fits v w a c
       of true is =
           turn_then (steps m next) Fits v (called v f number) w a b c
-          (λ vals fits. step_makes m next v (called v f number) vals a b (reshape_once is vals (written vals fits) (λ p promised stands live. holds vals fits p stands live)))
+          (λ vals fits. step_makes m next v (called v f number) vals a b (reshape_once is vals (whole vals fits) (λ p promised stands live. holds vals fits p stands live)))
           (losses (changed (steps m next) v) (run_done is))
       of false is =
           let after = losses v (run_undone is) in
@@ -328,5 +329,5 @@ module _ (v : Raid) (f : ℕ → View) (next : View) (number m : ℕ) (a b : Rac
             losses_after = after.losses;
             makes = λ vals fits.
                 makes_then [] after.changes v v (called v f number) w vals vals vals a b c
-                (undone_makes m v (called v f number) vals a b (reshape_undone is vals (written vals fits))) (after.makes vals);
+                (undone_makes m v (called v f number) vals a b (reshape_undone is vals (whole vals fits))) (after.makes vals);
           }

@@ -19,14 +19,14 @@ use Rattle.reshape_laws.specs.Ahead.{ahead_by, finished, next_row, taken_over}
 use Rattle.reshape_laws.specs.Reshapes.{joined, lacks_joined, lacks_two}
 use Rattle.raid_laws.specs.Moves.{AreCaused, AreMarked, IsHeeded}
 use Rattle.raid_laws.specs.NewDrive.{first_in, slice_length}
-use Rattle.raid_laws.specs.Raid.{IsWritten, Raid, is_empty, is_used_up}
+use Rattle.raid_laws.specs.Raid.{Raid, is_empty, is_used_up}
 pub use Rattle.growth_laws.specs.NewArrays.{drive_id, may_make, reaching, views_of}
 use Rattle.growth_laws.specs.Losses.{LosesBook}
 use Rattle.transition_laws.specs.Changes.{Change, changed, closed, makes, readied, steps}
 use Rattle.transition_laws.specs.Growth.{AreReady}
 use Rattle.transition_laws.specs.Losses.{AreLosses}
 use Rattle.transition_laws.specs.Makes.{Makes}
-use Rattle.transition_laws.specs.Reshaping.{FitsReshape}
+use Rattle.transition_laws.specs.Reshaping.{FitsReshape, LeavesWholeRows}
 
 -- ---- which can be done
 
@@ -218,7 +218,7 @@ MovesRows n most v w a b result = DoesRows (λ rows. MakesReshape (moves n rows)
 
 -- ---- what arrays keep in it
 
--- What a work is asked for where values are spoken of: no array of the volume is young, and each array's truth has the fields that a pool writes.
+-- What a work is asked for where values are spoken of: no array of the volume is young, and each array's superblocks leave whole rows to resync.
 pub record IsFitToGrow (v : Raid) : Type 0 where
   pub ready : AreReady v
-  pub written : (n : ℕ) → n < v.state.made → IsWritten (v.arrays n)
+  pub whole : (n : ℕ) → n < v.state.made → LeavesWholeRows (v.arrays n)

@@ -50,7 +50,7 @@ reshaped_old {r = r} {q = q} change Lacking n step a b x y answered fit after in
     let turns = makes.grows.turns in
     let mid = turns.mid in
     turned_old {r = r} {q = q} (change mid) turns.is_done (λ vals. _) a b x y fit after inside makes.grows.caused makes.grows.longer.made
-    (let same = joined turns.is_done turns.after.marks.same.joined in omega (arith, same)) makes.contents (old_fit (raid_by a) x n (ready.written n low))
+    (let same = joined turns.is_done turns.after.marks.same.joined in omega (arith, same)) makes.contents (old_fit (raid_by a) x n (ready.whole n low))
     (λ k inside. subst (λ z. KeepsOld (raid_by a) k z) (sym (change_is mid)) (keeps (mid.arrays n) k (turns.before.arrays n low).same)) ready.ready
   where
     joined : (d : Bool) → b.state.joined ≡ (if_done d makes.grows.turns.mid (changed (change makes.grows.turns.mid) makes.grows.turns.mid)).state.joined → b.state.joined ≡ a.state.joined

@@ -26,6 +26,7 @@ pub mod OwnBook
 pub mod AnyOrigin
 pub mod LongerBooks
 pub mod OldSectors
+pub mod OldThen
 pub mod OverMakes
 pub mod LossesMade
 pub mod Readied
