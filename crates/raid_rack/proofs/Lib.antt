@@ -56,3 +56,4 @@ mod Committed
 mod MadeArray
 pub mod LaidImages
 pub mod LaidOld
+pub mod LaidTables
