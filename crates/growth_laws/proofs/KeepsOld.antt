@@ -1,5 +1,5 @@
 -- A work of a growth keeps the sectors that arrays have, and what they hold, where it makes its change of the book between losses.
-use Rattle.std.proofs.Common.{◌≡◌, ℕ, ◌+◌, ◌^◌, ◌<◌, ◌≤◌, ◌&&◌, Bool, true, false, not, nat_le, if◌then◌else◌, List, ◌∷◌, ◌++◌, length, sym, ap, subst, ◌∙◌, inl, inr, le-ltb, leb-true, ap₂, bit_and, ◌==◌, int_eq, pos, ◌-◌, ◌*◌}
+use Rattle.std.proofs.Common.{◌≡◌, ℕ, ◌+◌, ◌^◌, ◌<◌, ◌≤◌, ◌&&◌, Bool, true, false, not, nat_le, if◌then◌else◌, List, ◌∷◌, ◌++◌, length, sym, ap, subst, ◌∙◌, inl, inr, le-ltb, leb-true, ap₂, bit_and, ◌==◌, int_eq, pos, ◌-◌, ◌*◌, arith}
 use Rattle.std.proofs.lemmas.Bool.{and_from, and_parts, both_ways, cases_lt}
 use Rattle.std.proofs.lemmas.Option.{slice_get_past}
 use Rattle.std.specs.List.{list_all}
@@ -19,6 +19,7 @@ use Rattle.reshape_laws.specs.Ahead.{ahead_by, finished, taken_over}
 use Rattle.raid_laws.specs.Moves.{AreCaused, IsHeeded, IsSet}
 use Rattle.raid_laws.specs.Raid.{gone_in, held_in, is_failed, Raid, StopsInside}
 use Rattle.raid_laws.proofs.Frames.{geometry_frame}
+use Rattle.raid_laws.proofs.Others.{place_listed}
 use Rattle.raid_laws.proofs.Over.{someone_left}
 use Rattle.transition_laws.specs.Changes.{Change, steps}
 use Rattle.transition_laws.specs.Growth.{AreReady}
@@ -57,6 +58,14 @@ joined_low v w a b set caused n goes =
     let some = someone_left w n goes in
     let left = caused.left some.0 (and_from (is_current w.state some.0) (not (gone_in w some.0)) some.1 (ap not some.2)) in
     joined_most v a some.0 set (and_parts (is_current v.state some.0) (not (gone_in v some.0)) left).0
+
+-- a pool with an array has a drive
+pub joined_few : (v : Raid) (x : RackView) (n : ℕ) → IsSet v x → n < v.state.made → v.state.joined ≤ v.state.made
+joined_few v x n set low =
+    let seated = set.arrays n low in
+    let at = seated.is_array.placed 0 (let two = seated.is_array.least in omega (arith, two)) in
+    arrays_joined v.state at.0
+    (set.valid at.0 (place_listed (length v.state.drives.items) (v.arrays n).truth 0 at.0 seated.is_of_pool.roles (omega arith) at.1))
 
 -- ---- changes of one array, by the book behind losses
 

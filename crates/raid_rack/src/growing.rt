@@ -8,7 +8,9 @@ ghost use Rattle.reshape_laws.specs.Reshapes.{lacks_joined, lacks_two};
 ghost use Rattle.raid_laws.specs.Moves.{IsHeeded, RaisesBy};
 ghost use Rattle.growth_laws.specs.Growing as spec;
 ghost use Rattle.growth_laws.specs.Growing.{CleansAndReshapes, CleansBefore, Grows, IsFitToGrow, Lacks, MakesReshape, MovesRows};
-ghost use Rattle.raid_rack.specs.RaidRack.{IsRunning, raid_by};
+ghost use Rattle.raid_laws.specs.Raid.{raid_of, StopsInside};
+ghost use Rattle.transition_laws.specs.Growth.{AreReady, KeepsOldSectors};
+ghost use Rattle.raid_rack.specs.RaidRack.{IsFit, IsRunning, raid_by};
 
 use crate::arrays::{Arrays, RaidRack};
 use crate::disks::note_written;
@@ -173,6 +175,8 @@ impl Arrays {
         requires due { spec.is_due (raid_by self.old) (TakeOver number) ≡ true }
         ensures grows { Grows (TakeOver number) (Lacks (TakeOver number)) (raid_by self.old) (raid_by self.new) (S.seen rack.old) (S.seen rack.new) result }
         ensures contents { CleansAndReshapes S.seen (spec.change_of (TakeOver number)) (Lacks (TakeOver number)) number (raid_by self.old) (raid_by self.new) (S.seen rack.old) (S.seen rack.new) result }
+        ensures old { (r q : ℕ → ℕ) → ((at : S) → StopsInside (S.seen at)) → AreReady (raid_by self.old)
+            → KeepsOldSectors self.old.state.joined (raid_of (IsFit self.old (S.seen rack.old)) r (raid_by self.old) (S.seen rack.old)) (raid_of (IsFit self.new (S.seen rack.new)) q (raid_by self.new) (S.seen rack.new)) }
         ensures raises { RaisesBy 36 (raid_by self.old) (raid_by self.new) }
         ensures running { IsRunning self.new (S.seen rack.new) }
         ensures runs { S.runs rack.old rack.new }
@@ -267,9 +271,8 @@ impl<R: Rack> RaidRack<R> {
     ghost use Rattle.array_core.specs.Seats.{seat_of};
     ghost use Rattle.slice_rack.specs.SliceRack.{below_of, tables};
     ghost use Rattle.slice_rack.specs.Slices.{seat_of as disk_at};
-    ghost use Rattle.raid_rack.specs.RaidRack.{IsFit, SliceRuns, arrays_in, raid_in, raid_seen, refused_in, slices_by, slices_in, slices_seen, written_in};
+    ghost use Rattle.raid_rack.specs.RaidRack.{SliceRuns, arrays_in, raid_in, raid_seen, refused_in, slices_by, slices_in, slices_seen, written_in};
     ghost use Rattle.raid_rack.specs.Growing.{CannotLay, LaysMember, LaysSlice, ReshapesWith};
-    ghost use Rattle.transition_laws.specs.Growth.{KeepsOldSectors};
 
     /// Makes RAID-5 of a mirror, durably. No value moves. It is refused where the array is no mirror, is young or has rows left to resync, and
     /// then nothing changes; else where it can't be done once the losses of this call are marked.
@@ -280,6 +283,7 @@ impl<R: Rack> RaidRack<R> {
             → Grows (TakeOver array) (Lacks (TakeOver array)) (raid_in self.old) (raid_in self.new) (slices_seen R.seen self.old) (slices_seen R.seen self.new) (is_ok result) }
         ensures contents { spec.is_due (raid_in self.old) (TakeOver array) ≡ true
             → CleansAndReshapes (slices_by R.seen) (spec.change_of (TakeOver array)) (Lacks (TakeOver array)) array (raid_in self.old) (raid_in self.new) (slices_seen R.seen self.old) (slices_seen R.seen self.new) (is_ok result) }
+        ensures old { AreReady (raid_in self.old) → KeepsOldSectors (raid_in self.old).state.joined (raid_seen R.seen self.old) (raid_seen R.seen self.new) }
         ensures named { IfErr result (λ e. e.array ≡ array) }
         ensures fit { IsFit (arrays_in self.new) (slices_seen R.seen self.new) }
         ensures raises { RaisesBy 36 (raid_in self.old) (raid_in self.new) }

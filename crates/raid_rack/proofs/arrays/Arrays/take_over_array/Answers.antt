@@ -16,8 +16,9 @@ use Rattle.growth_laws.proofs.Due.{may_take_over, taken}
 use Rattle.growth_laws.proofs.Losing.{moves_caused, moves_lose}
 use Rattle.growth_laws.proofs.ReshapeBegins.{is_taking, taken_keeps, taken_turn}
 use Rattle.growth_laws.proofs.Steps.{grows_behind, grows_nothing, reshapes_nothing}
-use Rattle.raid_rack.specs.RaidRack.{no_array, raid_by}
+use Rattle.raid_rack.specs.RaidRack.{IsFit, no_array, raid_by}
 use Rattle.raid_rack.proofs.Grown.{called_own, grows_answered, has_called, logs_there, not_clean, reshape_answered, reshape_call, step_events}
+use Rattle.raid_rack.proofs.OldKept.{cleaned_old, old_after, still_ready, taken_old}
 use Rattle.raid_rack.proofs.RaisedCalls.{raises_call}
 use Rattle.raid_rack.proofs.Raises.{raises_then}
 use Rattle.raid_rack.proofs.Resynced.{answered_refused, step_later, step_raise}
@@ -223,3 +224,35 @@ returns-clause-contents g c =
           c.mend.ensures.mends does.longer (ap not c.lacks.ensures) inr
           (taken_turn v (λ k. get_or all.items k no_array) c.take_over.new.log.number n x y on (is_ok c.take_over.result) call is (raid_by c.mend.new.self) z c.mend.ensures.losses);
     }
+
+pub returns-then-not-may_take_over-clause-old : goal.returns-then-not-may_take_over-clause-old
+returns-then-not-may_take_over-clause-old g c r q inside ready =
+    let a = c.args.self.now in
+    let e = c.clean_array.ensures in
+    let is = synced_parts (raid_by a) c.args.number (and_parts (is_synced (raid_by a) c.args.number) _ c.requires.due).0 in
+    cleaned_old {r = r} {q = q} c.args.number a c.clean_array.new.self (g.S.Rack.seen c.args.rack.now) (g.S.Rack.seen c.clean_array.new.rack)
+    (record { running = c.requires.running; heeded = c.requires.heeded }) (record { running = e.running; heeded = e.cleans.heeded }) (inside c.clean_array.new.rack) is.low is.grown e.cleans.moves
+    e.contents ready
+
+pub returns-clause-old : goal.returns-clause-old
+unfolding returns-clause-contents
+returns-clause-old g c r q inside ready =
+    let n = c.args.number in
+    let a = c.args.self.now in
+    let b = c.clean_array.new.self in
+    let d = c.mend.new.self in
+    let x = g.S.Rack.seen c.args.rack.now in
+    let y = g.S.Rack.seen c.clean_array.new.rack in
+    let z = g.S.Rack.seen c.mend.new.rack in
+    let e = c.clean_array.ensures in
+    let is = synced_parts (raid_by a) n (and_parts (is_synced (raid_by a) n) _ c.requires.due).0 in
+    let due = sym c.may_take_over.ensures ∙ c.if-not-may_take_over.false in
+    let low = (synced_parts (raid_by b) n (and_parts (is_synced (raid_by b) n) _ due).0).low in
+    let count = e.running.count in
+    let one = c.index-deref-number.is ∙ same_element c.deref.result.now b.all.items n _ no_array c.deref.ensures.0 (omega (arith, count, low)) in
+    let clean : is_clean ((raid_by b).arrays n) ≡ true = sym (ap is_clean one) ∙ sym c.is_clean.ensures ∙ c.if-not-is_clean.false in
+    let first : IsFit a x = record { running = c.requires.running; heeded = c.requires.heeded } in
+    let amid : IsFit b y = record { running = e.running; heeded = e.cleans.heeded } in
+    let last : IsFit d z = record { running = c.mend.ensures.running; heeded = c.mend.ensures.mends.heeded } in
+    old_after {r = r} {o = r} {q = q} a b d x y z e.cleans.moves (cleaned_old {r = r} {q = r} n a b x y first amid (inside c.clean_array.new.rack) is.low is.grown e.cleans.moves e.contents ready)
+    (taken_old {r = r} {q = q} n b d y z _ amid last (inside c.mend.new.rack) due clean (returns-clause-contents g c).step (still_ready n a b x y first is.low e.cleans.moves ready))
