@@ -6,16 +6,19 @@ use Rattle.std.specs.List.{list_all}
 use Rattle.std.specs.Option.{option_map_or}
 use Rattle.rack.specs.Values.{only, Values}
 use Rattle.rack.specs.Seen.{RackView}
+use Rattle.shr_base.specs.declared.Id.{Id}
 use Rattle.md_super.specs.Profile.{is_mirror}
 use Rattle.parity.specs.Xor.{zeros}
 use Rattle.pool_state.specs.declared.contents.State.{State}
 use Rattle.pool_state.specs.Valid.{has_arrays, has_epoch, has_places, is_drive, is_extent, is_valid}
+use Rattle.array_image.specs.Places.{member_id}
 use Rattle.array_image.specs.States.{is_current}
 use Rattle.array_image.specs.Supers.{is_reshaping}
 use Rattle.array_model.specs.View.{IsArray, IsSameArray, sectors_of, View}
-use Rattle.array_core.specs.Superblocks.{settled}
+use Rattle.array_core.specs.Superblocks.{raised, settled}
 use Rattle.sync_laws.specs.Steps.{if_done}
 use Rattle.reshape_laws.specs.Ahead.{ahead_by, finished, taken_over}
+use Rattle.reshape_laws.specs.Reshapes.{joined, joining_seat}
 use Rattle.raid_laws.specs.Moves.{AreCaused, IsHeeded, IsSet}
 use Rattle.raid_laws.specs.Raid.{gone_in, held_in, is_failed, Raid, StopsInside}
 use Rattle.raid_laws.proofs.Frames.{geometry_frame}
@@ -27,7 +30,7 @@ use Rattle.transition_laws.specs.Holds.{has_sector}
 use Rattle.transition_laws.specs.Reshaping.{FitsReshape, LeavesWholeRows}
 use Rattle.transition_laws.proofs.LongerBooks.{AllKeepOld, KeepsOld, losses_keep, old_joined, step_keeps}
 use Rattle.transition_laws.proofs.OldSectors.{IsGrowing, old_values}
-use Rattle.transition_laws.proofs.ReshapeSectors.{ahead_sectors, finished_sectors, mirror_two, taken_sectors}
+use Rattle.transition_laws.proofs.ReshapeSectors.{ahead_sectors, begun_sectors, finished_sectors, mirror_two, taken_sectors}
 use Rattle.transition_laws.proofs.SettledMakes.{settled_sectors}
 use Rattle.transition_laws.proofs.SteppedMakes.{framed_sectors}
 use Rattle.reshape_laws.proofs.Finishing.{no_mirror}
@@ -111,6 +114,15 @@ module _ (v : Raid) (n k : ℕ) (mid : View) (is_array : IsArray (v.arrays n)) (
       behind (taken_over mid events) small
       (λ y has.
       sym (taken_sectors mid events (same.geometry.disks ∙ mirror_two (v.arrays n) is_array mirrored) (same.young ∙ young) (reshaping_same ∙ not_reshaping) (mirror_same ∙ mirrored) y)
+      ∙ has)
+
+  -- a drive joins an array that is no mirror
+  pub begin_keeps : (on : List ℕ) (place : ℕ) (drive : Id) → is_reshaping (v.arrays n).truth ≡ false → is_mirror (v.arrays n).truth ≡ false → KeepsOld v k (steps n (joined mid on place drive))
+  begin_keeps on place drive not_reshaping striped =
+      behind (joined mid on place drive) small
+      (λ y has.
+      sym (begun_sectors mid (raised mid.truth.events) place (joining_seat on place) (record { 0 = member_id drive.0 mid.number }) (same.young ∙ young) (reshaping_same ∙ not_reshaping)
+      (mirror_same ∙ striped) y)
       ∙ has)
 
   -- an array is cleaned

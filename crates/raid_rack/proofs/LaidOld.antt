@@ -257,8 +257,7 @@ module _ (own : ℕ → Bool) (x y : RackView) (differs : DiffersOn own x y) whe
             let e = differs.later k left.0 left.1 in
             (e.0, e.1, λ j w. left.2 j w ∙ moment_same left.0 e.0 e.2 (was.before k left.0 until left.1) (now.before k e.0 (let same = differs.clock in omega (arith, same, until)) e.1) j w);
         past = λ k c until left.
-            let e = differs.earlier k left.0 left.1 in
-            (
+            let e = differs.earlier k left.0 left.1 in (
               e.0,
               e.1,
               λ j w. left.2 j w

@@ -57,3 +57,4 @@ mod MadeArray
 pub mod LaidImages
 pub mod LaidOld
 pub mod LaidTables
+pub mod JoinOld

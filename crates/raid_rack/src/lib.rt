@@ -109,6 +109,8 @@
 //! (`FitsMake`). A takeover is such a call behind a cleaning (`CleansAndReshapes`), and so is a reshape's begin, over slices with that of
 //! the joining member, where this slice is settled (`CleansBefore`, `ReshapesWith`). The zeros of a new array and the whole call that makes
 //! one don't say it yet. Rows of a reshape and its end also keep what the arrays of the volume held, where these are told (`KeepsOldSectors`).
+//! So does a reshape's begin, where the joining member's slice has no superblock in whatever a stop left (`AreBare`): then the arrays stand over
+//! the tables with it as they did (`laid_old` of proofs/LaidTables.antt). Slices of a new array's number are laid likewise (`numbered_old`).
 //!
 //! **For a whole call.** Parts of a call in a row are one (`moves_then`, `brings_then`); a read, a sync or a settling of one array is
 //! a part for all (`moves_read`), and so are a write (`write_brings`), losses that are noted and heeded, and the commit that marks
