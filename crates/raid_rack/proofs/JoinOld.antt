@@ -1,5 +1,5 @@
 -- A drive joins an array that was cleaned, over slices that are laid for it: the arrays of the volume keep what they hold.
-use Rattle.std.proofs.Common.{◌≡◌, ◌⊎◌, ℕ, ◌<◌, ◌≤◌, ◌==◌, ◌^◌, ◌-◌, Bool, true, false, not, None, if◌then◌else◌, refl, sym, ap, subst, ◌∙◌, inl, inr, eqb-true, arith}
+use Rattle.std.proofs.Common.{◌≡◌, ◌⊎◌, ℕ, ◌<◌, ◌≤◌, ◌==◌, ◌^◌, ◌-◌, Bool, true, false, not, None, if◌then◌else◌, sym, ap, subst, ◌∙◌, inl, inr, eqb-true, arith}
 use Rattle.std.proofs.lemmas.Bool.{and_parts}
 use Rattle.rack.specs.Seen.{RackView}
 use Rattle.slice_rack.specs.Changes.{Adds}
