@@ -6,16 +6,19 @@ use Rattle.std.specs.List.{list_all}
 use Rattle.std.specs.Option.{option_map_or}
 use Rattle.rack.specs.Values.{only, Values}
 use Rattle.rack.specs.Seen.{RackView}
+use Rattle.shr_base.specs.declared.Id.{Id}
 use Rattle.md_super.specs.Profile.{is_mirror}
 use Rattle.parity.specs.Xor.{zeros}
 use Rattle.pool_state.specs.declared.contents.State.{State}
 use Rattle.pool_state.specs.Valid.{has_arrays, has_epoch, has_places, is_drive, is_extent, is_valid}
+use Rattle.array_image.specs.Places.{member_id}
 use Rattle.array_image.specs.States.{is_current}
 use Rattle.array_image.specs.Supers.{is_reshaping}
 use Rattle.array_model.specs.View.{IsArray, IsSameArray, sectors_of, View}
-use Rattle.array_core.specs.Superblocks.{settled}
+use Rattle.array_core.specs.Superblocks.{raised, settled}
 use Rattle.sync_laws.specs.Steps.{if_done}
 use Rattle.reshape_laws.specs.Ahead.{ahead_by, finished, taken_over}
+use Rattle.reshape_laws.specs.Reshapes.{joined, joining_seat}
 use Rattle.raid_laws.specs.Moves.{AreCaused, IsHeeded, IsSet}
 use Rattle.raid_laws.specs.Raid.{gone_in, held_in, is_failed, Raid, spent_of, StopsInside}
 use Rattle.raid_laws.proofs.Frames.{geometry_frame}
@@ -51,12 +54,22 @@ current_listed s p current = elim (cases_lt p (length s.drives.items)) [
   | inr past ↦ absurd (both_ways (is_current s p) (ap (λ o. option_map_or (λ drive. not drive.missing) o false) (slice_get_past s.drives.items p past)) current)
 ]
 
+pub joined_most : (v : Raid) (x : RackView) (p : ℕ) → IsSet v x → is_current v.state p ≡ true → v.state.joined ≤ v.state.made
+joined_most v x p set current = arrays_joined v.state p (set.valid p (current_listed v.state p current))
+
 joined_low : (v w : Raid) (a b : RackView) → IsSet v a → AreCaused v w a b → (n : ℕ) → is_failed w n ≡ false → v.state.joined ≤ v.state.made
 joined_low v w a b set caused n goes =
     let some = someone_left w n goes in
     let left = caused.left some.0 (and_from (is_current w.state some.0) (not (gone_in w some.0)) some.1 (ap not some.2)) in
-    let current = (and_parts (is_current v.state some.0) (not (gone_in v some.0)) left).0 in
-    arrays_joined v.state some.0 (set.valid some.0 (current_listed v.state some.0 current))
+    joined_most v a some.0 set (and_parts (is_current v.state some.0) (not (gone_in v some.0)) left).0
+
+-- a pool with an array has a drive
+pub joined_few : (v : Raid) (x : RackView) (n : ℕ) → IsSet v x → n < v.state.made → v.state.joined ≤ v.state.made
+joined_few v x n set low =
+    let seated = set.arrays n low in
+    let at = seated.is_array.placed 0 (let two = seated.is_array.least in omega (arith, two)) in
+    arrays_joined v.state at.0
+    (set.valid at.0 (place_listed (length v.state.drives.items) (v.arrays n).truth 0 at.0 seated.is_of_pool.roles (omega arith) at.1))
 
 -- a pool with an array has a drive
 pub joined_few : (v : Raid) (x : RackView) (n : ℕ) → IsSet v x → n < v.state.made → v.state.joined ≤ v.state.made
@@ -110,6 +123,15 @@ module _ (v : Raid) (n k : ℕ) (mid : View) (is_array : IsArray (v.arrays n)) (
       behind (taken_over mid events) small refl
       (λ y has.
       sym (taken_sectors mid events (same.geometry.disks ∙ mirror_two (v.arrays n) is_array mirrored) (same.young ∙ young) (reshaping_same ∙ not_reshaping) (mirror_same ∙ mirrored) y)
+      ∙ has)
+
+  -- a drive joins an array that is no mirror
+  pub begin_keeps : (on : List ℕ) (place : ℕ) (drive : Id) → is_reshaping (v.arrays n).truth ≡ false → is_mirror (v.arrays n).truth ≡ false → KeepsOld v k (steps n (joined mid on place drive))
+  begin_keeps on place drive not_reshaping striped =
+      behind (joined mid on place drive) small
+      (λ y has.
+      sym (begun_sectors mid (raised mid.truth.events) place (joining_seat on place) (record { 0 = member_id drive.0 mid.number }) (same.young ∙ young) (reshaping_same ∙ not_reshaping)
+      (mirror_same ∙ striped) y)
       ∙ has)
 
   -- an array is cleaned

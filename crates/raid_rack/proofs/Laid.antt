@@ -155,9 +155,9 @@ faults_rise t u x y stays seats d = subst (λ k. x.faults (disk_of t d) ≤ k) (
 -- ---- a step that a joining member takes part in
 
 -- it is refused for less
-pub with_more : {R : Type 0} (seen : R → RackView) (change : Raid → Change) (Lacks More : Raid → Raid → Type 0) (n place : ℕ) (v w : Raid) (s r : SliceRack R) (answered : Bool)
-    → ((mid z : Raid) → Lacks mid z → More mid z) → ReshapesWith seen change Lacks n place v w s r answered → ReshapesWith seen change More n place v w s r answered
-with_more seen change Lacks More n place v w s r answered more makes = record {
+pub with_more : {R : Type 0} (seen : R → RackView) (change : Raid → Change) (Lacks More : Raid → Raid → Type 0) (n place : ℕ) (v w : Raid) (s r : SliceRack R) (answered : Bool) (Keeps Kept : Type 0)
+    → ((mid z : Raid) → Lacks mid z → More mid z) → (Keeps → Kept) → ReshapesWith seen change Lacks n place v w s r answered Keeps → ReshapesWith seen change More n place v w s r answered Kept
+with_more seen change Lacks More n place v w s r answered Keeps Kept more kept makes = record {
   laid = makes.laid;
   last = makes.last;
   lays = makes.lays;
@@ -165,4 +165,5 @@ with_more seen change Lacks More n place v w s r answered more makes = record {
       reshapes_more change Lacks More n v w (slices_of (tables makes.laid) (seen (below_of makes.laid))) (slices_of (tables makes.last) (seen (below_of makes.last))) answered more
       (makes.step settled);
   drops = makes.drops;
+  old = λ settled was laid last. kept (makes.old settled was laid last);
 }

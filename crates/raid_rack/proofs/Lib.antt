@@ -53,3 +53,7 @@ pub mod TruthAgrees
 mod AddDrive
 mod Committed
 mod MadeArray
+pub mod LaidImages
+pub mod LaidOld
+pub mod LaidTables
+pub mod JoinOld

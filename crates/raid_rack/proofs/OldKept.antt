@@ -103,18 +103,24 @@ pub cleaned_old : {r q : ℕ → ℕ} (n : ℕ) (a b : Arrays) (x y : RackView) 
     → KeepsHeld r q a b x y
 cleaned_old {r = r} {q = q} n a b x y fit after inside low young moves cleans ready =
     let u = (raid_by a).arrays n in
-    turned_old {r = r} {q = q} (steps n (settled u)) cleans.0 AnyValues a b x y fit after inside (moves_caused (raid_by a) (raid_by b) x y moves)
-    (let same = moves.book.same.made in omega (arith, same)) (let same = moves.book.same.joined in omega (arith, same)) cleans.1 tt (λ k before. tt)
+    turned_old {r = r} {q = q} (steps n (settled u)) cleans.0 (λ vals. u.young ≡ false) a b x y fit after inside (moves_caused (raid_by a) (raid_by b) x y moves)
+    (let same = moves.book.same.made in omega (arith, same)) (let same = moves.book.same.joined in omega (arith, same)) cleans.1 young (λ k before. young)
     (λ k inside. clean_keeps (raid_by a) n k u (fit.running.set.arrays n low).is_array young (only_same u u refl).same) ready
 
 -- calls that move no value, and then others
-pub old_after : {r o q : ℕ → ℕ} (a b c : Arrays) (x y z : RackView) → ChangesNoData (raid_by a) (raid_by b) x y → KeepsHeld r o a b x y → KeepsHeld o q b c y z → KeepsHeld r q a c x z
+pub old_after : {r o q : ℕ → ℕ} (a b c : Arrays) (x y z : RackView) → ChangesNoData (raid_by a) (raid_by b) x y
+    → KeepsOldSectors a.state.joined (raid_of (IsFit a x) r (raid_by a) x) (raid_of (IsFit b y) o (raid_by b) y)
+    → KeepsOldSectors b.state.joined (raid_of (IsFit b y) o (raid_by b) y) (raid_of (IsFit c z) q (raid_by c) z)
+    → KeepsOldSectors a.state.joined (raid_of (IsFit a x) r (raid_by a) x) (raid_of (IsFit c z) q (raid_by c) z)
 old_after {r = r} {o = o} {q = q} a b c x y z moves one two =
-    let joined = moves.book.same.joined in (
-      old_then a.state.joined b.state.joined (raid_of (IsFit a x) r (raid_by a) x) (raid_of (IsFit b y) o (raid_by b) y) (raid_of (IsFit c z) q (raid_by c) z)
-          (omega (arith, joined)) (λ d low. let same = moves.sectors d in omega (arith, same)) moves.stays.traced one.0 two.0,
-      zeros_then (raid_by a) (raid_by b) (raid_by c) x y z joined (λ n low. moves.sectors n) (λ n low told. one.0.told n low told) one.1 two.1,
-    )
+    old_then a.state.joined b.state.joined (raid_of (IsFit a x) r (raid_by a) x) (raid_of (IsFit b y) o (raid_by b) y) (raid_of (IsFit c z) q (raid_by c) z)
+    (let joined = moves.book.same.joined in omega (arith, joined)) (λ d low. let same = moves.sectors d in omega (arith, same)) moves.stays.traced one two
+
+pub held_after : {r o q : ℕ → ℕ} (a b c : Arrays) (x y z : RackView) → ChangesNoData (raid_by a) (raid_by b) x y → KeepsHeld r o a b x y → KeepsHeld o q b c y z → KeepsHeld r q a c x z
+held_after {r = r} {o = o} {q = q} a b c x y z moves one two = (
+  old_after {r = r} {o = o} {q = q} a b c x y z moves one.0 two.0,
+  zeros_then (raid_by a) (raid_by b) (raid_by c) x y z moves.book.same.joined (λ n low. moves.sectors n) (λ n low told. one.0.told n low told) one.1 two.1,
+)
 
 -- no array of the volume is young after losses
 pub still_ready : (n : ℕ) (a b : Arrays) (x y : RackView) → IsFit a x → n < a.state.made → ChangesNoData (raid_by a) (raid_by b) x y → AreReady (raid_by a) → AreReady (raid_by b)

@@ -7,13 +7,14 @@ use Rattle.slice_rack.specs.SliceRack.{below_of, tables}
 use Rattle.slice_rack.specs.Changes.{Adds, IsPast, Overlaps}
 use Rattle.gpt_table.specs.Disk.{first_table, now_on}
 use Rattle.array_image.specs.States.{is_current}
-use Rattle.array_core.specs.Seats.{names}
+use Rattle.array_core.specs.Seats.{names, seat_of as member_of}
 use Rattle.array_image.specs.Places.{member_slice, slice_of}
 use Rattle.raid_laws.specs.NewDrive.{first_in, slice_length}
 use Rattle.raid_laws.specs.Raid.{Raid}
 use Rattle.transition_laws.specs.Changes.{Change}
 use Rattle.growth_laws.specs.Growing.{HasSettledSlice, MakesReshape, reaching, views_of}
 use Rattle.growth_laws.specs.NewArrays.{new_size}
+use Rattle.raid_rack.specs.BareSlices.{AreBare, is_member_slice}
 use Rattle.raid_rack.specs.RaidRack.{slices_by}
 
 -- These sectors can't be the slice of a place's member of array n: the place has no disk, or they end past it or overlap another slice of it.
@@ -35,13 +36,17 @@ abbrev pub LaysMember : {R : Type 0} → Raid → (place n : ℕ) → SliceRack 
 LaysMember v place n s r = LaysSlice place n (first_in (views_of v) n) (slice_length (v.arrays n)) s r
 
 -- A step of array n's reshape that a place's member takes part in, with what contents hold in it where the member's slice is settled: this slice is laid
--- for it, and has no sector after it where the place hasn't joined.
-pub record ReshapesWith {R : Type 0} (seen : R → RackView) (change : Raid → Change) (Lacks : Raid → Raid → Type 0) (n place : ℕ) (v w : Raid) (s r : SliceRack R) (answered : Bool) : Type 0 where
+-- for it, and has no sector after it where the place hasn't joined. Where it has joined, and no stop before the step left a superblock on that slice, the
+-- arrays of the volume keep what they hold (`Keeps`).
+pub record ReshapesWith {R : Type 0} (seen : R → RackView) (change : Raid → Change) (Lacks : Raid → Raid → Type 0) (n place : ℕ) (v w : Raid) (s r : SliceRack R) (answered : Bool) (Keeps : Type 0) : Type 0 where
   pub laid : SliceRack R
   pub last : SliceRack R
   pub lays : LaysMember v place n s laid
   pub step : HasSettledSlice v n place (slices_by seen laid) → MakesReshape change Lacks n v w (slices_by seen laid) (slices_by seen last) answered
   pub drops : LaysSlice place n 0 0 last r
+  pub old :
+      HasSettledSlice v n place (slices_by seen laid) → AreBare (is_member_slice place n) (slices_by seen s) → AreBare (is_member_slice place n) (slices_by seen laid)
+      → (member_of (w.arrays n) place ≡ None → ⊥) → Keeps
 
 -- No slices but those of this number may have changed.
 pub record KeepsOtherSlices (number : ℕ) (t u : Slices) : Type 0 where

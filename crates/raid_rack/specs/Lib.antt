@@ -1,3 +1,4 @@
 pub mod RaidRack
 pub mod AllRuns
 pub mod Growing
+pub mod BareSlices

@@ -393,7 +393,8 @@ impl<R: Rack> RaidRack<R> {
         ensures contents { spec.is_due (raid_in self.old) (Begin array place) ≡ true
             → CleansBefore (slices_by R.seen) array (raid_in self.old) (slices_seen R.seen self.old)
             (λ mid at. ReshapesWith R.seen (spec.change_of (Begin array place)) (λ mid w. Lacks (Begin array place) mid w ⊎ CannotLay (tables (slices_in self.old)) (R.seen (below_of (slices_in self.old))) mid place array)
-            array place mid (raid_in self.new) at (slices_in self.new) (is_ok result)) }
+            array place mid (raid_in self.new) at (slices_in self.new) (is_ok result)
+            (AreReady (raid_in self.old) → KeepsOldSectors (raid_in self.old).state.joined (raid_seen R.seen self.old) (raid_seen R.seen self.new))) }
         ensures named { IfErr result (λ e. e.array ≡ array) }
         ensures fit { IsFit (arrays_in self.new) (slices_seen R.seen self.new) }
         ensures raises { RaisesBy 36 (raid_in self.old) (raid_in self.new) }
@@ -427,7 +428,8 @@ impl<R: Rack> RaidRack<R> {
         ensures grows { Grows (Begin array place) (λ mid w. Lacks (Begin array place) mid w ⊎ CannotLay (tables (slices_in self.old)) (R.seen (below_of (slices_in self.old))) mid place array)
             (raid_in self.old) (raid_in self.new) (slices_seen R.seen self.old) (slices_seen R.seen self.new) result }
         ensures contents { ReshapesWith R.seen (spec.change_of (Begin array place)) (λ mid w. Lacks (Begin array place) mid w ⊎ CannotLay (tables (slices_in self.old)) (R.seen (below_of (slices_in self.old))) mid place array)
-            array place (raid_in self.old) (raid_in self.new) (slices_in self.old) (slices_in self.new) result }
+            array place (raid_in self.old) (raid_in self.new) (slices_in self.old) (slices_in self.new) result
+            (AreReady (raid_in self.old) → KeepsOldSectors (raid_in self.old).state.joined (raid_seen R.seen self.old) (raid_seen R.seen self.new)) }
         ensures fit { IsFit (arrays_in self.new) (slices_seen R.seen self.new) }
         ensures raises { RaisesBy 18 (raid_in self.old) (raid_in self.new) }
         ensures refused { (n : ℕ) → refused_in self.new n ≡ refused_in self.old n }
@@ -478,6 +480,7 @@ impl<R: Rack> RaidRack<R> {
         requires array { array < (raid_in self.old).state.made }
         requires place { place < 16 }
         ensures drops { LaysSlice place array 0 0 (slices_in self.old) (slices_in self.new) }
+        ensures apart { (tables (slices_in self.new) ≡ tables (slices_in self.old)) ⊎ (seat_of ((raid_in self.old).arrays array) place ≡ None) }
         ensures arrays { arrays_in self.new ≡ arrays_in self.old }
         ensures refused { (n : ℕ) → refused_in self.new n ≡ refused_in self.old n }
         ensures written { (n : ℕ) → written_in self.new n ≡ written_in self.old n }

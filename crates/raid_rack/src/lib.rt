@@ -110,6 +110,8 @@
 //! the joining member, where this slice is settled (`CleansBefore`, `ReshapesWith`). The zeros of a new array and the whole call that makes
 //! one don't say it yet. A takeover, rows of a reshape, its end and the readiness of a young array also keep what the arrays of the volume
 //! held, where these are told (`KeepsOldSectors`), and the sectors that these get hold zeros (`GrowsByZeros`).
+//! Of a reshape's begin by which the place has joined it is said where no stop left a superblock on the joining member's slice (`AreBare`): then the
+//! arrays stand over the tables with that slice as they did.
 //!
 //! **For a whole call.** Parts of a call in a row are one (`moves_then`, `brings_then`); a read, a sync or a settling of one array is
 //! a part for all (`moves_read`), and so are a write (`write_brings`), losses that are noted and heeded, and the commit that marks

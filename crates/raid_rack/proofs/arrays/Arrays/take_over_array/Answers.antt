@@ -18,7 +18,7 @@ use Rattle.growth_laws.proofs.ReshapeBegins.{is_taking, taken_keeps, taken_turn}
 use Rattle.growth_laws.proofs.Steps.{grows_behind, grows_nothing, reshapes_nothing}
 use Rattle.raid_rack.specs.RaidRack.{IsFit, no_array, raid_by}
 use Rattle.raid_rack.proofs.Grown.{called_own, grows_answered, has_called, logs_there, not_clean, reshape_answered, reshape_call, step_events}
-use Rattle.raid_rack.proofs.OldKept.{cleaned_old, old_after, still_ready, taken_old}
+use Rattle.raid_rack.proofs.OldKept.{cleaned_old, held_after, still_ready, taken_old}
 use Rattle.raid_rack.proofs.RaisedCalls.{raises_call}
 use Rattle.raid_rack.proofs.Raises.{raises_then}
 use Rattle.raid_rack.proofs.Resynced.{answered_refused, step_later, step_raise}
@@ -254,5 +254,5 @@ returns-clause-old g c r q inside ready =
     let first : IsFit a x = record { running = c.requires.running; heeded = c.requires.heeded } in
     let amid : IsFit b y = record { running = e.running; heeded = e.cleans.heeded } in
     let last : IsFit d z = record { running = c.mend.ensures.running; heeded = c.mend.ensures.mends.heeded } in
-    old_after {r = r} {o = r} {q = q} a b d x y z e.cleans.moves (cleaned_old {r = r} {q = r} n a b x y first amid (inside c.clean_array.new.rack) is.low is.grown e.cleans.moves e.contents ready)
+    held_after {r = r} {o = r} {q = q} a b d x y z e.cleans.moves (cleaned_old {r = r} {q = r} n a b x y first amid (inside c.clean_array.new.rack) is.low is.grown e.cleans.moves e.contents ready)
     (taken_old {r = r} {q = q} n b d y z _ amid last (inside c.mend.new.rack) due clean (returns-clause-contents g c).step (still_ready n a b x y first is.low e.cleans.moves ready))

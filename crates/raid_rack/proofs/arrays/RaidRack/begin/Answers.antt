@@ -5,16 +5,19 @@ use Rattle.slice_rack.specs.SliceRack.{below_of, tables}
 use Rattle.slice_rack.specs.Sliced.{slices_of}
 use Rattle.slice_rack.specs.Slices.{seat_of as disk_at}
 use Rattle.raid_laws.specs.NewDrive.{first_in, slice_length}
-use Rattle.raid_laws.specs.Raid.{Raid}
+use Rattle.raid_laws.specs.Laws.{stops_inside}
+use Rattle.raid_laws.specs.Raid.{Raid, raid_of}
+use Rattle.transition_laws.specs.Growth.{AreReady, KeepsOldSectors}
 use Rattle.raid_laws.proofs.Whole.{heeded_gone}
 use Rattle.growth_laws.specs.Growing.{Grows, Lacks, change_of, is_clean, is_due, views_of}
 use Rattle.growth_laws.proofs.Due.{begin_parts}
 use Rattle.growth_laws.proofs.Losing.{moves_caused, moves_lose}
 use Rattle.growth_laws.proofs.Steps.{grows_behind, grows_nothing, reshapes_nothing}
 use Rattle.raid_rack.specs.Growing.{CannotLay, ReshapesWith}
-use Rattle.raid_rack.specs.RaidRack.{no_array, raid_by, raid_in, slices_seen}
+use Rattle.raid_rack.specs.RaidRack.{IsFit, no_array, raid_by, raid_in, raid_seen, refused_in, slices_seen}
 use Rattle.raid_rack.proofs.Grown.{not_clean}
 use Rattle.raid_rack.proofs.Laid.{cannot_before, faults_rise, goes_same, runs_goes, runs_stay, with_more}
+use Rattle.raid_rack.proofs.OldKept.{cleaned_old, old_after, still_ready}
 use Rattle.raid_rack.proofs.Raises.{raises_more, raises_then}
 use Rattle.raid_rack.proofs.Steps.{same_element}
 use Rattle.raid_rack.proofs.arrays.RaidRack.begin.Goals.{then-not-may_begin-2-via-then-not-may_begin-2, then-not-may_begin-2-via-else-not-may_begin-2+then-not-is_clean}
@@ -171,6 +174,11 @@ returns-then-not-may_begin-2-clause-contents g c due =
     let count = e.running.count in
     let L : Raid → Raid → Type 0 =
     λ mid w. Lacks (Begin n place) mid w ⊎ CannotLay (tables c.args.self.now.slices) (g.R.Rack.seen (below_of c.args.self.now.slices)) mid place n in
+    let seen = g.R.Rack.seen in
+    let first = begin_parts v n place due in
+    let cleaned : AreReady v → KeepsOldSectors v.state.joined (raid_seen seen c.args.self.now) (raid_of (IsFit b y) (refused_in c.args.self.now) (raid_by b) y) =
+    λ ready. (cleaned_old n c.args.self.now.arrays b (slices_seen seen c.args.self.now) y c.requires.fit (record { running = e.running; heeded = e.cleans.heeded })
+    (stops_inside (tables c.clean_array.new.rack) (seen (below_of c.clean_array.new.rack))) first.synced.low first.synced.grown e.cleans.moves e.contents ready).0 in
     record {
       mid = w;
       at = c.clean_array.new.rack;
@@ -191,6 +199,7 @@ returns-then-not-may_begin-2-clause-contents g c due =
                   ∙ sym k.is_clean.ensures ∙ k.if-not-is_clean.true)
             ])));
         drops = (refl, inl refl);
+        old = λ settled was laid last ready. cleaned ready;
       };
     }
 
@@ -209,20 +218,33 @@ returns-then-join_member-clause-contents g c due =
     λ mid w. Lacks (Begin n place) mid w ⊎ CannotLay (tables c.args.self.now.slices) (g.R.Rack.seen (below_of c.args.self.now.slices)) mid place n in
     let L1 : Raid → Raid → Type 0 =
     λ mid w. Lacks (Begin n place) mid w ⊎ CannotLay (tables c.clean_array.new.rack) (g.R.Rack.seen (below_of c.clean_array.new.rack)) mid place n in
+    let b = c.clean_array.new.self in
+    let x = slices_seen seen c.args.self.now in
+    let y = slices_of t1 (seen (below_of c.clean_array.new.rack)) in
+    let first = begin_parts (raid_in c.args.self.now) n place due in
+    let amid : IsFit b y = record { running = e.running; heeded = e.cleans.heeded } in
+    let cleaned : AreReady (raid_in c.args.self.now) → KeepsOldSectors c.args.self.now.arrays.state.joined (raid_seen seen c.args.self.now) (raid_of (IsFit b y) (refused_in c.args.self.now) u y) =
+    λ ready. (cleaned_old n c.args.self.now.arrays b x y c.requires.fit amid (stops_inside t1 (seen (below_of c.clean_array.new.rack))) first.synced.low first.synced.grown e.cleans.moves e.contents ready).0 in
+    let Keeps : Type 0 = AreReady u → KeepsOldSectors u.state.joined (raid_of (IsFit b y) (refused_in c.args.self.now) u y) (raid_seen seen c.join_member.new.self) in
+    let Kept : Type 0 =
+    AreReady (raid_in c.args.self.now) → KeepsOldSectors c.args.self.now.arrays.state.joined (raid_seen seen c.args.self.now) (raid_seen seen c.join_member.new.self) in
     record {
       mid = u;
       at = c.clean_array.new.rack;
       loses = moves_lose (raid_in c.args.self.now) u (slices_seen seen c.args.self.now) (slices_of t1 (seen (below_of c.clean_array.new.rack))) e.cleans.moves;
       cleans = e.contents;
       marked = λ p current. heeded_gone u e.cleans.heeded p;
-      step = with_more seen (change_of (Begin n place)) L1 L n place u w c.clean_array.new.rack c.join_member.new.self.slices true
+      step = with_more seen (change_of (Begin n place)) L1 L n place u w c.clean_array.new.rack c.join_member.new.self.slices true Keeps Kept
           (λ mid z is. elim is [
             | inl lacks ↦ inl lacks
             | inr cannot ↦
                 inr (cannot_before t t1 (seen (below_of c.args.self.now.slices)) (seen (below_of c.clean_array.new.rack)) place n (first_in (views_of mid) n) (slice_length (mid.arrays n)) e.runs.tables stays
                 cannot)
           ])
-          (subst (λ (answered : Bool). ReshapesWith seen (change_of (Begin n place)) L1 n place u w c.clean_array.new.rack c.join_member.new.self.slices answered) c.if-join_member.true
+          (λ keeps ready.
+          old_after c.args.self.now.arrays b c.join_member.new.self.arrays x y (slices_seen seen c.join_member.new.self) e.cleans.moves (cleaned ready)
+          (keeps (still_ready n c.args.self.now.arrays b x y c.requires.fit first.synced.low e.cleans.moves ready)))
+          (subst (λ (answered : Bool). ReshapesWith seen (change_of (Begin n place)) L1 n place u w c.clean_array.new.rack c.join_member.new.self.slices answered Keeps) c.if-join_member.true
           c.join_member.ensures.contents);
     }
 
@@ -241,19 +263,32 @@ returns-else-join_member-clause-contents g c due =
     λ mid w. Lacks (Begin n place) mid w ⊎ CannotLay (tables c.args.self.now.slices) (g.R.Rack.seen (below_of c.args.self.now.slices)) mid place n in
     let L1 : Raid → Raid → Type 0 =
     λ mid w. Lacks (Begin n place) mid w ⊎ CannotLay (tables c.clean_array.new.rack) (g.R.Rack.seen (below_of c.clean_array.new.rack)) mid place n in
+    let b = c.clean_array.new.self in
+    let x = slices_seen seen c.args.self.now in
+    let y = slices_of t1 (seen (below_of c.clean_array.new.rack)) in
+    let first = begin_parts (raid_in c.args.self.now) n place due in
+    let amid : IsFit b y = record { running = e.running; heeded = e.cleans.heeded } in
+    let cleaned : AreReady (raid_in c.args.self.now) → KeepsOldSectors c.args.self.now.arrays.state.joined (raid_seen seen c.args.self.now) (raid_of (IsFit b y) (refused_in c.args.self.now) u y) =
+    λ ready. (cleaned_old n c.args.self.now.arrays b x y c.requires.fit amid (stops_inside t1 (seen (below_of c.clean_array.new.rack))) first.synced.low first.synced.grown e.cleans.moves e.contents ready).0 in
+    let Keeps : Type 0 = AreReady u → KeepsOldSectors u.state.joined (raid_of (IsFit b y) (refused_in c.args.self.now) u y) (raid_seen seen c.join_member.new.self) in
+    let Kept : Type 0 =
+    AreReady (raid_in c.args.self.now) → KeepsOldSectors c.args.self.now.arrays.state.joined (raid_seen seen c.args.self.now) (raid_seen seen c.join_member.new.self) in
     record {
       mid = u;
       at = c.clean_array.new.rack;
       loses = moves_lose (raid_in c.args.self.now) u (slices_seen seen c.args.self.now) (slices_of t1 (seen (below_of c.clean_array.new.rack))) e.cleans.moves;
       cleans = e.contents;
       marked = λ p current. heeded_gone u e.cleans.heeded p;
-      step = with_more seen (change_of (Begin n place)) L1 L n place u w c.clean_array.new.rack c.join_member.new.self.slices false
+      step = with_more seen (change_of (Begin n place)) L1 L n place u w c.clean_array.new.rack c.join_member.new.self.slices false Keeps Kept
           (λ mid z is. elim is [
             | inl lacks ↦ inl lacks
             | inr cannot ↦
                 inr (cannot_before t t1 (seen (below_of c.args.self.now.slices)) (seen (below_of c.clean_array.new.rack)) place n (first_in (views_of mid) n) (slice_length (mid.arrays n)) e.runs.tables stays
                 cannot)
           ])
-          (subst (λ (answered : Bool). ReshapesWith seen (change_of (Begin n place)) L1 n place u w c.clean_array.new.rack c.join_member.new.self.slices answered) c.if-join_member.false
+          (λ keeps ready.
+          old_after c.args.self.now.arrays b c.join_member.new.self.arrays x y (slices_seen seen c.join_member.new.self) e.cleans.moves (cleaned ready)
+          (keeps (still_ready n c.args.self.now.arrays b x y c.requires.fit first.synced.low e.cleans.moves ready)))
+          (subst (λ (answered : Bool). ReshapesWith seen (change_of (Begin n place)) L1 n place u w c.clean_array.new.rack c.join_member.new.self.slices answered Keeps) c.if-join_member.false
           c.join_member.ensures.contents);
     }

@@ -1,4 +1,4 @@
-use Rattle.std.proofs.Common.{◌≡◌, ◌+◌, ◌*◌, true, false, not, is_some, Option, Some, None, refl, ap, sym, ◌∙◌, arith}
+use Rattle.std.proofs.Common.{◌≡◌, ◌+◌, ◌*◌, true, false, not, is_some, Option, Some, None, refl, ap, sym, ◌∙◌, inr, arith}
 use Rattle.std.proofs.lemmas.Bool.{both_ways}
 use Rattle.array_image.specs.Places.{member_slice}
 use Rattle.array_core.specs.Seats.{seat_of}
@@ -31,3 +31,12 @@ returns-then-is_none-clause-drops g c =
     let place = c.args.place in
     let at : 17 * place + (n + 1) ≡ member_slice place n = omega arith in
     lays_slice c.args.self.now.slices c.add_slice.new.self place n (17 * place + (n + 1)) 0 0 0 0 c.add_slice.result at refl refl c.add_slice.ensures.added c.add_slice.ensures.err c.add_slice.ensures.below
+
+pub returns-then-is_none-clause-apart : goal.returns-then-is_none-clause-apart
+returns-then-is_none-clause-apart g c =
+    let a = c.args.self.now.arrays in
+    let n = c.args.array in
+    let count = c.requires.fit.running.count in
+    let low = c.requires.array in
+    let element = c.index-deref-array.is ∙ same_element c.deref.result.now a.all.items n _ no_array c.deref.ensures.0 (omega (arith, count, low)) in
+    inr (ap (λ (u : View). seat_of u c.args.place) (sym element) ∙ sym c.seat.ensures ∙ none_of c.seat.result (c.is_none.ensures ∙ ap not c.if-is_none.true))
