@@ -31,7 +31,7 @@ use Rattle.transition_laws.specs.Reshaping.{FitsReshape, LeavesWholeRows}
 use Rattle.transition_laws.proofs.LongerBooks.{AllKeepOld, KeepsOld, losses_keep, old_joined, step_keeps}
 use Rattle.transition_laws.proofs.OldSectors.{IsGrowing, old_values}
 use Rattle.transition_laws.proofs.ZeroSectors.{grows_zeros, own_values}
-use Rattle.transition_laws.proofs.ReshapeSectors.{ahead_sectors, finished_sectors, mirror_two, taken_sectors}
+use Rattle.transition_laws.proofs.ReshapeSectors.{ahead_sectors, begun_sectors, finished_sectors, mirror_two, taken_sectors}
 use Rattle.transition_laws.proofs.SettledMakes.{settled_sectors}
 use Rattle.transition_laws.proofs.SteppedMakes.{framed_sectors}
 use Rattle.reshape_laws.proofs.Finishing.{no_mirror}
@@ -62,14 +62,6 @@ joined_low v w a b set caused n goes =
     let some = someone_left w n goes in
     let left = caused.left some.0 (and_from (is_current w.state some.0) (not (gone_in w some.0)) some.1 (ap not some.2)) in
     joined_most v a some.0 set (and_parts (is_current v.state some.0) (not (gone_in v some.0)) left).0
-
--- a pool with an array has a drive
-pub joined_few : (v : Raid) (x : RackView) (n : ℕ) → IsSet v x → n < v.state.made → v.state.joined ≤ v.state.made
-joined_few v x n set low =
-    let seated = set.arrays n low in
-    let at = seated.is_array.placed 0 (let two = seated.is_array.least in omega (arith, two)) in
-    arrays_joined v.state at.0
-    (set.valid at.0 (place_listed (length v.state.drives.items) (v.arrays n).truth 0 at.0 seated.is_of_pool.roles (omega arith) at.1))
 
 -- a pool with an array has a drive
 pub joined_few : (v : Raid) (x : RackView) (n : ℕ) → IsSet v x → n < v.state.made → v.state.joined ≤ v.state.made
@@ -128,7 +120,7 @@ module _ (v : Raid) (n k : ℕ) (mid : View) (is_array : IsArray (v.arrays n)) (
   -- a drive joins an array that is no mirror
   pub begin_keeps : (on : List ℕ) (place : ℕ) (drive : Id) → is_reshaping (v.arrays n).truth ≡ false → is_mirror (v.arrays n).truth ≡ false → KeepsOld v k (steps n (joined mid on place drive))
   begin_keeps on place drive not_reshaping striped =
-      behind (joined mid on place drive) small
+      behind (joined mid on place drive) small refl
       (λ y has.
       sym (begun_sectors mid (raised mid.truth.events) place (joining_seat on place) (record { 0 = member_id drive.0 mid.number }) (same.young ∙ young) (reshaping_same ∙ not_reshaping)
       (mirror_same ∙ striped) y)
