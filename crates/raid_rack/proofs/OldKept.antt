@@ -1,7 +1,7 @@
 -- Works of a growth keep what the arrays of the volume held in the sectors that they had.
-use Rattle.std.proofs.Common.{◌≡◌, ℕ, ◌-◌, ◌^◌, ◌≤◌, ◌<◌, ◌==◌, ◌&&◌, not, Bool, true, false, is_ok, Result, refl, sym, subst, ◌∙◌, inl, arith, ap, eqb-true}
+use Rattle.std.proofs.Common.{◌≡◌, ℕ, ◌-◌, ◌^◌, ◌≤◌, ◌<◌, ◌==◌, not, Bool, true, false, is_ok, Result, refl, sym, subst, ◌∙◌, inl, arith, ap, eqb-true}
 use Rattle.std.proofs.lemmas.Bool.{and_parts}
-use Rattle.rack.specs.Seen.{IsPick, RackView}
+use Rattle.rack.specs.Seen.{RackView}
 use Rattle.rack.specs.Joins.{keeps_same, leaves_same}
 use Rattle.rack.specs.Values.{MayLeave, Values}
 use Rattle.array_model.specs.View.{IsSameArray, sectors_of, View}
