@@ -262,11 +262,6 @@ module _ (place units : ℕ) (v : Raid) (x : RackView) (may : MayBeNext place un
     events = λ n low. omega arith;
   }
 
--- it is what a drive makes of the book that is a member of no array
-pub changed_next : (place units : ℕ) (joining : ℕ → Bool) (v : Raid) → ((n : ℕ) → joining n ≡ false) → changed (enlists place units (Add place) joining) v ≡ next_raid place units v
-changed_next place units joining v none =
-    ap (λ (f : ℕ → Bool). changed (enlists place units (Add place) f) v) (λ i n. none n i)
-
 -- ---- a drive on a place of the list
 
 -- it is what such a drive makes of the book

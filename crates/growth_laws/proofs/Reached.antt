@@ -56,12 +56,6 @@ some_extent s own is =
     let least = leb-true 128 s.extent (and_parts (nat_le 128 s.extent) (nat_le s.extent 65536) two.1).0 in
     omega (arith, least)
 
--- a plan that may begin leaves the pool one drive from before
-pub some_place : (s : State) (arrays : List View) (place units sectors : ℕ) (plan : Plan) → MayBegin s arrays place units sectors plan → 0 < length s.drives.items
-some_place s arrays place units sectors Nothing may = absurd may
-some_place s arrays place units sectors (Add p) may = let next = may.1.next in let some = may.1.some in omega (arith, next, some)
-some_place s arrays place units sectors (Replace p) may = let low = may.1.listed in omega (arith, low)
-
 pub may_append : (s : State) (arrays : List View) (place units sectors : ℕ) (plan : Plan) → ((p : ℕ) → plan ≡ Replace p → ⊥) → MayBegin s arrays place units sectors plan
     → (plan ≡ Add place) × MayAppend s place
 may_append s arrays place units sectors Nothing other may = absurd may

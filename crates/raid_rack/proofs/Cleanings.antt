@@ -15,7 +15,6 @@ use Rattle.array_model.specs.View.{View, place_at, shape_of}
 use Rattle.array_model.specs.Says.{ArrayInvariant}
 use Rattle.array_model.specs.ArrayCalls.{IncludesSpent, Keeping}
 use Rattle.array_model.specs.Members.{slice_on}
-use Rattle.array_model.proofs.Views.{fault_early, fault_later}
 use Rattle.array_core.specs.Superblocks.{is_settled, settled}
 use Rattle.array_core.specs.Settling.{Cleans as ArrayCleans, KeepsOthers}
 use Rattle.array_core.specs.Pool.{Goes, MayRenew}
@@ -24,19 +23,14 @@ use Rattle.array_core.specs.Writing.{KeepsElsewhere}
 use Rattle.raid_rack.specs.declared.arrays.Arrays.{Arrays}
 use Rattle.raid_laws.specs.Raid.{Raid}
 use Rattle.raid_laws.specs.Moves.{AreMarked, IsHeeded, IsSet, Mends}
-use Rattle.raid_laws.specs.Cleaning.{Cleans, CleansAll, Ends, IsEnded, IsIdle, NoneFails, as_it_was, restated}
+use Rattle.raid_laws.specs.Cleaning.{Cleans, CleansAll, Ends, IsEnded, IsIdle, as_it_was, restated}
 use Rattle.raid_rack.specs.RaidRack.{IsRunning, raid_by, no_array}
+use Rattle.raid_laws.proofs.Agreeing.{none_early, none_later}
 use Rattle.raid_laws.proofs.Changed.{called}
 use Rattle.raid_laws.proofs.Cleaned.{CleanCall, ends_clean, moves_clean, none_gone, settled_clean, slice_own}
 use Rattle.raid_laws.proofs.Moving.{moves_same, moves_then}
 use Rattle.raid_rack.proofs.Steps.{set_own, set_other, length_set}
 use Rattle.raid_rack.proofs.Synced.{settled_moved}
-
-none_before : (a b c : RackView) → SameRack b c → NoneFails a c → NoneFails a b
-none_before a b c later none p fault = none p (fault_early a b c p later fault)
-
-none_after : (a b c : RackView) → SameRack a b → NoneFails a c → NoneFails b c
-none_after a b c first none p fault = none p (fault_later a b c p first fault)
 
 -- ---- one array
 
@@ -55,7 +49,7 @@ cleans_one v w f m a b c set call mends idle =
           ((step.parts n vals spent joined low still covered).holds amid)
           (settled_clean v f m a b set call n vals spent (eqb-true n m on) covered amid);
       ends = λ none.
-          let early = none_before a b c mends.moves.stays none in
+          let early = none_early a b c mends.moves.stays none in
           let after = idle (none_gone v f m a b set call early) in
           after.1 (ends_clean v f m a b set call w after.0 early);
     }
@@ -109,7 +103,7 @@ cleans_then first late on v w z a b c either apart one two =
             | inr not ↦
                 two.settled n vals spent (late_of n is not) (subst (λ k. n < k) (sym one.moves.book.same.joined) joined) made goes covers mid
           ];
-      ends = λ none. both (one.ends (none_before a b c two.moves.stays none)) (two.ends (none_after a b c one.moves.stays none));
+      ends = λ none. both (one.ends (none_early a b c two.moves.stays none)) (two.ends (none_later a b c one.moves.stays none));
     }
   where
     still : (n : ℕ) → n < v.state.made → n < w.state.made

@@ -30,6 +30,7 @@ use Rattle.raid_laws.specs.Reach.{KeepsReach}
 use Rattle.raid_laws.proofs.Reach.{CountsOn, reach_by, same_counts}
 use Rattle.raid_laws.proofs.Changed.{caused, left_before}
 use Rattle.raid_rack.specs.declared.works.Stuck.{Stuck}
+use Rattle.raid_rack.proofs.Truths.{missing_none}
 use Rattle.raid_rack.proofs.Resynced.{HasStepped, done_alone, member_less, rows_mended}
 use Rattle.raid_rack.proofs.Sent.{low_named}
 use Rattle.raid_laws.proofs.Stepped.{StepCall, done_rows, step_arrays, step_brings, views}
@@ -183,14 +184,8 @@ module _ (s : State) (m : ℕ) (u : View) (x : RackView) (place rows : ℕ) (sea
         whole = λ all. absurd (both_ways (is_whole_array u) part_before all);
       }
     where
-      missing_seat : (o : Option Seat) → option_map is_missing_seat o ≡ Some true → o ≡ Some Missing
-      missing_seat None bad = absurd (let none : None ≡ Some true = bad in cc)
-      missing_seat (Some Whole) bad = absurd (both_ways false refl (ap (λ o. unwrap_or o true) bad))
-      missing_seat (Some Missing) bad = refl
-      missing_seat (Some (Rebuilding to)) bad = absurd (both_ways false refl (ap (λ o. unwrap_or o true) bad))
-
       missing_now : (k : ℕ) → slice_get u.seats k ≡ Some Missing → slice_get (rebuilt u place rows).seats k ≡ Some Missing
-      missing_now k gone = missing_seat (slice_get (rebuilt u place rows).seats k) (same_missing k ∙ ap (option_map is_missing_seat) gone)
+      missing_now k gone = missing_none (slice_get (rebuilt u place rows).seats k) (same_missing k ∙ ap (option_map is_missing_seat) gone)
 
 -- ---- members that are missing
 

@@ -1,5 +1,5 @@
 -- Books that changes lead over: what stays, and what rises.
-use Rattle.std.proofs.Common.{◌≡◌, ℕ, zero, suc, ◌+◌, ◌≤◌, Bool, true, false, ◌==◌, ◌&&◌, not, if◌then◌else◌, List, [], ◌∷◌, slice_get, Option, Some, None, option_map, refl, sym, ap, subst, ◌∙◌, inl, inr, arith, eqb-true}
+use Rattle.std.proofs.Common.{◌≡◌, ℕ, zero, suc, ◌+◌, Bool, true, false, ◌==◌, ◌&&◌, not, if◌then◌else◌, List, [], ◌∷◌, slice_get, Option, Some, None, option_map, refl, sym, ap, subst, ◌∙◌, inl, inr, arith, eqb-true}
 use Rattle.std.proofs.lemmas.Bool.{both_ways}
 use Rattle.std.specs.List.{range_with_len}
 use Rattle.pool_state.specs.declared.contents.State.{State}
@@ -11,8 +11,6 @@ use Rattle.array_model.specs.View.{member_by_seat, member_on, place_at, seat_unl
 use Rattle.log_laws.specs.View.{names}
 use Rattle.raid_laws.specs.Book.{after_same, after_then, OnlyMarksSince}
 use Rattle.transition_laws.specs.Changes.{Along, AreKeeping, by, Change, changed, closed, enlists, failed, FollowsView, is_keeping, lacking, makes, readied, rewritten, seats_without, steps, wrote}
-use Rattle.array_core.specs.Superblocks.{settled}
-use Rattle.sync_laws.specs.Steps.{resynced}
 use Rattle.raid_laws.specs.Works.{closed as closed_state}
 use Rattle.raid_laws.specs.Frames.{Frame, frame_of}
 use Rattle.array_core.proofs.Rules.{get_map}
@@ -113,23 +111,6 @@ view_failed s lost events u = record {
   resync = omega arith;
   young = refl;
 }
-
--- of which the seats stay
-view_seats : (on : ℕ → Bool) (u w : View) → frame_of w.truth ≡ frame_of u.truth → shape_of w ≡ shape_of u → u.resync ≤ w.resync → w.young ≡ u.young → FollowsView on u w
-view_seats on u w frame shape more young = record {
-  frame = frame;
-  reach = subst (KeepsReachOn on (shape_of u)) (sym shape) (reach_same on (shape_of u));
-  resync = more;
-  young = young;
-}
-
-pub view_settled : (on : ℕ → Bool) (u : View) → FollowsView on u (settled u)
-unfolding shape_of
-view_settled on u = view_seats on u (settled u) refl refl (omega arith) refl
-
-pub view_resynced : (on : ℕ → Bool) (u : View) (rows : ℕ) → FollowsView on u (resynced u rows)
-unfolding shape_of
-view_resynced on u rows = view_seats on u (resynced u rows) refl refl (omega arith) refl
 
 pub follows_change : (x : Change) (v : Raid) → is_keeping x v → Follows v (changed x v)
 follows_change (steps m next) v keeping = record { after = after_same v.state; views = λ n. of n (n == m) refl }

@@ -19,7 +19,6 @@ pub mod Tracked
 pub mod MomentsOf
 pub mod Closed
 pub mod ClosedMakes
-pub mod ClosedMoments
 pub mod ClosedParts
 pub mod Rewritten
 pub mod MarkedMakes
