@@ -1,5 +1,6 @@
 pub mod Losses
 pub mod NewArrays
 pub mod Growing
+pub mod Rows
 pub mod NewDrives
 pub mod Stating
