@@ -10,6 +10,7 @@ pub mod Due
 pub mod Turning
 pub mod CleanTurn
 pub mod RowMakes
+pub mod ReadTurn
 pub mod ReshapeMakes
 pub mod ReshapeDue
 pub mod ReshapeBegins
