@@ -9,6 +9,8 @@ pub mod Room
 pub mod Due
 pub mod Turning
 pub mod CleanTurn
+pub mod RowMakes
+pub mod ReadTurn
 pub mod ReshapeMakes
 pub mod ReshapeDue
 pub mod ReshapeBegins

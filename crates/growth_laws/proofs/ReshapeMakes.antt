@@ -207,7 +207,7 @@ module _ (v : Raid) (f : ℕ → View) (next : View) (number m : ℕ) (a b : Rac
       number = (call.set.arrays m low).number;
       next_number = call.may.seated.number;
       unmarked = call.keeps.marked ∙ call.rest.unmarked;
-      rows = let same = call.keeps.resync in let first = call.keeps.unsynced in let rows = call.rest.rows in omega (arith, same, first, rows);
+      rows = λ old. let same = call.keeps.resync in let first = call.keeps.unsynced in let rows = call.rest.rows in omega (arith, same, first, rows);
       truth = noted.same.truth;
       young = noted.same.young;
       number_after = noted.same.number ∙ call.may.seated.number;

@@ -16,6 +16,7 @@ pub mod Ended
 pub mod Serving
 pub mod Worked
 pub mod Grown
+pub mod ReadContents
 pub mod OldKept
 pub mod Zeroed
 pub mod Readied

@@ -1,5 +1,5 @@
 -- The code that rebuilds a row of a member, as a part of a call of all.
-use Rattle.std.proofs.Common.{◌≡◌, ◌⊎◌, ℕ, zero, suc, ◌+◌, ◌*◌, ◌%◌, ◌-◌, ◌^◌, ◌<◌, ◌≤◌, Bool, true, false, ◌==◌, ◌&&◌, ◌||◌, not, nat_lt, if◌then◌else◌, List, [], ◌∷◌, map, set, length, get_or, slice_get, Option, Some, None, option_map, unwrap_or, Result, Ok, Err, is_ok, IfOk, IfErr, OnErr, refl, sym, ap, subst, ◌∙◌, inl, inr, eqb-true, ltb-true, lt-ltb, arith}
+use Rattle.std.proofs.Common.{◌≡◌, ◌⊎◌, ℕ, zero, suc, ◌+◌, ◌*◌, ◌%◌, ◌-◌, ◌^◌, ◌<◌, ◌≤◌, Bool, true, false, ◌==◌, ◌&&◌, ◌||◌, not, nat_lt, if◌then◌else◌, List, [], ◌∷◌, map, set, get_or, slice_get, Option, Some, None, option_map, unwrap_or, Result, Ok, Err, is_ok, IfOk, IfErr, OnErr, refl, sym, ap, subst, ◌∙◌, inl, inr, eqb-true, ltb-true, lt-ltb, arith}
 use Rattle.std.proofs.lemmas.Bool.{both_ways, cases_Bool, cases_eq, and_parts, and_from}
 use Rattle.std.specs.List.{list_all, range_with_len}
 use Rattle.std.specs.Option.{option_map_or}
@@ -28,13 +28,12 @@ use Rattle.raid_rack.specs.RaidRack.{IsRunning, raid_by, no_array}
 use Rattle.raid_laws.specs.Works.{Rebuilds, is_rebuilding, is_rebuilding_seat, is_whole_row, next_row}
 use Rattle.raid_laws.specs.Reach.{KeepsReach}
 use Rattle.raid_laws.proofs.Reach.{CountsOn, reach_by, same_counts}
-use Rattle.raid_laws.proofs.Changed.{caused, left_before}
 use Rattle.raid_rack.specs.declared.works.Stuck.{Stuck}
 use Rattle.raid_rack.proofs.Truths.{missing_none}
-use Rattle.raid_rack.proofs.Resynced.{HasStepped, done_alone, member_less, rows_mended}
+use Rattle.raid_rack.proofs.Resynced.{HasStepped, done_alone, has_called_step, member_less, rows_mended}
 use Rattle.raid_rack.proofs.Sent.{low_named}
-use Rattle.raid_laws.proofs.Stepped.{StepCall, done_rows, step_arrays, step_brings, views}
-use Rattle.raid_rack.proofs.Steps.{set_own, set_other, length_set}
+use Rattle.raid_laws.proofs.Stepped.{StepCall}
+use Rattle.raid_rack.proofs.Steps.{set_own, set_other}
 use Rattle.raid_laws.proofs.Views.{IsNext}
 
 -- ---- a member that is being rebuilt
@@ -127,7 +126,7 @@ module _ (s : State) (m : ℕ) (u : View) (x : RackView) (place rows : ℕ) (sea
           ]
 
   -- a member isn't whole
-  part_before : is_whole_array u ≡ false
+  pub part_before : is_whole_array u ≡ false
   part_before = elim (cases_Bool (is_whole_array u)) [
     | inl all ↦
         absurd (both_ways (is_whole_seat (Rebuilding (reach_on u place))) refl
@@ -236,28 +235,32 @@ pub record RebuiltRows (old u : View) (place rows number late : ℕ) (on : List 
   pub elsewhere : KeepsElsewhere false old on x y
   pub refused : answered ≡ false → not (others_give u place (next_row old place)) ≡ true
 
-pub has_rebuilt : (a : Arrays) (all : ArrayVec View) (log : LogView) (x y : RackView) (n place rows : ℕ) (on : List ℕ) (number : ℕ) (old u : View) (answered : Bool)
+-- the rows are array n's
+rebuilt_own : (a : Arrays) (all : ArrayVec View) (log : LogView) (x y : RackView) (n place rows : ℕ) (on : List ℕ) (number : ℕ) (old u : View) (answered : Bool)
+    → get_or all.items n no_array ≡ u → old ≡ get_or a.all.items n no_array → number ≡ a.log.number → RebuiltRows old u place rows number log.number on x y answered
+    → RebuiltRows ((raid_by a).arrays n) (get_or all.items n no_array) place rows a.log.number log.number on x y answered
+rebuilt_own a all log x y n place rows on number old u answered own old_is number_is rebuilt_rows =
+    subst (λ (z : View). RebuiltRows z (get_or all.items n no_array) place rows a.log.number log.number on x y answered) old_is
+    (subst (λ (z : View). RebuiltRows old z place rows a.log.number log.number on x y answered) (sym own)
+    (subst (λ k. RebuiltRows old u place rows k log.number on x y answered) number_is rebuilt_rows))
+
+pub rebuilt_call : (a : Arrays) (all : ArrayVec View) (log : LogView) (x y : RackView) (n place rows : ℕ) (on : List ℕ) (number : ℕ) (old u : View) (answered : Bool)
     → IsRunning a x → IsHeeded (raid_by a) → n < a.state.made → HasRowLeft ((raid_by a).arrays n) place
     → ((raid_by a).arrays n).truth.resync_offset ≡ 2 ^ 64 - 1 ⊎ ((raid_by a).arrays n).truth.resync_offset % 128 ≡ 0
     → old ≡ get_or a.all.items n no_array → all.items ≡ set a.all.items n u → number ≡ a.log.number → number ≤ log.number
     → on ≡ current_places a.state → list_all (λ place. nat_lt place 16) u.went ≡ true → Goes x y
     → RebuiltRows old u place rows number log.number on x y answered
-    → HasStepped a (record a { all = all; log = log }) x y n (rebuilt ((raid_by a).arrays n) place rows) (λ w. not (others_give w place (next_row ((raid_by a).arrays n) place))) answered
-has_rebuilt a all log x y n place rows on number old u answered running heeded low has whole old_is all_is number_is later on_is few goes rebuilt_rows =
+    → StepCall (raid_by a) (λ k. get_or all.items k no_array) (rebuilt ((raid_by a).arrays n) place rows) log.number n x y on answered
+rebuilt_call a all log x y n place rows on number old u answered running heeded low has whole old_is all_is number_is later on_is few goes rebuilt_rows =
     let f : ℕ → View = λ k. get_or all.items k no_array in
     let v = raid_by a in
     let own : f n ≡ u = ap (λ ys. get_or ys n no_array) all_is ∙ set_own a.all.items n u no_array (let count = running.count in omega (arith, low, count)) in
-    let others : (k : ℕ) → (k ≡ n → ⊥) → f k ≡ v.arrays k = λ k other. ap (λ ys. get_or ys k no_array) all_is ∙ set_other a.all.items n k u no_array other in
-    let at : RebuiltRows (v.arrays n) (f n) place rows v.number log.number on x y answered =
-    subst (λ (z : View). RebuiltRows z (f n) place rows v.number log.number on x y answered) old_is
-    (subst (λ (z : View). RebuiltRows old z place rows v.number log.number on x y answered) (sym own)
-    (subst (λ k. RebuiltRows old u place rows k log.number on x y answered) number_is rebuilt_rows)) in
+    let at = rebuilt_own a all log x y n place rows on number old u answered own old_is number_is rebuilt_rows in
     let seated = running.set.arrays n low in
-    let next = rebuilt (v.arrays n) place rows in
-    let call : StepCall v f (rebuilt (v.arrays n) place rows) log.number n x y on answered = record {
+    record {
       heeded = heeded;
       low = low;
-      others = others;
+      others = λ k other. ap (λ ys. get_or ys k no_array) all_is ∙ set_other a.all.items n k u no_array other;
       goes = goes;
       later = subst (λ k. k ≤ log.number) number_is later;
       on_is = on_is;
@@ -271,21 +274,22 @@ has_rebuilt a all log x y n place rows on number old u answered running heeded l
       settled = λ is was. was;
       steps = at.steps;
       elsewhere = at.elsewhere;
-    } in
-    let brings = step_brings v f next log.number n x y on answered running.set call in
-    let seen = views v f next log.number n x y on answered running.set call in
-    record {
-      is_done = at.steps.is_done;
-      refused = at.refused;
-      answer = at.steps.answer;
-      brings = brings;
-      caused = record { left = left_before v f n x y running.set seen; cause = caused v f n x y running.set seen };
-      running = record { count = ap length all_is ∙ length_set a.all.items n u ∙ running.count; set = brings.set };
-      arrays = step_arrays v f next log.number n x y on answered running.set call;
-      plan = refl;
-      durable = λ is settled grown vals spent goes covers amid.
-          done_rows v f next log.number n x y on answered running.set call is settled grown vals spent goes covers amid;
     }
+
+pub has_rebuilt : (a : Arrays) (all : ArrayVec View) (log : LogView) (x y : RackView) (n place rows : ℕ) (on : List ℕ) (number : ℕ) (old u : View) (answered : Bool)
+    → IsRunning a x → IsHeeded (raid_by a) → n < a.state.made → HasRowLeft ((raid_by a).arrays n) place
+    → ((raid_by a).arrays n).truth.resync_offset ≡ 2 ^ 64 - 1 ⊎ ((raid_by a).arrays n).truth.resync_offset % 128 ≡ 0
+    → old ≡ get_or a.all.items n no_array → all.items ≡ set a.all.items n u → number ≡ a.log.number → number ≤ log.number
+    → on ≡ current_places a.state → list_all (λ place. nat_lt place 16) u.went ≡ true → Goes x y
+    → RebuiltRows old u place rows number log.number on x y answered
+    → HasStepped a (record a { all = all; log = log }) x y n (rebuilt ((raid_by a).arrays n) place rows) (λ w. not (others_give w place (next_row ((raid_by a).arrays n) place))) answered
+has_rebuilt a all log x y n place rows on number old u answered running heeded low has whole old_is all_is number_is later on_is few goes rebuilt_rows =
+    let v = raid_by a in
+    let own : get_or all.items n no_array ≡ u =
+    ap (λ ys. get_or ys n no_array) all_is ∙ set_own a.all.items n u no_array (let count = running.count in omega (arith, low, count)) in
+    let at = rebuilt_own a all log x y n place rows on number old u answered own old_is number_is rebuilt_rows in
+    has_called_step a all log x y n (rebuilt (v.arrays n) place rows) (λ w. not (others_give w place (next_row (v.arrays n) place))) on u answered running all_is at.refused
+    (rebuilt_call a all log x y n place rows on number old u answered running heeded low has whole old_is all_is number_is later on_is few goes rebuilt_rows)
 
 pub rebuilt_raise : (old u : View) (place rows : ℕ) (x y : RackView) (is_done : Bool) → Stepped old (rebuilt old place rows) u x y is_done → u.truth.events ≤ old.truth.events + 1
 rebuilt_raise old u place rows x y false (as_it_was notes) = let e = ap (λ t. t.events) notes.same.truth in omega (arith, e)

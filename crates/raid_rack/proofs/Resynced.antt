@@ -28,6 +28,9 @@ use Rattle.raid_laws.specs.Rows.{LeavesRows}
 use Rattle.raid_rack.specs.RaidRack.{IsRunning, raid_by, no_array}
 use Rattle.raid_laws.specs.Works.{StepsOne, stepped}
 use Rattle.raid_rack.specs.declared.works.Stuck.{Stuck}
+use Rattle.transition_laws.specs.Changes.{steps}
+use Rattle.growth_laws.specs.Growing.{AnyValues, MakesTurn}
+use Rattle.growth_laws.specs.Rows.{MakesStep}
 use Rattle.raid_laws.proofs.Calls.{raised_low, unsynced_by}
 use Rattle.raid_laws.proofs.Changed.{caused, left_before}
 use Rattle.raid_laws.proofs.Committed.{next_later}
@@ -208,28 +211,54 @@ resynced_reach : (on : ℕ → Bool) (u : View) (rows : ℕ) → KeepsReachOn on
 unfolding shape_of
 resynced_reach on u rows = reach_same on (shape_of u)
 
-pub has_resynced : (a : Arrays) (all : ArrayVec View) (log : LogView) (x y : RackView) (n rows : ℕ) (on : List ℕ) (number : ℕ) (old u : View) (answered : Bool)
+-- a step of array n, in the arrays
+pub has_called_step : (a : Arrays) (all : ArrayVec View) (log : LogView) (x y : RackView) (n : ℕ) (next : View) (lacks : View → Bool) (on : List ℕ) (u : View) (answered : Bool)
+    → IsRunning a x → all.items ≡ set a.all.items n u → (answered ≡ false → lacks (get_or all.items n no_array) ≡ true)
+    → StepCall (raid_by a) (λ k. get_or all.items k no_array) next log.number n x y on answered
+    → HasStepped a (record a { all = all; log = log }) x y n next lacks answered
+has_called_step a all log x y n next lacks on u answered running all_is refused call =
+    let f : ℕ → View = λ k. get_or all.items k no_array in
+    let v = raid_by a in
+    let brings = step_brings v f next log.number n x y on answered running.set call in
+    let seen = views v f next log.number n x y on answered running.set call in
+    record {
+      is_done = call.steps.is_done;
+      refused = refused;
+      answer = call.steps.answer;
+      brings = brings;
+      caused = record { left = left_before v f n x y running.set seen; cause = caused v f n x y running.set seen };
+      running = record { count = ap length all_is ∙ length_set a.all.items n u ∙ running.count; set = brings.set };
+      arrays = step_arrays v f next log.number n x y on answered running.set call;
+      plan = refl;
+      durable = λ is settled grown vals spent goes covers amid.
+          done_rows v f next log.number n x y on answered running.set call is settled grown vals spent goes covers amid;
+    }
+
+-- the rows are array n's
+resynced_own : (a : Arrays) (all : ArrayVec View) (log : LogView) (x y : RackView) (n rows : ℕ) (on : List ℕ) (number : ℕ) (old u : View) (answered : Bool)
+    → get_or all.items n no_array ≡ u → old ≡ get_or a.all.items n no_array → number ≡ a.log.number → ResyncedRows old u rows number log.number on x y answered
+    → ResyncedRows ((raid_by a).arrays n) (get_or all.items n no_array) rows a.log.number log.number on x y answered
+resynced_own a all log x y n rows on number old u answered own old_is number_is resynced_rows =
+    subst (λ (z : View). ResyncedRows z (get_or all.items n no_array) rows a.log.number log.number on x y answered) old_is
+    (subst (λ (z : View). ResyncedRows old z rows a.log.number log.number on x y answered) (sym own)
+    (subst (λ k. ResyncedRows old u rows k log.number on x y answered) number_is resynced_rows))
+
+pub resynced_call : (a : Arrays) (all : ArrayVec View) (log : LogView) (x y : RackView) (n rows : ℕ) (on : List ℕ) (number : ℕ) (old u : View) (answered : Bool)
     → IsRunning a x → IsHeeded (raid_by a) → n < a.state.made → ((raid_by a).arrays n).resync < rows_of ((raid_by a).arrays n)
     → old ≡ get_or a.all.items n no_array → all.items ≡ set a.all.items n u → number ≡ a.log.number → number ≤ log.number
     → on ≡ current_places a.state → list_all (λ place. nat_lt place 16) u.went ≡ true → Goes x y
     → ResyncedRows old u rows number log.number on x y answered
-    → HasStepped a (record a { all = all; log = log }) x y n (resynced ((raid_by a).arrays n) rows) (λ u. lacks_row u ((raid_by a).arrays n).resync) answered
-has_resynced a all log x y n rows on number old u answered running heeded low row old_is all_is number_is later on_is few goes resynced_rows =
+    → StepCall (raid_by a) (λ k. get_or all.items k no_array) (resynced ((raid_by a).arrays n) rows) log.number n x y on answered
+resynced_call a all log x y n rows on number old u answered running heeded low row old_is all_is number_is later on_is few goes resynced_rows =
     let f : ℕ → View = λ k. get_or all.items k no_array in
     let v = raid_by a in
     let own : f n ≡ u = ap (λ ys. get_or ys n no_array) all_is ∙ set_own a.all.items n u no_array (let count = running.count in omega (arith, low, count)) in
-    let others : (k : ℕ) → (k ≡ n → ⊥) → f k ≡ v.arrays k = λ k other. ap (λ ys. get_or ys k no_array) all_is ∙ set_other a.all.items n k u no_array other in
-    let at : ResyncedRows (v.arrays n) (f n) rows v.number log.number on x y answered =
-    subst (λ (z : View). ResyncedRows z (f n) rows v.number log.number on x y answered) old_is
-    (subst (λ (z : View). ResyncedRows old z rows v.number log.number on x y answered) (sym own)
-    (subst (λ k. ResyncedRows old u rows k log.number on x y answered) number_is resynced_rows)) in
+    let at = resynced_own a all log x y n rows on number old u answered own old_is number_is resynced_rows in
     let seated = running.set.arrays n low in
-    let young = grown a.state n (v.arrays n) x seated row in
-    let next = resynced (v.arrays n) rows in
-    let call : StepCall v f (resynced (v.arrays n) rows) log.number n x y on answered = record {
+    record {
       heeded = heeded;
       low = low;
-      others = others;
+      others = λ k other. ap (λ ys. get_or ys k no_array) all_is ∙ set_other a.all.items n k u no_array other;
       goes = goes;
       later = subst (λ k. k ≤ log.number) number_is later;
       on_is = on_is;
@@ -243,21 +272,21 @@ has_resynced a all log x y n rows on number old u answered running heeded low ro
       settled = λ is was. resynced_settled (v.arrays n) rows is;
       steps = at.steps;
       elsewhere = at.elsewhere;
-    } in
-    let brings = step_brings v f next log.number n x y on answered running.set call in
-    let seen = views v f next log.number n x y on answered running.set call in
-    record {
-      is_done = at.steps.is_done;
-      refused = at.refused;
-      answer = at.steps.answer;
-      brings = brings;
-      caused = record { left = left_before v f n x y running.set seen; cause = caused v f n x y running.set seen };
-      running = record { count = ap length all_is ∙ length_set a.all.items n u ∙ running.count; set = brings.set };
-      arrays = step_arrays v f next log.number n x y on answered running.set call;
-      plan = refl;
-      durable = λ is settled grown vals spent goes covers amid.
-          done_rows v f next log.number n x y on answered running.set call is settled grown vals spent goes covers amid;
     }
+
+pub has_resynced : (a : Arrays) (all : ArrayVec View) (log : LogView) (x y : RackView) (n rows : ℕ) (on : List ℕ) (number : ℕ) (old u : View) (answered : Bool)
+    → IsRunning a x → IsHeeded (raid_by a) → n < a.state.made → ((raid_by a).arrays n).resync < rows_of ((raid_by a).arrays n)
+    → old ≡ get_or a.all.items n no_array → all.items ≡ set a.all.items n u → number ≡ a.log.number → number ≤ log.number
+    → on ≡ current_places a.state → list_all (λ place. nat_lt place 16) u.went ≡ true → Goes x y
+    → ResyncedRows old u rows number log.number on x y answered
+    → HasStepped a (record a { all = all; log = log }) x y n (resynced ((raid_by a).arrays n) rows) (λ u. lacks_row u ((raid_by a).arrays n).resync) answered
+has_resynced a all log x y n rows on number old u answered running heeded low row old_is all_is number_is later on_is few goes resynced_rows =
+    let f : ℕ → View = λ k. get_or all.items k no_array in
+    let v = raid_by a in
+    let own : f n ≡ u = ap (λ ys. get_or ys n no_array) all_is ∙ set_own a.all.items n u no_array (let count = running.count in omega (arith, low, count)) in
+    let at = resynced_own a all log x y n rows on number old u answered own old_is number_is resynced_rows in
+    has_called_step a all log x y n (resynced (v.arrays n) rows) (λ u. lacks_row u (v.arrays n).resync) on u answered running all_is at.refused
+    (resynced_call a all log x y n rows on number old u answered running heeded low row old_is all_is number_is later on_is few goes resynced_rows)
 
 -- a row that is resynced changes no member's size
 pub stepped_rows : (v : Raid) (w : View) (n rows : ℕ) (is_done : Bool) → OnlyFailures (stepped v n (resynced (v.arrays n) rows) is_done n) w → rows_of w ≡ rows_of (v.arrays n)
@@ -328,6 +357,19 @@ rows_mended a b c x y z m left most next lacks did result low rows some few insi
     served : (r : Result ℕ Stuck) → IfOk r (λ k. did ≡ Ok k) → is_ok r ≡ true → is_ok did ≡ true
     served (Ok k) is ok = ap is_ok is
     served (Err e) is ok = absurd (both_ways false refl ok)
+
+-- THE SAME WITH WHAT CONTENTS HOLD IN IT
+pub rows_made : (a c : Arrays) (all : ArrayVec View) (log : LogView) (x y z : RackView) (m left most : ℕ) (next : ℕ → View) (on : List ℕ) (u : View) {E : Type 0} (did : Result ℕ E) (result : Result ℕ Stuck)
+    → (rows : ℕ) → 0 < rows → rows ≤ most → rows ≤ left → IfOk did (λ k. k ≡ rows) → IsRunning a x → all.items ≡ set a.all.items m u
+    → (call : StepCall (raid_by a) (λ k. get_or all.items k no_array) (next rows) log.number m x y on (is_ok did))
+    → Mends (raid_by (record a { all = all; log = log })) (raid_by c) y z → IfOk result (λ k. did ≡ Ok k)
+    → MakesTurn (steps m (next rows)) call.steps.is_done AnyValues (raid_by a) (raid_by c) x z
+    → DoesRows (λ rows. MakesStep m (next rows) (raid_by a) (raid_by c) x z) left most result
+unfolding rows_mended step_mended has_called_step
+rows_made a c all log x y z m left most next on u did result rows some few inside number running all_is call mends told turn =
+    let one = has_called_step a all log x y m (next rows) (λ w. true) on u (is_ok did) running all_is (λ refused. refl) call in
+    let does = rows_mended a (record a { all = all; log = log }) c x y z m left most next (λ w. true) did result call.low rows some few inside number one mends told in
+    record { rows = rows; some = some; few = few; left = inside; steps = record { step = does.steps; contents = turn }; answer = does.answer }
 
 -- what is answered to be done was
 pub done_alone : {E : Type 0} (did : Result ℕ E) (stuck : Bool) (r : Result ℕ Stuck) → IfOk r (λ k. (did ≡ Ok k) × (stuck ≡ false)) → IfOk r (λ k. did ≡ Ok k)

@@ -11,6 +11,7 @@ ghost use Rattle.slice_rack.specs.Runs.{runs_join, runs_none};
 ghost use Rattle.raid_laws.specs.Laws.{raid_sound, stops_inside};
 ghost use Rattle.raid_laws.specs.Raid.{spent_of};
 ghost use Rattle.raid_laws.specs.Runs.{RaidRuns, raid_runs_same, raid_runs_then};
+ghost use Rattle.growth_laws.specs.Reads.{LosesAlone};
 ghost use Rattle.raid_rack.specs.RaidRack.{IsFit, is_written, SliceRuns, arrays_in, raid_in, raid_seen, refused_in, slices_in, slices_seen, written_in};
 
 use crate::arrays::RaidRack;
@@ -40,6 +41,7 @@ impl<R: Rack> Rack for RaidRack<R> {
         requires disk { disk < (raid_seen R.seen self.old).disks }
         requires sector { sector < (raid_seen R.seen self.old).sectors disk }
         ensures reads { Reads (raid_seen R.seen self.old) (raid_seen R.seen self.new) disk sector into.new result }
+        ensures contents { LosesAlone (raid_in self.old) (raid_in self.new) (slices_seen R.seen self.old) (slices_seen R.seen self.new) }
         ensures runs { AreRuns R.seen R.runs self.old self.new }
         ensures once { IsOneCall (raid_in self.old) (raid_in self.new) }
         ensures unwritten { (n : ℕ) → written_in self.new n ≡ written_in self.old n }
@@ -67,6 +69,7 @@ impl<R: Rack> Rack for RaidRack<R> {
         requires fit { (raid_seen R.seen self.old).fit }
         requires disk { disk < (raid_seen R.seen self.old).disks }
         ensures syncs { Syncs (raid_seen R.seen self.old) (raid_seen R.seen self.new) disk result }
+        ensures contents { LosesAlone (raid_in self.old) (raid_in self.new) (slices_seen R.seen self.old) (slices_seen R.seen self.new) }
         ensures runs { AreRuns R.seen R.runs self.old self.new }
         ensures once { IsOneCall (raid_in self.old) (raid_in self.new) }
         ensures written { (n : ℕ) → written_in self.new n ≡ written_in self.old n }

@@ -15,6 +15,7 @@ ghost use Rattle.raid_laws.specs.Losses as spec;
 ghost use Rattle.raid_laws.specs.Raid.{Raid};
 ghost use Rattle.transition_laws.specs.Losses.{IsRunOf, MakesLosses, SettlesBook};
 ghost use Rattle.growth_laws.specs.Growing.{MakesClean};
+ghost use Rattle.growth_laws.specs.Reads.{LosesAlone};
 
 use crate::arrays::Arrays;
 use crate::losses::{add_copies, heed_all, newly_gone, note_gone};
@@ -152,6 +153,7 @@ impl Arrays {
         requires number { number < self.old.state.made }
         ensures spares { (written : ℕ → Bool) → Spares written (S.seen rack.old) (S.seen rack.new) }
         ensures syncs { SyncsOne (raid_by self.old) (raid_by self.new) (S.seen rack.old) (S.seen rack.new) number }
+        ensures contents { LosesAlone (raid_by self.old) (raid_by self.new) (S.seen rack.old) (S.seen rack.new) }
         ensures raises { RaisesBy 17 (raid_by self.old) (raid_by self.new) }
         ensures truths { KeepsTruths (raid_by self.old) (raid_by self.new) (S.seen rack.old) (S.seen rack.new) }
         ensures running { IsRunning self.new (S.seen rack.new) }
@@ -175,6 +177,7 @@ impl Arrays {
         requires sector { sector < sectors_of ((raid_by self.old).arrays number) }
         ensures spares { (written : ℕ → Bool) → Spares written (S.seen rack.old) (S.seen rack.new) }
         ensures reads { ReadsValue (raid_by self.old) (raid_by self.new) (S.seen rack.old) (S.seen rack.new) number sector into.new }
+        ensures contents { LosesAlone (raid_by self.old) (raid_by self.new) (S.seen rack.old) (S.seen rack.new) }
         ensures raises { RaisesBy 17 (raid_by self.old) (raid_by self.new) }
         ensures truths { KeepsTruths (raid_by self.old) (raid_by self.new) (S.seen rack.old) (S.seen rack.new) }
         ensures running { IsRunning self.new (S.seen rack.new) }

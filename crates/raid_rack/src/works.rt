@@ -11,6 +11,7 @@ ghost use Rattle.raid_laws.specs.Works as spec;
 ghost use Rattle.sync_laws.specs.Steps.{DoesRows, resynced};
 ghost use Rattle.transition_laws.specs.Changes.{closed};
 ghost use Rattle.growth_laws.specs.Growing.{AnyValues, MakesTurn};
+ghost use Rattle.growth_laws.specs.Rows.{MakesWorks, RebuildsNext, ResyncsNext};
 
 use crate::arrays::{Arrays, RaidRack};
 use crate::losses::{add_copies, note_gone};
@@ -67,6 +68,7 @@ impl Arrays {
         requires some { 0 < most }
         ensures rows { DoesRows (λ rows. spec.StepsOne (raid_by self.old) (raid_by self.new) (S.seen rack.old) (S.seen rack.new) number (resynced ((raid_by self.old).arrays number) rows))
             (rows_of ((raid_by self.old).arrays number) - ((raid_by self.old).arrays number).resync) most result }
+        ensures contents { ResyncsNext number most (raid_by self.old) (raid_by self.new) (S.seen rack.old) (S.seen rack.new) result }
         ensures answer { is_ok result ≡ not (spec.is_stuck (raid_by self.new) number ((raid_by self.old).arrays number).resync) }
         ensures named { IfErr result (λ e. e.array ≡ number) }
         ensures raises { RaisesBy 18 (raid_by self.old) (raid_by self.new) }
@@ -111,6 +113,7 @@ impl Arrays {
         requires rebuilding { spec.is_rebuilding (raid_by self.old) number place ≡ true }
         requires some { 0 < most }
         ensures rebuilds { spec.Rebuilds (raid_by self.old) (raid_by self.new) (S.seen rack.old) (S.seen rack.new) number place most result }
+        ensures contents { RebuildsNext number place most (raid_by self.old) (raid_by self.new) (S.seen rack.old) (S.seen rack.new) result }
         ensures named { IfErr result (λ e. e.array ≡ number) }
         ensures raises { RaisesBy 18 (raid_by self.old) (raid_by self.new) }
         ensures truths { KeepsTruths (raid_by self.old) (raid_by self.new) (S.seen rack.old) (S.seen rack.new) }
@@ -213,6 +216,8 @@ impl<R: Rack> RaidRack<R> {
         ensures idle { spec.has_row (raid_in self.old) array ≡ false → (is_ok result ≡ false) × (self.new ≡ self.old) }
         ensures resyncs { spec.has_row (raid_in self.old) array ≡ true
             → spec.Resyncs (raid_in self.old) (raid_in self.new) (slices_seen R.seen self.old) (slices_seen R.seen self.new) array most result }
+        ensures contents { spec.has_row (raid_in self.old) array ≡ true
+            → ResyncsNext array most (raid_in self.old) (raid_in self.new) (slices_seen R.seen self.old) (slices_seen R.seen self.new) result }
         ensures named { IfErr result (λ e. e.array ≡ array) }
         ensures keeps { KeepsRack (raid_seen R.seen self.old) (raid_seen R.seen self.new) }
         ensures raises { RaisesBy 18 (raid_in self.old) (raid_in self.new) }
@@ -236,6 +241,8 @@ impl<R: Rack> RaidRack<R> {
         ensures idle { spec.is_rebuilding (raid_in self.old) array place ≡ false → (is_ok result ≡ false) × (self.new ≡ self.old) }
         ensures rebuilds { spec.is_rebuilding (raid_in self.old) array place ≡ true
             → spec.Rebuilds (raid_in self.old) (raid_in self.new) (slices_seen R.seen self.old) (slices_seen R.seen self.new) array place most result }
+        ensures contents { spec.is_rebuilding (raid_in self.old) array place ≡ true
+            → RebuildsNext array place most (raid_in self.old) (raid_in self.new) (slices_seen R.seen self.old) (slices_seen R.seen self.new) result }
         ensures named { IfErr result (λ e. e.array ≡ array) }
         ensures keeps { KeepsRack (raid_seen R.seen self.old) (raid_seen R.seen self.new) }
         ensures raises { RaisesBy 18 (raid_in self.old) (raid_in self.new) }
@@ -285,6 +292,8 @@ impl<R: Rack> RaidRack<R> {
         ensures idle { spec.is_due (raid_in self.old) work.now ≡ false → (is_ok result ≡ false) × (self.new ≡ self.old) }
         ensures does { spec.is_due (raid_in self.old) work.now ≡ true
             → spec.Does work.now most (raid_in self.old) (raid_in self.new) (slices_seen R.seen self.old) (slices_seen R.seen self.new) result }
+        ensures contents { spec.is_due (raid_in self.old) work.now ≡ true
+            → MakesWorks work.now most (raid_in self.old) (raid_in self.new) (slices_seen R.seen self.old) (slices_seen R.seen self.new) result }
         ensures named { IfErr result (λ e. e.array ≡ spec.array_of work.now) }
         ensures keeps { KeepsRack (raid_seen R.seen self.old) (raid_seen R.seen self.new) }
         ensures raises { RaisesBy 18 (raid_in self.old) (raid_in self.new) }
@@ -316,6 +325,8 @@ impl<R: Rack> RaidRack<R> {
         ensures idle { spec.is_due (raid_in self.old) work.now ≡ false → (is_ok result ≡ false) × (self.new ≡ self.old) }
         ensures does { spec.is_due (raid_in self.old) work.now ≡ true
             → spec.Does work.now 1 (raid_in self.old) (raid_in self.new) (slices_seen R.seen self.old) (slices_seen R.seen self.new) (one_done result) }
+        ensures contents { spec.is_due (raid_in self.old) work.now ≡ true
+            → MakesWorks work.now 1 (raid_in self.old) (raid_in self.new) (slices_seen R.seen self.old) (slices_seen R.seen self.new) (one_done result) }
         ensures named { IfErr result (λ e. e.array ≡ spec.array_of work.now) }
         ensures keeps { KeepsRack (raid_seen R.seen self.old) (raid_seen R.seen self.new) }
         ensures raises { RaisesBy 18 (raid_in self.old) (raid_in self.new) }

@@ -83,7 +83,7 @@ pub record StepsOnce (m : ℕ) (next : View) (v w : Raid) (vals : ℕ → ℕ �
   pub number : (v.arrays m).number ≡ m
   pub next_number : next.number ≡ m
   pub unmarked : next.marked ≡ false
-  pub rows : next.resync ≤ first_unsynced next.truth
+  pub rows : next.young ≡ false → next.resync ≤ first_unsynced next.truth
   pub truth : (w.arrays m).truth ≡ next.truth
   pub young : (w.arrays m).young ≡ next.young
   pub number_after : (w.arrays m).number ≡ m
@@ -202,8 +202,9 @@ module _ (m : ℕ) (next : View) (v w : Raid) (vals : ℕ → ℕ → Values) (a
     -- with these fields they show it once the step is done
     shows_new : (r : Image) → ImageShowsArray v.state m (shape_of next) (vals m) (spent_at p m next) r → HasFields v.state m next.truth r → ShowsArray v.state next p m (vals m) r
     shows_new r says fields =
-        let rows : (t : Super) → truth_in v.state r m ≡ Some t → next.resync ≤ first_unsynced t = λ t is. let low = call.rows in let at = ap first_unsynced (fields t is) in omega (arith, low, at) in
-        record { says = says; rows = λ old is_kept. rows; lacks = λ old wanted some. rows }
+        let rows : next.young ≡ false → (t : Super) → truth_in v.state r m ≡ Some t → next.resync ≤ first_unsynced t =
+        λ old t is. let low = call.rows old in let at = ap first_unsynced (fields t is) in omega (arith, low, at) in
+        record { says = says; rows = λ old is_kept. rows old; lacks = λ old wanted some. rows old }
 
     own : (r : Image) → SaysEither (v.arrays m) next v.state (vals m) (spent_at p m next) a r → ShowsArray v.state (v.arrays m) p m (vals m) r ⊎ ShowsArray v.state next p m (vals m) r
     own r either = elim either [

@@ -1,5 +1,5 @@
 -- A step of maintenance in a call of all arrays makes its change of the book.
-use Rattle.std.proofs.Common.{◌≡◌, ℕ, Bool, true, false, List, ◌∷◌, refl, sym, ap, ap₂, subst, ◌∙◌, arith, []}
+use Rattle.std.proofs.Common.{◌≡◌, ◌≤◌, ℕ, Bool, true, false, List, [], ◌∷◌, refl, sym, ap, ap₂, subst, ◌∙◌, arith}
 use Rattle.std.proofs.lemmas.Bool.{both_ways}
 use Rattle.rack.specs.Values.{Values}
 use Rattle.rack.specs.Seen.{RackView}
@@ -9,7 +9,6 @@ use Rattle.log_laws.proofs.KeptAfter.{kept_more}
 use Rattle.array_model.specs.View.{has_gone, shape_of, View}
 use Rattle.array_model.specs.Members.{Notes}
 use Rattle.array_model.specs.Says.{ArrayInvariant, IsOpen}
-use Rattle.array_core.specs.Superblocks.{is_settled}
 use Rattle.sync_laws.specs.Steps.{as_it_was, done, if_done, MayStep, Stepped}
 use Rattle.raid_laws.specs.Frames.{frame_of}
 use Rattle.raid_laws.specs.Moves.{IsSet}
@@ -17,7 +16,6 @@ use Rattle.raid_laws.specs.Raid.{gone_in, Raid}
 use Rattle.raid_laws.proofs.Changed.{called, further, ViewsOne}
 use Rattle.raid_laws.proofs.Noted.{gone_from}
 use Rattle.raid_laws.proofs.Over.{over_still, someone_left}
-use Rattle.raid_laws.proofs.Rows.{settled_rows}
 use Rattle.raid_laws.proofs.Stepped.{StepCall, views}
 use Rattle.raid_laws.proofs.Views.{next_same, next_shape}
 use Rattle.raid_laws.proofs.Whole.{heeded_gone}
@@ -28,7 +26,7 @@ use Rattle.transition_laws.specs.Makes.{Makes}
 use Rattle.transition_laws.proofs.ReadMakes.{keeps_noted, read_one_makes}
 use Rattle.transition_laws.proofs.StepMakes.{holds_next, step_makes, steps_become, StepsOnce}
 
-step_noted : (d : Bool) (u next z : View) (a b : RackView) → Stepped u next z a b d → d ≡ true → Notes next z a b
+pub step_noted : (d : Bool) (u next z : View) (a b : RackView) → Stepped u next z a b d → d ≡ true → Notes next z a b
 step_noted false u next z a b (as_it_was notes) is = absurd (both_ways false refl is)
 step_noted true u next z a b (done notes) is = notes
 
@@ -51,18 +49,15 @@ step_allowed v f next number m a b on answered set call vals p promised stands =
   whole = call.whole;
 }
 
--- of an array that isn't young, whose superblocks leave just the rows that are left, that isn't marked, and of which a reshape stands where it stood
+-- of an array with the sectors that it had, which isn't marked, and whose superblocks leave no row that isn't left unless it is young
 module _ (v : Raid) (f : ℕ → View) (next : View) (number m : ℕ) (a b : RackView) (on : List ℕ) (answered : Bool) (set : IsSet v a)
-    (call : StepCall v f next number m a b on answered) (is : call.steps.is_done ≡ true) (young : next.young ≡ false) (settled : is_settled next ≡ true)
-    (unmarked : next.marked ≡ false) (moved : moved_to next.truth ≡ moved_to (v.arrays m).truth) (vals : ℕ → ℕ → Values) where
+    (call : StepCall v f next number m a b on answered) (is : call.steps.is_done ≡ true) (rows : next.young ≡ false → next.resync ≤ first_unsynced next.truth)
+    (unmarked : next.marked ≡ false) (same_sectors : (y : ℕ) → has_sector (v.arrays m) y ≡ has_sector next y) (vals : ℕ → ℕ → Values) where
   noted : Notes next (f m) a b
   noted = step_noted call.steps.is_done (v.arrays m) next (f m) a b call.steps.view is
 
   changed_one : ViewsOne v f m a b
   changed_one = views v f next number m a b on answered set call
-
-  same_sectors : (y : ℕ) → has_sector (v.arrays m) y ≡ has_sector next y
-  same_sectors = framed_sectors (v.arrays m) next call.framed moved (sym call.young ∙ young) young
 
   steps_once : StepsOnce m next v (called v f number) vals a b
   steps_once = record {
@@ -85,7 +80,7 @@ module _ (v : Raid) (f : ℕ → View) (next : View) (number m : ℕ) (a b : Rac
     number = (set.arrays m call.low).number;
     next_number = call.is_next.seated.number;
     unmarked = unmarked;
-    rows = settled_rows next call.is_next.seated.is_array young settled;
+    rows = rows;
     truth = noted.same.truth;
     young = noted.same.young;
     number_after = noted.same.number ∙ call.is_next.seated.number;
@@ -107,7 +102,7 @@ module _ (v : Raid) (f : ℕ → View) (next : View) (number m : ℕ) (a b : Rac
 
 -- ---- where it isn't done
 
-idle_noted : (d : Bool) (u next z : View) (a b : RackView) → Stepped u next z a b d → d ≡ false → Notes u z a b
+pub idle_noted : (d : Bool) (u next z : View) (a b : RackView) → Stepped u next z a b d → d ≡ false → Notes u z a b
 idle_noted false u next z a b (as_it_was notes) is = notes
 idle_noted true u next z a b (done notes) is = absurd (both_ways true is refl)
 

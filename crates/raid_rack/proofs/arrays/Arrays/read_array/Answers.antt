@@ -3,6 +3,7 @@ use Rattle.arrayvec.specs.ArrayVec.{with_items}
 use Rattle.raid_rack.specs.RaidRack.{no_array, raid_by}
 use Rattle.raid_rack.proofs.Sparing.{spares_read}
 use Rattle.raid_rack.proofs.Raises.{notes_raise}
+use Rattle.raid_rack.proofs.ReadContents.{read_contents}
 use Rattle.raid_rack.proofs.RaisedCalls.{raises_call}
 use Rattle.raid_rack.proofs.Steps.{same_element, items_set}
 use Rattle.raid_rack.proofs.Synced.{has_read, reads_value, read_only}
@@ -88,3 +89,17 @@ returns-clause-truths g c =
     (same_element c.deref_mut.result.now a.all.items n _ no_array c.deref_mut.ensures.value (omega (arith, count, low)))
     (items_set a.all c.deref_mut.result.now n c.read.new.self c.deref_mut.ensures.value) c.mend.ensures.truths
     (read_only _ c.read.new.self x y c.args.sector c.read.new.into a.state c.read.ensures.reads) c.read.ensures.notes
+
+pub returns-clause-contents : goal.returns-clause-contents
+returns-clause-contents g c =
+    let a = c.args.self.now in
+    let n = c.args.number in
+    let x = g.S.Rack.seen c.args.rack.now in
+    let y = g.S.Rack.seen c.read.new.rack in
+    let count = c.requires.running.count in
+    let low = c.requires.number in
+    read_contents a c.mend.new.self (with_items a.all (slice_set c.deref_mut.result.now n c.read.new.self)) x y (g.S.Rack.seen c.mend.new.rack) n _ c.read.new.self c.requires.running low
+    (same_element c.deref_mut.result.now a.all.items n _ no_array c.deref_mut.ensures.value (omega (arith, count, low)))
+    (items_set a.all c.deref_mut.result.now n c.read.new.self c.deref_mut.ensures.value)
+    (read_only _ c.read.new.self x y c.args.sector c.read.new.into a.state c.read.ensures.reads) c.read.ensures.notes
+    (λ s durable vals spent covers. (c.read.ensures.reads s durable vals spent covers).acts) c.mend.ensures.losses

@@ -5,13 +5,14 @@ use Rattle.log_laws.specs.View.{LogView}
 use Rattle.array_model.specs.View.{View, rows_of}
 use Rattle.sync_laws.specs.Rows.{lacks_row}
 use Rattle.sync_laws.specs.Steps.{resynced}
+use Rattle.growth_laws.proofs.RowMakes.{resync_turn}
 use Rattle.raid_rack.specs.RaidRack.{no_array, raid_by}
 use Rattle.raid_laws.specs.Works.{is_stuck}
 use Rattle.raid_laws.specs.Losing.{only_then}
 use Rattle.raid_rack.proofs.Mended.{on_named}
 use Rattle.raid_laws.proofs.Noted.{current_few}
 use Rattle.raid_rack.proofs.RaisedCalls.{raises_call}
-use Rattle.raid_rack.proofs.Resynced.{HasStepped, answered_refused, done_alone, grown, has_resynced, resynced_raise, rows_mended, step_later, step_raise, stepped_rows}
+use Rattle.raid_rack.proofs.Resynced.{HasStepped, answered_refused, done_alone, grown, has_resynced, resynced_call, resynced_raise, resynced_settled, rows_made, rows_mended, step_later, step_raise, stepped_rows}
 use Rattle.raid_rack.proofs.Steps.{same_element, items_set}
 use Rattle.raid_laws.proofs.Whole.{heeded_left}
 use Rattle.raid_rack.proofs.Worked.{resyncs_rows}
@@ -107,6 +108,41 @@ returns-clause-rows g c =
     rows_mended a _ c.mend.new.self x y (g.S.Rack.seen c.mend.new.rack) n (rows_of u - u.resync) c.args.most (resynced u) (λ z. lacks_row z u.resync)
     c.resync_rows-rows.result c.answered.result low done.rows done.some done.few inside done.answer stepped c.mend.ensures.mends
     (done_alone _ _ c.answered.result c.answered.ensures.done)
+
+pub returns-clause-contents : goal.returns-clause-contents
+returns-clause-contents g c =
+    let a = c.args.self.now in
+    let n = c.args.number in
+    let x = g.S.Rack.seen c.args.rack.now in
+    let y = g.S.Rack.seen c.resync_rows-rows.new.rack in
+    let count = c.requires.running.count in
+    let low = c.requires.number in
+    let number = ap (λ (l : LogView). l.number) c.clear.ensures in
+    let same = same_element c.deref_mut.result.now a.all.items n _ no_array c.deref_mut.ensures.value (omega (arith, count, low)) in
+    let done = c.resync_rows-rows.ensures.steps in
+    let call = resynced_call a (with_items a.all (slice_set c.deref_mut.result.now n c.resync_rows-rows.new.array)) c.resync_rows-rows.new.log x y n done.rows c.current_places-on.result.items c.clear.new.self.number _ c.resync_rows-rows.new.array (is_ok c.resync_rows-rows.result)
+    c.requires.running c.requires.heeded low c.requires.row same
+    (items_set a.all c.deref_mut.result.now n c.resync_rows-rows.new.array c.deref_mut.ensures.value)
+    number (step_later c.clear.new.self c.resync_rows-rows.new.log c.resync_rows-rows.ensures.log) c.current_places-on.ensures c.went-places.ensures.few c.resync_rows-rows.ensures.goes
+    (record {
+      inside = let some = done.some in let inside = done.left in omega (arith, some, inside);
+      steps = done.steps;
+      elsewhere = c.resync_rows-rows.ensures.elsewhere;
+      refused = answered_refused _ _ c.resync_rows-rows.result c.resync_rows-rows.ensures.refused;
+    }) in
+    let u = (raid_by a).arrays n in
+    let inside : done.rows ≤ rows_of u - u.resync = subst (λ (z : View). done.rows ≤ rows_of z - z.resync) same done.left in
+    let all = with_items a.all (slice_set c.deref_mut.result.now n c.resync_rows-rows.new.array) in
+    let young = grown a.state n u x (c.requires.running.set.arrays n low) c.requires.row in
+    let w = raid_by c.mend.new.self in
+    let z = g.S.Rack.seen c.mend.new.rack in
+    let on = c.current_places-on.result.items in
+    rows_made a c.mend.new.self all c.resync_rows-rows.new.log x y z n (rows_of u - u.resync) c.args.most (resynced u) on c.resync_rows-rows.new.array
+    c.resync_rows-rows.result c.answered.result done.rows done.some done.few inside done.answer c.requires.running
+    (items_set a.all c.deref_mut.result.now n c.resync_rows-rows.new.array c.deref_mut.ensures.value) call c.mend.ensures.mends
+    (done_alone _ _ c.answered.result c.answered.ensures.done)
+    (resync_turn (raid_by a) (λ k. get_or all.items k no_array) c.resync_rows-rows.new.log.number n done.rows x y on (is_ok c.resync_rows-rows.result) c.requires.running.set call young
+    (resynced_settled u done.rows young) w z c.mend.ensures.losses)
 
 pub returns-clause-answer : goal.returns-clause-answer
 returns-clause-answer g c =

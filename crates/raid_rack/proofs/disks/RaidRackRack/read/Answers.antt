@@ -3,6 +3,7 @@ use Rattle.rack.specs.Calls.{Reads}
 use Rattle.slice_rack.specs.SliceRack.{tables, below_of}
 use Rattle.slice_rack.specs.Sliced.{slices_of}
 use Rattle.raid_laws.specs.Runs.{RaidRuns}
+use Rattle.growth_laws.specs.Reads.{LosesAlone}
 use Rattle.raid_rack.specs.RaidRack.{IsFit, SliceRuns, raid_by, raid_in, raid_seen, refused_in, slices_in, slices_seen, written_in}
 use Rattle.raid_rack.specs.AllRuns.{IsOneCall, Serves, Spares}
 use Rattle.raid_laws.specs.Laws.{stops_inside}
@@ -41,3 +42,8 @@ pub returns-clause-once : goal.returns-clause-once
 returns-clause-once g c =
     subst (λ r. IsOneCall (raid_in c.args.self.now) (raid_in r)) (sym c.answer.ensures.same)
     (record { raises = raises_more 17 18 _ _ (omega arith) c.read_array.ensures.raises; made = c.read_array.ensures.reads.moves.book.same.made; arrays = c.read_array.ensures.reads.moves.arrays; plan = c.read_array.ensures.reads.moves.plan })
+
+pub returns-clause-contents : goal.returns-clause-contents
+returns-clause-contents g c =
+    subst (λ r. LosesAlone (raid_in c.args.self.now) (raid_in r) (slices_seen g.R.Rack.seen c.args.self.now) (slices_seen g.R.Rack.seen r)) (sym c.answer.ensures.same)
+    c.read_array.ensures.contents
