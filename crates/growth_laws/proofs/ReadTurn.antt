@@ -29,6 +29,12 @@ module _ (v : Raid) (f : ℕ → View) (m : ℕ) (a b : RackView) (set : IsSet v
         shape = λ are. (marked_before v f m a b set call.views are, sym (call.loses.shape are));
         kept = λ p promised stands. read_log v v (called v f v.number) a b set.lasting call.reads refl (more_gone v f m a b set call.views) stands.log;
         holds = λ p promised stands spent covers. (call.keeps v.state (shape_of (v.arrays m)) (vals m) spent covers).holds;
+        is_array = (set.arrays m call.views.low).is_array;
+        synced = f m;
+        notes = notes;
+        same_shape = refl;
+        same_went = refl;
+        same_zeroed = λ young. refl;
         goes = λ n low goes. over_still v (called v f v.number) (further v f m a b set call.views v.number (omega arith)) n low goes;
         someone = λ n goes. someone_left (called v f v.number) n goes;
         spares = call.views.spent;

@@ -61,13 +61,13 @@ module _ (v : Raid) (f : ℕ → View) (next : View) (number m : ℕ) (a b : Rac
   run_idle is = run_noted v f m number a b set call.low call.goes.stays call.others (idle_noted call.steps.is_done (v.arrays m) next (f m) a b call.steps.view is)
 
   pub step_turn : (w : Raid) (c : RackView) → ((d : Raid) → IsRunOf d (called v f number) → MakesLosses d (called v f number) w b c)
-      → MakesTurn (steps m next) call.steps.is_done AnyValues v w a c
+      → MakesTurn (steps m next) call.steps.is_done (λ vals. (v.arrays m).young ≡ false) v w a c
   step_turn w c losses = of call.steps.is_done refl
     where
-      of : (d : Bool) → call.steps.is_done ≡ d → MakesTurn (steps m next) d AnyValues v w a c
+      of : (d : Bool) → call.steps.is_done ≡ d → MakesTurn (steps m next) d (λ vals. (v.arrays m).young ≡ false) v w a c
       of true is =
-          turn_then (steps m next) AnyValues v (called v f number) w a b c
-          (λ vals fits. stepped_makes v f next number m a b on answered set call is rows unmarked sectors vals) (losses (changed (steps m next) v) (run_done is))
+          turn_then (steps m next) (λ vals. (v.arrays m).young ≡ false) v (called v f number) w a b c
+          (λ vals fits. stepped_makes v f next number m a b on answered set call is (call.young ∙ fits) rows unmarked sectors vals) (losses (changed (steps m next) v) (run_done is))
       of false is =
           let after = losses v (run_idle is) in
           record {
@@ -85,7 +85,7 @@ module _ (v : Raid) (f : ℕ → View) (next : View) (number m : ℕ) (a b : Rac
 pub resync_turn : (v : Raid) (f : ℕ → View) (number m rows : ℕ) (a b : RackView) (on : List ℕ) (answered : Bool) (set : IsSet v a)
     (call : StepCall v f (resynced (v.arrays m) rows) number m a b on answered) → (v.arrays m).young ≡ false → is_settled (resynced (v.arrays m) rows) ≡ true
     → (w : Raid) (c : RackView) → ((d : Raid) → IsRunOf d (called v f number) → MakesLosses d (called v f number) w b c)
-    → MakesTurn (steps m (resynced (v.arrays m) rows)) call.steps.is_done AnyValues v w a c
+    → MakesTurn (steps m (resynced (v.arrays m) rows)) call.steps.is_done (λ vals. (v.arrays m).young ≡ false) v w a c
 resync_turn v f number m rows a b on answered set call young settled w c losses =
     let next = resynced (v.arrays m) rows in
     step_turn v f next number m a b on answered set call (λ old. settled_rows next call.is_next.seated.is_array old settled) refl
@@ -95,7 +95,7 @@ resync_turn v f number m rows a b on answered set call young settled w c losses 
 pub rebuild_turn : (v : Raid) (f : ℕ → View) (number m place rows : ℕ) (a b : RackView) (on : List ℕ) (answered : Bool) (set : IsSet v a)
     (call : StepCall v f (rebuilt (v.arrays m) place rows) number m a b on answered) → is_whole_array (v.arrays m) ≡ false
     → (w : Raid) (c : RackView) → ((d : Raid) → IsRunOf d (called v f number) → MakesLosses d (called v f number) w b c)
-    → MakesTurn (steps m (rebuilt (v.arrays m) place rows)) call.steps.is_done AnyValues v w a c
+    → MakesTurn (steps m (rebuilt (v.arrays m) place rows)) call.steps.is_done (λ vals. (v.arrays m).young ≡ false) v w a c
 rebuild_turn v f number m place rows a b on answered set call part w c losses =
     let u = v.arrays m in
     step_turn v f (rebuilt u place rows) number m a b on answered set call

@@ -1,5 +1,5 @@
 -- Works of maintenance, with what contents hold in their calls.
-use Rattle.std.specs.Prelude.{ℕ, ◌-◌, Bool, Result, true}
+use Rattle.std.specs.Prelude.{◌≡◌, ℕ, ◌-◌, Bool, Result, false, true}
 use Rattle.rack.specs.Seen.{RackView}
 use Rattle.pool_state.specs.declared.contents.Work.{Work}
 use Rattle.pool_state.specs.declared.contents.Work.TheVariants.{Resync, Rebuild, TakeOver, Begin, Reshape, Finish, Make, Zero, Ready, Extend, Close}
@@ -10,10 +10,10 @@ use Rattle.raid_laws.specs.Works.{StepsOne}
 use Rattle.transition_laws.specs.Changes.{closed, steps}
 use Rattle.growth_laws.specs.Growing.{AnyValues, MakesTurn}
 
--- A step of maintenance of array n, with what contents hold in its call: the change is made, by the book before it.
+-- A step of maintenance of array n, with what contents hold in its call where the array isn't young: the change is made, by the book before it.
 pub record MakesStep (n : ℕ) (next : View) (v w : Raid) (a b : RackView) (answered : Bool) : Type 0 where
   pub step : StepsOne v w a b n next answered
-  pub contents : MakesTurn (steps n next) step.is_done AnyValues v w a b
+  pub contents : MakesTurn (steps n next) step.is_done (λ vals. (v.arrays n).young ≡ false) v w a b
 
 -- The first rows left to resync of array n are resynced: some of them, at least one and at most so many.
 abbrev pub ResyncsNext : (n most : ℕ) → Raid → Raid → RackView → RackView → {E : Type 0} → Result ℕ E → Type 0

@@ -49,9 +49,9 @@ step_allowed v f next number m a b on answered set call vals p promised stands =
   whole = call.whole;
 }
 
--- of an array with the sectors that it had, which isn't marked, and whose superblocks leave no row that isn't left unless it is young
+-- of an array that isn't young, with the sectors that it had, which isn't marked, and whose superblocks leave no row that isn't left
 module _ (v : Raid) (f : ℕ → View) (next : View) (number m : ℕ) (a b : RackView) (on : List ℕ) (answered : Bool) (set : IsSet v a)
-    (call : StepCall v f next number m a b on answered) (is : call.steps.is_done ≡ true) (rows : next.young ≡ false → next.resync ≤ first_unsynced next.truth)
+    (call : StepCall v f next number m a b on answered) (is : call.steps.is_done ≡ true) (young : next.young ≡ false) (rows : next.young ≡ false → next.resync ≤ first_unsynced next.truth)
     (unmarked : next.marked ≡ false) (same_sectors : (y : ℕ) → has_sector (v.arrays m) y ≡ has_sector next y) (vals : ℕ → ℕ → Values) where
   noted : Notes next (f m) a b
   noted = step_noted call.steps.is_done (v.arrays m) next (f m) a b call.steps.view is
