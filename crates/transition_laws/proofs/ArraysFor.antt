@@ -189,7 +189,7 @@ row_later w y is reshaping =
     omega (arith, one, two, below)
 
 -- a sector that a young array has is in a row that is zeroed
-zeroed_row : (w : View) (y : ℕ) → IsLaid w.truth → w.young ≡ true → has_sector w y ≡ true → row_at (sector_in (layout_at (shape_of w) y) y) < first_unsynced w.truth
+pub zeroed_row : (w : View) (y : ℕ) → IsLaid w.truth → w.young ≡ true → has_sector w y ≡ true → row_at (sector_in (layout_at (shape_of w) y) y) < first_unsynced w.truth
 unfolding shape_of
 zeroed_row w y is young has =
     let f = first_layout w.truth in

@@ -12,6 +12,7 @@ pub mod NotedMakes
 pub mod SettledMakes
 pub mod HeededMakes
 pub mod StepMakes
+pub mod ZeroMakes
 pub mod SteppedMakes
 pub mod WriteMakes
 pub mod Follows

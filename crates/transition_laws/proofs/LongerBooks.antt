@@ -60,7 +60,8 @@ losses_keep v n (x ∷ xs) are = (loss_keeps v n x are.0, losses_keep v n xs are
 
 -- ---- a change of one array
 
-pub step_keeps : (v : Raid) (n m : ℕ) (next : View) → (n ≡ m → next.truth.size < 2 ^ 48) → (n ≡ m → next.young ≡ false) → (n ≡ m → (y : ℕ) → has_sector (v.arrays n) y ≡ true → has_sector next y ≡ true) → KeepsOld v n (steps m next)
+pub step_keeps : (v : Raid) (n m : ℕ) (next : View) → (n ≡ m → next.truth.size < 2 ^ 48) → (n ≡ m → next.young ≡ false)
+    → (n ≡ m → (y : ℕ) → has_sector (v.arrays n) y ≡ true → has_sector next y ≡ true) → KeepsOld v n (steps m next)
 step_keeps v n m next small young longer u old = record {
   made = old.made;
   small = of_view (λ w. w.truth.size < 2 ^ 48) small old.small;

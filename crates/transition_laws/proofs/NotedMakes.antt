@@ -1,7 +1,7 @@
 -- Places that went in some array are noted in all: no change of the book is made.
 use Rattle.array_image.specs.Arrays.{Shape}
 use Rattle.transition_laws.proofs.ArraysFor.{array_for, losing_for, covers_for, IsLaid, laid_of, members_for, single_lowered}
-use Rattle.std.proofs.Common.{◌≡◌, ℕ, ◌<◌, ◌≤◌, true, ◌&&◌, List, sym, ap, subst, ◌∙◌, arith, ◌||◌, []}
+use Rattle.std.proofs.Common.{◌≡◌, ℕ, ◌<◌, ◌≤◌, true, ◌&&◌, List, sym, ap, subst, ◌∙◌, arith, []}
 use Rattle.std.proofs.lemmas.Bool.{both_ways}
 use Rattle.rack.specs.Values.{Values}
 use Rattle.rack.specs.Seen.{RackView}

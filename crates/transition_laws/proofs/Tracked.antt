@@ -84,7 +84,8 @@ module _ (v : Raid) (p : Promise) (vals : ℕ → ℕ → Values) (x : RackView)
           within = λ y alive u may source. subst (λ (z : Values). MayLeave z u) (same y alive) (held.within y (covered y alive) u may source);
           current = λ y alive. held.current y (covered y alive) ∙ ap (λ (z : Values). z.current) (same y alive);
           sized = held.sized;
-          even = subst (λ rows. AreEven (shape_of (v.arrays n)) (v.arrays n).number rows (current_in x.held)) (sym (ap (λ (b : Bool). if b then first_unsynced (v.arrays n).truth else (v.arrays n).resync) (for.grown n live low))) held.even;
+          even = subst (λ rows. AreEven (shape_of (v.arrays n)) (v.arrays n).number rows (current_in x.held))
+              (sym (ap (λ (b : Bool). if b then first_unsynced (v.arrays n).truth else (v.arrays n).resync) (for.grown n live low))) held.even;
           settled = held.settled;
         });
     closed = λ none. subst (λ k. NothingPending k x) stood.number (stood.holds.closed none);
