@@ -22,7 +22,7 @@ use Rattle.transition_laws.specs.Losses.{IsRunOf, MakesLosses}
 use Rattle.transition_laws.specs.Makes.{makes_then}
 use Rattle.transition_laws.proofs.RunsOf.{run_loses, run_of_itself}
 use Rattle.transition_laws.proofs.SteppedMakes.{framed_sectors, idle_makes, idle_noted, step_noted, stepped_makes}
-use Rattle.growth_laws.specs.Growing.{AnyValues, MakesTurn}
+use Rattle.growth_laws.specs.Growing.{MakesTurn}
 use Rattle.growth_laws.specs.Rows.{MakesWorks}
 use Rattle.growth_laws.proofs.Steps.{MayBecome, notes_views, stepped_other, stepped_own, stepped_set}
 use Rattle.growth_laws.proofs.Turning.{turn_then}

@@ -23,7 +23,7 @@ use Rattle.growth_laws.specs.Growing.{change_of, drive_id, is_clean, is_due, Mak
 use Rattle.growth_laws.proofs.Due.{begin_parts}
 use Rattle.growth_laws.proofs.KeepsOld.{begin_keeps, joined_few, made_changes, old_fit, turn_grows}
 use Rattle.raid_rack.specs.BareSlices.{AreBare, is_member_slice}
-use Rattle.raid_rack.proofs.LaidTables.{bare_none, laid_old, old_still}
+use Rattle.raid_rack.proofs.LaidTables.{laid_old, old_still}
 
 -- the arrays of the volume are as many
 begun_joined : (v w : Raid) (x y : RackView) (n place : ℕ) (Lacking : Raid → Raid → Type 0) (answered : Bool) → MakesReshape (change_of (Begin n place)) Lacking n v w x y answered

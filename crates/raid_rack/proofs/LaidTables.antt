@@ -19,7 +19,7 @@ use Rattle.reshape_laws.proofs.Joining.{no_member}
 use Rattle.raid_laws.specs.Moves.{IsHeeded, IsSet}
 use Rattle.raid_laws.specs.Raid.{Raid, raid_of}
 use Rattle.transition_laws.specs.Growth.{KeepsOldSectors}
-use Rattle.raid_rack.specs.BareSlices.{AreBare, is_member_slice, is_numbered}
+use Rattle.raid_rack.specs.BareSlices.{AreBare, is_member_slice}
 use Rattle.raid_rack.proofs.LaidOld.{DiffersOn, differs_old}
 
 -- ---- tables that are the same but for some slices

@@ -29,7 +29,7 @@ use Rattle.raid_rack.specs.RaidRack.{IsRunning, raid_by, no_array}
 use Rattle.raid_laws.specs.Works.{StepsOne, stepped}
 use Rattle.raid_rack.specs.declared.works.Stuck.{Stuck}
 use Rattle.transition_laws.specs.Changes.{steps}
-use Rattle.growth_laws.specs.Growing.{AnyValues, MakesTurn}
+use Rattle.growth_laws.specs.Growing.{MakesTurn}
 use Rattle.growth_laws.specs.Rows.{MakesStep}
 use Rattle.raid_laws.proofs.Calls.{raised_low, unsynced_by}
 use Rattle.raid_laws.proofs.Changed.{caused, left_before}
@@ -363,7 +363,7 @@ pub rows_made : (a c : Arrays) (all : ArrayVec View) (log : LogView) (x y z : Ra
     → (rows : ℕ) → 0 < rows → rows ≤ most → rows ≤ left → IfOk did (λ k. k ≡ rows) → IsRunning a x → all.items ≡ set a.all.items m u
     → (call : StepCall (raid_by a) (λ k. get_or all.items k no_array) (next rows) log.number m x y on (is_ok did))
     → Mends (raid_by (record a { all = all; log = log })) (raid_by c) y z → IfOk result (λ k. did ≡ Ok k)
-    → MakesTurn (steps m (next rows)) call.steps.is_done AnyValues (raid_by a) (raid_by c) x z
+    → MakesTurn (steps m (next rows)) call.steps.is_done (λ vals. ((raid_by a).arrays m).young ≡ false) (raid_by a) (raid_by c) x z
     → DoesRows (λ rows. MakesStep m (next rows) (raid_by a) (raid_by c) x z) left most result
 unfolding rows_mended step_mended has_called_step
 rows_made a c all log x y z m left most next on u did result rows some few inside number running all_is call mends told turn =
