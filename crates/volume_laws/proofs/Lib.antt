@@ -1,1 +1,3 @@
 pub mod KeepsOld
+pub mod NewSectors
+pub mod Extended
