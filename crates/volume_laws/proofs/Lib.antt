@@ -1,3 +1,4 @@
 pub mod KeepsOld
 pub mod NewSectors
 pub mod Extended
+pub mod Lengthened
