@@ -2,3 +2,4 @@ pub mod KeepsOld
 pub mod NewSectors
 pub mod Extended
 pub mod Lengthened
+pub mod Beside
