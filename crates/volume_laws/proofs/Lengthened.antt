@@ -1,5 +1,5 @@
 -- The flat array that a volume holds after calls in which its arrays, or its map, get longer.
-use Rattle.std.proofs.Common.{◌≡◌, ℕ, ◌<◌, ◌≤◌, false, refl, sym, subst, ◌∙◌, inl, inr, arith, lt-ltb}
+use Rattle.std.proofs.Common.{◌≡◌, ℕ, ◌<◌, ◌≤◌, Bool, false, List, refl, sym, subst, ◌∙◌, inl, inr, arith, lt-ltb}
 use Rattle.std.proofs.lemmas.Bool.{cases_lt, le-ltb}
 use Rattle.rack.specs.Joins.{keeps_then}
 use Rattle.rack.specs.Seen.{Image, RackView}
@@ -32,8 +32,9 @@ picks_still x y f keeps traced holds k c since until stopped s low alive =
     let was = keeps.spent 0 s (omega arith) inside alive in
     (holds.values s low was).within (c 0 s) ((keeps.stops traced 0 s (omega arith) (holds.told s low was) inside alive).new k c since until stopped)
 
--- ---- an array that gets longer twice
+-- ---- calls in a row
 
+-- an array that gets longer twice
 pub lengthened_twice : (size most : ℕ) (f : FlatArray) → f.size ≤ size → lengthened most (lengthened size f) ≡ lengthened most f
 lengthened_twice size most f more = λ i. record { size = most; values = λ s. value s i } where
   value : (s : ℕ) → (lengthened most (lengthened size f)).values s ≡ (lengthened most f).values s
@@ -41,6 +42,21 @@ lengthened_twice size most f more = λ i. record { size = most; values = λ s. v
     | inl inside ↦ rw (lt-ltb s size inside) refl
     | inr past ↦ rw (le-ltb s size past, le-ltb s f.size (omega arith)) refl
   ]
+
+-- contents that take values of a longer array take those of the array in its own sectors
+pub picks_first : (spent : ℕ → Bool) (size : ℕ) (f : FlatArray) (contents : ℕ → List ℕ) → f.size ≤ size → PicksLive spent (lengthened size f) contents → PicksLive spent f contents
+picks_first spent size f contents more picks s low alive = rw (lt-ltb s f.size low) at (picks s (omega arith) alive)
+
+-- what a longer map shows of an old sector
+shown_longer : (l m : Linear) (c : Image) → GoesOn l m → (s : ℕ) → s < sectors_in l → contents_of m c 0 s ≡ c (array_of l s) (sector_of l s)
+shown_longer l m c goes s inside = let at = goes.places s inside in let long = goes.longer in shows m c 0 s (omega arith) ∙ rw (at.0, at.1) refl
+
+-- Contents that take an array's values by a map take them by one that goes on with it.
+pub picks_longer : (l m : Linear) (spent : ℕ → Bool) (f : FlatArray) (c : Image) → GoesOn l m → f.size ≤ sectors_in l → PicksLive spent f (contents_of l c 0)
+    → PicksLive spent f (contents_of m c 0)
+picks_longer l m spent f c goes small picks s low alive =
+    let inside : s < sectors_in l = omega arith in
+    subst (MayLeave (f.values s)) (shows l c 0 s inside ∙ sym (shown_longer l m c goes s inside)) (picks s low alive)
 
 -- ---- a volume that goes on
 
@@ -86,9 +102,5 @@ module _ (l m : Linear) (a b : RackView) (f : FlatArray) (goes : GoesOn l m) (ke
   pub picks_old : a.traced → (k : ℕ) (c : Image) → a.clock < k → k ≤ b.clock → b.stops k c → PicksLive ((volume_of m b).spent 0) f (contents_of m c 0)
   picks_old traced k c since until stopped s low alive =
       let inside : s < sectors_in l = subst (λ n. s < n) holds.size low in
-      let may : MayLeave (f.values s) (contents_of l c 0 s) =
-      picks_still (volume_of l a) (volume_of l b) f keeps traced holds k (contents_of l c) since until (c, stopped, λ d t. refl) s low (alive_by s inside alive) in
-      subst (MayLeave (f.values s)) (shows l c 0 s inside ∙ sym (shown c s inside)) may
-    where
-      shown : (c : Image) (s : ℕ) → s < sectors_in l → contents_of m c 0 s ≡ c (array_of l s) (sector_of l s)
-      shown c s inside = let at = goes.places s inside in let long = goes.longer in shows m c 0 s (omega arith) ∙ rw (at.0, at.1) refl
+      picks_longer l m ((volume_of l b).spent 0) f c goes (omega (arith, holds.size))
+      (picks_still (volume_of l a) (volume_of l b) f keeps traced holds k (contents_of l c) since until (c, stopped, λ d t. refl)) s low (alive_by s inside alive)
