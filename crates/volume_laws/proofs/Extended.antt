@@ -1,5 +1,5 @@
 -- An extended volume goes on with the old one: what is new lies behind the extents that each array has in it.
-use Rattle.std.proofs.Common.{◌≡◌, ℕ, ◌+◌, ◌-◌, ◌*◌, ◌/◌, ◌<◌, ◌≤◌, ◌==◌, Bool, true, false, List, [], ◌∷◌, refl, sym, subst, inl, inr, arith, ◌∙◌}
+use Rattle.std.proofs.Common.{◌≡◌, ℕ, ◌+◌, ◌-◌, ◌/◌, ◌<◌, ◌≤◌, ◌==◌, Bool, true, false, List, [], ◌∷◌, refl, sym, subst, inl, inr, arith, ◌∙◌}
 use Rattle.std.specs.List.{AllByRecursion}
 use Rattle.std.proofs.lemmas.Bool.{cases_lt, eqb-true, le-ltb, lt-ltb}
 use Rattle.std.proofs.lemmas.Nat.{le-div, mul-le, div_below}
@@ -8,12 +8,12 @@ use Rattle.lvm_group.specs.declared.runs.Run.{Run}
 use Rattle.lvm_group.specs.Extending.{extended}
 use Rattle.lvm_group.specs.Growth.{adjoins, behind_runs, grown, longer, pieces, reach, run_of_piece, started}
 use Rattle.lvm_group.specs.Own.{in_row}
-use Rattle.lvm_group.specs.Runs.{array_of, data_start, extents_of, has_extent, IsOrderly, Linear, Place, place_in, place_of, sector_of, sectors_in}
+use Rattle.lvm_group.specs.Runs.{array_of, extents_of, has_extent, IsOrderly, Linear, Place, place_in, place_of, sector_of, sectors_in}
 use Rattle.lvm_group.specs.Shown.{IsInside, volume_of}
 use Rattle.lvm_group.proofs.Found.{has_it, lacks_it}
 use Rattle.lvm_group.proofs.KeptPlaces.{extended_keeps}
 use Rattle.lvm_group.proofs.Passed.{both}
-use Rattle.volume_laws.specs.Lengthening.{GoesOn, HoldsZeros}
+use Rattle.volume_laws.specs.Lengthening.{end_of, GoesOn, HoldsZeros}
 use Rattle.volume_laws.proofs.NewSectors.{new_sectors_zero}
 
 -- a place is behind the extents that its array has in runs
@@ -33,10 +33,10 @@ begin_there array start runs (number ∷ others) = elim (cases_lt (reach array r
 ]
 
 -- by the first run or the others
-place_first : (run : Run) (others : List Run) (extent : ℕ) → has_extent extent run ≡ true → place_of (run ∷ others) extent ≡ place_in extent run
+pub place_first : (run : Run) (others : List Run) (extent : ℕ) → has_extent extent run ≡ true → place_of (run ∷ others) extent ≡ place_in extent run
 place_first run others extent has = rw has refl
 
-place_later : (run : Run) (others : List Run) (extent : ℕ) → has_extent extent run ≡ false → place_of (run ∷ others) extent ≡ place_of others extent
+pub place_later : (run : Run) (others : List Run) (extent : ℕ) → has_extent extent run ≡ false → place_of (run ∷ others) extent ≡ place_of others extent
 place_later run others extent lacks = rw lacks refl
 
 -- ---- where new extents lie
@@ -129,7 +129,7 @@ goes_on_extended l numbers orderly row = record {
 
 -- The sectors that come lie behind the extents that their array has in the old volume.
 pub extended_behind : (l : Linear) (numbers : List ℕ) (s : ℕ) → IsOrderly l → in_row 0 l.runs ≡ true → sectors_in l ≤ s → s < sectors_in (extended l numbers)
-    → data_start + reach (array_of (extended l numbers) s) l.runs * l.extent ≤ sector_of (extended l numbers) s
+    → end_of l (array_of (extended l numbers) s) ≤ sector_of (extended l numbers) s
 extended_behind l numbers s orderly row past within =
     let place = place_of (grown l.runs numbers) (s / l.extent) in
     let behind : reach place.array l.runs ≤ place.extent =
@@ -140,7 +140,7 @@ extended_behind l numbers s orderly row past within =
 
 -- So they hold zeros where each array does behind those extents.
 pub extended_zeros : (l : Linear) (numbers : List ℕ) (b : RackView) → IsOrderly l → in_row 0 l.runs ≡ true → IsOrderly (extended l numbers) → IsInside (extended l numbers) b
-    → ((n : ℕ) → n < (extended l numbers).arrays → HoldsZeros b n (data_start + reach n l.runs * l.extent)) → HoldsZeros (volume_of (extended l numbers) b) 0 (sectors_in l)
+    → ((n : ℕ) → n < (extended l numbers).arrays → HoldsZeros b n (end_of l n)) → HoldsZeros (volume_of (extended l numbers) b) 0 (sectors_in l)
 extended_zeros l numbers b orderly row next inside zeros =
-    new_sectors_zero (extended l numbers) b (sectors_in l) (λ n. data_start + reach n l.runs * l.extent) next inside
+    new_sectors_zero (extended l numbers) b (sectors_in l) (end_of l) next inside
     (λ s past within. extended_behind l numbers s orderly row past within) zeros

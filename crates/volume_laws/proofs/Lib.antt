@@ -3,3 +3,4 @@ pub mod NewSectors
 pub mod Extended
 pub mod Lengthened
 pub mod Beside
+pub mod KeepsZeros

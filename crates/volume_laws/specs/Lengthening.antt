@@ -1,11 +1,12 @@
 -- A volume that gets sectors behind those that it has: its map, its arrays, and the flat array that it holds.
-use Rattle.std.specs.Prelude.{◌≡◌, ℕ, ◌<◌, ◌≤◌, Bool, false, List, nat_lt, if◌then◌else◌}
+use Rattle.std.specs.Prelude.{◌≡◌, ℕ, ◌+◌, ◌*◌, ◌<◌, ◌≤◌, Bool, false, List, nat_lt, if◌then◌else◌}
 use Rattle.rack.specs.Seen.{RackView}
 use Rattle.rack.specs.Values.{Keeps, MayLeave, only}
 use Rattle.parity.specs.Xor.{zeros}
 use Rattle.flat_array.specs.Array.{FlatArray}
 use Rattle.lvm_group.specs.Extending.{KeepsPlaces}
-use Rattle.lvm_group.specs.Runs.{Linear, sectors_in}
+use Rattle.lvm_group.specs.Growth.{reach}
+use Rattle.lvm_group.specs.Runs.{data_start, Linear, sectors_in}
 use Rattle.lvm_group.specs.Shown.{volume_of}
 
 -- ---- maps and arrays
@@ -24,6 +25,10 @@ pub record TellsArrays (l m : Linear) (a b : RackView) : Type 0 where
 -- a disk holds nothing but zeros in each sector from this one on that isn't spent
 abbrev pub HoldsZeros : RackView → (d first : ℕ) → Type 0
 HoldsZeros x d first = (s : ℕ) → first ≤ s → s < x.sectors d → x.spent d s ≡ false → Keeps (only (zeros 512)) (x.held d s)
+
+-- the sector of an array that lies behind the extents that a volume has on it
+abbrev pub end_of : Linear → ℕ → ℕ
+end_of l n = data_start + reach n l.runs * l.extent
 
 -- ---- as flat arrays
 
