@@ -4,3 +4,4 @@ pub mod Extended
 pub mod Lengthened
 pub mod Beside
 pub mod KeepsZeros
+pub mod TextShort
