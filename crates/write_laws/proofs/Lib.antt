@@ -1,1 +1,2 @@
 pub mod WriteMakes
+pub mod WriteTurn

@@ -4,5 +4,6 @@
 //! make of the book that are a write and losses after it (`writing`, `MakesWrite`: `specs/Writes.antt`).
 //!
 //! **What its lemmas say.** A write of an array that isn't young makes these changes (`write_makes`, `proofs/WriteMakes.antt`): at each moment
-//! contents show the array with its values before the write, or with the new one.
+//! contents show the array with its values before the write, or with the new one. The mending after it marks losses alone (`write_turn`,
+//! `proofs/WriteTurn.antt`).
 #![tactic(auto)]
