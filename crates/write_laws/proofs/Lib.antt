@@ -1,2 +1,3 @@
 pub mod WriteMakes
 pub mod WriteTurn
+pub mod WriteKeeps

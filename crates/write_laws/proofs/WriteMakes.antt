@@ -351,7 +351,7 @@ same_as : (u w : View) (a b : RackView) → u.young ≡ false → Notes u w a b 
 same_as u w a b grown notes =
     record { grown = grown; number = refl; shape = refl; resync = refl; young = refl; frame = refl; sectors = λ y. refl; notes = notes }
 
-mark_shape : (u : View) (is_marked : Bool) → shape_of (with_mark u is_marked) ≡ shape_of u
+pub mark_shape : (u : View) (is_marked : Bool) → shape_of (with_mark u is_marked) ≡ shape_of u
 unfolding shape_of
 mark_shape u is_marked = refl
 
@@ -367,7 +367,10 @@ marked_as u w is_marked a b grown notes = record {
   notes = notes;
 }
 
--- it isn't marked first
+-- by whether it is marked first
+abbrev pub writing_if : Bool → ℕ → View → Bool → List Change
+writing_if first n u is_marked = if first then steps n (with_mark u is_marked) ∷ wrote n ∷ [] else wrote n ∷ []
+
 pub unmarked_first : (u : View) → u.went ≡ [] → (is_whole_array u ≡ false) ⊎ ((u.went ≢ []) ⊎ (u.marked ≡ true)) → marks_first u ≡ false
 unmarked_first u heeded (inl part) = ap (λ b. b && not u.marked) part
 unmarked_first u heeded (inr (inl went)) = absurd (went heeded)
@@ -384,11 +387,11 @@ pub write_makes : (v : Raid) (f : ℕ → View) (number m : ℕ) (a b : RackView
     → WritesView (v.arrays m) (f m) a b → (v.arrays m).young ≡ false → (vals : ℕ → ℕ → Values)
     → Makes (writing m (v.arrays m) (f m).marked) v v (called v f number) vals (values_with m sector from vals) a b
 write_makes v f number m a b on sector from set call (as_it_was why notes) grown vals =
-    subst (λ (t : Bool). Makes (if t then steps m (with_mark (v.arrays m) (f m).marked) ∷ wrote m ∷ [] else wrote m ∷ []) v v (called v f number) vals (values_with m sector from vals) a b)
+    subst (λ (t : Bool). Makes (writing_if t m (v.arrays m) (f m).marked) v v (called v f number) vals (values_with m sector from vals) a b)
     (sym (unmarked_first (v.arrays m) (call.heeded m call.views.low) why))
     (bare_makes v f number m a b on sector from set call (v.arrays m) (same_as (v.arrays m) (f m) a b grown notes) vals (values_with m sector from vals) refl refl)
 write_makes v f number m a b on sector from set call (newly_marked whole fresh unmarked notes) grown vals =
-    subst (λ (t : Bool). Makes (if t then steps m (with_mark (v.arrays m) (f m).marked) ∷ wrote m ∷ [] else wrote m ∷ []) v v (called v f number) vals (values_with m sector from vals) a b)
+    subst (λ (t : Bool). Makes (writing_if t m (v.arrays m) (f m).marked) v v (called v f number) vals (values_with m sector from vals) a b)
     (sym (marked_first (v.arrays m) whole unmarked))
     (marking_makes v f number m a b on sector from set call (with_mark (v.arrays m) (f m).marked) (marked_as (v.arrays m) (f m) (f m).marked a b grown notes) vals
     (values_with m sector from vals) refl)
