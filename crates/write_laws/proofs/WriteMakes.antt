@@ -49,7 +49,6 @@ pub record WritesAs (u next w : View) (a b : RackView) : Type 0 where
   pub shape : shape_of next ≡ shape_of u
   pub resync : next.resync ≡ u.resync
   pub young : next.young ≡ u.young
-  pub frame : frame_of next.truth ≡ frame_of u.truth
   pub sectors : (y : ℕ) → has_sector next y ≡ has_sector u y
   pub notes : Notes next w a b
 
@@ -349,7 +348,7 @@ module _ (v : Raid) (f : ℕ → View) (number m : ℕ) (a b : RackView) (on : L
 
 same_as : (u w : View) (a b : RackView) → u.young ≡ false → Notes u w a b → WritesAs u u w a b
 same_as u w a b grown notes =
-    record { grown = grown; number = refl; shape = refl; resync = refl; young = refl; frame = refl; sectors = λ y. refl; notes = notes }
+    record { grown = grown; number = refl; shape = refl; resync = refl; young = refl; sectors = λ y. refl; notes = notes }
 
 pub mark_shape : (u : View) (is_marked : Bool) → shape_of (with_mark u is_marked) ≡ shape_of u
 unfolding shape_of
@@ -362,7 +361,6 @@ marked_as u w is_marked a b grown notes = record {
   shape = mark_shape u is_marked;
   resync = refl;
   young = refl;
-  frame = refl;
   sectors = λ y. sym (framed_sectors u (with_mark u is_marked) refl refl grown grown y);
   notes = notes;
 }

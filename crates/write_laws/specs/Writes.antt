@@ -18,7 +18,7 @@ marks_first u = is_whole_array u && not u.marked
 abbrev pub with_mark : View → Bool → View
 with_mark u is_marked = record (unsynced u) { marked = is_marked }
 
--- what a write of array n changes, which was u
+-- What a write of array n changes, which was u. That it is written changes nothing of the book, so this holds where a call writes nothing as well.
 abbrev pub writing : ℕ → View → Bool → List Change
 writing n u is_marked = if marks_first u then steps n (with_mark u is_marked) ∷ wrote n ∷ [] else wrote n ∷ []
 
@@ -26,9 +26,9 @@ writing n u is_marked = if marks_first u then steps n (with_mark u is_marked) �
 abbrev pub values_with : (n sector : ℕ) → List ℕ → (ℕ → ℕ → Values) → ℕ → ℕ → Values
 values_with n sector from vals k = written_at n sector from k (vals k)
 
--- A sector of array n is written, and losses come after it: this is all that calls make of the book. Of contents it is said where the array
--- isn't young. A stop before the last write of a member leaves the sector an older value; a sector that is refused is spent, and a promise that can be
--- kept until w says nothing of it.
+-- A sector of array n is written, and losses come after it: this is all that calls make of the book. Of contents it is said where the array isn't
+-- young: at each moment a stop leaves the sector its value from before or the new one. Where it is refused it is spent after the call, and a promise
+-- that can be kept until w says nothing of it.
 pub record MakesWrite (n sector : ℕ) (from : List ℕ) (v w : Raid) (a b : RackView) : Type 0 where
   pub is_marked : Bool
   pub after : List Change
