@@ -1,3 +1,4 @@
 pub mod NextRows
 pub mod NewRows
 pub mod ZeroTurn
+pub mod ZeroCall
