@@ -2,3 +2,4 @@ pub mod NextRows
 pub mod NewRows
 pub mod ZeroTurn
 pub mod ZeroCall
+pub mod ReadyTracked
