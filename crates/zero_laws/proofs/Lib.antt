@@ -3,3 +3,4 @@ pub mod NewRows
 pub mod ZeroTurn
 pub mod ZeroCall
 pub mod ReadyTracked
+pub mod Zeroing
