@@ -1,0 +1,3 @@
+pub mod WriteMakes
+pub mod WriteTurn
+pub mod WriteKeeps

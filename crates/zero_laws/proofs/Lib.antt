@@ -1,0 +1,6 @@
+pub mod NextRows
+pub mod NewRows
+pub mod ZeroTurn
+pub mod ZeroCall
+pub mod ReadyTracked
+pub mod Zeroing
