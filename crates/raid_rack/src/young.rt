@@ -17,6 +17,7 @@ ghost use Rattle.transition_laws.specs.Making.{FitsMake};
 ghost use Rattle.transition_laws.specs.Readying.{FitsReady};
 ghost use Rattle.growth_laws.specs.NewArrays as new;
 ghost use Rattle.raid_laws.specs.NewDrive.{first_in};
+ghost use Rattle.zero_laws.specs.Zeroing.{MakesZeroesNext};
 ghost use Rattle.raid_rack.specs.RaidRack.{IsRunning, raid_by};
 
 use crate::arrays::{Arrays, RaidRack};
@@ -173,6 +174,7 @@ impl Arrays {
         requires due { spec.is_due (raid_by self.old) (Zero number) ≡ true }
         requires some { 0 < most }
         ensures grows { ZeroesNext number most (raid_by self.old) (raid_by self.new) (S.seen rack.old) (S.seen rack.new) result }
+        ensures makes { MakesZeroesNext number most (raid_by self.old) (raid_by self.new) (S.seen rack.old) (S.seen rack.new) result }
         ensures named { IfErr result (λ e. e.array ≡ number) }
         ensures raises { RaisesBy 18 (raid_by self.old) (raid_by self.new) }
         ensures running { IsRunning self.new (S.seen rack.new) }
