@@ -101,7 +101,8 @@
 //! changes that mark places and write superblocks anew, and none where nobody went (`MakesLosses` of transition_laws). A row of a reshape
 //! and its end make the change of their work, where it is done, and losses after it (`MakesReshape` of growth_laws); so do the end of a plan
 //! and the readiness of a young array (`MakesTurn`) and, inside the rack, the cleaning of an array, whose superblocks are written one after the
-//! other (`MakesClean`), and the commit that makes an array. At each
+//! other (`MakesClean`), and the commit that makes an array. A write makes the mark of its array, where that is whole and has none, and the
+//! write, with losses after them (`MakesWrite` of write_laws). At each
 //! moment of such a call a stop leaves contents that hold the book before the change or after it, but for losses, and each promised sector
 //! has one of the values that it had; after it the run stands by the last book. It is said of a run that stands by its book before the call,
 //! and of a reshape where superblocks leave whole rows to resync and values past the array's end are zeros; of readiness where the
