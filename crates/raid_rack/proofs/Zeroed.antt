@@ -1,9 +1,8 @@
 -- The code that zeroes rows of a young array, as a change of the book with the losses of its call.
-use Rattle.std.proofs.Common.{◌≡◌, ◌⊎◌, ℕ, ◌+◌, ◌-◌, ◌*◌, ◌/◌, ◌<◌, ◌≤◌, Bool, true, false, ◌||◌, not, map, Result, Ok, Err, is_ok, IfOk, IfErr, refl, sym, ap, subst, ◌∙◌, inl, inr, le-ltb, arith}
+use Rattle.std.proofs.Common.{◌≡◌, ◌⊎◌, ℕ, ◌+◌, ◌-◌, ◌*◌, ◌/◌, ◌<◌, ◌≤◌, Bool, true, false, ◌||◌, not, map, Result, Ok, Err, is_ok, IfOk, IfErr, sym, ap, subst, ◌∙◌, inl, inr, le-ltb, arith}
 use Rattle.std.proofs.lemmas.Bool.{both_ways, cases_Bool, ltb-false}
 use Rattle.std.specs.List.{range_with_len}
 use Rattle.rack.specs.Seen.{RackView}
-use Rattle.pool_state.specs.declared.contents.Work.TheVariants.{Zero}
 use Rattle.array_image.specs.Spent.{wanting}
 use Rattle.array_image.specs.SoundArray.{first_unsynced}
 use Rattle.array_model.specs.View.{View, member_on, rows_of}
@@ -16,13 +15,12 @@ use Rattle.raid_rack.specs.RaidRack.{raid_by}
 use Rattle.raid_laws.specs.Raid.{Raid}
 use Rattle.raid_laws.specs.Moves.{OnlyFailures, Mends}
 use Rattle.raid_laws.proofs.Over.{not_true, or_parts}
-use Rattle.raid_rack.proofs.Grown.{HasCalled}
 use Rattle.raid_rack.proofs.Mended.{not_of_false}
 use Rattle.raid_rack.proofs.Resynced.{done_alone, told_rows, wanting_less}
-use Rattle.growth_laws.specs.Growing.{GrowsBy, Lacks, ZeroesNext, is_ended, zeroes}
+use Rattle.growth_laws.specs.Growing.{is_ended}
 use Rattle.growth_laws.specs.Losses.{LosesBook}
 use Rattle.transition_laws.specs.Changes.{changed, steps}
-use Rattle.growth_laws.proofs.Steps.{CallsTo, grows_one, step_as_long, stepped_own}
+use Rattle.growth_laws.proofs.Steps.{CallsTo, stepped_own}
 use Rattle.arrayvec.specs.ArrayVec.{ArrayVec}
 use Rattle.array_image.specs.States.{current_places}
 use Rattle.array_model.specs.View.{has_gone}
@@ -145,11 +143,11 @@ zeros_answered a c all log x y z n most rows on did result stuck few number call
     ]
 
 -- one row at most is one
-pub one_zeroed : (n : ℕ) (v w : Raid) (x y : RackView) {E : Type 0} (result : Result ℕ E) → ZeroesNext n 1 v w x y result → GrowsBy (zeroes n 1) (Lacks (Zero n)) v w x y (is_ok result)
+pub one_zeroed : (n : ℕ) (v w : Raid) (x y : RackView) {E : Type 0} (result : Result ℕ E) → MakesZeroesNext n 1 v w x y result → MakesZeroes n 1 v w x y (is_ok result)
 one_zeroed n v w x y result does =
     let some = does.some in
     let few = does.few in
-    subst (λ (rows : ℕ). GrowsBy (zeroes n rows) (Lacks (Zero n)) v w x y (is_ok result)) (let one : does.rows ≡ 1 = omega (arith, some, few) in one) does.steps
+    subst (λ (rows : ℕ). MakesZeroes n rows v w x y (is_ok result)) (let one : does.rows ≡ 1 = omega (arith, some, few) in one) does.steps
 
 -- the array has as many rows after the call
 pub called_rows : (v w : Raid) (n rows : ℕ) (x y : RackView) (is_done : Bool) → CallsTo v w n (zeroed (v.arrays n) rows) x y is_done → n < v.state.made

@@ -65,8 +65,8 @@ lacks_from-requires-clause-row g c =
     let has_row = has.row in
     omega (arith, first, size, has_row)
 
-pub returns-clause-makes : goal.returns-clause-makes
-returns-clause-makes g c =
+pub returns-clause-contents : goal.returns-clause-contents
+returns-clause-contents g c =
     let a = c.args.self.now in
     let n = c.args.number in
     let x = g.S.Rack.seen c.args.rack.now in
@@ -103,7 +103,7 @@ returns-clause-makes g c =
     c.answered.ensures.done c.answered.ensures.refused
 
 pub returns-clause-grows : goal.returns-clause-grows
-returns-clause-grows g c = zeroes_next c.args.number c.args.most _ _ _ _ c.answered.result (returns-clause-makes g c)
+returns-clause-grows g c = zeroes_next c.args.number c.args.most _ _ _ _ c.answered.result (returns-clause-contents g c)
 
 pub returns-clause-raises : goal.returns-clause-raises
 returns-clause-raises g c =
