@@ -1,5 +1,5 @@
 -- A work of a growth keeps the sectors that arrays have, and what they hold, where it makes its change of the book between losses.
-use Rattle.std.proofs.Common.{◌≡◌, ℕ, ◌+◌, ◌^◌, ◌<◌, ◌≤◌, ◌&&◌, Bool, true, false, not, nat_le, nat_lt, if◌then◌else◌, List, ◌∷◌, ◌++◌, length, refl, eqb-true, sym, ap, subst, ◌∙◌, inl, inr, le-ltb, leb-true, ap₂, bit_and, ◌==◌, int_eq, pos, ◌-◌, ◌*◌, arith}
+use Rattle.std.proofs.Common.{◌≡◌, ℕ, ◌+◌, ◌^◌, ◌<◌, ◌≤◌, ◌&&◌, Bool, true, false, not, nat_le, if◌then◌else◌, List, ◌∷◌, ◌++◌, length, refl, eqb-true, sym, ap, subst, ◌∙◌, inl, inr, le-ltb, leb-true, ap₂, bit_and, ◌==◌, int_eq, pos, ◌-◌, ◌*◌, arith}
 use Rattle.std.proofs.lemmas.Bool.{and_from, and_parts, both_ways, cases_lt}
 use Rattle.std.proofs.lemmas.Option.{slice_get_past}
 use Rattle.std.specs.List.{list_all}
@@ -136,14 +136,8 @@ module _ (v : Raid) (n k : ℕ) (mid : View) (is_array : IsArray (v.arrays n)) (
 pub old_fit : (v : Raid) (x : RackView) (n : ℕ) → LeavesWholeRows (v.arrays n) → FitsReshape v n (old_values v x)
 old_fit v x n whole = record {
   whole = whole;
-  zeros_past = λ y past.
-      ap (λ (t : Bool). (if nat_lt n v.state.joined && t then held_in v x n y else only (zeros 512)).current) (le-ltb y (sectors_of (v.arrays n)) past)
-      ∙ none (nat_lt n v.state.joined) (held_in v x n y);
+  zeros_past = λ y past. ap (λ (t : Bool). (if t then held_in v x n y else only (zeros 512)).current) (le-ltb y (sectors_of (v.arrays n)) past);
 }
-  where
-    none : (b : Bool) (z : Values) → (if b && false then z else only (zeros 512)).current ≡ zeros 512
-    none true z = refl
-    none false z = refl
 
 -- and those of one array, which holds zeros past its end
 pub own_fit : (v : Raid) (x : RackView) (n m : ℕ) → LeavesWholeRows (v.arrays m) → HasZerosFrom v x n (sectors_of (v.arrays n)) → FitsReshape v m (own_values v x n)

@@ -1,11 +1,11 @@
 -- Works of a growth keep what the arrays of the volume held in the sectors that they had.
-use Rattle.std.proofs.Common.{◌≡◌, ℕ, ◌-◌, ◌^◌, ◌≤◌, ◌<◌, ◌==◌, not, Bool, true, false, is_ok, Result, refl, sym, subst, ◌∙◌, inl, inr, arith, ap, eqb-true}
-use Rattle.std.proofs.lemmas.Bool.{and_parts, both_ways, cases_lt}
+use Rattle.std.proofs.Common.{◌≡◌, ℕ, ◌-◌, ◌^◌, ◌≤◌, ◌<◌, ◌==◌, not, Bool, true, false, is_ok, Result, refl, sym, subst, ◌∙◌, inl, arith, ap, eqb-true}
+use Rattle.std.proofs.lemmas.Bool.{and_parts}
 use Rattle.rack.specs.Seen.{RackView}
 use Rattle.rack.specs.Joins.{keeps_same, leaves_same}
 use Rattle.rack.specs.Values.{MayLeave, Values}
 use Rattle.array_model.specs.View.{IsSameArray, sectors_of, View}
-use Rattle.sync_laws.specs.Steps.{if_done, zeroed}
+use Rattle.sync_laws.specs.Steps.{if_done}
 use Rattle.raid_laws.specs.Losing.{only_same}
 use Rattle.raid_laws.specs.Moves.{AreCaused, ChangesNoData}
 use Rattle.raid_laws.specs.Raid.{Raid, raid_of, StopsInside}
@@ -16,19 +16,16 @@ use Rattle.transition_laws.proofs.LongerBooks.{KeepsOld, ready_keeps}
 use Rattle.transition_laws.proofs.OldSectors.{keeps_old, old_values}
 use Rattle.transition_laws.proofs.OldThen.{old_then}
 use Rattle.transition_laws.proofs.ZeroSectors.{own_values, zeros_then}
-use Rattle.pool_state.specs.declared.contents.Work.TheVariants.{Finish, Ready, Reshape, TakeOver, Zero}
+use Rattle.pool_state.specs.declared.contents.Work.TheVariants.{Finish, Ready, Reshape, TakeOver}
 use Rattle.array_core.specs.Superblocks.{raised, settled}
 use Rattle.reshape_laws.specs.Ahead.{ahead_by, finished, taken_over}
-use Rattle.growth_laws.specs.Growing.{AnyValues, Grows, IsFitToGrow, Lacks, MakesClean, MakesReshape, MakesTurn, MovesRows, change_of, is_clean, is_due, is_synced, moves, zeroes}
+use Rattle.growth_laws.specs.Growing.{AnyValues, Grows, IsFitToGrow, Lacks, MakesClean, MakesReshape, MakesTurn, MovesRows, change_of, is_clean, is_due, is_synced, moves}
 use Rattle.growth_laws.proofs.Becoming.{synced_parts}
 use Rattle.growth_laws.proofs.FitToGrow.{ready_lost}
 use Rattle.growth_laws.proofs.KeepsOld.{IsTurning, clean_keeps, finish_keeps, joined_few, made_changes, moves_keep, old_fit, own_fit, takeover_keeps, turn_grows, turn_zeros}
 use Rattle.growth_laws.proofs.Losing.{moves_caused, moves_lose}
 use Rattle.growth_laws.proofs.ReshapeBegins.{is_taking}
 use Rattle.growth_laws.proofs.ReshapeDue.{is_moved}
-use Rattle.growth_laws.proofs.Zeroed.{has_row_to_zero}
-use Rattle.zero_laws.specs.Zeroing.{FitsZero, MakesZeroesNext}
-use Rattle.zero_laws.proofs.ZeroOld.{old_fits, own_fits, zeroes_keep}
 use Rattle.raid_rack.specs.declared.arrays.Arrays.{Arrays}
 use Rattle.raid_rack.specs.RaidRack.{IsFit, raid_by}
 
@@ -89,27 +86,6 @@ moved_old {r = r} {q = q} n most a b x y result fit after inside due does ready 
     let is = synced_parts (raid_by a) n (and_parts (is_synced (raid_by a) n) _ due).0 in
     reshaped_old {r = r} {q = q} (moves n does.rows) (Lacks (Reshape n)) n (λ mid. ahead_by mid does.rows (raised mid.truth.events)) a b x y (is_ok result) fit after inside (λ v. refl)
     (λ mid k same. moves_keep (raid_by a) n k mid (fit.running.set.arrays n is.low).is_array is.grown same does.rows (raised mid.truth.events)) is.low does.steps (ready.whole n is.low) ready.ready
-
--- rows of a young array are zeroed, which isn't the volume's
-pub zeroed_old : {r q : ℕ → ℕ} {E : Type 0} (n most : ℕ) (a b : Arrays) (x y : RackView) (vals : ℕ → ℕ → Values) (result : Result ℕ E) → IsFit a x → IsFit b y → StopsInside y
-    → is_due (raid_by a) (Zero n) ≡ true → MakesZeroesNext n most (raid_by a) (raid_by b) x y result → FitsZero (raid_by a) n x vals → AreReady (raid_by a)
-    → KeepsHeld r q a b x y
-zeroed_old {r = r} {q = q} n most a b x y vals result fit after inside due does fits ready =
-    let v = raid_by a in
-    let grows = does.steps.grows in
-    let past : a.state.joined ≤ n = elim (cases_lt n a.state.joined) [
-      | inl low ↦ absurd (both_ways (v.arrays n).young (ready n low) (has_row_to_zero v n due).young)
-      | inr past ↦ past
-    ] in
-    turned_old {r = r} {q = q} (zeroes n does.rows grows.turns.mid) grows.turns.is_done (FitsZero v n x) a b x y fit after inside grows.caused grows.longer.made
-    (let same = joined grows.turns.is_done grows.turns.after.marks.same.joined in omega (arith, same)) does.steps.contents (old_fits v n x past fits.steady fits.single)
-    (λ k before. own_fits v n x past fits.steady fits.single k)
-    (λ k low. zeroes_keep v n x past fits.steady fits.single k (zeroed (grows.turns.mid.arrays n) does.rows) low) ready
-  where
-    joined : (d : Bool) → b.state.joined ≡ (if_done d does.steps.grows.turns.mid (changed (zeroes n does.rows does.steps.grows.turns.mid) does.steps.grows.turns.mid)).state.joined
-        → b.state.joined ≡ a.state.joined
-    joined true is = is ∙ does.steps.grows.turns.before.marks.same.joined
-    joined false is = is ∙ does.steps.grows.turns.before.marks.same.joined
 
 -- a reshape ends
 pub finished_old : {r q : ℕ → ℕ} (n : ℕ) (a b : Arrays) (x y : RackView) (answered : Bool) → IsFit a x → IsFit b y → StopsInside y → is_due (raid_by a) (Finish n) ≡ true

@@ -28,9 +28,6 @@ use Rattle.raid_laws.proofs.Moving.{brings_then, caused_then}
 use Rattle.raid_rack.proofs.Steps.{set_own, set_other, length_set}
 use Rattle.raid_laws.proofs.Views.{NotesOne, views_notes}
 use Rattle.raid_laws.proofs.Written.{WriteCall, write_brings}
-use Rattle.transition_laws.specs.Losses.{IsRunOf, MakesLosses}
-use Rattle.write_laws.specs.Writes.{MakesWrite}
-use Rattle.write_laws.proofs.WriteTurn.{write_turn}
 
 -- what it makes of the array
 views_write : (v : Raid) (f : ℕ → View) (m : ℕ) (a b : RackView) → IsSet v a → m < v.state.made → SameRack a b
@@ -85,39 +82,6 @@ pub record HasWritten (a b : Arrays) (x y : RackView) (n sector : ℕ) (from : L
   pub caused : AreCaused (raid_by a) (raid_by b) x y
   pub running : IsRunning b y
 
--- the call of the array, as a part of a call of all
-pub called_write : (a : Arrays) (all : ArrayVec View) (log : LogView) (x y : RackView) (n sector : ℕ) (from on : List ℕ) (number : ℕ) (old u : View)
-    → IsRunning a x → IsHeeded (raid_by a) → n < a.state.made
-    → old ≡ get_or a.all.items n no_array → all.items ≡ set a.all.items n u → number ≡ a.log.number → number ≤ log.number
-    → on ≡ current_places a.state → list_all (λ place. nat_lt place 16) u.went ≡ true → Goes x y
-    → WroteArray old u number log.number on x y sector from
-    → WriteCall (raid_by a) (λ k. get_or all.items k no_array) log.number n x y on sector from × WritesView (get_or a.all.items n no_array) (get_or all.items n no_array) x y
-called_write a all log x y n sector from on number old u running heeded low old_is all_is number_is later on_is few goes wrote =
-    let f : ℕ → View = λ k. get_or all.items k no_array in
-    let v = raid_by a in
-    let own : f n ≡ u = ap (λ ys. get_or ys n no_array) all_is ∙ set_own a.all.items n u no_array (let count = running.count in omega (arith, low, count)) in
-    let others : (k : ℕ) → (k ≡ n → ⊥) → f k ≡ v.arrays k = λ k other. ap (λ ys. get_or ys k no_array) all_is ∙ set_other a.all.items n k u no_array other in
-    let at : WroteArray (v.arrays n) (f n) v.number log.number on x y sector from =
-    subst (λ (z : View). WroteArray z (f n) v.number log.number on x y sector from) old_is
-    (subst (λ (z : View). WroteArray old z v.number log.number on x y sector from) (sym own)
-    (subst (λ k. WroteArray old u k log.number on x y sector from) number_is wrote)) in
-    let both = views_write v f n x y running.set low goes.stays others at.view in (
-      record {
-        heeded = heeded;
-        views = both.views;
-        loses = both.loses;
-        goes = goes;
-        later = subst (λ k. k ≤ log.number) number_is later;
-        on_is = on_is;
-        few = λ p is. low_named u.went p few (sym (ap (λ (z : View). has_gone z p) own) ∙ is);
-        writes = λ vals spent covers may. at.writes a.state vals spent covers may;
-        kept = λ may. at.kept a.state may;
-        truths = λ vals spent covers may part. at.truths a.state vals spent covers may part;
-        elsewhere = at.elsewhere;
-      },
-      at.view,
-    )
-
 pub has_written : (a : Arrays) (all : ArrayVec View) (log : LogView) (x y : RackView) (n sector : ℕ) (from on : List ℕ) (number : ℕ) (old u : View)
     → IsRunning a x → IsHeeded (raid_by a) → n < a.state.made
     → old ≡ get_or a.all.items n no_array → all.items ≡ set a.all.items n u → number ≡ a.log.number → number ≤ log.number
@@ -127,12 +91,30 @@ pub has_written : (a : Arrays) (all : ArrayVec View) (log : LogView) (x y : Rack
 has_written a all log x y n sector from on number old u running heeded low old_is all_is number_is later on_is few goes wrote =
     let f : ℕ → View = λ k. get_or all.items k no_array in
     let v = raid_by a in
-    let call : WriteCall v f log.number n x y on sector from =
-    (called_write a all log x y n sector from on number old u running heeded low old_is all_is number_is later on_is few goes wrote).0 in
+    let own : f n ≡ u = ap (λ ys. get_or ys n no_array) all_is ∙ set_own a.all.items n u no_array (let count = running.count in omega (arith, low, count)) in
+    let others : (k : ℕ) → (k ≡ n → ⊥) → f k ≡ v.arrays k = λ k other. ap (λ ys. get_or ys k no_array) all_is ∙ set_other a.all.items n k u no_array other in
+    let at : WroteArray (v.arrays n) (f n) v.number log.number on x y sector from =
+    subst (λ (z : View). WroteArray z (f n) v.number log.number on x y sector from) old_is
+    (subst (λ (z : View). WroteArray old z v.number log.number on x y sector from) (sym own)
+    (subst (λ k. WroteArray old u k log.number on x y sector from) number_is wrote)) in
+    let both = views_write v f n x y running.set low goes.stays others at.view in
+    let call : WriteCall v f log.number n x y on sector from = record {
+      heeded = heeded;
+      views = both.views;
+      loses = both.loses;
+      goes = goes;
+      later = subst (λ k. k ≤ log.number) number_is later;
+      on_is = on_is;
+      few = λ p is. low_named u.went p few (sym (ap (λ (z : View). has_gone z p) own) ∙ is);
+      writes = λ vals spent covers may. at.writes a.state vals spent covers may;
+      kept = λ may. at.kept a.state may;
+      truths = λ vals spent covers may part. at.truths a.state vals spent covers may part;
+      elsewhere = at.elsewhere;
+    } in
     let brings = write_brings v f log.number n x y on sector from running.set call in
     record {
       brings = brings;
-      arrays = keeps_arrays v f n x y running.set call.views call.loses;
+      arrays = keeps_arrays v f n x y running.set both.views both.loses;
       plan = refl;
       caused = record {
         left = left_before v f n x y running.set call.views;
@@ -140,18 +122,6 @@ has_written a all log x y n sector from on number old u running heeded low old_i
       };
       running = record { count = ap length all_is ∙ length_set a.all.items n u ∙ running.count; set = brings.set };
     }
-
--- what contents hold in it and in the mending after it
-pub write_contents : (a c : Arrays) (all : ArrayVec View) (log : LogView) (x y z : RackView) (n sector : ℕ) (from on : List ℕ) (number : ℕ) (old u : View)
-    → IsRunning a x → IsHeeded (raid_by a) → n < a.state.made
-    → old ≡ get_or a.all.items n no_array → all.items ≡ set a.all.items n u → number ≡ a.log.number → number ≤ log.number
-    → on ≡ current_places a.state → list_all (λ place. nat_lt place 16) u.went ≡ true → Goes x y
-    → WroteArray old u number log.number on x y sector from
-    → ((d : Raid) → IsRunOf d (raid_by (record a { all = all; log = log })) → MakesLosses d (raid_by (record a { all = all; log = log })) (raid_by c) y z)
-    → MakesWrite n sector from (raid_by a) (raid_by c) x z
-write_contents a c all log x y z n sector from on number old u running heeded low old_is all_is number_is later on_is few goes wrote losses =
-    let call = called_write a all log x y n sector from on number old u running heeded low old_is all_is number_is later on_is few goes wrote in
-    write_turn (raid_by a) (λ k. get_or all.items k no_array) log.number n x y on sector from running.set call.0 call.1 (raid_by c) z losses
 
 -- a write's number is that before it, or the next one
 pub later_number : (before after : LogView) → (after ≡ before) ⊎ (after ≡ committed before) → before.number ≤ after.number

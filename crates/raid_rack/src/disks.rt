@@ -12,7 +12,6 @@ ghost use Rattle.raid_laws.specs.Laws.{raid_sound, stops_inside};
 ghost use Rattle.raid_laws.specs.Raid.{spent_of};
 ghost use Rattle.raid_laws.specs.Runs.{RaidRuns, raid_runs_same, raid_runs_then};
 ghost use Rattle.growth_laws.specs.Reads.{LosesAlone};
-ghost use Rattle.write_laws.specs.Writes.{MakesWrite};
 ghost use Rattle.raid_rack.specs.RaidRack.{IsFit, is_written, SliceRuns, arrays_in, raid_in, raid_seen, refused_in, slices_in, slices_seen, written_in};
 
 use crate::arrays::RaidRack;
@@ -56,7 +55,6 @@ impl<R: Rack> Rack for RaidRack<R> {
         requires disk { disk < (raid_seen R.seen self.old).disks }
         requires sector { sector < (raid_seen R.seen self.old).sectors disk }
         ensures writes { Writes (raid_seen R.seen self.old) (raid_seen R.seen self.new) disk sector from.now result }
-        ensures contents { MakesWrite disk sector from.now (raid_in self.old) (raid_in self.new) (slices_seen R.seen self.old) (slices_seen R.seen self.new) }
         ensures runs { AreRuns R.seen R.runs self.old self.new }
         ensures once { IsOneCall (raid_in self.old) (raid_in self.new) }
         ensures written { (n : ℕ) → (n ≡ disk → ⊥) → written_in self.new n ≡ written_in self.old n }

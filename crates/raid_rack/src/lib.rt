@@ -101,18 +101,15 @@
 //! changes that mark places and write superblocks anew, and none where nobody went (`MakesLosses` of transition_laws). A row of a reshape
 //! and its end make the change of their work, where it is done, and losses after it (`MakesReshape` of growth_laws); so do the end of a plan
 //! and the readiness of a young array (`MakesTurn`) and, inside the rack, the cleaning of an array, whose superblocks are written one after the
-//! other (`MakesClean`), and the commit that makes an array. A write makes the mark of its array, where that is whole and has none, and the
-//! write, with losses after them (`MakesWrite` of write_laws). Rows of a young array that are zeroed make the change of their work, where it
-//! is done, and losses after it (`MakesZeroes` of zero_laws). At each
+//! other (`MakesClean`), and the commit that makes an array. At each
 //! moment of such a call a stop leaves contents that hold the book before the change or after it, but for losses, and each promised sector
 //! has one of the values that it had; after it the run stands by the last book. It is said of a run that stands by its book before the call,
 //! and of a reshape where superblocks leave whole rows to resync and values past the array's end are zeros; of readiness where the
 //! array's superblocks say its truth and no reshape of it has begun (`FitsReady`), of a new array where sectors of its slices have one
-//! value each (`FitsMake`), of its zeros where these sectors have one value each and those of rows left to zero have zeros for values
-//! (`FitsZero`). A takeover is such a call behind a cleaning (`CleansAndReshapes`), and so is a reshape's begin, over slices with that of
-//! the joining member, where this slice is settled (`CleansBefore`, `ReshapesWith`). The whole call that makes a new
-//! array doesn't say it yet. A takeover, rows of a reshape, its end and the zeros and the readiness of a young array also keep what the
-//! arrays of the volume held, where these are told (`KeepsOldSectors`), and the sectors that these get hold zeros (`GrowsByZeros`).
+//! value each (`FitsMake`). A takeover is such a call behind a cleaning (`CleansAndReshapes`), and so is a reshape's begin, over slices with that of
+//! the joining member, where this slice is settled (`CleansBefore`, `ReshapesWith`). The zeros of a new array and the whole call that makes
+//! one don't say it yet. A takeover, rows of a reshape, its end and the readiness of a young array also keep what the arrays of the volume
+//! held, where these are told (`KeepsOldSectors`), and the sectors that these get hold zeros (`GrowsByZeros`).
 //! Of a reshape's begin by which the place has joined it is said where no stop left a superblock on the joining member's slice (`AreBare`): then the
 //! arrays stand over the tables with that slice as they did.
 //!

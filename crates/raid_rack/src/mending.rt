@@ -16,7 +16,6 @@ ghost use Rattle.raid_laws.specs.Raid.{Raid};
 ghost use Rattle.transition_laws.specs.Losses.{IsRunOf, MakesLosses, SettlesBook};
 ghost use Rattle.growth_laws.specs.Growing.{MakesClean};
 ghost use Rattle.growth_laws.specs.Reads.{LosesAlone};
-ghost use Rattle.write_laws.specs.Writes.{MakesWrite};
 
 use crate::arrays::Arrays;
 use crate::losses::{add_copies, heed_all, newly_gone, note_gone};
@@ -202,7 +201,6 @@ impl Arrays {
         requires sector { sector < sectors_of ((raid_by self.old).arrays number) }
         ensures spares { (written : ℕ → Bool) → written number ≡ true → Spares written (S.seen rack.old) (S.seen rack.new) }
         ensures writes { WritesOne (raid_by self.old) (raid_by self.new) (S.seen rack.old) (S.seen rack.new) number sector from.now }
-        ensures contents { MakesWrite number sector from.now (raid_by self.old) (raid_by self.new) (S.seen rack.old) (S.seen rack.new) }
         ensures raises { RaisesBy 18 (raid_by self.old) (raid_by self.new) }
         ensures truths { KeepsTruths (raid_by self.old) (raid_by self.new) (S.seen rack.old) (S.seen rack.new) }
         ensures running { IsRunning self.new (S.seen rack.new) }

@@ -17,7 +17,6 @@ ghost use Rattle.transition_laws.specs.Making.{FitsMake};
 ghost use Rattle.transition_laws.specs.Readying.{FitsReady};
 ghost use Rattle.growth_laws.specs.NewArrays as new;
 ghost use Rattle.raid_laws.specs.NewDrive.{first_in};
-ghost use Rattle.zero_laws.specs.Zeroing.{FitsZero, MakesZeroes, MakesZeroesNext};
 ghost use Rattle.raid_rack.specs.RaidRack.{IsRunning, raid_by};
 
 use crate::arrays::{Arrays, RaidRack};
@@ -174,7 +173,6 @@ impl Arrays {
         requires due { spec.is_due (raid_by self.old) (Zero number) ≡ true }
         requires some { 0 < most }
         ensures grows { ZeroesNext number most (raid_by self.old) (raid_by self.new) (S.seen rack.old) (S.seen rack.new) result }
-        ensures contents { MakesZeroesNext number most (raid_by self.old) (raid_by self.new) (S.seen rack.old) (S.seen rack.new) result }
         ensures named { IfErr result (λ e. e.array ≡ number) }
         ensures raises { RaisesBy 18 (raid_by self.old) (raid_by self.new) }
         ensures running { IsRunning self.new (S.seen rack.new) }
@@ -379,7 +377,6 @@ impl<R: Rack> RaidRack<R> {
     ghost use Rattle.array_core.specs.Pool.{Goes};
     ghost use Rattle.slice_rack.specs.SliceRack.{below_of, tables};
     ghost use Rattle.slice_rack.specs.Slices.{seat_of as disk_at, sectors_of};
-    ghost use Rattle.rack.specs.Values.{Values};
     ghost use Rattle.array_model.specs.View.{HasFault};
     ghost use Rattle.raid_laws.specs.Moves.{AreCaused};
     ghost use Rattle.growth_laws.specs.Losses.{LosesBook};
@@ -396,12 +393,6 @@ impl<R: Rack> RaidRack<R> {
         ensures idle { spec.is_due (raid_in self.old) (Zero array) ≡ false → (is_ok result ≡ false) × (self.new ≡ self.old) }
         ensures grows { spec.is_due (raid_in self.old) (Zero array) ≡ true
             → ZeroesNext array most (raid_in self.old) (raid_in self.new) (slices_seen R.seen self.old) (slices_seen R.seen self.new) result }
-        ensures contents { spec.is_due (raid_in self.old) (Zero array) ≡ true
-            → MakesZeroesNext array most (raid_in self.old) (raid_in self.new) (slices_seen R.seen self.old) (slices_seen R.seen self.new) result }
-        ensures old { (vals : ℕ → ℕ → Values) → FitsZero (raid_in self.old) array (slices_seen R.seen self.old) vals → AreReady (raid_in self.old)
-            → KeepsOldSectors (raid_in self.old).state.joined (raid_seen R.seen self.old) (raid_seen R.seen self.new) }
-        ensures zeros { (vals : ℕ → ℕ → Values) → FitsZero (raid_in self.old) array (slices_seen R.seen self.old) vals → AreReady (raid_in self.old)
-            → GrowsByZeros (raid_in self.old).state.joined (raid_in self.old) (raid_in self.new) (slices_seen R.seen self.old) (slices_seen R.seen self.new) }
         ensures named { IfErr result (λ e. e.array ≡ array) }
         ensures fit { IsFit (arrays_in self.new) (slices_seen R.seen self.new) }
         ensures raises { RaisesBy 18 (raid_in self.old) (raid_in self.new) }
@@ -422,12 +413,6 @@ impl<R: Rack> RaidRack<R> {
         ensures idle { spec.is_due (raid_in self.old) (Zero array) ≡ false → (is_ok result ≡ false) × (self.new ≡ self.old) }
         ensures grows { spec.is_due (raid_in self.old) (Zero array) ≡ true
             → Grows (Zero array) (Lacks (Zero array)) (raid_in self.old) (raid_in self.new) (slices_seen R.seen self.old) (slices_seen R.seen self.new) (is_ok result) }
-        ensures contents { spec.is_due (raid_in self.old) (Zero array) ≡ true
-            → MakesZeroes array 1 (raid_in self.old) (raid_in self.new) (slices_seen R.seen self.old) (slices_seen R.seen self.new) (is_ok result) }
-        ensures old { (vals : ℕ → ℕ → Values) → FitsZero (raid_in self.old) array (slices_seen R.seen self.old) vals → AreReady (raid_in self.old)
-            → KeepsOldSectors (raid_in self.old).state.joined (raid_seen R.seen self.old) (raid_seen R.seen self.new) }
-        ensures zeros { (vals : ℕ → ℕ → Values) → FitsZero (raid_in self.old) array (slices_seen R.seen self.old) vals → AreReady (raid_in self.old)
-            → GrowsByZeros (raid_in self.old).state.joined (raid_in self.old) (raid_in self.new) (slices_seen R.seen self.old) (slices_seen R.seen self.new) }
         ensures named { IfErr result (λ e. e.array ≡ array) }
         ensures fit { IsFit (arrays_in self.new) (slices_seen R.seen self.new) }
         ensures raises { RaisesBy 18 (raid_in self.old) (raid_in self.new) }

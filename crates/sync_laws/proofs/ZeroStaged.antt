@@ -347,7 +347,6 @@ module _ (v z w : View) (a c : RackView) (l : LogView) (on lost : List ℕ) (row
     is_done = true;
     answer = λ ok. refl;
     view = done real_noted;
-    idle = λ none. absurd (both_ways true none refl);
     moving = λ s vals spent may.
         let moves = all_moves (zeroing v) (zeroing v) (zeroing z) (zeroing w) (raised v.truth.events) (offset_after v (first_unsynced v.truth + rows)) (first_unsynced v.truth + rows) v.seats false a a c l on lost staged_row.supers staged_row.own_data number after
         (zero_step v rows a l.added staged_row) staged_row.adds staged_row.added (zeroing_slices v a slices) (only_reads_start a slices.fit) (no_notes (zeroing v) a)
@@ -401,7 +400,6 @@ zero_refused v rows number on a answered slices is refused =
       is_done = false;
       answer = λ ok. absurd (both_ways answered refused ok);
       view = as_it_was (notes_none v a a);
-      idle = λ none. reads;
       moving = λ s vals spent may.
           let moves = read_moves s (zeroing v) (resynced (zeroing v) rows) a a vals spent slices.lasting reads in
           record { stays = moves.stays; leaves = moves.leaves; holds = λ held. held; apart = moves.apart; calm = moves.calm; bounded = moves.bounded };

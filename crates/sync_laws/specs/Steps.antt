@@ -158,8 +158,6 @@ pub record Zeroes (v w : View) (rows number next_number : ℕ) (on : List ℕ) (
   pub is_done : Bool
   pub answer : answered ≡ true → is_done ≡ true
   pub view : Stepped v (zeroed v rows) w a b is_done
-  -- where it isn't done nothing was written
-  pub idle : is_done ≡ false → OnlyReads a b
   pub moving :
       (s : State) (vals : ℕ → Values) (spent : ℕ → Bool) → MayZero s v w rows spent number on a
       → StepRefines s (zeroing v) (resynced (zeroing v) rows) (zeroing w) spent a b vals (if_done is_done (shape_of (zeroing v)) (shape_of (resynced (zeroing v) rows))) vals

@@ -1,6 +1,6 @@
 -- Calls that change the book keep the arrays of the volume tracked, and what these hold in the sectors that they had.
 use Rattle.std.proofs.Common.{◌≡◌, ℕ, ◌<◌, ◌≤◌, ◌==◌, ◌&&◌, not, Bool, true, false, nat_lt, if◌then◌else◌, List, refl, sym, ap, subst, inl, inr, arith, eq-eqb, eqb-true, lt-ltb, ◌∙◌, ◌||◌}
-use Rattle.std.proofs.lemmas.Bool.{and_from, both_ways, cases_Bool}
+use Rattle.std.proofs.lemmas.Bool.{both_ways, cases_Bool}
 use Rattle.rack.specs.Values.{Keeps, MayLeave, only, Values}
 use Rattle.rack.specs.Seen.{RackView}
 use Rattle.rack.specs.Moments.{Leaves}
@@ -35,9 +35,9 @@ use Rattle.transition_laws.proofs.LongerBooks.{AllKeepOld, along_old, HasOldSect
 use Rattle.transition_laws.proofs.Standing.{stood_of}
 use Rattle.transition_laws.proofs.Tracked.{IsTrackedFor, tracked_stands}
 
--- what the arrays of the volume hold, and zeros past their ends and of other arrays
+-- what arrays hold, and zeros past their ends
 abbrev pub old_values : Raid → RackView → ℕ → ℕ → Values
-old_values v x n y = if nat_lt n v.state.joined && nat_lt y (sectors_of (v.arrays n)) then held_in v x n y else only (zeros 512)
+old_values v x n y = if nat_lt y (sectors_of (v.arrays n)) then held_in v x n y else only (zeros 512)
 
 -- of array n alone, what it has before calls and what isn't spent after them
 abbrev old_promise : (v w : Raid) → ℕ → Promise
@@ -168,10 +168,6 @@ module _ (xs : List Change) (v w : Raid) (a b : RackView) (calls : IsGrowing xs 
   pub spent_before : (y : ℕ) → y < sectors_of (v.arrays n) → live_of w n y → live_of v n y
   spent_before y inside alive = or_from (is_failed v n) (spent_in (v.arrays n) y) (early.goes n live low) (early.covers n live low y (alive_in v y old inside alive))
 
-  held : (y : ℕ) → nat_lt y (sectors_of (v.arrays n)) ≡ true → vals n y ≡ held_in v a n y
-  held y inside =
-      ap (λ (t : Bool). if t then held_in v a n y else only (zeros 512)) (and_from (nat_lt n v.state.joined) (nat_lt y (sectors_of (v.arrays n))) (lt-ltb n v.state.joined ready) inside)
-
   -- ---- where it is told
 
   tracked : IsTracked v a n → IsTrackedFor v p vals a
@@ -185,7 +181,7 @@ module _ (xs : List Change) (v w : Raid) (a b : RackView) (calls : IsGrowing xs 
     tracked = λ k is low. own (λ j. IsTracked v a j) k is told;
     covers = λ k y is low alive. or_from (is_failed v k) (spent_in (v.arrays k) y) (early.goes k is low) (early.covers k is low y alive);
     values = λ k y is low alive. own (λ j. spent_at p j (v.arrays j) y ≡ false → vals j y ≡ held_in v a j y) k is
-        (λ alive. held y (parts (v.arrays n) y alive).1) alive;
+        (λ alive. ap (λ (t : Bool). if t then held_in v a n y else only (zeros 512)) (parts (v.arrays n) y alive).1) alive;
     since = λ q u few there may. from_any v.state q u;
     rows = λ k is low kept. absurd (both_ways false refl kept);
     lacks = λ k is low wanted. absurd (both_ways false refl wanted);
@@ -220,7 +216,7 @@ module _ (xs : List Change) (v w : Raid) (a b : RackView) (calls : IsGrowing xs 
   slices_after told = subst (λ (s : State). AreLive s.made b) (sym (after told).same) (after told).slices
 
   old_value : (y : ℕ) → y < sectors_of (v.arrays n) → vals n y ≡ held_in v a n y
-  old_value y inside = held y (lt-ltb y (sectors_of (v.arrays n)) inside)
+  old_value y inside = ap (λ (t : Bool). if t then held_in v a n y else only (zeros 512)) (lt-ltb y (sectors_of (v.arrays n)) inside)
 
   pub keeps_held : IsTracked v a n → (y : ℕ) → y < sectors_of (v.arrays n) → live_of w n y → Keeps (held_in v a n y) (held_in w b n y)
   keeps_held told y inside alive =

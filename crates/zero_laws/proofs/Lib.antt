@@ -4,4 +4,3 @@ pub mod ZeroTurn
 pub mod ZeroCall
 pub mod ReadyTracked
 pub mod Zeroing
-pub mod ZeroOld

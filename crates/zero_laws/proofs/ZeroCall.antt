@@ -4,6 +4,7 @@ use Rattle.std.proofs.lemmas.Bool.{and_parts, both_ways, cases_Bool}
 use Rattle.std.specs.List.{list_all}
 use Rattle.rack.specs.Values.{Values}
 use Rattle.rack.specs.Seen.{RackView}
+use Rattle.rack.specs.Sequences.{OnlyReads}
 use Rattle.pool_state.specs.declared.contents.State.{State}
 use Rattle.array_image.specs.Arrays.{Shape}
 use Rattle.array_image.specs.SoundArray.{first_unsynced}
@@ -48,7 +49,7 @@ use Rattle.zero_laws.specs.Zeroing.{FitsZero}
 use Rattle.zero_laws.proofs.NextRows.{zeroed_first, zeroed_shape, zeroing_shape}
 use Rattle.zero_laws.proofs.ZeroTurn.{zeroes_makes, ZeroesYoung}
 
--- A call that zeroes so many rows of array m on the places `on`.
+-- A call that zeroes so many rows of array m on the places `on`, or writes nothing.
 pub record ZeroCall (v : Raid) (f : ℕ → View) (rows number m : ℕ) (a b : RackView) (on : List ℕ) (answered : Bool) : Type 0 where
   pub set : IsSet v a
   pub heeded : IsHeeded v
@@ -61,6 +62,7 @@ pub record ZeroCall (v : Raid) (f : ℕ → View) (rows number m : ℕ) (a b : R
   pub on_is : on ≡ current_places v.state
   pub few : (p : ℕ) → has_gone (f m) p ≡ true → p < 16
   pub zeroes : Zeroes (v.arrays m) (f m) rows v.number number on a b answered
+  pub idle : zeroes.is_done ≡ false → OnlyReads a b
 
 -- what a commit needs does not go by rows left to zero
 zeroing_commit : (s : State) (u z : View) (number : ℕ) (on : List ℕ) (a : RackView) → u.marked ≡ false → shape_of (zeroing u) ≡ shape_of u → MayCommit s u z number on a
@@ -241,7 +243,7 @@ module _ (v : Raid) (f : ℕ → View) (rows number m : ℕ) (a b : RackView) (o
 
     idle_makes : (vals : ℕ → ℕ → Values) → Makes [] v v (called v f number) vals vals a b
     idle_makes vals =
-        let reads = call.zeroes.idle is in
+        let reads = call.idle is in
         read_one_makes m v v (called v f number) vals a b
         (record {
           lasting = call.set.lasting;

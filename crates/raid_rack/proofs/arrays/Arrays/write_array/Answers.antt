@@ -5,7 +5,7 @@ use Rattle.log_laws.specs.View.{LogView}
 use Rattle.raid_rack.specs.RaidRack.{no_array, raid_by}
 use Rattle.raid_rack.proofs.Mended.{on_named}
 use Rattle.raid_laws.proofs.Noted.{current_few}
-use Rattle.raid_rack.proofs.Sent.{has_written, later_number, write_contents, writes_one}
+use Rattle.raid_rack.proofs.Sent.{has_written, later_number, writes_one}
 use Rattle.raid_rack.proofs.Raises.{writes_raise}
 use Rattle.raid_rack.proofs.RaisedCalls.{logs_raise, raises_call}
 use Rattle.raid_rack.proofs.Sparing.{spares_write}
@@ -102,21 +102,3 @@ returns-clause-truths g c =
     (same_element c.deref_mut.result.now a.all.items n _ no_array c.deref_mut.ensures.value (omega (arith, count, low)))
     (items_set a.all c.deref_mut.result.now n c.write.new.self c.deref_mut.ensures.value) c.mend.ensures.truths
     c.current_places-on.result.items c.write.ensures.goes.stays c.write.ensures.truth c.write.ensures.elsewhere
-
-pub returns-clause-contents : goal.returns-clause-contents
-returns-clause-contents g c =
-    let a = c.args.self.now in
-    let n = c.args.number in
-    let x = g.S.Rack.seen c.args.rack.now in
-    let y = g.S.Rack.seen c.write.new.rack in
-    let count = c.requires.running.count in
-    let low = c.requires.number in
-    let number = ap (λ (l : LogView). l.number) c.clear.ensures in
-    write_contents a c.mend.new.self (with_items a.all (slice_set c.deref_mut.result.now n c.write.new.self)) c.write.new.log x y (g.S.Rack.seen c.mend.new.rack) n c.args.sector c.args.from.now
-    c.current_places-on.result.items c.clear.new.self.number _ c.write.new.self
-    c.requires.running c.requires.heeded low
-    (same_element c.deref_mut.result.now a.all.items n _ no_array c.deref_mut.ensures.value (omega (arith, count, low)))
-    (items_set a.all c.deref_mut.result.now n c.write.new.self c.deref_mut.ensures.value)
-    number (later_number c.clear.new.self c.write.new.log c.write.ensures.log) c.current_places-on.ensures c.went-places.ensures.few c.write.ensures.goes
-    (record { writes = c.write.ensures.writes; kept = c.write.ensures.kept; truths = c.write.ensures.leaves; view = c.write.ensures.view; elsewhere = c.write.ensures.elsewhere })
-    c.mend.ensures.losses

@@ -12,8 +12,7 @@ use Rattle.raid_rack.proofs.Grown.{called_own, has_called, logs_there, step_even
 use Rattle.raid_rack.proofs.RaisedCalls.{raises_call}
 use Rattle.raid_rack.proofs.Resynced.{answered_refused, step_later, step_raise}
 use Rattle.raid_rack.proofs.Steps.{items_set, same_element}
-use Rattle.raid_rack.proofs.Zeroed.{called_rows, zero_call, zeros_answered}
-use Rattle.zero_laws.proofs.Zeroing.{zeroes_next}
+use Rattle.raid_rack.proofs.Zeroed.{called_rows, zeros_answered}
 use Rattle.raid_rack.proofs.arrays.Arrays.zero_array.Goals as goal
 
 pub zero_rows-zeroed-requires-clause-logs : goal.zero_rows-zeroed-requires-clause-logs
@@ -65,8 +64,8 @@ lacks_from-requires-clause-row g c =
     let has_row = has.row in
     omega (arith, first, size, has_row)
 
-pub returns-clause-contents : goal.returns-clause-contents
-returns-clause-contents g c =
+pub returns-clause-grows : goal.returns-clause-grows
+returns-clause-grows g c =
     let a = c.args.self.now in
     let n = c.args.number in
     let x = g.S.Rack.seen c.args.rack.now in
@@ -79,31 +78,25 @@ returns-clause-contents g c =
     let same : old ≡ (raid_by a).arrays n =
     same_element c.deref_mut.result.now a.all.items n c.index-deref_mut-number.result no_array c.deref_mut.ensures.value (omega (arith, count, low)) in
     let left : done.rows ≤ rows_of ((raid_by a).arrays n) - first_unsynced ((raid_by a).arrays n).truth = subst (λ (u : View). done.rows ≤ rows_of u - first_unsynced u.truth) same done.left in
-    let on = c.current_places-on.result.items in
-    let all = with_items a.all (slice_set c.deref_mut.result.now n c.zero_rows-zeroed.new.array) in
-    let all_is = items_set a.all c.deref_mut.result.now n c.zero_rows-zeroed.new.array c.deref_mut.ensures.value in
-    let call =
-    zero_call a all c.zero_rows-zeroed.new.log x y n done.rows on c.clear.new.self.number old c.zero_rows-zeroed.new.array (is_ok c.zero_rows-zeroed.result) c.requires.running c.requires.heeded has
-    same all_is
+    let one = has_called (λ u. zeroed u done.rows) a (with_items a.all (slice_set c.deref_mut.result.now n c.zero_rows-zeroed.new.array)) c.zero_rows-zeroed.new.log x y n c.clear.new.self.number old c.zero_rows-zeroed.new.array
+    done.steps.is_done c.requires.running c.requires.heeded same (items_set a.all c.deref_mut.result.now n c.zero_rows-zeroed.new.array c.deref_mut.ensures.value)
     (ap (λ (l : LogView). l.number) c.clear.ensures) (step_later c.clear.new.self c.zero_rows-zeroed.new.log c.zero_rows-zeroed.ensures.log)
-    c.current_places-on.ensures c.went-places.ensures.few c.zero_rows-zeroed.ensures.goes done.some left done.steps in
+    (may_zero (raid_by a) n done.rows x c.requires.running.set c.requires.heeded has) c.zero_rows-zeroed.ensures.goes.stays done.steps.view in
     let first : c.first_unzeroed-unzeroed.result ≡ first_unsynced ((raid_by a).arrays n).truth =
     c.first_unzeroed-unzeroed.ensures
     ∙ ap (λ (u : View). first_unsynced u.truth) (c.index-deref-number.is ∙ same_element c.deref.result.now a.all.items n c.index-deref-number.result no_array c.deref.ensures.0 (omega (arith, count, low))) in
     let w = raid_by c.mend.new.self in
     let unzeroed = first_unsynced ((raid_by a).arrays n).truth in
-    let own = called_own a all n c.zero_rows-zeroed.new.array count low all_is in
-    zeros_answered a c.mend.new.self all c.zero_rows-zeroed.new.log x y (g.S.Rack.seen c.mend.new.rack) n c.args.most done.rows on c.zero_rows-zeroed.result c.answered.result c.lacks_from.result
-    done.few done.answer call
+    let own = called_own a (with_items a.all (slice_set c.deref_mut.result.now n c.zero_rows-zeroed.new.array)) n c.zero_rows-zeroed.new.array count low
+    (items_set a.all c.deref_mut.result.now n c.zero_rows-zeroed.new.array c.deref_mut.ensures.value) in
+    zeros_answered a _ c.mend.new.self x y (g.S.Rack.seen c.mend.new.rack) n c.args.most done.rows done.steps.is_done c.zero_rows-zeroed.result c.answered.result c.lacks_from.result
+    done.some done.few left done.answer one low done.steps.answer
     (λ none.
     ap (λ (u : View). lacks_two u unzeroed) own ∙ ap (λ (u : View). lacks_two c.zero_rows-zeroed.new.array (first_unsynced u.truth)) (sym same)
     ∙ answered_refused _ _ c.zero_rows-zeroed.result c.zero_rows-zeroed.ensures.refused none)
-    c.mend.ensures.mends c.mend.ensures.losses
+    c.mend.ensures.mends
     (c.lacks_from.ensures ∙ ap (λ r. is_ended w || lacks_two (w.arrays n) r) first)
     c.answered.ensures.done c.answered.ensures.refused
-
-pub returns-clause-grows : goal.returns-clause-grows
-returns-clause-grows g c = zeroes_next c.args.number c.args.most _ _ _ _ c.answered.result (returns-clause-contents g c)
 
 pub returns-clause-raises : goal.returns-clause-raises
 returns-clause-raises g c =

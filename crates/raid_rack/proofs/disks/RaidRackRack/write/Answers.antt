@@ -4,7 +4,6 @@ use Rattle.slice_rack.specs.SliceRack.{tables, below_of}
 use Rattle.slice_rack.specs.Sliced.{slices_of}
 use Rattle.raid_laws.specs.Moves.{written_at}
 use Rattle.raid_laws.specs.Runs.{RaidRuns}
-use Rattle.write_laws.specs.Writes.{MakesWrite}
 use Rattle.raid_rack.specs.RaidRack.{IsFit, SliceRuns, raid_by, raid_in, raid_seen, refused_in, slices_in, slices_seen, is_written, written_in}
 use Rattle.raid_rack.specs.AllRuns.{IsOneCall, Serves, Spares}
 use Rattle.raid_laws.specs.Laws.{stops_inside}
@@ -53,8 +52,3 @@ pub returns-clause-once : goal.returns-clause-once
 returns-clause-once g c =
     subst (λ r. IsOneCall (raid_in c.args.self.now) (raid_in r)) (sym c.answer.ensures.same)
     (record { raises = c.write_array.ensures.raises; made = c.write_array.ensures.writes.brings.book.same.made; arrays = c.write_array.ensures.writes.arrays; plan = c.write_array.ensures.writes.plan })
-
-pub returns-clause-contents : goal.returns-clause-contents
-returns-clause-contents g c =
-    subst (λ r. MakesWrite c.args.disk c.args.sector c.args.from.now (raid_in c.args.self.now) (raid_in r) (slices_seen g.R.Rack.seen c.args.self.now) (slices_seen g.R.Rack.seen r)) (sym c.answer.ensures.same)
-    c.write_array.ensures.contents
